@@ -1,0 +1,19 @@
+-- The number that document 01, "Answer numbers", gives each answer.
+-- Assumes nothing.
+use Prim.Native.Nat.{ℕ}
+use Rattle.answer.specs.declared.Answer.{Answer}
+use Rattle.answer.specs.declared.Answer.the-variants.{Done, PacketLength, SyncByte, BlockLength, RoomLength, StateRange, UnknownRate, CountsFull, Uncorrectable, Filling, WaitingForGroup, OutOfStep}
+
+abbrev pub numberOf : Answer → ℕ
+numberOf Done = 0
+numberOf PacketLength = 1
+numberOf SyncByte = 2
+numberOf BlockLength = 3
+numberOf RoomLength = 4
+numberOf StateRange = 5
+numberOf UnknownRate = 6
+numberOf CountsFull = 7
+numberOf Uncorrectable = 8
+numberOf Filling = 9
+numberOf WaitingForGroup = 10
+numberOf OutOfStep = 11

@@ -1,0 +1,52 @@
+// The answer of a public call. specs/Number.antt gives each case the number of document 01.
+ghost use mathlib.Core.Path.{_≡_};
+ghost use Rattle.answer.specs.Number.{numberOf};
+
+pub enum Answer {
+    // The call did its work.
+    Done,
+    // A packet, or the data of the outer coder, is not 188 bytes.
+    PacketLength,
+    // A packet does not begin with the sync byte 47 hex.
+    SyncByte,
+    // A block is not 204 bytes.
+    BlockLength,
+    // The room lent is shorter than the answer needs.
+    RoomLength,
+    // A number in the state lies outside its range.
+    StateRange,
+    // A fresh sender or inner coder is wanted at a rate other than 0 to 4.
+    UnknownRate,
+    // The receiver has taken as many blocks as it can count.
+    CountsFull,
+    // No codeword is within eight bytes.
+    Uncorrectable,
+    // The delay branches of the receiver are still filling.
+    Filling,
+    // The receiver waits for the first packet of a group.
+    WaitingForGroup,
+    // The sync byte that is due was not there.
+    OutOfStep,
+}
+
+impl Answer {
+    // The number that document 01 gives the answer.
+    pub fn number(self) -> u8
+        ensures { λ r. ⌜ r ≡ numberOf self ⌝ }
+    {
+        match self {
+            Answer::Done => 0,
+            Answer::PacketLength => 1,
+            Answer::SyncByte => 2,
+            Answer::BlockLength => 3,
+            Answer::RoomLength => 4,
+            Answer::StateRange => 5,
+            Answer::UnknownRate => 6,
+            Answer::CountsFull => 7,
+            Answer::Uncorrectable => 8,
+            Answer::Filling => 9,
+            Answer::WaitingForGroup => 10,
+            Answer::OutOfStep => 11,
+        }
+    }
+}

@@ -1,0 +1,75 @@
+-- Rules that hold of every number below a bound, or of every entry of a table, each proved by one test that antt computes.
+-- Assumes nothing.
+use mathlib.Core.Path.{_≡_, _∙_, subst, subst₂, ap₂, sym}
+use mathlib.Core.Bool.{Bool, true, false}
+use mathlib.Core.List.{List, [], _∷_}
+use mathlib.Core.Logic.{⊎-elim}
+use Prim.Native.Nat.{ℕ, zero, suc, _+_, _*_, _/_, _%_, _<_}
+use native.Mathlib.Nat.{add-zero, zero-add, add-suc, suc-add, le-of-suc-le-suc, not-suc-le-zero, eq-or-lt-of-le}
+use lib.Dec.{T, eqb, eqb→eq}
+use lib.ListN.{length, getD, replicate, length-replicate}
+
+abbrev pub both : Bool → Bool → Bool
+both true b = b
+both false b = false
+
+pub both-left : (a b : Bool) → T (both a b) → T a
+both-left true b t = tt
+both-left false b t = t
+
+pub both-right : (a b : Bool) → T (both a b) → T b
+both-right true b t = t
+both-right false b t = absurd t
+
+-- ---- every number below a bound
+
+-- the test passes at each number below n
+abbrev pub below : (ℕ → Bool) → ℕ → Bool
+below f zero = true
+below f (suc n) = both (f n) (below f n)
+
+pub below-at : (f : ℕ → Bool) (n : ℕ) → T (below f n) → (k : ℕ) → k < n → T (f k)
+below-at f zero t k h = absurd (not-suc-le-zero h)
+below-at f (suc n) t k h =
+    ⊎-elim (λ e. subst (λ (m : ℕ). T (f m)) (sym e) (both-left (f n) (below f n) t))
+    (λ l. below-at f n (both-right (f n) (below f n) t) k l) (eq-or-lt-of-le (le-of-suc-le-suc h))
+
+-- two functions agree below n
+abbrev pub agree : (ℕ → ℕ) → (ℕ → ℕ) → ℕ → Bool
+agree f g n = below (λ k. eqb (f k) (g k)) n
+
+pub agree-at : (f g : ℕ → ℕ) (n : ℕ) → T (agree f g n) → (k : ℕ) → k < n → f k ≡ g k
+agree-at f g n t k h = eqb→eq (f k) (g k) (below-at (λ m. eqb (f m) (g m)) n t k h)
+
+-- ---- every entry of a table
+
+-- the test f passes at each entry of the list and its place, counted from i
+abbrev pub every : (ℕ → ℕ → Bool) → ℕ → List ℕ → Bool
+every f i [] = true
+every f i (x ∷ xs) = both (f i x) (every f (suc i) xs)
+
+from : (f : ℕ → ℕ → Bool) (xs : List ℕ) (i : ℕ) → T (every f i xs) → (k : ℕ) → k < length xs → T (f (i + k) (getD xs k 0))
+from f [] i t k h = absurd (not-suc-le-zero h)
+from f (x ∷ xs) i t zero h = subst (λ (m : ℕ). T (f m x)) (sym (add-zero i)) (both-left (f i x) (every f (suc i) xs) t)
+from f (x ∷ xs) i t (suc k) h =
+    subst (λ (m : ℕ). T (f m (getD xs k 0))) (suc-add i k ∙ sym (add-suc i k))
+    (from f xs (suc i) (both-right (f i x) (every f (suc i) xs) t) k (le-of-suc-le-suc h))
+
+pub at : (f : ℕ → ℕ → Bool) (xs : List ℕ) → T (every f 0 xs) → (k : ℕ) → k < length xs → T (f k (getD xs k 0))
+at f xs t k h = subst (λ (m : ℕ). T (f m (getD xs k 0))) (zero-add k) (from f xs 0 t k h)
+
+-- the entry of a table with w entries in a row, by its row and its column
+abbrev pub entry : ℕ → (ℕ → ℕ → ℕ) → ℕ → ℕ → Bool
+entry w f k x = eqb x (f (k / w) (k % w))
+
+pub flat : (w : ℕ) (f : ℕ → ℕ → ℕ) (xs : List ℕ) → T (every (entry w f) 0 xs) → (i j : ℕ) → (i * w + j) / w ≡ i → (i * w + j) % w ≡ j
+    → i * w + j < length xs → getD xs (i * w + j) 0 ≡ f i j
+flat w f xs t i j r q k = eqb→eq _ _ (at (entry w f) xs t (i * w + j) k) ∙ ap₂ f r q
+
+-- a test that passes at each row and column of a table of n entries
+abbrev pub tested : ℕ → ℕ → (ℕ → ℕ → Bool) → Bool
+tested w n f = every (λ k x. f (k / w) (k % w)) 0 (replicate n 0)
+
+pub everywhere : (w n : ℕ) (f : ℕ → ℕ → Bool) → T (tested w n f) → (i j : ℕ) → (i * w + j) / w ≡ i → (i * w + j) % w ≡ j → i * w + j < n → T (f i j)
+everywhere w n f t i j r q k =
+    subst₂ (λ (a b : ℕ). T (f a b)) r q (at (λ k x. f (k / w) (k % w)) (replicate n 0) t (i * w + j) (rw (length-replicate {A = ℕ} n 0) k))

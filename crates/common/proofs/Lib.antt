@@ -1,0 +1,4 @@
+pub mod Choice
+pub mod Computed
+pub mod Written
+pub mod Xor

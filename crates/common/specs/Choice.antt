@@ -1,0 +1,8 @@
+-- The choice that a test makes.
+-- Assumes nothing.
+use mathlib.Core.Bool.{Bool, true, false}
+
+-- a where the test passes, else b
+abbrev pub pick {ℓ} : {A : Type ℓ} → Bool → A → A → A
+pick true a b = a
+pick false a b = b
