@@ -1,4 +1,5 @@
 pub mod Choice
 pub mod Computed
+pub mod Lists
 pub mod Written
 pub mod Xor

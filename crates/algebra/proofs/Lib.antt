@@ -1,0 +1,6 @@
+pub mod Ring
+pub mod Lists
+pub mod Polynomial
+pub mod Syndromes
+pub mod Decoding
+pub mod Elimination

@@ -1,0 +1,5 @@
+pub mod Linear
+pub mod Laws
+pub mod Powers
+pub mod Tables
+pub mod Instance

@@ -1,0 +1,53 @@
+// Arithmetic in GF(256) by 11D hex, with no table and no branch on a value.
+ghost use mathlib.Core.Path.{_≡_};
+ghost use Rattle.galois.specs.Field256.{timesX as timesXOf, mul as mulOf, inv as invOf, scaled};
+
+// a times x.
+pub fn times_x(a: u8) -> u8
+    ensures { λ r. ⌜ r ≡ timesXOf a ⌝ }
+{
+    (a << 1) ^ ((a >> 7) * 0x1D)
+}
+
+// The product, in eight rounds over the bits of b, from the highest.
+pub fn mul(a: u8, b: u8) -> u8
+    ensures { λ r. ⌜ r ≡ mulOf a b ⌝ }
+{
+    let mut r: u8 = 0;
+    let mut i: u8 = 8;
+    while 0 < i {
+        i -= 1;
+        r = times_x(r) ^ (((b >> i) & 1) * a);
+    }
+    r
+}
+
+// The inverse of a, and 0 of 0: a to the 254.
+pub fn inverse(a: u8) -> u8
+    ensures { λ r. ⌜ r ≡ invOf a ⌝ }
+{
+    let a2 = mul(a, a);
+    let a3 = mul(a2, a);
+    let a6 = mul(a3, a3);
+    let a12 = mul(a6, a6);
+    let a15 = mul(a12, a3);
+    let a30 = mul(a15, a15);
+    let a60 = mul(a30, a30);
+    let a120 = mul(a60, a60);
+    let a126 = mul(a120, a6);
+    let a127 = mul(a126, a);
+    mul(a127, a127)
+}
+
+// Sixteen bytes, each times f: one loop without a branch, which becomes vector code.
+pub fn scale(a: [u8; 16], f: u8) -> [u8; 16]
+    ensures { λ r. ⌜ r ≡ scaled f a ⌝ }
+{
+    let mut r = [0u8; 16];
+    let mut j: usize = 0;
+    while j < 16 {
+        r[j] = mul(a[j], f);
+        j += 1;
+    }
+    r
+}
