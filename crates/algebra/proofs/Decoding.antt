@@ -11,9 +11,10 @@ use Prim.{Unit, tt}
 use Rattle.algebra.specs.Field.{Field, ops}
 use Rattle.algebra.specs.Polynomial.{power, eval, plus}
 use Rattle.algebra.proofs.Ring.{ring, zero-add, mul-zero, one-mul, mul-one}
-use Rattle.algebra.proofs.Lists.{All, All-at, All-of, Away, Distinct, Distinct-of}
-use Rattle.algebra.proofs.Polynomial.{eval-plus, Zero}
-use Rattle.algebra.proofs.Syndromes.{Term, syndrome, dot, fromRoots, fromRoots-ne, places, weight, key, value, vandermonde-weight, AllZero}
+use Rattle.common.specs.Lists.{All}
+use Rattle.algebra.proofs.Lists.{All-at, All-of, Away, Distinct, Distinct-of}
+use Rattle.algebra.proofs.Polynomial.{eval-plus, Zero, fromRoots, fromRoots-ne}
+use Rattle.algebra.proofs.Syndromes.{Term, syndrome, dot, places, weight, key, value, vandermonde-weight, AllZero}
 
 module _ (K : Field) where
   open Field K using (F, add as _+_, mul as _*_, 𝟘, 𝟙, inv, dec)

@@ -1,6 +1,7 @@
 pub mod Ring
 pub mod Lists
 pub mod Polynomial
+pub mod Homomorphism
 pub mod Syndromes
 pub mod Decoding
 pub mod Elimination

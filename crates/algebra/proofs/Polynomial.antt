@@ -1,16 +1,19 @@
 -- Values of sums and products of polynomials, division by x + c, and the number of roots.
 -- Assumes nothing.
-use mathlib.Core.Path.{_≡_, refl, sym, ap, _∙_}
+use mathlib.Core.Path.{_≡_, refl, sym, ap, ap₂, _∙_}
 use mathlib.Core.List.{List, [], _∷_}
-use Prim.Native.Nat.{ℕ, zero, suc, _≤_}
+use Prim.Native.Nat.{ℕ, zero, suc, _≤_, _<_}
+use Prim.Native.Nat.{_+_ as _+ℕ_}
+use native.Mathlib.Decide.{decLt}
 use native.Mathlib.Nat.{not-suc-le-zero}
 use native.Mathlib.Omega.{arith}
 use lib.ListN.{length}
 use Prim.{tt}
 use Rattle.algebra.specs.Field.{Field, ops}
 use Rattle.algebra.specs.Polynomial.{eval, plus, scale, product}
-use Rattle.algebra.proofs.Ring.{ring, cancel, eq-of-add, add-zero, mul-zero, zero-add, zero-mul}
-use Rattle.algebra.proofs.Lists.{All, All-zip, Away, Distinct}
+use Rattle.algebra.proofs.Ring.{ring, cancel, eq-of-add, add-eq-zero, mul-ne, add-zero, mul-zero, zero-add, zero-mul}
+use Rattle.common.specs.Lists.{All}
+use Rattle.algebra.proofs.Lists.{All-each, All-map, All-zip, Away, Distinct}
 
 module _ (K : Field) where
   open Field K using (F, add as _+_, mul as _*_, 𝟘, 𝟙, inv)
@@ -119,3 +122,123 @@ module _ (K : Field) where
       let z : Zero p = horner-Zero x p (root-bound xs (horner x p) (omega (arith, length-horner x p)) (d .1)
       (All-zip (λ y. y ≡ x → ⊥) (λ y. eval (ops K) (a ∷ p) y ≡ 𝟘) (λ y. eval (ops K) (horner x p) y ≡ 𝟘) (λ y n h. quotient-root x a p y (r .0) n h) xs (d .0) (r .1))) in
       (head-Zero a x p z (r .0), z)
+
+  -- Π (x + r)
+  unfoldable pub fromRoots : List F → List F
+  fromRoots [] = 𝟙 ∷ []
+  fromRoots (r ∷ rs) = timesLinear r (fromRoots rs)
+
+  pub length-fromRoots : (rs : List F) → length (fromRoots rs) ≡ suc (length rs)
+  unfolding fromRoots
+  length-fromRoots [] = refl
+  length-fromRoots (r ∷ rs) = length-timesLinearFrom r 𝟘 (fromRoots rs) ∙ ap suc (length-fromRoots rs)
+
+  pub fromRoots-root-self : (r x : F) (rs : List F) → x ≡ r → eval (ops K) (fromRoots (r ∷ rs)) x ≡ 𝟘
+  unfolding fromRoots
+  fromRoots-root-self r x rs e = eval-timesLinear r (fromRoots rs) x ∙ at-root x r _ e
+    where
+      at-root : (x r u : F) → x ≡ r → (x + r) * u ≡ 𝟘
+      at-root x r u e = rw e (simp ring)
+
+  pub fromRoots-root-more : (r : F) (rs : List F) (x : F) → eval (ops K) (fromRoots rs) x ≡ 𝟘 → eval (ops K) (fromRoots (r ∷ rs)) x ≡ 𝟘
+  unfolding fromRoots
+  fromRoots-root-more r rs x h = eval-timesLinear r (fromRoots rs) x ∙ ap (λ u. (x + r) * u) h ∙ mul-zero K (x + r)
+
+  pub fromRoots-roots : (rs : List F) → All (λ x. eval (ops K) (fromRoots rs) x ≡ 𝟘) rs
+  fromRoots-roots [] = tt
+  fromRoots-roots (r ∷ rs) = (fromRoots-root-self r r rs refl, All-map _ _ (fromRoots-root-more r rs) rs (fromRoots-roots rs))
+
+  fromRoots-nil : (x : F) → 𝟙 + x * 𝟘 ≡ 𝟙
+  fromRoots-nil x = simp ring
+
+  pub fromRoots-ne : (rs : List F) (x : F) → Away x rs → eval (ops K) (fromRoots rs) x ≡ 𝟘 → ⊥
+  unfolding fromRoots eval
+  fromRoots-ne [] x a h = K .one·ne·zero (sym (fromRoots-nil x) ∙ h)
+  fromRoots-ne (r ∷ rs) x a h = mul-ne K (x + r) (eval (ops K) (fromRoots rs) x) (λ e. a .0 (sym (eq-of-add K x r e))) (fromRoots-ne rs x (a .1)) (sym (eval-timesLinear r (fromRoots rs) x) ∙ h)
+
+  -- ---- products
+
+  scale-step : (c a x u : F) → c * a + x * (c * u) ≡ c * (a + x * u)
+  scale-step c a x u = simp ring
+
+  pub eval-scale : (c : F) (p : List F) (x : F) → eval (ops K) (scale (ops K) c p) x ≡ c * eval (ops K) p x
+  unfolding eval scale
+  eval-scale c [] x = sym (mul-zero K c)
+  eval-scale c (a ∷ p) x = ap (λ y. c * a + x * y) (eval-scale c p x) ∙ scale-step c a x (eval (ops K) p x)
+
+  product-step : (a x u v : F) → a * v + (𝟘 + x * (u * v)) ≡ (a + x * u) * v
+  product-step a x u v = simp ring
+
+  pub eval-product : (p q : List F) (x : F) → eval (ops K) (product (ops K) p q) x ≡ eval (ops K) p x * eval (ops K) q x
+  unfolding eval product
+  eval-product [] q x = sym (zero-mul K _)
+  eval-product (a ∷ p) q x =
+      eval-plus (scale (ops K) a q) (𝟘 ∷ product (ops K) p q) x
+      ∙ ap (λ y. y + (𝟘 + x * eval (ops K) (product (ops K) p q) x)) (eval-scale a q x)
+      ∙ ap (λ y. a * eval (ops K) q x + (𝟘 + x * y)) (eval-product p q x)
+      ∙ product-step a x (eval (ops K) p x) (eval (ops K) q x)
+
+  -- ---- a polynomial with known roots is a product
+
+  -- p = (x + r1) (x + r2) .. m as functions, where the r are distinct roots of p
+  pub record Factored (rs p : List F) : Type 0 where
+    pub factor : List F
+    pub shorter : length rs +ℕ length factor ≡ length p
+    pub values : (x : F) → eval (ops K) p x ≡ eval (ops K) (fromRoots rs) x * eval (ops K) factor x
+
+  no-roots : (u x : F) → u ≡ (𝟙 + x * 𝟘) * u
+  no-roots u x = simp ring
+
+  factored-none : (p : List F) → Factored [] p
+  unfolding fromRoots eval
+  factored-none p = record { factor = p; shorter = omega arith; values = λ x. no-roots (eval (ops K) p x) x }
+
+  pull-root : (a b c d : F) → d ≡ 𝟘 → a * (b * c) + d ≡ (a * b) * c
+  pull-root a b c d h = simp (ring, h)
+
+  factored-more : (r a : F) (rs p : List F) → eval (ops K) (a ∷ p) r ≡ 𝟘 → Factored rs (horner r p) → Factored (r ∷ rs) (a ∷ p)
+  unfolding fromRoots quotient
+  factored-more r a rs p h f =
+      record {
+        factor = f .factor;
+        shorter = omega (arith, f .shorter, length-horner r p);
+        values =
+            λ x. division r (a ∷ p) x ∙ ap (λ y. (x + r) * y + eval (ops K) (a ∷ p) r) (f .values x)
+            ∙ pull-root (x + r) (eval (ops K) (fromRoots rs) x) (eval (ops K) (f .factor) x) _ h
+            ∙ ap (λ y. y * eval (ops K) (f .factor) x) (sym (eval-timesLinear r (fromRoots rs) x));
+      }
+
+  pub factored : (rs p : List F) → length rs ≤ length p → Distinct rs → All (λ x. eval (ops K) p x ≡ 𝟘) rs → Factored rs p
+  factored [] p l d h = factored-none p
+  factored (r ∷ rs) [] l d h = absurd (not-suc-le-zero l)
+  factored (r ∷ rs) (a ∷ p) l d h =
+      factored-more r a rs p (h .0) (factored rs (horner r p) (omega (arith, length-horner r p)) (d .1)
+      (All-zip (λ y. y ≡ r → ⊥) (λ y. eval (ops K) (a ∷ p) y ≡ 𝟘) (λ y. eval (ops K) (horner r p) y ≡ 𝟘) (λ y n e. quotient-root r a p y (h .0) n e) rs (d .0) (h .1)))
+
+  -- ---- polynomials with the same values are the same
+
+  pub length-plus : (p q : List F) → length p ≡ length q → length (plus (ops K) p q) ≡ length p
+  unfolding plus
+  length-plus [] [] e = refl
+  length-plus [] (b ∷ q) e = sym e
+  length-plus (a ∷ p) [] e = refl
+  length-plus (a ∷ p) (b ∷ q) e = ap suc (length-plus p q (omega arith))
+
+  pub equal-of-zero : (p q : List F) → length p ≡ length q → Zero (plus (ops K) p q) → p ≡ q
+  unfolding plus
+  equal-of-zero [] [] e z = refl
+  equal-of-zero [] (b ∷ q) e z = absurd (omega arith)
+  equal-of-zero (a ∷ p) [] e z = absurd (omega arith)
+  equal-of-zero (a ∷ p) (b ∷ q) e z = ap₂ _∷_ (eq-of-add K a b (z .0)) (equal-of-zero p q (omega arith) (z .1))
+
+  pub equal-of-values : (xs p q : List F) → length p ≡ length q → length p ≤ length xs → Distinct xs → ((x : F) → eval (ops K) p x ≡ eval (ops K) q x) → p ≡ q
+  equal-of-values xs p q e l d h =
+      equal-of-zero p q e
+      (root-bound xs (plus (ops K) p q) (omega (arith, length-plus p q e)) d (All-each (λ x. eval (ops K) (plus (ops K) p q) x ≡ 𝟘) (λ x. eval-plus p q x ∙ add-eq-zero K _ _ (h x)) xs))
+
+  pub root-count : (xs p : List F) → (Zero p → ⊥) → Distinct xs → All (λ x. eval (ops K) p x ≡ 𝟘) xs → length xs < length p
+  root-count xs p n d r = go (decLt (length xs) (length p))
+    where
+      go : Dec (length xs < length p) → length xs < length p
+      go (yes h) = h
+      go (no h) = absurd (n (root-bound xs p (omega arith) d r))

@@ -13,15 +13,9 @@ use Prim.{Unit, tt}
 use Rattle.algebra.specs.Field.{Field, ops}
 use Rattle.algebra.specs.Polynomial.{power, eval}
 use Rattle.algebra.proofs.Ring.{ring, cancel, eq-of-add, mul-ne, add-zero, mul-zero, zero-mul, zero-add, mul-div, mul-comm, mul-one}
-use Rattle.algebra.proofs.Lists.{All, All-map, All-zip, All-of, All-at, Away, Distinct}
-use Rattle.algebra.proofs.Polynomial.{timesLinear, timesLinearFrom, eval-timesLinear, length-timesLinearFrom, Zero, root-bound}
-
-pub root-count : (K : Field) (xs p : List (K .F)) → (Zero K p → ⊥) → Distinct xs → All (λ x. eval (ops K) p x ≡ K .𝟘) xs → length xs < length p
-root-count K xs p n d r = go (decLt (length xs) (length p))
-  where
-    go : Dec (length xs < length p) → length xs < length p
-    go (yes h) = h
-    go (no h) = absurd (n (root-bound K xs p (omega arith) d r))
+use Rattle.common.specs.Lists.{All}
+use Rattle.algebra.proofs.Lists.{All-map, All-zip, All-of, All-at, Away, Distinct}
+use Rattle.algebra.proofs.Polynomial.{fromRoots, length-fromRoots, fromRoots-roots, fromRoots-ne}
 
 module _ (K : Field) where
   open Field K using (F, add as _+_, mul as _*_, 𝟘, 𝟙, inv, dec)
@@ -104,39 +98,6 @@ module _ (K : Field) where
   paired-zero [] p h = refl
   paired-zero (e ∷ E) p h = add-zeros _ _ (h .0) (paired-zero E p (h .1))
 
-  -- Π (x + r)
-  unfoldable pub fromRoots : List F → List F
-  fromRoots [] = 𝟙 ∷ []
-  fromRoots (r ∷ rs) = timesLinear K r (fromRoots rs)
-
-  pub length-fromRoots : (rs : List F) → length (fromRoots rs) ≡ suc (length rs)
-  unfolding fromRoots
-  length-fromRoots [] = refl
-  length-fromRoots (r ∷ rs) = length-timesLinearFrom K r 𝟘 (fromRoots rs) ∙ ap suc (length-fromRoots rs)
-
-  pub fromRoots-root-self : (r x : F) (rs : List F) → x ≡ r → eval (ops K) (fromRoots (r ∷ rs)) x ≡ 𝟘
-  unfolding fromRoots
-  fromRoots-root-self r x rs e = eval-timesLinear K r (fromRoots rs) x ∙ at-root x r _ e
-    where
-      at-root : (x r u : F) → x ≡ r → (x + r) * u ≡ 𝟘
-      at-root x r u e = rw e (simp ring)
-
-  pub fromRoots-root-more : (r : F) (rs : List F) (x : F) → eval (ops K) (fromRoots rs) x ≡ 𝟘 → eval (ops K) (fromRoots (r ∷ rs)) x ≡ 𝟘
-  unfolding fromRoots
-  fromRoots-root-more r rs x h = eval-timesLinear K r (fromRoots rs) x ∙ ap (λ u. (x + r) * u) h ∙ mul-zero K (x + r)
-
-  pub fromRoots-roots : (rs : List F) → All (λ x. eval (ops K) (fromRoots rs) x ≡ 𝟘) rs
-  fromRoots-roots [] = tt
-  fromRoots-roots (r ∷ rs) = (fromRoots-root-self r r rs refl, All-map _ _ (fromRoots-root-more r rs) rs (fromRoots-roots rs))
-
-  fromRoots-nil : (x : F) → 𝟙 + x * 𝟘 ≡ 𝟙
-  fromRoots-nil x = simp ring
-
-  pub fromRoots-ne : (rs : List F) (x : F) → Away x rs → eval (ops K) (fromRoots rs) x ≡ 𝟘 → ⊥
-  unfolding fromRoots eval
-  fromRoots-ne [] x a h = K .one·ne·zero (sym (fromRoots-nil x) ∙ h)
-  fromRoots-ne (r ∷ rs) x a h = mul-ne K (x + r) (eval (ops K) (fromRoots rs) x) (λ e. a .0 (sym (eq-of-add K x r e))) (fromRoots-ne rs x (a .1)) (sym (eval-timesLinear K r (fromRoots rs) x) ∙ h)
-
   abbrev pub places : List Term → List F
   places E = map (λ e. e .0) E
 
@@ -162,10 +123,10 @@ module _ (K : Field) where
   -- the first value, where the syndromes are all zero
   first-zero : (e : Term) (E : List Term) → Away (e .0) (places E) → ((j : ℕ) → j < suc (length E) → syndrome (e ∷ E) j ≡ 𝟘) → e .1 ≡ 𝟘
   first-zero e E a h =
-      let p = fromRoots (places E) in
-      cancel K (eval (ops K) p (e .0)) (e .1) (fromRoots-ne (places E) (e .0) a)
-      (mul-comm K _ _ ∙ sym (paired-first e E p (vanish E p (fromRoots-roots (places E)))) ∙ sym (dot-syndrome p (e ∷ E))
-      ∙ dot-zero p (syndrome (e ∷ E)) (λ j l. h j (omega (arith, length-fromRoots (places E), length-places E))))
+      let p = fromRoots K (places E) in
+      cancel K (eval (ops K) p (e .0)) (e .1) (fromRoots-ne K (places E) (e .0) a)
+      (mul-comm K _ _ ∙ sym (paired-first e E p (vanish E p (fromRoots-roots K (places E)))) ∙ sym (dot-syndrome p (e ∷ E))
+      ∙ dot-zero p (syndrome (e ∷ E)) (λ j l. h j (omega (arith, length-fromRoots K (places E), length-places E))))
 
   -- (C) Vandermonde: as many zero syndromes as places, and each value is zero
   pub vandermonde : (E : List Term) → Distinct (places E) → ((j : ℕ) → j < length E → syndrome E j ≡ 𝟘) → AllZero E
