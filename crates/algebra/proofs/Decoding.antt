@@ -55,7 +55,7 @@ module _ (K : Field) where
   pub received : (a : F) (c e : List F) (j : ℕ) → eval (ops K) c (power (ops K) a j) ≡ 𝟘 → eval (ops K) (plus (ops K) c e) (power (ops K) a j) ≡ syndrome K (terms a 𝟙 e) j
   received a c e j h = eval-plus K c e (power (ops K) a j) ∙ ap (λ u. u + eval (ops K) e (power (ops K) a j)) h ∙ zero-add K _ ∙ word-syndrome a e j
 
-  length-terms : (a x : F) (p : List F) → length (terms a x p) ≡ length p
+  pub length-terms : (a x : F) (p : List F) → length (terms a x p) ≡ length p
   unfolding terms
   length-terms a x [] = refl
   length-terms a x (b ∷ p) = ap suc (length-terms a (x * a) p)

@@ -2,12 +2,12 @@
 -- Assumes nothing.
 use mathlib.Core.Path.{_≡_, refl, sym, ap, ap₂, _∙_}
 use mathlib.Core.List.{List, [], _∷_}
-use Prim.Native.Nat.{ℕ, zero, suc, _≤_, _<_}
+use Prim.Native.Nat.{ℕ, zero, suc, _≤_, _<_, max}
 use Prim.Native.Nat.{_+_ as _+ℕ_}
 use native.Mathlib.Decide.{decLt}
 use native.Mathlib.Nat.{not-suc-le-zero}
 use native.Mathlib.Omega.{arith}
-use lib.ListN.{length}
+use lib.ListN.{length, length-map}
 use Prim.{tt}
 use Rattle.algebra.specs.Field.{Field, ops}
 use Rattle.algebra.specs.Polynomial.{eval, plus, scale, product}
@@ -158,6 +158,13 @@ module _ (K : Field) where
 
   -- ---- products
 
+  linear-step : (c x : F) → c + x * (𝟙 + x * 𝟘) ≡ x + c
+  linear-step c x = simp ring
+
+  pub eval-linear : (c x : F) → eval (ops K) (c ∷ 𝟙 ∷ []) x ≡ x + c
+  unfolding eval
+  eval-linear c x = linear-step c x
+
   scale-step : (c a x u : F) → c * a + x * (c * u) ≡ c * (a + x * u)
   scale-step c a x u = simp ring
 
@@ -177,6 +184,19 @@ module _ (K : Field) where
       ∙ ap (λ y. y + (𝟘 + x * eval (ops K) (product (ops K) p q) x)) (eval-scale a q x)
       ∙ ap (λ y. a * eval (ops K) q x + (𝟘 + x * y)) (eval-product p q x)
       ∙ product-step a x (eval (ops K) p x) (eval (ops K) q x)
+
+  pub length-plus-max : (p q : List F) → length (plus (ops K) p q) ≡ max (length p) (length q)
+  unfolding plus
+  length-plus-max [] q = omega arith
+  length-plus-max (a ∷ p) [] = omega arith
+  length-plus-max (a ∷ p) (b ∷ q) = omega (arith, length-plus-max p q)
+
+  pub length-product : (a b : F) (p q : List F) → length (product (ops K) (a ∷ p) (b ∷ q)) ≡ suc (length p +ℕ length q)
+  unfolding product scale
+  length-product a b [] q =
+      length-plus-max (scale (ops K) a (b ∷ q)) (𝟘 ∷ []) ∙ omega (arith, length-map q (λ c. a * c))
+  length-product a b (c ∷ p) q =
+      length-plus-max (scale (ops K) a (b ∷ q)) (𝟘 ∷ product (ops K) (c ∷ p) (b ∷ q)) ∙ omega (arith, length-map q (λ c. a * c), length-product c b p q)
 
   -- ---- a polynomial with known roots is a product
 
@@ -217,13 +237,6 @@ module _ (K : Field) where
 
   -- ---- polynomials with the same values are the same
 
-  pub length-plus : (p q : List F) → length p ≡ length q → length (plus (ops K) p q) ≡ length p
-  unfolding plus
-  length-plus [] [] e = refl
-  length-plus [] (b ∷ q) e = sym e
-  length-plus (a ∷ p) [] e = refl
-  length-plus (a ∷ p) (b ∷ q) e = ap suc (length-plus p q (omega arith))
-
   pub equal-of-zero : (p q : List F) → length p ≡ length q → Zero (plus (ops K) p q) → p ≡ q
   unfolding plus
   equal-of-zero [] [] e z = refl
@@ -234,7 +247,7 @@ module _ (K : Field) where
   pub equal-of-values : (xs p q : List F) → length p ≡ length q → length p ≤ length xs → Distinct xs → ((x : F) → eval (ops K) p x ≡ eval (ops K) q x) → p ≡ q
   equal-of-values xs p q e l d h =
       equal-of-zero p q e
-      (root-bound xs (plus (ops K) p q) (omega (arith, length-plus p q e)) d (All-each (λ x. eval (ops K) (plus (ops K) p q) x ≡ 𝟘) (λ x. eval-plus p q x ∙ add-eq-zero K _ _ (h x)) xs))
+      (root-bound xs (plus (ops K) p q) (omega (arith, length-plus-max p q)) d (All-each (λ x. eval (ops K) (plus (ops K) p q) x ≡ 𝟘) (λ x. eval-plus p q x ∙ add-eq-zero K _ _ (h x)) xs))
 
   pub root-count : (xs p : List F) → (Zero p → ⊥) → Distinct xs → All (λ x. eval (ops K) p x ≡ 𝟘) xs → length xs < length p
   root-count xs p n d r = go (decLt (length xs) (length p))

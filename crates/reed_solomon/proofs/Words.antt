@@ -1,0 +1,83 @@
+-- Lists of numbers as lists over the field of bytes.
+-- Assumes nothing.
+use mathlib.Core.Path.{_≡_, refl, sym, ap, ap₂, _∙_}
+use mathlib.Core.List.{List, [], _∷_, _++_, map, reverse, reverse-cons, reverse-reverse}
+use Prim.Native.Nat.{ℕ, zero, suc, _<_, Fin}
+use Prim.{tt}
+use native.Mathlib.Omega.{arith}
+use lib.Bits.{bitXor, xor-lt}
+use lib.Dec.{lit<}
+use lib.ListN.{length, getD, length-map, length-reverse}
+use Rattle.common.specs.Lists.{All, Bytes}
+use Rattle.algebra.specs.Field.{Field, ops}
+use Rattle.algebra.specs.Polynomial.{plus, scale, product}
+use Rattle.algebra.proofs.Homomorphism as Hom
+use Rattle.galois.specs.Field256.{numbers, mul}
+use Rattle.galois.proofs.Laws.{mul-lt}
+use Rattle.galois.proofs.Instance.{bytes, byte, byte-inj, byte-of, byte-zero, byte-add, byte-mul}
+
+-- each number's low byte, as an element of the field
+abbrev pub elements : List ℕ → List (Fin 256)
+elements l = map byte l
+
+-- the numbers again
+abbrev pub values : List (Fin 256) → List ℕ
+values l = map (λ a. a .0) l
+
+-- a block as a polynomial over the field
+abbrev pub word : List ℕ → List (Fin 256)
+word block = elements (reverse block)
+
+pub length-word : (block : List ℕ) → length (word block) ≡ length block
+length-word block = length-map (reverse block) byte ∙ length-reverse block
+
+pub elements-values : (l : List (Fin 256)) → elements (values l) ≡ l
+elements-values [] = refl
+elements-values (a ∷ l) = ap₂ _∷_ (byte-of a) (elements-values l)
+
+pub elements-inj : (a b : List ℕ) → Bytes a → Bytes b → elements a ≡ elements b → a ≡ b
+elements-inj [] [] ha hb e = refl
+elements-inj [] (y ∷ b) ha hb e = let z : _≡_ {A = ℕ} 0 (suc (length (elements b))) = ap length e in absurd (omega arith)
+elements-inj (x ∷ a) [] ha hb e = let z : _≡_ {A = ℕ} (suc (length (elements a))) 0 = ap length e in absurd (omega arith)
+elements-inj (x ∷ a) (y ∷ b) ha hb e = ap₂ _∷_ (byte-inj x y (ha .0) (hb .0) (cc)) (elements-inj a b (ha .1) (hb .1) (cc))
+
+-- ---- bytes
+
+pub bytes-append : (a b : List ℕ) → Bytes a → Bytes b → Bytes (a ++ b)
+bytes-append [] b ha hb = hb
+bytes-append (x ∷ a) b ha hb = (ha .0, bytes-append a b (ha .1) hb)
+
+pub bytes-reverse : (a : List ℕ) → Bytes a → Bytes (reverse a)
+bytes-reverse [] h = tt
+bytes-reverse (x ∷ a) h = rw reverse-cons (bytes-append (reverse a) (x ∷ []) (bytes-reverse a (h .1)) (h .0, tt))
+
+pub bytes-values : (l : List (Fin 256)) → Bytes (values l)
+bytes-values [] = tt
+bytes-values (a ∷ l) = (a .1, bytes-values l)
+
+pub bytes-plus : (a b : List ℕ) → Bytes a → Bytes b → Bytes (plus numbers a b)
+unfolding plus
+bytes-plus [] b ha hb = hb
+bytes-plus (x ∷ a) [] ha hb = ha
+bytes-plus (x ∷ a) (y ∷ b) ha hb = (xor-lt 8 x y (ha .0) (hb .0), bytes-plus a b (ha .1) (hb .1))
+
+pub bytes-scale : (c : ℕ) (a : List ℕ) → Bytes (scale numbers c a)
+unfolding scale
+bytes-scale c [] = tt
+bytes-scale c (x ∷ a) = (mul-lt c x, bytes-scale c a)
+
+pub bytes-product : (a b : List ℕ) → Bytes (product numbers a b)
+unfolding product
+bytes-product [] b = tt
+bytes-product (x ∷ a) b = bytes-plus (scale numbers x b) (0 ∷ product numbers a b) (bytes-scale x b) (lit< tt, bytes-product a b)
+
+-- ---- sums and products
+
+pub elements-plus : (a b : List ℕ) → elements (plus numbers a b) ≡ plus (ops bytes) (elements a) (elements b)
+elements-plus = Hom.map-plus numbers (ops bytes) byte byte-add byte-mul byte-zero
+
+pub elements-scale : (c : ℕ) (a : List ℕ) → elements (scale numbers c a) ≡ scale (ops bytes) (byte c) (elements a)
+elements-scale = Hom.map-scale numbers (ops bytes) byte byte-add byte-mul byte-zero
+
+pub elements-product : (a b : List ℕ) → elements (product numbers a b) ≡ product (ops bytes) (elements a) (elements b)
+elements-product = Hom.map-product numbers (ops bytes) byte byte-add byte-mul byte-zero

@@ -1,0 +1,33 @@
+-- What decoding a block means, as a relation between the bytes that came, the bytes left and the answer.
+-- Assumes nothing.
+use mathlib.Core.Path.{_≡_}
+use mathlib.Core.List.{List}
+use Prim.Native.Nat.{ℕ, _≤_, _<_}
+use lib.ListN.{length}
+use Rattle.reed_solomon.specs.Code.{Codeword, differ}
+use Rattle.reed_solomon.specs.declared.Decoded.{Decoded}
+use Rattle.reed_solomon.specs.declared.Decoded.the-variants.{Corrected, Uncorrectable, BlockLength}
+
+-- accepted: what is left is a codeword, the count is in how many bytes it differs from what came, at most eight,
+-- and every other codeword differs from what came in more
+pub record Accepted (came left : List ℕ) (count : ℕ) : Type 0 where
+  pub codeword : Codeword left
+  pub counted : count ≡ differ came left
+  pub within : count ≤ 8
+  pub nearest : (c : List ℕ) → Codeword c → (c ≡ left → ⊥) → count < differ came c
+
+-- not accepted: no codeword is within eight bytes, and what is left is what came
+pub record Rejected (came left : List ℕ) : Type 0 where
+  pub unchanged : left ≡ came
+  pub far : (c : List ℕ) → Codeword c → 8 < differ came c
+
+abbrev pub Decodes : List ℕ → List ℕ → Decoded → Type 0
+Decodes came left (Corrected count) = (length came ≡ 204) × Accepted came left count
+Decodes came left Uncorrectable = (length came ≡ 204) × Rejected came left
+Decodes came left BlockLength = (length came ≡ 204 → ⊥) × (left ≡ came)
+
+-- the number that document 01 gives the answer
+abbrev pub decodedNumber : Decoded → ℕ
+decodedNumber (Corrected count) = 0
+decodedNumber Uncorrectable = 8
+decodedNumber BlockLength = 3

@@ -1,0 +1,3 @@
+pub mod Code
+pub mod Encode
+pub mod Decode
