@@ -1,7 +1,7 @@
 -- Values of sums and products of polynomials, division by x + c, and the number of roots.
 -- Assumes nothing.
 use mathlib.Core.Path.{_≡_, refl, sym, ap, ap₂, _∙_}
-use mathlib.Core.List.{List, [], _∷_}
+use mathlib.Core.List.{List, [], _∷_, _++_}
 use Prim.Native.Nat.{ℕ, zero, suc, _≤_, _<_, max}
 use Prim.Native.Nat.{_+_ as _+ℕ_}
 use native.Mathlib.Decide.{decLt}
@@ -10,7 +10,7 @@ use native.Mathlib.Omega.{arith}
 use lib.ListN.{length, length-map}
 use Prim.{tt}
 use Rattle.algebra.specs.Field.{Field, ops}
-use Rattle.algebra.specs.Polynomial.{eval, plus, scale, product}
+use Rattle.algebra.specs.Polynomial.{power, eval, plus, scale, product}
 use Rattle.algebra.proofs.Ring.{ring, cancel, eq-of-add, add-eq-zero, mul-ne, add-zero, mul-zero, zero-add, zero-mul}
 use Rattle.common.specs.Lists.{All}
 use Rattle.algebra.proofs.Lists.{All-each, All-map, All-zip, Away, Distinct}
@@ -164,6 +164,18 @@ module _ (K : Field) where
   pub eval-linear : (c x : F) → eval (ops K) (c ∷ 𝟙 ∷ []) x ≡ x + c
   unfolding eval
   eval-linear c x = linear-step c x
+
+  append-nil-step : (x u : F) → u ≡ 𝟘 + 𝟙 * u
+  append-nil-step x u = simp ring
+
+  append-step : (a x u v w : F) → a + x * (u + v * w) ≡ (a + x * u) + (x * v) * w
+  append-step a x u v w = simp ring
+
+  -- p, and then q from the power x^(length p) on
+  pub eval-append : (p q : List F) (x : F) → eval (ops K) (p ++ q) x ≡ eval (ops K) p x + power (ops K) x (length p) * eval (ops K) q x
+  unfolding eval power
+  eval-append [] q x = append-nil-step x (eval (ops K) q x)
+  eval-append (a ∷ p) q x = ap (λ y. a + x * y) (eval-append p q x) ∙ append-step a x (eval (ops K) p x) (power (ops K) x (length p)) (eval (ops K) q x)
 
   scale-step : (c a x u : F) → c * a + x * (c * u) ≡ c * (a + x * u)
   scale-step c a x u = simp ring

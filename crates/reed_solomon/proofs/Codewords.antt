@@ -70,6 +70,10 @@ factors-values (suc n) x =
     first : eval (ops bytes) (byte (pow 2 n) ∷ byte 1 ∷ []) x ≡ bytes .add x (point n)
     first = ap₂ (λ (u v : Fin 256). eval (ops bytes) (u ∷ v ∷ []) x) (byte-power 2 n) byte-one ∙ eval-linear bytes (point n) x
 
+pub generator-root : (j : ℕ) → j < 16 → eval (ops bytes) (elements generator) (point j) ≡ bytes .𝟘
+unfolding generator
+generator-root j h = factors-values 16 (point j) ∙ root-of 16 j h
+
 length-generator : length generator ≡ 17
 unfolding generator factors product scale plus power mul rounds timesX
 length-generator = refl
@@ -99,11 +103,10 @@ module _ (block : List ℕ) (c : Codeword block) where
       subst Bytes (reverse-reverse block) (bytes-reverse (reverse block) (subst Bytes (sym (c .divides)) (bytes-product generator (c .factor))))
 
   pub codeword-syndromes : (j : ℕ) → j < 16 → blockSyndrome block j ≡ bytes .𝟘
-  unfolding generator
   codeword-syndromes j h =
       ap (λ (p : List (Fin 256)). eval (ops bytes) p (point j)) as-product
       ∙ eval-product bytes (elements generator) (elements (c .factor)) (point j)
-      ∙ ap (λ (u : Fin 256). bytes .mul u (eval (ops bytes) (elements (c .factor)) (point j))) (factors-values 16 (point j) ∙ root-of 16 j h)
+      ∙ ap (λ (u : Fin 256). bytes .mul u (eval (ops bytes) (elements (c .factor)) (point j))) (generator-root j h)
       ∙ zero-mul bytes (eval (ops bytes) (elements (c .factor)) (point j))
 
 -- ---- and what has those is one

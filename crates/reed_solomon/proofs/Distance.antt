@@ -42,6 +42,19 @@ unfolding differ
 differ-none [] = refl
 differ-none (x ∷ a) = ap₂ _+_ (unequal-same x x refl) (differ-none a)
 
+unequal-le : (x y : ℕ) → unequal x y ≤ 1
+unequal-le x y = go (ℕ-discrete x y)
+  where
+    go : Dec (x ≡ y) → unequal x y ≤ 1
+    go (yes e) = omega (arith, unequal-same x y e)
+    go (no n) = omega (arith, unequal-other x y n)
+
+pub differ-le : (a b : List ℕ) → differ a b ≤ length a
+unfolding differ
+differ-le [] b = omega arith
+differ-le (x ∷ a) [] = omega arith
+differ-le (x ∷ a) (y ∷ b) = omega (arith, unequal-le x y, differ-le a b)
+
 unequal-sym : (x y : ℕ) → unequal x y ≡ unequal y x
 unequal-sym x y = go (ℕ-discrete x y)
   where
@@ -72,7 +85,7 @@ differ-triangle (x ∷ a) [] c h k = absurd (omega arith)
 differ-triangle (x ∷ a) (y ∷ b) [] h k = absurd (omega arith)
 differ-triangle (x ∷ a) (y ∷ b) (z ∷ c) h k = omega (arith, unequal-triangle x y z, differ-triangle a b c (omega arith) (omega arith))
 
-differ-append : (a b c d : List ℕ) → length a ≡ length b → differ (a ++ c) (b ++ d) ≡ differ a b + differ c d
+pub differ-append : (a b c d : List ℕ) → length a ≡ length b → differ (a ++ c) (b ++ d) ≡ differ a b + differ c d
 unfolding differ
 differ-append [] [] c d h = omega arith
 differ-append [] (y ∷ b) c d h = absurd (omega arith)

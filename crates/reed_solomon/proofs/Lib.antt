@@ -1,3 +1,4 @@
 pub mod Words
 pub mod Codewords
 pub mod Distance
+pub mod LongDivision

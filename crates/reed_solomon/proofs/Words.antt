@@ -7,7 +7,7 @@ use Prim.{tt}
 use native.Mathlib.Omega.{arith}
 use lib.Bits.{bitXor, xor-lt}
 use lib.Dec.{lit<}
-use lib.ListN.{length, getD, length-map, length-reverse}
+use lib.ListN.{length, getD, take, drop, replicate, length-map, length-reverse}
 use Rattle.common.specs.Lists.{All, Bytes}
 use Rattle.algebra.specs.Field.{Field, ops}
 use Rattle.algebra.specs.Polynomial.{plus, scale, product}
@@ -41,11 +41,29 @@ elements-inj [] (y ∷ b) ha hb e = let z : _≡_ {A = ℕ} 0 (suc (length (elem
 elements-inj (x ∷ a) [] ha hb e = let z : _≡_ {A = ℕ} (suc (length (elements a))) 0 = ap length e in absurd (omega arith)
 elements-inj (x ∷ a) (y ∷ b) ha hb e = ap₂ _∷_ (byte-inj x y (ha .0) (hb .0) (cc)) (elements-inj a b (ha .1) (hb .1) (cc))
 
+pub elements-append : (a b : List ℕ) → elements (a ++ b) ≡ elements a ++ elements b
+elements-append [] b = refl
+elements-append (x ∷ a) b = ap (λ (l : List (Fin 256)). byte x ∷ l) (elements-append a b)
+
 -- ---- bytes
 
 pub bytes-append : (a b : List ℕ) → Bytes a → Bytes b → Bytes (a ++ b)
 bytes-append [] b ha hb = hb
 bytes-append (x ∷ a) b ha hb = (ha .0, bytes-append a b (ha .1) hb)
+
+pub bytes-drop : (n : ℕ) (a : List ℕ) → Bytes a → Bytes (drop n a)
+bytes-drop zero a h = h
+bytes-drop (suc n) [] h = tt
+bytes-drop (suc n) (x ∷ a) h = bytes-drop n a (h .1)
+
+pub bytes-take : (n : ℕ) (a : List ℕ) → Bytes a → Bytes (take n a)
+bytes-take zero a h = tt
+bytes-take (suc n) [] h = tt
+bytes-take (suc n) (x ∷ a) h = (h .0, bytes-take n a (h .1))
+
+pub bytes-zeros : (n : ℕ) → Bytes (replicate n 0)
+bytes-zeros zero = tt
+bytes-zeros (suc n) = (lit< tt, bytes-zeros n)
 
 pub bytes-reverse : (a : List ℕ) → Bytes a → Bytes (reverse a)
 bytes-reverse [] h = tt
@@ -81,3 +99,19 @@ elements-scale = Hom.map-scale numbers (ops bytes) byte byte-add byte-mul byte-z
 
 pub elements-product : (a b : List ℕ) → elements (product numbers a b) ≡ product (ops bytes) (elements a) (elements b)
 elements-product = Hom.map-product numbers (ops bytes) byte byte-add byte-mul byte-zero
+
+-- ---- the sum of two lists of one length
+
+pub length-sum : (a b : List ℕ) → length a ≡ length b → length (plus numbers a b) ≡ length a
+unfolding plus
+length-sum [] b h = sym h
+length-sum (y ∷ a) [] h = refl
+length-sum (y ∷ a) (z ∷ b) h = ap suc (length-sum a b (omega arith))
+
+pub sum-at : (a b : List ℕ) (i : ℕ) → length a ≡ length b → getD (plus numbers a b) i 0 ≡ bitXor (getD a i 0) (getD b i 0)
+unfolding plus
+sum-at [] [] i h = refl
+sum-at [] (y ∷ b) i h = absurd (omega arith)
+sum-at (x ∷ a) [] i h = absurd (omega arith)
+sum-at (x ∷ a) (y ∷ b) zero h = refl
+sum-at (x ∷ a) (y ∷ b) (suc i) h = sum-at a b i (omega arith)
