@@ -2,4 +2,5 @@ pub mod Choice
 pub mod Computed
 pub mod Lists
 pub mod Written
+pub mod Each
 pub mod Xor

@@ -3,3 +3,4 @@ pub mod Laws
 pub mod Powers
 pub mod Tables
 pub mod Instance
+pub mod Lanes

@@ -5,8 +5,9 @@ use Prim.Native.Nat.{ℕ, zero, suc, _+_, _<_}
 use native.Mathlib.Nat.{zero-add, suc-add}
 use lib.Dec.{lit<}
 use Rattle.algebra.specs.Polynomial.{power}
-use Rattle.galois.specs.Field256.{mul, pow}
-use Rattle.galois.proofs.Laws.{mul-lt, mul-comm, mul-assoc, mul-one}
+use native.Mathlib.Numerals.{add-one}
+use Rattle.galois.specs.Field256.{timesX, mul, pow}
+use Rattle.galois.proofs.Laws.{mul-lt, mul-comm, mul-assoc, mul-one, mul-two}
 
 pub pow-lt : (a n : ℕ) → pow a n < 256
 unfolding power
@@ -47,3 +48,8 @@ pub pow-pow : (a m n : ℕ) → pow (pow a m) n ≡ pow (pow a n) m
 unfolding power
 pow-pow a zero n = one-pow n
 pow-pow a (suc m) n = sym (pow-mul a (pow a m) n) ∙ ap (mul (pow a n)) (pow-pow a m n)
+
+-- the powers of 02, one after the other
+pub power-next : (n : ℕ) → timesX (pow 2 n) ≡ pow 2 (n + 1)
+unfolding power
+power-next n = sym (mul-two (pow 2 n) (pow-lt 2 n)) ∙ ap (pow 2) (sym (add-one n))

@@ -18,11 +18,8 @@ use Rattle.algebra.proofs.Decoding.{terms, distinct-terms, length-terms}
 use Rattle.galois.specs.Field256.{numbers, mul, rounds, timesX, pow}
 use Rattle.galois.proofs.Instance.{bytes, byte, byte-one, byte-power, powers-differ}
 use Rattle.reed_solomon.specs.Code.{factors, generator, polynomial, Codeword}
-use Rattle.reed_solomon.proofs.Words.{elements, values, word, length-word, elements-values, elements-inj, elements-product, bytes-reverse, bytes-values, bytes-product}
-
--- the roots of g: powers of 02
-abbrev pub point : ℕ → Fin 256
-point j = power (ops bytes) (byte 2) j
+use Rattle.reed_solomon.specs.Steps.{elements, word, point}
+use Rattle.reed_solomon.proofs.Words.{values, length-word, elements-values, elements-inj, elements-product, bytes-reverse, bytes-values, bytes-product}
 
 -- the value of a block, as a polynomial, at root j
 abbrev pub blockSyndrome : List ℕ → ℕ → Fin 256

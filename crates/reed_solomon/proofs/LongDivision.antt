@@ -20,8 +20,9 @@ use Rattle.galois.specs.Field256.{numbers, mul, rounds, timesX, scaled}
 use Rattle.galois.proofs.Instance.{bytes, byte, byte-zero, byte-one, byte-add, byte-mul}
 use Rattle.reed_solomon.specs.Code.{factors, generator, Codeword, differ}
 use Rattle.reed_solomon.specs.Encode.{generatorTail, divided, remainderFrom, checkBytes, encoded}
-use Rattle.reed_solomon.proofs.Words.{length-sum, elements, elements-append, word, length-word, bytes-append, bytes-drop, bytes-zeros, bytes-plus, bytes-scale}
-use Rattle.reed_solomon.proofs.Codewords.{point, blockSyndrome, codeword-of, codeword-length, generator-root}
+use Rattle.reed_solomon.specs.Steps.{elements, word, point}
+use Rattle.reed_solomon.proofs.Words.{length-sum, elements-append, length-word, bytes-append, bytes-drop, bytes-zeros, bytes-plus, bytes-scale}
+use Rattle.reed_solomon.proofs.Codewords.{blockSyndrome, codeword-of, codeword-length, generator-root}
 use Rattle.reed_solomon.proofs.Distance.{same-codeword, differ-append, differ-none, differ-le}
 
 -- ---- identities
@@ -102,9 +103,13 @@ module _ (x : Fin 256) where
 
 -- ---- the division
 
-pub length-tail : length generatorTail ≡ 16
+-- the coefficients of g below x^16, from x^15 down, as antt computes them from the sixteen factors
+pub tail-is : generatorTail ≡ 0x3B ∷ 0x0D ∷ 0x68 ∷ 0xBD ∷ 0x44 ∷ 0xD1 ∷ 0x1E ∷ 0x08 ∷ 0xA3 ∷ 0x41 ∷ 0x29 ∷ 0xE5 ∷ 0x62 ∷ 0x32 ∷ 0x24 ∷ 0x3B ∷ []
 unfolding generatorTail generator factors product scale plus power mul rounds timesX
-length-tail = refl
+tail-is = refl
+
+pub length-tail : length generatorTail ≡ 16
+length-tail = ap length tail-is
 
 monic : generator ≡ take 16 generator ++ 1 ∷ []
 unfolding generator factors product scale plus power mul rounds timesX

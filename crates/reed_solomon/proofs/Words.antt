@@ -14,19 +14,12 @@ use Rattle.algebra.specs.Polynomial.{plus, scale, product}
 use Rattle.algebra.proofs.Homomorphism as Hom
 use Rattle.galois.specs.Field256.{numbers, mul}
 use Rattle.galois.proofs.Laws.{mul-lt}
+use Rattle.reed_solomon.specs.Steps.{elements, word}
 use Rattle.galois.proofs.Instance.{bytes, byte, byte-inj, byte-of, byte-zero, byte-add, byte-mul}
-
--- each number's low byte, as an element of the field
-abbrev pub elements : List ℕ → List (Fin 256)
-elements l = map byte l
 
 -- the numbers again
 abbrev pub values : List (Fin 256) → List ℕ
 values l = map (λ a. a .0) l
-
--- a block as a polynomial over the field
-abbrev pub word : List ℕ → List (Fin 256)
-word block = elements (reverse block)
 
 pub length-word : (block : List ℕ) → length (word block) ≡ length block
 length-word block = length-map (reverse block) byte ∙ length-reverse block

@@ -1,3 +1,4 @@
 pub mod Code
 pub mod Encode
 pub mod Decode
+pub mod Steps

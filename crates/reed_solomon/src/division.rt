@@ -4,8 +4,9 @@ ghost use mathlib.Core.List.{[], _∷_, _++_};
 ghost use Prim.Native.Nat.{_+_, _≤_};
 ghost use lib.ListN.{length, take, drop};
 ghost use Rattle.algebra.specs.Polynomial.{plus};
-ghost use Rattle.galois.specs.Field256.{numbers};
-ghost use Rattle.reed_solomon.specs.Encode.{divided, checkBytes};
+ghost use Rattle.galois.specs.Field256.{numbers, scaled};
+ghost use Rattle.reed_solomon.specs.Encode.{generatorTail, divided, checkBytes};
+ghost use Rattle.reed_solomon.specs.Steps.{residueOf, allZero};
 
 // The coefficients of the generator polynomial below x^16, from x^15 down.
 pub const GENERATOR: [u8; 16] = [
@@ -53,12 +54,26 @@ pub fn sum(a: [u8; 16], b: [u8; 16]) -> [u8; 16]
     r
 }
 
+// The tail of the generator polynomial times f. It is called from one place, so that it is compiled into the loop of the division.
+fn generator_times(f: u8) -> [u8; 16]
+    ensures { λ r. ⌜ r ≡ scaled f generatorTail ⌝ }
+{
+    let g = GENERATOR;
+    let mut r = [0u8; 16];
+    let mut j: usize = 0;
+    while j < 16 {
+        r[j] = galois::mul(g[j], f);
+        j += 1;
+    }
+    r
+}
+
 // One step of the division, for the next byte of the dividend.
 fn divide(r: [u8; 16], d: u8) -> [u8; 16]
     ensures { λ q. ⌜ q ≡ divided r d ⌝ }
 {
     let f = r[0] ^ d;
-    sum(shifted(r), galois::scale(GENERATOR, f))
+    sum(shifted(r), generator_times(f))
 }
 
 // The check bytes of the first 188 bytes.
@@ -86,4 +101,40 @@ pub fn put(list: &[u8], at: usize, room: &mut [u8])
         room[at + i] = list[i];
         i += 1;
     }
+}
+
+// Sixteen bytes of a list, from a place on.
+pub fn sixteen(list: &[u8], at: usize) -> [u8; 16]
+    requires { ⌜ at + 16 ≤ length (now list) ⌝ }
+    ensures { λ r. ⌜ r ≡ take 16 (drop at (now (list .entry))) ⌝ }
+{
+    let mut r = [0u8; 16];
+    let mut j: usize = 0;
+    while j < 16 {
+        r[j] = list[at + j];
+        j += 1;
+    }
+    r
+}
+
+// What is left of a block of 204 bytes by the generator polynomial: zero for a codeword.
+pub fn residue(block: &[u8]) -> [u8; 16]
+    requires { ⌜ length (now block) ≡ 204 ⌝ }
+    ensures { λ r. ⌜ r ≡ residueOf (now (block .entry)) ⌝ }
+{
+    sum(check_bytes(block), sixteen(block, 188))
+}
+
+// Whether sixteen bytes are all zero.
+pub fn is_zero(r: [u8; 16]) -> bool
+    ensures { λ b. ⌜ b ≡ allZero r ⌝ }
+{
+    let mut j: usize = 0;
+    while j < 16 {
+        if r[j] != 0 {
+            return false;
+        }
+        j += 1;
+    }
+    true
 }

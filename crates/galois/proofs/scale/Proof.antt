@@ -1,15 +1,11 @@
 -- `galois::scale` meets its contract: after j turns the first j bytes are those of the scaled list.
 -- Assumes nothing.
-use mathlib.Core.Path.{_≡_, refl, sym, ap, _∙_}
-use Prim.Native.Nat.{ℕ, _-_, _≤_, _<_}
-use native.Mathlib.Omega.{arith}
-use lib.ListN.{length, length-map}
-use Rattle.common.proofs.Lists.{getD-map-in}
-use Rattle.algebra.specs.Polynomial.{scale}
-use Rattle.galois.proofs.Laws.{mul-comm}
+use mathlib.Core.Path.{refl}
+use Prim.Native.Nat.{_-_}
+use Rattle.common.proofs.Written.{Written}
+use Rattle.galois.specs.Field256.{scaled}
+use Rattle.galois.proofs.Lanes.{scaled-none, scaled-more, scaled-all}
 use borrow.Author.Needs.{needs}
-use Rattle.common.proofs.Written.{Written, written-none, written-next, written-whole}
-use Rattle.galois.specs.Field256.{mul as mulOf, scaled}
 use Rattle.galois.proofs.scale.Statement.{statement}
 use Rattle.galois.proofs.scale.Tie as tie
 
@@ -20,8 +16,7 @@ abbrev μ-loop : tie.MeasureT-loop
 μ-loop f a r₀ j₀ r j = 16 - j
 
 loop-holds : tie.Need-loop-holds Inv-loop μ-loop
-unfolding scale
-loop-holds c = written-none (omega (arith, length-map (c .args .t1) (mulOf (c .args .f)), c .good .0 .1 .0 .1))
+loop-holds c = scaled-none _ _ (c .good .0 .1 .0 .1) refl
 
 array-read-mul : tie.Need-array-read-mul Inv-loop μ-loop
 array-read-mul c = search needs
@@ -39,22 +34,10 @@ loop-less : tie.Need-loop-less Inv-loop μ-loop
 loop-less c = search needs
 
 loop-again : tie.Need-loop-again Inv-loop μ-loop
-unfolding scale
-loop-again c =
-    let s = c .before .before .before in
-    let l = c .before .before .loop in
-    let n : length (s .args .t1) ≡ 16 = s .good .0 .1 .0 .1 in
-    written-next (l .inv) _ (omega (arith, length-map (s .args .t1) (mulOf (s .args .f))))
-    (c .mul .ensures ∙ mul-comm _ _ ∙ sym (getD-map-in (mulOf (s .args .f)) (s .args .t1) 0 0 (l .j) (omega arith)))
+loop-again c = scaled-more _ _ (c .before .before .before .good .0 .1 .0 .1) (c .before .before .loop .inv) _ (search needs) (c .mul .ensures)
 
 returns : tie.Need-returns Inv-loop μ-loop
-unfolding scale
-returns c =
-    let s = c .before .before in
-    let l = c .before .loop in
-    let n : length (scaled (s .args .f) (s .args .t1)) ≡ 16 = length-map (s .args .t1) (mulOf (s .args .f)) ∙ s .good .0 .1 .0 .1 in
-    let e : l .j ≡ 16 = omega (arith, l .inv .within) in
-    written-whole (rw e at (l .inv)) n refl
+returns c = scaled-all _ _ (c .before .before .good .0 .1 .0 .1) refl (c .before .loop .inv) (search needs)
 
 pub scale-spec : {M : Type 1} → statement M
 scale-spec =

@@ -1,0 +1,45 @@
+// The syndromes: the values of the residue at the sixteen roots of the generator polynomial.
+ghost use Rattle.reed_solomon.specs.Steps.{Powers, Advanced, SyndromesOf};
+
+// The powers of 02. The first sixteen are the roots of the generator polynomial, and power i is the place of the coefficient of x^i.
+pub fn powers() -> [u8; 208]
+    ensures { λ r. ⌜ Powers r ⌝ }
+{
+    let mut x = [0u8; 208];
+    let mut p: u8 = 1;
+    let mut i: usize = 0;
+    while i < 208 {
+        x[i] = p;
+        p = galois::times_x(p);
+        i += 1;
+    }
+    x
+}
+
+// One step of Horner's rule at the sixteen roots.
+fn advance(s: [u8; 16], x: &[u8; 208], d: u8) -> [u8; 16]
+    ensures { λ r. ⌜ Advanced 16 (now (x .entry)) s d r ⌝ }
+{
+    let mut r = [0u8; 16];
+    let mut j: usize = 0;
+    while j < 16 {
+        r[j] = galois::mul(x[j], s[j]) ^ d;
+        j += 1;
+    }
+    r
+}
+
+// The values of sixteen coefficients, the highest first, at the sixteen roots.
+pub fn syndromes(residue: [u8; 16], x: &[u8; 208]) -> [u8; 16]
+    requires { ⌜ Powers (now x) ⌝ }
+    ensures { λ r. ⌜ SyndromesOf residue r ⌝ }
+{
+    let mut s = [0u8; 16];
+    let mut i: usize = 0;
+    while i < 16 {
+        let t = advance(s, x, residue[i]);
+        s = t;
+        i += 1;
+    }
+    s
+}
