@@ -3,3 +3,4 @@ pub mod Codewords
 pub mod Distance
 pub mod LongDivision
 pub mod Residue
+pub mod KeyEquations

@@ -64,12 +64,14 @@ module _ (x l : List ℕ) (i : ℕ) (s r : List ℕ) (n : length l ≡ 16) where
   unfolding power
   syndromes-more p h e a =
       let b : i < length l = omega arith in
-      record { each = λ j k. advanced 16 x s (getD l i 0) r (omega arith) p a j k
-      ∙ ap (λ (u : Fin 256). bytes .add (bytes .mul (point j) u) (byte (getD l i 0))) (e .each j k)
-      ∙ horner-identity bytes (point j) (high (point j) (take i l)) (byte (getD l i 0))
-      ∙ ap (λ (u : Fin 256). bytes .add u (bytes .mul (bytes .mul (point j) (bytes .𝟙)) (high (point j) (take i l)))) (sym (high-one (point j) (getD l i 0)))
-      ∙ sym (high-append (point j) (take i l) (getD l i 0 ∷ []))
-      ∙ ap (high (point j)) (sym (take-suc l i 0 b) ∙ ap (λ (m : ℕ). take m l) (sym (add-one i))) }
+      record {
+        each = λ j k. advanced 16 x s (getD l i 0) r (omega arith) p a j k
+            ∙ ap (λ (u : Fin 256). bytes .add (bytes .mul (point j) u) (byte (getD l i 0))) (e .each j k)
+            ∙ horner-identity bytes (point j) (high (point j) (take i l)) (byte (getD l i 0))
+            ∙ ap (λ (u : Fin 256). bytes .add u (bytes .mul (bytes .mul (point j) (bytes .𝟙)) (high (point j) (take i l)))) (sym (high-one (point j) (getD l i 0)))
+            ∙ sym (high-append (point j) (take i l) (getD l i 0 ∷ []))
+            ∙ ap (high (point j)) (sym (take-suc l i 0 b) ∙ ap (λ (m : ℕ). take m l) (sym (add-one i)));
+      }
 
 pub syndromes-all : (l : List ℕ) (i : ℕ) (s : List ℕ) → length l ≡ 16 → 16 ≤ i → SyndromesOf (take i l) s → SyndromesOf l s
 syndromes-all l i s n h e = record { each = λ j k. e .each j k ∙ ap (high (point j)) (take-all i l (omega arith)) }

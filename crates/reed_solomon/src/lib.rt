@@ -5,6 +5,7 @@ ghost use Rattle.reed_solomon.specs.Encode.{encodeNumber, encodeRoom};
 use answer::Answer;
 
 mod division;
+mod locator;
 mod syndromes;
 
 // What decoding a block answers. specs/Decode.antt gives each case the number of document 01.
