@@ -5,9 +5,9 @@ use mathlib.Core.List.{List, [], _∷_, _++_}
 use Prim.Native.Nat.{ℕ, zero, suc, _≤_, _<_, max}
 use Prim.Native.Nat.{_+_ as _+ℕ_}
 use native.Mathlib.Decide.{decLt}
-use native.Mathlib.Nat.{not-suc-le-zero}
+use native.Mathlib.Nat.{not-suc-le-zero, le-of-suc-le-suc}
 use native.Mathlib.Omega.{arith}
-use lib.ListN.{length, length-map}
+use lib.ListN.{length, getD, drop, length-map}
 use Prim.{tt}
 use Rattle.algebra.specs.Field.{Field, ops}
 use Rattle.algebra.specs.Polynomial.{power, eval, plus, scale, product}
@@ -70,6 +70,23 @@ module _ (K : Field) where
   unfolding horner
   length-horner c [] = refl
   length-horner c (a ∷ p) = ap suc (length-horner c p)
+
+  horner-at : (c : F) (p : List F) (k : ℕ) → k < length p → getD (horner c p) k 𝟘 ≡ eval (ops K) (drop k p) c
+  unfolding horner
+  horner-at c [] k h = absurd (not-suc-le-zero h)
+  horner-at c (a ∷ p) zero h = refl
+  horner-at c (a ∷ p) (suc k) h = horner-at c p k (le-of-suc-le-suc h)
+
+  -- the coefficients of the quotient by x + c are the values at c of what is left
+  pub quotient-at : (c : F) (p : List F) (k : ℕ) → suc k < length p → getD (quotient c p) k 𝟘 ≡ eval (ops K) (drop (suc k) p) c
+  unfolding quotient
+  quotient-at c [] k h = absurd (not-suc-le-zero h)
+  quotient-at c (a ∷ p) k h = horner-at c p k (le-of-suc-le-suc h)
+
+  pub length-quotient : (c : F) (p : List F) (n : ℕ) → length p ≡ suc n → length (quotient c p) ≡ n
+  unfolding quotient
+  length-quotient c [] n h = absurd (omega arith)
+  length-quotient c (a ∷ p) n h = length-horner c p ∙ omega arith
 
   div-nil : (c x : F) → 𝟘 ≡ (x + c) * 𝟘 + 𝟘
   div-nil c x = simp ring

@@ -76,9 +76,14 @@ pub byte-mul : (a b : ℕ) → byte (mul a b) ≡ bytes .mul (byte a) (byte b)
 unfolding byte
 byte-mul a b = Fin·val-path (mod-eq-of-lt (mul-lt a b) ∙ sym (mul-mod-left a b) ∙ sym (mul-mod-right (a % 256) b))
 
-pub byte-inv : (a : ℕ) → a < 256 → byte (inv a) ≡ bytes .inv (byte a)
-unfolding byte
-byte-inv a h = Fin·val-path (mod-eq-of-lt (inv-lt a) ∙ ap inv (sym (mod-eq-of-lt h)))
+power-mod : (a n : ℕ) → pow (a % 256) n ≡ pow a n
+unfolding power
+power-mod a zero = refl
+power-mod a (suc n) = mul-mod-left a (pow (a % 256) n) ∙ ap (mul a) (power-mod a n)
+
+pub byte-inv : (a : ℕ) → byte (inv a) ≡ bytes .inv (byte a)
+unfolding byte inv
+byte-inv a = Fin·val-path (mod-eq-of-lt (pow-lt a 254) ∙ sym (power-mod a 254))
 
 pub byte-power : (a n : ℕ) → byte (pow a n) ≡ power (ops bytes) (byte a) n
 unfolding power

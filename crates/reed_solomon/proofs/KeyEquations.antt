@@ -68,7 +68,7 @@ module _ (m new : List ℕ) (i a : ℕ) (lm : length m ≡ 128) (li : i < 8) whe
       → new ≡ take (i * 16) m ++ row ++ drop (i * 16 + length row) m → AddRow bytes 8 9 i j (byte a) (mat m) (mat new)
   added-row j row lj e f =
       let s : length (take 16 (drop (i * 16) m)) ≡ length (scaled a (take 16 (drop (j * 16) m))) =
-          row-length m i lm li ∙ sym (scaled-length a (take 16 (drop (j * 16) m)) ∙ row-length m j lm lj) in
+      row-length m i lm li ∙ sym (scaled-length a (take 16 (drop (j * 16) m)) ∙ row-length m j lm lj) in
       let n : length row ≡ 16 = ap length e ∙ length-sum (take 16 (drop (i * 16) m)) (scaled a (take 16 (drop (j * 16) m))) s ∙ row-length m i lm li in
       record {
         other = λ r c h l x. ap (λ (u : List ℕ). mat u r c) f ∙ row-other m row i lm li n r c h (omega arith) x;

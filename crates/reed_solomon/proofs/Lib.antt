@@ -4,3 +4,5 @@ pub mod Distance
 pub mod LongDivision
 pub mod Residue
 pub mod KeyEquations
+pub mod RootSearch
+pub mod ErrorValues

@@ -113,3 +113,74 @@ pub record Solution (m : List ℕ) (k : ℕ) (q : List ℕ) : Type 0 where
 pub record Located (s q : List ℕ) : Type 0 where
   pub nonzero : Zero bytes (elements q) → ⊥
   pub equations : (j : ℕ) → j < 8 → dot bytes (elements q) (λ i. byte (getD s (j + i) 0)) ≡ bytes .𝟘
+
+-- ---- the errors
+
+-- the values of a polynomial at the first 208 powers of 02
+pub record Evaluated (q v : List ℕ) : Type 0 where
+  pub each : (i : ℕ) → i < 208 → byte (getD v i 0) ≡ eval (ops bytes) (elements q) (point i)
+
+-- the places of a list's zeros, the first element being at n
+unfoldable pub zerosFrom : ℕ → List ℕ → List ℕ
+zerosFrom n [] = []
+zerosFrom n (x ∷ l) = pick (eqb x 0) (n ∷ []) [] ++ zerosFrom (n + 1) l
+
+-- the degrees below 204 at which the values are zero
+abbrev pub zerosOf : List ℕ → List ℕ
+zerosOf v = zerosFrom 0 (take 204 v)
+
+pub record FoundRoots (v x degrees places : List ℕ) (count : ℕ) : Type 0 where
+  pub number : count ≡ length (zerosOf v)
+  pub listed : take count degrees ≡ zerosOf v
+  pub placed : take count places ≡ map (λ d. getD x d 0) (zerosOf v)
+
+-- p, of which nine coefficients count, has the values of the product of x + r
+pub record RootProduct (places p : List ℕ) : Type 0 where
+  pub values : (y : Fin 256) → eval (ops bytes) (elements (take 9 p)) y ≡ eval (ops bytes) (fromRoots bytes (elements places)) y
+
+-- with q = p / (x + y), the sum of q_i S_i over q(y)
+abbrev pub valueBy : List (Fin 256) → List ℕ → Fin 256 → Fin 256
+valueBy q s y = bytes .mul (dot bytes q (λ i. byte (getD s i 0))) (bytes .inv (eval (ops bytes) q y))
+
+unfoldable pub errorValue : List ℕ → List ℕ → ℕ → Fin 256
+errorValue p s y = valueBy (quotient bytes (byte y) (elements (take 9 p))) s (byte y)
+
+pub record ErrorValues (p s places : List ℕ) (count : ℕ) (e : List ℕ) : Type 0 where
+  pub own : (l : ℕ) → l < count → byte (getD e l 0) ≡ errorValue p s (getD places l 0)
+  pub rest : (l : ℕ) → count ≤ l → getD e l 0 ≡ 0
+
+-- the sum of a list in the field
+unfoldable pub sumOf : List ℕ → ℕ
+sumOf [] = 0
+sumOf (x ∷ l) = bitXor x (sumOf l)
+
+-- element by element, the products
+unfoldable pub productsOf : List ℕ → List ℕ → List ℕ
+productsOf [] b = []
+productsOf (x ∷ a) [] = []
+productsOf (x ∷ a) (y ∷ b) = mul x y ∷ productsOf a b
+
+-- places and values as terms
+unfoldable pub termsOf : List ℕ → List ℕ → List (Term bytes)
+termsOf [] es = []
+termsOf (x ∷ xs) [] = []
+termsOf (x ∷ xs) (e ∷ es) = (byte x, byte e) ∷ termsOf xs es
+
+-- the terms have the sixteen syndromes
+pub record Explains (terms : List (Term bytes)) (s : List ℕ) : Type 0 where
+  pub each : (j : ℕ) → j < 16 → syndrome bytes terms j ≡ byte (getD s j 0)
+
+abbrev pub Explained : List ℕ → List ℕ → List ℕ → Bool → Type 0
+Explained places values s true = Explains (termsOf places values) s
+Explained places values s false = Explains (termsOf places values) s → ⊥
+
+-- a block with the errors taken away; the coefficient of x^d stands at place 203 - d
+unfoldable pub correctedBy : List ℕ → List ℕ → List ℕ → List ℕ
+correctedBy b [] es = b
+correctedBy b (d ∷ ds) [] = b
+correctedBy b (d ∷ ds) (e ∷ es) = correctedBy (set b (203 - d) (bitXor (getD b (203 - d) 0) e)) ds es
+
+-- how many errors are not zero
+unfoldable pub changedIn : List ℕ → ℕ
+changedIn [] = 0
+changedIn (e ∷ es) = pick (eqb e 0) 0 1 + changedIn es

@@ -4,6 +4,7 @@ ghost use Rattle.answer.specs.Number.{numberOf};
 ghost use Rattle.reed_solomon.specs.Encode.{encodeNumber, encodeRoom};
 use answer::Answer;
 
+mod correction;
 mod division;
 mod locator;
 mod syndromes;

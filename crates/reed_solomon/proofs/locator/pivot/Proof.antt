@@ -59,9 +59,7 @@ same-length-2 c = omega (arith, c .before .before .scale-row .kept .0, ready (c 
 returns-2 : tie.Need-returns-2
 returns-2 c =
     let j = c .before .before .before .before .before .before in
-    let s = j .before .before .before .before .before in
-    let x = c .before .before .before .before .before .slice-known3 .given (s .args .k * 16 + s .args .k) .fits in
-    pivoted _ _ _ _ _ (omega arith) (c .before .before .scale-row .kept .0 ∙ ready j .kept .len) (ap byte (c .before .before .before .before .inverse .ensures) ∙ byte-inv _ x) (c .before .before .scale-row .ensures) (ready j)
+    pivoted _ _ _ _ _ (omega arith) (c .before .before .scale-row .kept .0 ∙ ready j .kept .len) (ap byte (c .before .before .before .before .inverse .ensures) ∙ byte-inv _) (c .before .before .scale-row .ensures) (ready j)
 
 pub pivot-spec : {M : Type 1} → statement M
 pivot-spec =
