@@ -148,9 +148,20 @@ multiplied-all rs p l few h m =
 
 -- ---- the value of one error
 
+-- p / (x + y)
+abbrev quotientBy : List ℕ → ℕ → List (Fin 256)
+quotientBy p y = quotient bytes (byte y) (elements (take 9 p))
+
+-- a is coefficient k - 1 of the quotient before the next step, u and v the sums from coefficient k on
+pub record Summed (p s : List ℕ) (y a u v k : ℕ) : Type 0 where
+  pub most : k ≤ 8
+  pub coefficient : byte a ≡ eval (ops bytes) (elements (drop (k + 1) (take 9 p))) (byte y)
+  pub numerator : byte u ≡ dot bytes (drop k (quotientBy p y)) (λ i. byte (getD s (k + i) 0))
+  pub denominator : byte v ≡ eval (ops bytes) (drop k (quotientBy p y)) (byte y)
+
 module _ (p s : List ℕ) (y : ℕ) (n : length p ≡ 16) where
   abbrev quot : List (Fin 256)
-  quot = quotient bytes (byte y) (elements (take 9 p))
+  quot = quotientBy p y
 
   nine : length (take 9 p) ≡ 9
   nine = length-take-le 9 p (omega arith)
@@ -169,20 +180,13 @@ module _ (p s : List ℕ) (y : ℕ) (n : length p ≡ 16) where
       drop-map (suc k) [] = refl
       drop-map (suc k) (a ∷ l) = drop-map k l
 
-  -- a is coefficient k - 1 of the quotient before the next step, u and v the sums from coefficient k on
-  pub record Summed (a u v k : ℕ) : Type 0 where
-    pub most : k ≤ 8
-    pub coefficient : byte a ≡ eval (ops bytes) (elements (drop (k + 1) (take 9 p))) (byte y)
-    pub numerator : byte u ≡ dot bytes (drop k quot) (λ i. byte (getD s (k + i) 0))
-    pub denominator : byte v ≡ eval (ops bytes) (drop k quot) (byte y)
-
   nothing : drop 8 quot ≡ []
   nothing = ap (λ (k : ℕ). drop k quot) (sym quot-length) ∙ drop-length quot
 
   past : drop 9 (take 9 p) ≡ []
   past = ap (λ (k : ℕ). drop k (take 9 p)) (sym nine) ∙ drop-length (take 9 p)
 
-  pub summed-none : Summed 0 0 0 8
+  pub summed-none : Summed p s y 0 0 0 8
   unfolding dot eval
   summed-none =
       record {
@@ -192,7 +196,7 @@ module _ (p s : List ℕ) (y : ℕ) (n : length p ≡ 16) where
         denominator = byte-zero ∙ ap (λ (q : List (Fin 256)). eval (ops bytes) q (byte y)) (sym nothing);
       }
 
-  module _ (a u v k : ℕ) (m : Summed a u v k) (more : 0 < k) where
+  module _ (a u v k : ℕ) (m : Summed p s y a u v k) (more : 0 < k) where
     down : k - 1 + 1 ≡ k
     down = omega arith
 
@@ -214,7 +218,7 @@ module _ (p s : List ℕ) (y : ℕ) (n : length p ≡ 16) where
         let j : suc (k - 1) ≡ k = omega arith in
         drop-cons quot (k - 1) (bytes .𝟘) (omega (arith, m .most, quot-length)) ∙ ap₂ (λ (w : Fin 256) (j : ℕ). w ∷ drop j quot) (sym own) j
 
-    pub summed-more : Summed a′ (bitXor (mul a′ (getD s (k - 1) 0)) u) (bitXor (mul v y) a′) (k - 1)
+    summed-more : Summed p s y a′ (bitXor (mul a′ (getD s (k - 1) 0)) u) (bitXor (mul v y) a′) (k - 1)
     unfolding dot eval
     summed-more =
         record {
@@ -239,7 +243,15 @@ module _ (p s : List ℕ) (y : ℕ) (n : length p ≡ 16) where
         there : (i : ℕ) → k + i ≡ k - 1 + suc i
         there i = omega arith
 
-  pub summed-all : (a u v k w r : ℕ) → k ≤ 0 → Summed a u v k → w ≡ inv v → r ≡ mul u w → byte r ≡ errorValue p s y
+    -- the same, with the products named
+    pub summed-step : (d e f : ℕ) → d ≡ mul a y → e ≡ mul (bitXor d (getD p k 0)) (getD s (k - 1) 0) → f ≡ mul v y
+        → Summed p s y (bitXor d (getD p k 0)) (bitXor e u) (bitXor f (bitXor d (getD p k 0))) (k - 1)
+    summed-step d e f g h i =
+        subst (λ (x : ℕ). Summed p s y (bitXor d (getD p k 0)) (bitXor e u) (bitXor x (bitXor d (getD p k 0))) (k - 1)) (sym i)
+        (subst (λ (x : ℕ). Summed p s y (bitXor d (getD p k 0)) (bitXor x u) (bitXor (mul v y) (bitXor d (getD p k 0))) (k - 1)) (sym h)
+        (subst (λ (x : ℕ). Summed p s y (bitXor x (getD p k 0)) (bitXor (mul (bitXor x (getD p k 0)) (getD s (k - 1) 0)) u) (bitXor (mul v y) (bitXor x (getD p k 0))) (k - 1)) (sym g) summed-more))
+
+  pub summed-all : (a u v k w r : ℕ) → k ≤ 0 → Summed p s y a u v k → w ≡ inv v → r ≡ mul u w → byte r ≡ errorValue p s y
   unfolding errorValue
   summed-all a u v k w r h m e f =
       let z : k ≡ 0 = omega arith in

@@ -6,3 +6,4 @@ pub mod Residue
 pub mod KeyEquations
 pub mod RootSearch
 pub mod ErrorValues
+pub mod ErrorTerms

@@ -51,6 +51,11 @@ evaluated-more x q k v w n a b p e s =
           ∙ sym (eval-from q (k - 1) (point i) (omega arith));
     }
 
+pub evaluated-all : (q : List ℕ) (k : ℕ) (v : List ℕ) → k ≤ 0 → Evaluated (drop k q) v → Evaluated q v
+evaluated-all q k v h e =
+    let z : k ≡ 0 = omega arith in
+    record { each = λ i b. e .each i b ∙ ap (λ (j : ℕ). eval (ops bytes) (elements (drop j q)) (point i)) z }
+
 -- ---- the zeros of a list
 
 zeros-append : (n : ℕ) (a b : List ℕ) → zerosFrom n (a ++ b) ≡ zerosFrom n a ++ zerosFrom (n + length a) b

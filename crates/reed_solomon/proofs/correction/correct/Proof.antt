@@ -1,65 +1,78 @@
+-- `correction::correct` meets its contract: the errors from l on are left to do.
+-- Assumes nothing.
+use mathlib.Core.Path.{_≡_, refl, sym, ap, _∙_, subst}
+use mathlib.Core.Logic.{⊎-elim}
+use Prim.Native.Nat.{ℕ, _+_, _-_, _≤_, _<_}
+use native.Mathlib.Omega.{arith}
+use lib.ListN.{length}
+use Rattle.reed_solomon.proofs.ErrorTerms.{Correcting, correcting-none, changed-fits, fixed, correcting-same, correcting-more, correcting-count, correcting-block}
+use borrow.Author.Needs.{needs}
 use Rattle.reed_solomon.proofs.correction.correct.Statement.{statement}
 use Rattle.reed_solomon.proofs.correction.correct.Tie as tie
 use Rattle.reed_solomon.proofs.correction.correct.Reads as reads
 use Rattle.reed_solomon.proofs.correction.correct.Lts as lts
 
 abbrev Inv-loop : tie.InvT-loop
-Inv-loop block₀ count degrees values changed₀ l₀ block changed l = ?
+Inv-loop block₀ count degrees values changed₀ l₀ block changed l = Correcting block₀ block degrees values count changed l
 
 abbrev μ-loop : tie.MeasureT-loop
-μ-loop block₀ count degrees values changed₀ l₀ block changed l = ?
+μ-loop block₀ count degrees values changed₀ l₀ block changed l = count - l
 
--- src/correction.rt:180:5
 loop-holds : tie.Need-loop-holds Inv-loop μ-loop
-loop-holds c = ?
+loop-holds c = correcting-none _ _ _ _ (c .pre .0)
 
--- src/correction.rt:181:24
 array-read-at : tie.Need-array-read-at Inv-loop μ-loop
-array-read-at c = ?
+array-read-at c = search needs
 
--- src/correction.rt:181:24
 cast-at : tie.Need-cast-at Inv-loop μ-loop
-cast-at c = ?
+cast-at c = record { fits = omega (arith, c .before .before .pre .2 (c .before .loop .l) (omega arith)) }
 
--- src/correction.rt:181:18
 sub-at : tie.Need-sub-at Inv-loop μ-loop
-sub-at c = ?
+sub-at c = omega (arith, c .before .before .pre .2 (c .before .loop .l) (omega arith))
 
--- src/correction.rt:182:17
 array-read-e : tie.Need-array-read-e Inv-loop μ-loop
-array-read-e c = ?
+array-read-e c = search needs
 
--- src/correction.rt:183:21
 slice-read-block : tie.Need-slice-read-block Inv-loop μ-loop
-slice-read-block c = ?
+slice-read-block c = omega (arith, c .before .before .loop .inv .len)
 
--- src/correction.rt:183:9
 slice-write-block : tie.Need-slice-write-block Inv-loop μ-loop
-slice-write-block c = ?
+slice-write-block c = omega (arith, c .before .before .loop .inv .len)
 
--- src/correction.rt:185:13
 add-changed : tie.Need-add-changed Inv-loop μ-loop
-add-changed c = ?
+add-changed c =
+    let s = c .before .before .before .before in
+    let l = c .before .before .before .loop in
+    record { fits = omega (arith, changed-fits _ _ _ _ _ _ _ (s .good .1 .0 .1 .0 .1) (s .good .1 .1 .0 .1 .0 .1) (s .pre .1) (omega arith) (l .inv) (c .if1 .taken)) }
 
--- src/correction.rt:187:9
 add-l : tie.Need-add-l Inv-loop μ-loop
-add-l c = ?
+add-l c = search needs
 
--- src/correction.rt:180:5
 loop-less : tie.Need-loop-less Inv-loop μ-loop
-loop-less c = ?
+loop-less c = search needs
 
--- src/correction.rt:180:5
 loop-again : tie.Need-loop-again Inv-loop μ-loop
-loop-again c = ?
+loop-again c =
+    let s = c .before .before .before .before in
+    let l = c .before .before .before .loop in
+    let n = s .good .1 .0 .1 .0 .1 in
+    let m = s .good .1 .1 .0 .1 .0 .1 in
+    ⊎-elim
+    (λ w. subst (λ k. Correcting (s .args .block .now) (fixed _ _ _ _ _ _ _ n m (s .pre .1) (omega arith) (l .inv)) (s .args .t2) (s .args .t3) (s .args .count) k (l .l + 1)) (sym (w .1))
+    (correcting-more _ _ _ _ _ _ _ n m (s .pre .1) (omega arith) (l .inv) (w .0 .taken)))
+    (λ w. subst (λ k. Correcting (s .args .block .now) (fixed _ _ _ _ _ _ _ n m (s .pre .1) (omega arith) (l .inv)) (s .args .t2) (s .args .t3) (s .args .count) k (l .l + 1)) (sym (w .1))
+    (correcting-same _ _ _ _ _ _ _ n m (s .pre .1) (omega arith) (l .inv) (w .0 .left))) (c .if1 .came)
 
--- src/correction.rt:172:1
 same-length : tie.Need-same-length Inv-loop μ-loop
-same-length c = ?
+same-length c = omega (arith, c .before .loop .inv .len, c .before .before .pre .0)
 
--- src/correction.rt:172:1
 returns : tie.Need-returns Inv-loop μ-loop
-returns c = ?
+returns c =
+    let s = c .before .before in
+    let l = c .before .loop in
+    let n = s .good .1 .0 .1 .0 .1 in
+    let m = s .good .1 .1 .0 .1 .0 .1 in
+    (correcting-count _ _ _ _ _ _ _ n m (s .pre .1) (search needs) (l .inv), correcting-block _ _ _ _ _ _ _ n m (s .pre .1) (search needs) (l .inv))
 
 pub correct-spec : {M : Type 1} → statement M
 correct-spec =

@@ -1,3 +1,14 @@
+-- `correction::error_values` meets its contract: the values of the first l errors are stored.
+-- Assumes nothing.
+use mathlib.Core.Path.{_≡_, refl, sym, ap, _∙_}
+use Prim.Native.Nat.{ℕ, _-_, _≤_}
+use native.Mathlib.Omega.{arith}
+use lib.ListN.{getD}
+use Rattle.common.proofs.Each.{Updated, updated-none, updated-more}
+use Rattle.galois.proofs.Instance.{byte}
+use Rattle.reed_solomon.specs.Steps.{errorValue}
+use Rattle.reed_solomon.proofs.Residue.{zeros-at}
+use borrow.Author.Needs.{needs}
 use Rattle.reed_solomon.proofs.correction.error_values.Statement.{statement}
 use Rattle.reed_solomon.proofs.correction.error_values.Tie as tie
 use Rattle.reed_solomon.proofs.correction.error_values.Reads as reads
@@ -5,42 +16,36 @@ use Rattle.reed_solomon.proofs.correction.error_values.Lts as lts
 use Rattle.reed_solomon.proofs.correction.error_value.Reads as error-value-reads
 
 abbrev Inv-loop : tie.InvT-loop
-Inv-loop p s count places e₀ l₀ e l = ?
+Inv-loop p s count places e₀ l₀ e l = (l ≤ count) × Updated (λ k v. byte v ≡ errorValue p s (getD places k 0)) e₀ e l
 
 abbrev μ-loop : tie.MeasureT-loop
-μ-loop p s count places e₀ l₀ e l = ?
+μ-loop p s count places e₀ l₀ e l = count - l
 
--- src/correction.rt:121:5
 loop-holds : tie.Need-loop-holds Inv-loop μ-loop
-loop-holds c = ?
+loop-holds c = (search needs, updated-none)
 
--- src/correction.rt:122:34
 array-read-error-value : tie.Need-array-read-error-value Inv-loop μ-loop
-array-read-error-value c = ?
+array-read-error-value c = search needs
 
--- src/correction.rt:122:16
 error-value-requires : tie.Need-error-value-requires Inv-loop μ-loop
-error-value-requires c κs = ?
+error-value-requires c κs = search needs
 
--- src/correction.rt:122:9
 array-write-e : tie.Need-array-write-e Inv-loop μ-loop
-array-write-e c = ?
+array-write-e c = search needs
 
--- src/correction.rt:123:9
 add-l : tie.Need-add-l Inv-loop μ-loop
-add-l c = ?
+add-l c = search needs
 
--- src/correction.rt:121:5
 loop-less : tie.Need-loop-less Inv-loop μ-loop
-loop-less c = ?
+loop-less c = search needs
 
--- src/correction.rt:121:5
 loop-again : tie.Need-loop-again Inv-loop μ-loop
-loop-again c = ?
+loop-again c = (search needs, updated-more _ (omega arith) (c .error-value .ensures) (c .before .before .loop .inv .1))
 
--- src/correction.rt:115:1
 returns : tie.Need-returns Inv-loop μ-loop
-returns c = ?
+returns c =
+    let u = c .before .loop .inv .1 in
+    record { own = λ l h. u .done l (omega arith); rest = λ l h. u .todo l (omega arith) ∙ zeros-at 16 l }
 
 pub error-values-spec : {M : Type 1} → statement M
 error-values-spec =

@@ -1,3 +1,10 @@
+-- `correction::explains` meets its contract: the first j syndromes agree.
+-- Assumes nothing.
+use mathlib.Core.Path.{_≡_, refl, sym, _∙_}
+use Prim.Native.Nat.{_-_}
+use native.Mathlib.Omega.{arith}
+use Rattle.reed_solomon.proofs.ErrorTerms.{Compared, compared-none, compared-more, compared-stop, compared-all}
+use borrow.Author.Needs.{needs}
 use Rattle.reed_solomon.proofs.correction.explains.Statement.{statement}
 use Rattle.reed_solomon.proofs.correction.explains.Tie as tie
 use Rattle.reed_solomon.proofs.correction.explains.Reads as reads
@@ -6,46 +13,46 @@ use Rattle.reed_solomon.proofs.correction.products.Reads as products-re
 use Rattle.reed_solomon.proofs.correction.total.Reads as total-reads
 
 abbrev Inv-loop : tie.InvT-loop
-Inv-loop places s w₀ j₀ w j = ?
+Inv-loop places s w₀ j₀ w j = Compared places w₀ s w j
 
 abbrev μ-loop : tie.MeasureT-loop
-μ-loop places s w₀ j₀ w j = ?
+μ-loop places s w₀ j₀ w j = 16 - j
 
--- src/correction.rt:161:5
 loop-holds : tie.Need-loop-holds Inv-loop μ-loop
-loop-holds c = ?
+loop-holds c = compared-none _ _ _
 
--- src/correction.rt:162:12
 total-requires : tie.Need-total-requires Inv-loop μ-loop
-total-requires c κs = ?
+total-requires c κs = search needs
 
--- src/correction.rt:162:24
 shared-slice-read-if1 : tie.Need-shared-slice-read-if1 Inv-loop μ-loop
-shared-slice-read-if1 c = ?
+shared-slice-read-if1 c = search needs
 
--- src/correction.rt:163:13
 returns : tie.Need-returns Inv-loop μ-loop
-returns c = ?
+returns c =
+    let s = c .before .before .before .before .before .before in
+    let l = c .before .before .before .before .loop in
+    compared-stop _ _ _ _ (l .j) (s .good .0 .1 .0 .1) (s .good .1 .0 .1 .0 .1) (l .inv) (c .before .before .total .result) (search needs) (c .before .before .total .ensures) (omega arith)
+    (c .before .shared-slice-known2 .given (l .j) .fits) (c .if1 .taken)
 
--- src/correction.rt:165:13
 products-requires : tie.Need-products-requires Inv-loop μ-loop
-products-requires c κs = ?
+products-requires c κs = search needs
 
--- src/correction.rt:167:9
 add-j : tie.Need-add-j Inv-loop μ-loop
-add-j c = ?
+add-j c = search needs
 
--- src/correction.rt:161:5
 loop-less : tie.Need-loop-less Inv-loop μ-loop
-loop-less c = ?
+loop-less c = search needs
 
--- src/correction.rt:161:5
 loop-again : tie.Need-loop-again Inv-loop μ-loop
-loop-again c = ?
+loop-again c =
+    let s = c .before .before .before .before .before .before .before in
+    let l = c .before .before .before .before .before .loop in
+    compared-more _ _ _ _ (l .j) (s .good .0 .1 .0 .1) (s .good .1 .0 .1 .0 .1) (l .inv) _ _ (search needs) (c .before .before .before .total .ensures) (c .before .if1 .left) (c .products .ensures)
 
--- src/correction.rt:155:1
 returns-2 : tie.Need-returns-2 Inv-loop μ-loop
-returns-2 c = ?
+returns-2 c =
+    let s = c .before .before .before in
+    compared-all _ _ _ _ _ (s .good .0 .1 .0 .1) (s .good .1 .0 .1 .0 .1) (c .before .loop .inv) (search needs)
 
 pub explains-spec : {M : Type 1} → statement M
 explains-spec =

@@ -1,37 +1,45 @@
+-- `correction::total` meets its contract: t and the sum of what is left make the whole.
+-- Assumes nothing.
+use mathlib.Core.Path.{_≡_, refl, _∙_}
+use Prim.Native.Nat.{_-_, _≤_}
+use native.Mathlib.Omega.{arith}
+use lib.Bits.{bitXor, xor-zero-l}
+use lib.ListN.{drop}
+use Rattle.reed_solomon.specs.Steps.{sumOf}
+use Rattle.reed_solomon.proofs.ErrorTerms.{sum-more, sum-all}
+use borrow.Author.Needs.{needs}
 use Rattle.reed_solomon.proofs.correction.total.Statement.{statement}
 use Rattle.reed_solomon.proofs.correction.total.Tie as tie
-use Rattle.reed_solomon.proofs.correction.total.Reads as reads
-use Rattle.reed_solomon.proofs.correction.total.Lts as lts
 
 abbrev Inv-loop : tie.InvT-loop
-Inv-loop w t₀ l₀ t l = ?
+Inv-loop w t₀ l₀ t l = (l ≤ 16) × (bitXor t (sumOf (drop l w)) ≡ sumOf w)
 
 abbrev μ-loop : tie.MeasureT-loop
-μ-loop w t₀ l₀ t l = ?
+μ-loop w t₀ l₀ t l = 16 - l
 
--- src/correction.rt:133:5
 loop-holds : tie.Need-loop-holds Inv-loop μ-loop
-loop-holds c = ?
+loop-holds c = (search needs, xor-zero-l _)
 
--- src/correction.rt:134:17
 array-read-t : tie.Need-array-read-t Inv-loop μ-loop
-array-read-t c = ?
+array-read-t c = search needs
 
--- src/correction.rt:135:9
 add-l : tie.Need-add-l Inv-loop μ-loop
-add-l c = ?
+add-l c = search needs
 
--- src/correction.rt:133:5
 loop-less : tie.Need-loop-less Inv-loop μ-loop
-loop-less c = ?
+loop-less c = search needs
 
--- src/correction.rt:133:5
 loop-again : tie.Need-loop-again Inv-loop μ-loop
-loop-again c = ?
+loop-again c =
+    let s = c .before .before in
+    let l = c .before .loop in
+    (search needs, sum-more (s .args .t1) (l .t) (l .l) (omega (arith, s .good .0 .1 .0 .1)) (l .inv .1))
 
--- src/correction.rt:128:1
 returns : tie.Need-returns Inv-loop μ-loop
-returns c = ?
+returns c =
+    let s = c .before .before in
+    let l = c .before .loop in
+    sum-all (s .args .t1) (l .t) (l .l) (omega (arith, s .good .0 .1 .0 .1)) (l .inv .1)
 
 pub total-spec : {M : Type 1} → statement M
 total-spec =
