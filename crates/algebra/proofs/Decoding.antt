@@ -34,6 +34,12 @@ module _ (K : Field) where
   power-one zero = refl
   power-one (suc j) = ap (λ u. 𝟙 * u) (power-one j) ∙ one-mul K 𝟙
 
+  -- the order of two exponents
+  pub power-swap : (x : F) (m n : ℕ) → power (ops K) (power (ops K) x m) n ≡ power (ops K) (power (ops K) x n) m
+  unfolding power
+  power-swap x zero n = power-one n
+  power-swap x (suc m) n = power-mul x (power (ops K) x m) n ∙ ap (λ u. power (ops K) x n * u) (power-swap x m n)
+
   -- a word as errors: element i stands at the place x a^i
   unfoldable pub terms : F → F → List F → List (Term K)
   terms a x [] = []

@@ -227,6 +227,68 @@ module _ (K : Field) where
   length-product a b (c ∷ p) q =
       length-plus-max (scale (ops K) a (b ∷ q)) (𝟘 ∷ product (ops K) (c ∷ p) (b ∷ q)) ∙ omega (arith, length-map q (λ c. a * c), length-product c b p q)
 
+  one-times : (x u : F) → u ≡ (𝟙 + x * 𝟘) * u
+  one-times x u = simp ring
+
+  pull-factor : (a b c : F) → a * (b * c) ≡ (a * b) * c
+  pull-factor a b c = simp ring
+
+  pub eval-fromRoots : (rs ts : List F) (x : F) → eval (ops K) (fromRoots (rs ++ ts)) x ≡ eval (ops K) (fromRoots rs) x * eval (ops K) (fromRoots ts) x
+  unfolding fromRoots eval
+  eval-fromRoots [] ts x = one-times x (eval (ops K) (fromRoots ts) x)
+  eval-fromRoots (r ∷ rs) ts x =
+      eval-timesLinear r (fromRoots (rs ++ ts)) x ∙ ap (λ y. (x + r) * y) (eval-fromRoots rs ts x) ∙ pull-factor (x + r) (eval (ops K) (fromRoots rs) x) (eval (ops K) (fromRoots ts) x)
+      ∙ ap (λ y. y * eval (ops K) (fromRoots ts) x) (sym (eval-timesLinear r (fromRoots rs) x))
+
+  swap-factor : (a b c : F) → a * (b * c) ≡ b * (a * c)
+  swap-factor a b c = simp ring
+
+  -- one root taken out
+  pub eval-fromRoots-out : (r : F) (rs ts : List F) (x : F) → eval (ops K) (fromRoots (rs ++ r ∷ ts)) x ≡ (x + r) * eval (ops K) (fromRoots (rs ++ ts)) x
+  unfolding fromRoots
+  eval-fromRoots-out r rs ts x =
+      eval-fromRoots rs (r ∷ ts) x ∙ ap (λ y. eval (ops K) (fromRoots rs) x * y) (eval-timesLinear r (fromRoots ts) x)
+      ∙ swap-factor (eval (ops K) (fromRoots rs) x) (x + r) (eval (ops K) (fromRoots ts) x) ∙ ap (λ y. (x + r) * y) (sym (eval-fromRoots rs ts x))
+
+  -- ---- the quotient by one root of a product
+
+  divided-value : (u v : F) → u ≡ 𝟘 → v ≡ v + u
+  divided-value u v h = simp (ring, h)
+
+  -- where c is a root of p, the quotient by x + c vanishes at the other roots
+  pub quotient-zero : (c : F) (p : List F) (x : F) → eval (ops K) p c ≡ 𝟘 → (x ≡ c → ⊥) → eval (ops K) p x ≡ 𝟘 → eval (ops K) (quotient c p) x ≡ 𝟘
+  quotient-zero c p x h n e =
+      cancel K (x + c) (eval (ops K) (quotient c p) x) (λ z. n (eq-of-add K x c z))
+      (divided-value (eval (ops K) p c) ((x + c) * eval (ops K) (quotient c p) x) h ∙ sym (division c p x) ∙ e)
+
+  timesLinear-zero : (c d : F) (p : List F) → Zero (timesLinearFrom c d p) → (d ≡ 𝟘) × Zero p
+  unfolding timesLinearFrom
+  timesLinear-zero c d [] h = (h .0, tt)
+  timesLinear-zero c d (a ∷ p) h =
+      let t = timesLinear-zero c a p (h .1) in
+      (head-zero c d a (t .0) (h .0), (t .0, t .1))
+    where
+      head-zero : (c d a : F) → a ≡ 𝟘 → d + c * a ≡ 𝟘 → d ≡ 𝟘
+      head-zero c d a z e = sym (ap (λ y. d + c * y) z ∙ ap (λ y. d + y) (mul-zero K c) ∙ add-zero K d) ∙ e
+
+  factor-sum : (a u v : F) → a * (u + v) ≡ a * u + a * v
+  factor-sum a u v = simp ring
+
+  -- p has the values of (x + c) r and few coefficients: then its quotient by x + c has the value of r at c
+  pub quotient-value : (xs : List F) (c : F) (p r : List F) → Distinct xs → length (timesLinear c (plus (ops K) (quotient c p) r)) ≤ length xs → eval (ops K) p c ≡ 𝟘
+      → ((x : F) → eval (ops K) p x ≡ (x + c) * eval (ops K) r x) → eval (ops K) (quotient c p) c ≡ eval (ops K) r c
+  quotient-value xs c p r d l z h =
+      eq-of-add K _ _ (sym (eval-plus (quotient c p) r c) ∙ eval-Zero (plus (ops K) (quotient c p) r) c (timesLinear-zero c 𝟘 (plus (ops K) (quotient c p) r) none .1))
+    where
+      vanishes : (x : F) → eval (ops K) (timesLinear c (plus (ops K) (quotient c p) r)) x ≡ 𝟘
+      vanishes x =
+          eval-timesLinear c (plus (ops K) (quotient c p) r) x ∙ ap (λ y. (x + c) * y) (eval-plus (quotient c p) r x)
+          ∙ factor-sum (x + c) (eval (ops K) (quotient c p) x) (eval (ops K) r x)
+          ∙ add-eq-zero K _ _ (divided-value (eval (ops K) p c) ((x + c) * eval (ops K) (quotient c p) x) z ∙ sym (division c p x) ∙ h x)
+
+      none : Zero (timesLinear c (plus (ops K) (quotient c p) r))
+      none = root-bound xs (timesLinear c (plus (ops K) (quotient c p) r)) l d (All-each (λ x. eval (ops K) (timesLinear c (plus (ops K) (quotient c p) r)) x ≡ 𝟘) vanishes xs)
+
   -- ---- a polynomial with known roots is a product
 
   -- p = (x + r1) (x + r2) .. m as functions, where the r are distinct roots of p

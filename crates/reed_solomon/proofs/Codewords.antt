@@ -29,7 +29,7 @@ abbrev pub rootsBelow : ℕ → List (Fin 256)
 rootsBelow zero = []
 rootsBelow (suc n) = point n ∷ rootsBelow n
 
-length-roots : (n : ℕ) → length (rootsBelow n) ≡ n
+pub length-roots : (n : ℕ) → length (rootsBelow n) ≡ n
 length-roots zero = refl
 length-roots (suc n) = ap suc (length-roots n)
 
@@ -37,7 +37,7 @@ away-roots : (m n : ℕ) → m ≤ n → n < 255 → Away (point n) (rootsBelow 
 away-roots zero n h l = tt
 away-roots (suc m) n h l = ((λ e. powers-differ m n h l (sym e)), away-roots m n (omega arith) l)
 
-distinct-roots : (n : ℕ) → n < 255 → Distinct (rootsBelow n)
+pub distinct-roots : (n : ℕ) → n < 255 → Distinct (rootsBelow n)
 distinct-roots zero l = tt
 distinct-roots (suc n) l = (away-roots n n (omega arith) (omega arith), distinct-roots n (omega arith))
 

@@ -7,3 +7,5 @@ pub mod KeyEquations
 pub mod RootSearch
 pub mod ErrorValues
 pub mod ErrorTerms
+pub mod Zeros
+pub mod Completeness

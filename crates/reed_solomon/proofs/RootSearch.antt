@@ -8,7 +8,8 @@ use native.Mathlib.Nat.{zero-add, add-zero, add-suc, suc-add, not-suc-le-zero, l
 use native.Mathlib.Numerals.{add-one}
 use native.Mathlib.Omega.{arith}
 use borrow.Author.Tests.{eq-eqb, ne-eqb}
-use lib.Dec.{eqb}
+use lib.Bits.{xor-lt}
+use lib.Dec.{eqb, lit<}
 use lib.ListN.{length, getD, take, drop, set, replicate, length-append, length-take, length-map, length-set, drop-of-length-le}
 use lib.Seq.{drop-cons, take-suc, take-suc-set, length-take-le}
 use Rattle.common.specs.Choice.{pick}
@@ -16,7 +17,8 @@ use Rattle.common.specs.Lists.{All}
 use Rattle.algebra.specs.Field.{ops}
 use Rattle.algebra.specs.Polynomial.{eval}
 use Rattle.algebra.proofs.Ring.{add-comm}
-use Rattle.galois.specs.Field256.{pow}
+use Rattle.galois.specs.Field256.{mul, pow}
+use Rattle.galois.proofs.Laws.{mul-lt}
 use Rattle.galois.proofs.Instance.{bytes, byte, byte-zero, byte-power}
 use Rattle.reed_solomon.specs.Steps.{elements, point, Powers, Advanced, Evaluated, zerosFrom, zerosOf, FoundRoots}
 use Rattle.reed_solomon.proofs.Residue.{zeros-at, advanced}
@@ -36,7 +38,11 @@ unfolding eval
 eval-nothing l k y h = ap (λ (m : List ℕ). eval (ops bytes) (elements m) y) (drop-of-length-le l {i = k} h)
 
 pub evaluated-none : (q : List ℕ) → length q ≡ 9 → Evaluated (drop 9 q) (replicate 208 0)
-evaluated-none q n = record { each = λ i h. ap byte (zeros-at 208 i) ∙ byte-zero ∙ sym (eval-nothing q 9 (point i) (omega arith)) }
+evaluated-none q n =
+    record {
+      each = λ i h. ap byte (zeros-at 208 i) ∙ byte-zero ∙ sym (eval-nothing q 9 (point i) (omega arith));
+      small = λ i h. subst (λ (k : ℕ). k < 256) (sym (zeros-at 208 i)) (lit< tt);
+    }
 
 pub evaluated-more : (x q : List ℕ) (k : ℕ) (v w : List ℕ) → length q ≡ 9 → 0 < k → k ≤ 9 → Powers x → Evaluated (drop k q) v → Advanced 208 x v (getD q (k - 1) 0) w
     → Evaluated (drop (k - 1) q) w
@@ -49,12 +55,13 @@ evaluated-more x q k v w n a b p e s =
           ∙ ap (λ (u : Fin 256). bytes .add (byte (getD q (k - 1) 0)) (bytes .mul (point i) u))
           (e .each i h ∙ ap (λ (j : ℕ). eval (ops bytes) (elements (drop j q)) (point i)) (sym m))
           ∙ sym (eval-from q (k - 1) (point i) (omega arith));
+      small = λ i h. subst (λ (j : ℕ). j < 256) (sym (s .each i h)) (xor-lt 8 (mul (getD x i 0) (getD v i 0)) (getD q (k - 1) 0) (mul-lt (getD x i 0) (getD v i 0)) (s .small));
     }
 
 pub evaluated-all : (q : List ℕ) (k : ℕ) (v : List ℕ) → k ≤ 0 → Evaluated (drop k q) v → Evaluated q v
 evaluated-all q k v h e =
     let z : k ≡ 0 = omega arith in
-    record { each = λ i b. e .each i b ∙ ap (λ (j : ℕ). eval (ops bytes) (elements (drop j q)) (point i)) z }
+    record { each = λ i b. e .each i b ∙ ap (λ (j : ℕ). eval (ops bytes) (elements (drop j q)) (point i)) z; small = e .small }
 
 -- ---- the zeros of a list
 

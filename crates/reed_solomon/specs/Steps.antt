@@ -50,6 +50,7 @@ pub record Powers (x : List ℕ) : Type 0 where
 -- one step of Horner's rule, at n points
 pub record Advanced (n : ℕ) (x s : List ℕ) (d : ℕ) (r : List ℕ) : Type 0 where
   pub each : (j : ℕ) → j < n → getD r j 0 ≡ bitXor (mul (getD x j 0) (getD s j 0)) d
+  pub small : d < 256
 
 -- the values of a list, the highest coefficient first, at the sixteen roots
 pub record SyndromesOf (l s : List ℕ) : Type 0 where
@@ -119,6 +120,7 @@ pub record Located (s q : List ℕ) : Type 0 where
 -- the values of a polynomial at the first 208 powers of 02
 pub record Evaluated (q v : List ℕ) : Type 0 where
   pub each : (i : ℕ) → i < 208 → byte (getD v i 0) ≡ eval (ops bytes) (elements q) (point i)
+  pub small : (i : ℕ) → i < 208 → getD v i 0 < 256
 
 -- the places of a list's zeros, the first element being at n
 unfoldable pub zerosFrom : ℕ → List ℕ → List ℕ
@@ -147,6 +149,7 @@ errorValue p s y = valueBy (quotient bytes (byte y) (elements (take 9 p))) s (by
 
 pub record ErrorValues (p s places : List ℕ) (count : ℕ) (e : List ℕ) : Type 0 where
   pub own : (l : ℕ) → l < count → byte (getD e l 0) ≡ errorValue p s (getD places l 0)
+  pub small : (l : ℕ) → l < count → getD e l 0 < 256
   pub rest : (l : ℕ) → count ≤ l → getD e l 0 ≡ 0
 
 -- the sum of a list in the field

@@ -49,7 +49,7 @@ same-length : tie.Need-same-length Inv-loop μ-loop
 same-length c = c .before .loop .inv .len
 
 returns : tie.Need-returns Inv-loop μ-loop
-returns c = record { each = λ j h. c .before .loop .inv .done j (omega arith) }
+returns c = record { each = λ j h. c .before .loop .inv .done j (omega arith); small = omega arith }
 
 pub advance-spec : {M : Type 1} → statement M
 advance-spec =

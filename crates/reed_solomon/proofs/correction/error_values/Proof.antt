@@ -1,7 +1,7 @@
 -- `correction::error_values` meets its contract: the values of the first l errors are stored.
 -- Assumes nothing.
 use mathlib.Core.Path.{_≡_, refl, sym, ap, _∙_}
-use Prim.Native.Nat.{ℕ, _-_, _≤_}
+use Prim.Native.Nat.{ℕ, _-_, _≤_, _<_}
 use native.Mathlib.Omega.{arith}
 use lib.ListN.{getD}
 use Rattle.common.proofs.Each.{Updated, updated-none, updated-more}
@@ -16,7 +16,7 @@ use Rattle.reed_solomon.proofs.correction.error_values.Lts as lts
 use Rattle.reed_solomon.proofs.correction.error_value.Reads as error-value-reads
 
 abbrev Inv-loop : tie.InvT-loop
-Inv-loop p s count places e₀ l₀ e l = (l ≤ count) × Updated (λ k v. byte v ≡ errorValue p s (getD places k 0)) e₀ e l
+Inv-loop p s count places e₀ l₀ e l = (l ≤ count) × Updated (λ k v. (byte v ≡ errorValue p s (getD places k 0)) × (v < 256)) e₀ e l
 
 abbrev μ-loop : tie.MeasureT-loop
 μ-loop p s count places e₀ l₀ e l = count - l
@@ -40,12 +40,12 @@ loop-less : tie.Need-loop-less Inv-loop μ-loop
 loop-less c = search needs
 
 loop-again : tie.Need-loop-again Inv-loop μ-loop
-loop-again c = (search needs, updated-more _ (omega arith) (c .error-value .ensures) (c .before .before .loop .inv .1))
+loop-again c = (search needs, updated-more _ (omega arith) (c .error-value .ensures, omega arith) (c .before .before .loop .inv .1))
 
 returns : tie.Need-returns Inv-loop μ-loop
 returns c =
     let u = c .before .loop .inv .1 in
-    record { own = λ l h. u .done l (omega arith); rest = λ l h. u .todo l (omega arith) ∙ zeros-at 16 l }
+    record { own = λ l h. u .done l (omega arith) .0; small = λ l h. u .done l (omega arith) .1; rest = λ l h. u .todo l (omega arith) ∙ zeros-at 16 l }
 
 pub error-values-spec : {M : Type 1} → statement M
 error-values-spec =

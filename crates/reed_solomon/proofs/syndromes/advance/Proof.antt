@@ -2,6 +2,7 @@
 -- Assumes nothing.
 use mathlib.Core.Path.{_≡_, refl, ap, _∙_}
 use Prim.Native.Nat.{ℕ, _-_}
+use native.Mathlib.Omega.{arith}
 use lib.Bits.{bitXor}
 use lib.ListN.{getD}
 use Rattle.common.proofs.Each.{Each, each-none, each-more, each-all}
@@ -44,7 +45,7 @@ loop-again : tie.Need-loop-again Inv-loop μ-loop
 loop-again c = each-more _ (search needs) (ap (λ (n : ℕ). bitXor n (c .before .before .before .before .args .d)) (c .mul .ensures)) (c .before .before .before .loop .inv)
 
 returns : tie.Need-returns Inv-loop μ-loop
-returns c = record { each = each-all (search needs) (c .before .loop .inv) }
+returns c = record { each = each-all (search needs) (c .before .loop .inv); small = omega arith }
 
 pub advance-spec : {M : Type 1} → statement M
 advance-spec =

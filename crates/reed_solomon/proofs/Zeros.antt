@@ -1,0 +1,107 @@
+-- What the list of a list's zeros holds.
+-- Assumes nothing.
+use mathlib.Core.Path.{_≡_, refl, sym, ap, ap₂, _∙_, subst}
+use mathlib.Core.Bool.{Bool, true, false}
+use mathlib.Core.List.{List, [], _∷_, _++_, map}
+use Prim.Native.Nat.{ℕ, zero, suc, _+_, _-_, _≤_, _<_, Fin}
+use Prim.{tt}
+use native.Mathlib.Decide.{ℕ-discrete}
+use native.Mathlib.Nat.{add-zero, not-suc-le-zero}
+use native.Mathlib.Numerals.{add-one}
+use native.Mathlib.Omega.{arith}
+use borrow.Author.Tests.{eq-eqb, ne-eqb}
+use lib.Dec.{eqb}
+use lib.ListN.{length, getD}
+use Rattle.common.specs.Choice.{pick}
+use Rattle.common.specs.Lists.{All}
+use Rattle.algebra.specs.Field.{ops}
+use Rattle.algebra.specs.Polynomial.{power}
+use Rattle.algebra.proofs.Lists.{Away, Distinct}
+use Rattle.algebra.proofs.Ring.{mul-comm, zero-mul, zero-add}
+use Rattle.algebra.proofs.Syndromes.{Term, syndrome}
+use Rattle.algebra.proofs.Decoding.{terms}
+use Rattle.galois.proofs.Instance.{bytes, byte}
+use Rattle.reed_solomon.specs.Steps.{point, zerosFrom}
+
+point-next : (n : ℕ) → point (n + 1) ≡ bytes .mul (point n) (byte 2)
+unfolding power
+point-next n = ap point (add-one n) ∙ mul-comm bytes (byte 2) (point n)
+
+-- what holds at every zero holds of every place listed
+pub zeros-all : (P : ℕ → Type 0) (n : ℕ) (l : List ℕ) → ((i : ℕ) → i < length l → getD l i 0 ≡ 0 → P (n + i)) → All P (zerosFrom n l)
+unfolding zerosFrom
+zeros-all P n [] h = tt
+zeros-all P n (x ∷ l) h = go (ℕ-discrete x 0) (zeros-all P (n + 1) l (λ i b z. subst P (shift i) (h (suc i) (omega arith) z)))
+  where
+    shift : (i : ℕ) → n + suc i ≡ n + 1 + i
+    shift i = omega arith
+
+    go : Dec (x ≡ 0) → All P (zerosFrom (n + 1) l) → All P (pick (eqb x 0) (n ∷ []) [] ++ zerosFrom (n + 1) l)
+    go (yes e) r = rw (eq-eqb x 0 e) (subst P (add-zero n) (h 0 (omega arith) e), r)
+    go (no e) r = rw (ne-eqb x 0 e) r
+
+-- every zero is listed
+pub zeros-has : (P : ℕ → Type 0) (n : ℕ) (l : List ℕ) → All P (zerosFrom n l) → (i : ℕ) → i < length l → getD l i 0 ≡ 0 → P (n + i)
+unfolding zerosFrom
+zeros-has P n [] h i b z = absurd (not-suc-le-zero b)
+zeros-has P n (x ∷ l) h zero b z = subst P (sym (add-zero n)) ((rw (eq-eqb x 0 z) at h) .0)
+zeros-has P n (x ∷ l) h (suc i) b z = subst P shift (zeros-has P (n + 1) l (rest (ℕ-discrete x 0)) i (omega arith) z)
+  where
+    shift : n + 1 + i ≡ n + suc i
+    shift = omega arith
+
+    rest : Dec (x ≡ 0) → All P (zerosFrom (n + 1) l)
+    rest (yes e) = (rw (eq-eqb x 0 e) at h) .1
+    rest (no e) = rw (ne-eqb x 0 e) at h
+
+-- the places listed are below n + length l and from n on
+zeros-away : (f : ℕ → Fin 256) (m k n : ℕ) (l : List ℕ) → ((i j : ℕ) → i < j → j < m → f j ≡ f i → ⊥) → k < n → n + length l ≤ m → Away (f k) (map f (zerosFrom n l))
+unfolding zerosFrom
+zeros-away f m k n [] h a b = tt
+zeros-away f m k n (x ∷ l) h a b = go (ℕ-discrete x 0) (zeros-away f m k (n + 1) l h (omega arith) (omega arith))
+  where
+    go : Dec (x ≡ 0) → Away (f k) (map f (zerosFrom (n + 1) l)) → Away (f k) (map f (pick (eqb x 0) (n ∷ []) [] ++ zerosFrom (n + 1) l))
+    go (yes e) r = rw (eq-eqb x 0 e) (h k n a (omega arith), r)
+    go (no e) r = rw (ne-eqb x 0 e) r
+
+pub zeros-distinct : (f : ℕ → Fin 256) (m n : ℕ) (l : List ℕ) → ((i j : ℕ) → i < j → j < m → f j ≡ f i → ⊥) → n + length l ≤ m → Distinct (map f (zerosFrom n l))
+unfolding zerosFrom
+zeros-distinct f m n [] h b = tt
+zeros-distinct f m n (x ∷ l) h b = go (ℕ-discrete x 0) (zeros-away f m n (n + 1) l h (omega arith) (omega arith)) (zeros-distinct f m (n + 1) l h (omega arith))
+  where
+    go : Dec (x ≡ 0) → Away (f n) (map f (zerosFrom (n + 1) l)) → Distinct (map f (zerosFrom (n + 1) l)) → Distinct (map f (pick (eqb x 0) (n ∷ []) [] ++ zerosFrom (n + 1) l))
+    go (yes e) a r = rw (eq-eqb x 0 e) (a, r)
+    go (no e) a r = rw (ne-eqb x 0 e) r
+
+-- a sum over all places, where every term off the list is zero, is the sum over the list
+pub zeros-syndrome : (g : ℕ → Fin 256) (n : ℕ) (l : List ℕ) (e : List (Fin 256)) (j : ℕ) → length l ≡ length e
+    → ((i : ℕ) → i < length e → getD e i (bytes .𝟘) ≡ g (n + i)) → ((i : ℕ) → i < length l → (getD l i 0 ≡ 0 → ⊥) → g (n + i) ≡ bytes .𝟘)
+    → syndrome bytes (map (λ d. (point d, g d)) (zerosFrom n l)) j ≡ syndrome bytes (terms bytes (byte 2) (point n) e) j
+unfolding zerosFrom syndrome terms
+zeros-syndrome g n [] [] j h a z = refl
+zeros-syndrome g n [] (b ∷ e) j h a z = absurd (omega arith)
+zeros-syndrome g n (x ∷ l) [] j h a z = absurd (omega arith)
+zeros-syndrome g n (x ∷ l) (b ∷ e) j h a z =
+    go (ℕ-discrete x 0)
+    (zeros-syndrome g (n + 1) l e j (omega arith) (λ i k. a (suc i) (omega arith) ∙ ap g (shift i)) (λ i k y. ap g (sym (shift i)) ∙ z (suc i) (omega arith) y)
+    ∙ ap (λ (u : Fin 256). syndrome bytes (terms bytes (byte 2) u e) j) next)
+  where
+    shift : (i : ℕ) → n + suc i ≡ n + 1 + i
+    shift i = omega arith
+
+    next : point (n + 1) ≡ bytes .mul (point n) (byte 2)
+    next = point-next n
+
+    head : g n ≡ b
+    head = sym (a 0 (omega arith) ∙ ap g (add-zero n))
+
+    go : Dec (x ≡ 0) → syndrome bytes (map (λ d. (point d, g d)) (zerosFrom (n + 1) l)) j ≡ syndrome bytes (terms bytes (byte 2) (bytes .mul (point n) (byte 2)) e) j
+        → syndrome bytes (map (λ d. (point d, g d)) (pick (eqb x 0) (n ∷ []) [] ++ zerosFrom (n + 1) l)) j
+        ≡ bytes .add (bytes .mul b (power (ops bytes) (point n) j)) (syndrome bytes (terms bytes (byte 2) (bytes .mul (point n) (byte 2)) e) j)
+    go (yes q) r = rw (eq-eqb x 0 q) (ap₂ (λ (u v : Fin 256). bytes .add (bytes .mul u (power (ops bytes) (point n) j)) v) head r)
+    go (no q) r =
+        rw (ne-eqb x 0 q)
+        (r ∙ sym (ap (λ (u : Fin 256). bytes .add (bytes .mul u (power (ops bytes) (point n) j)) (syndrome bytes (terms bytes (byte 2) (bytes .mul (point n) (byte 2)) e) j))
+        (sym head ∙ ap g (sym (add-zero n)) ∙ z 0 (omega arith) q)
+        ∙ ap (λ (u : Fin 256). bytes .add u (syndrome bytes (terms bytes (byte 2) (bytes .mul (point n) (byte 2)) e) j)) (zero-mul bytes (power (ops bytes) (point n) j))
+        ∙ zero-add bytes (syndrome bytes (terms bytes (byte 2) (bytes .mul (point n) (byte 2)) e) j)))
