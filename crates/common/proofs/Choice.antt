@@ -1,7 +1,7 @@
 -- Laws of a choice that a test makes.
 -- Assumes nothing.
 use mathlib.Core.Path.{_≡_, refl}
-use mathlib.Core.Bool.{Bool, true, false}
+use mathlib.Core.Bool.{Bool, true, false, not, true≢false, false≢true}
 use Prim.Native.Nat.{ℕ}
 use native.Mathlib.Omega.{arith}
 use Rattle.common.specs.Choice.{pick}
@@ -13,3 +13,12 @@ false-true d = let z : _≡_ {A = ℕ} 0 1 = cc in absurd (omega arith)
 pub both-true : (s t : Bool) → pick s t false ≡ true → (s ≡ true) × (t ≡ true)
 both-true true t e = (refl, e)
 both-true false t e = (e, false-true e)
+
+-- what holds of a flag, where a test of its opposite has told which it is
+pub flag-false : (P : Bool → Type 0) (b : Bool) → not b ≡ true → P b → P false
+flag-false P true e p = absurd (false≢true e)
+flag-false P false e p = p
+
+pub flag-true : (P : Bool → Type 0) (b : Bool) → not b ≡ false → P b → P true
+flag-true P true e p = p
+flag-true P false e p = absurd (true≢false e)

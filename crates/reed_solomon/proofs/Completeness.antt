@@ -46,8 +46,12 @@ module _ (q v : List ℕ) (lq : length q ≡ 9) (lv : length v ≡ 208) (ev : Ev
 
   pub roots-few : (Zero bytes (elements q) → ⊥) → length (zerosOf v) ≤ 8
   roots-few n =
-      omega (arith, length-map (zerosOf v) point, length-map q byte,
-      root-count bytes (map point (zerosOf v)) (elements q) n roots-distinct (All-points (zerosOf v) roots-vanish))
+      omega (
+        arith,
+        length-map (zerosOf v) point,
+        length-map q byte,
+        root-count bytes (map point (zerosOf v)) (elements q) n roots-distinct (All-points (zerosOf v) roots-vanish),
+      )
     where
       All-points : (l : List ℕ) → All (λ d. (d < 204) × (eval (ops bytes) (elements q) (point d) ≡ bytes .𝟘)) l → All (λ x. eval (ops bytes) (elements q) x ≡ bytes .𝟘) (map point l)
       All-points [] h = tt
@@ -215,8 +219,16 @@ module _ (came c : List ℕ) (n : length came ≡ 204) (b : Bytes came) (cw : Co
       where
         fits : length (timesLinear bytes (point d) (plus (ops bytes) Q (fromRoots bytes (before ++ after)))) ≤ length (rootsBelow 16)
         fits =
-            omega (arith, length-timesLinearFrom bytes (point d) (bytes .𝟘) (plus (ops bytes) Q (fromRoots bytes (before ++ after))), length-plus-max bytes Q (fromRoots bytes (before ++ after)), Q-length,
-            length-fromRoots bytes (before ++ after), others-length, roots-few q v lq lv ev (loc .nonzero), length-roots 16)
+            omega (
+              arith,
+              length-timesLinearFrom bytes (point d) (bytes .𝟘) (plus (ops bytes) Q (fromRoots bytes (before ++ after))),
+              length-plus-max bytes Q (fromRoots bytes (before ++ after)),
+              Q-length,
+              length-fromRoots bytes (before ++ after),
+              others-length,
+              roots-few q v lq lv ev (loc .nonzero),
+              length-roots 16,
+            )
 
     on : errorValue p s (getD x d 0) ≡ g d
     unfolding errorValue

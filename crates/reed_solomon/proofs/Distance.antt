@@ -29,13 +29,13 @@ use Rattle.reed_solomon.proofs.Codewords.{codeword-length, codeword-byt
 -- ---- the distance
 
 -- 0 where two bytes are equal, else 1
-abbrev unequal : ℕ → ℕ → ℕ
+abbrev pub unequal : ℕ → ℕ → ℕ
 unequal x y = pick (eqb x y) 0 1
 
-unequal-same : (x y : ℕ) → x ≡ y → unequal x y ≡ 0
+pub unequal-same : (x y : ℕ) → x ≡ y → unequal x y ≡ 0
 unequal-same x y e = simp (eq-eqb x y e)
 
-unequal-other : (x y : ℕ) → (x ≡ y → ⊥) → unequal x y ≡ 1
+pub unequal-other : (x y : ℕ) → (x ≡ y → ⊥) → unequal x y ≡ 1
 unequal-other x y n = simp (ne-eqb x y n)
 
 pub differ-none : (a : List ℕ) → differ a a ≡ 0

@@ -134,7 +134,7 @@ pub record Correcting (start block degrees values : List ℕ) (count changed l :
   pub rest : correctedBy block (drop l (take count degrees)) (drop l (take count values)) ≡ correctedBy start (take count degrees) (take count values)
   pub total : changed + changedIn (drop l (take count values)) ≡ changedIn (take count values)
 
-changed-le : (l : List ℕ) → changedIn l ≤ length l
+pub changed-le : (l : List ℕ) → changedIn l ≤ length l
 unfolding changedIn
 changed-le [] = omega arith
 changed-le (e ∷ l) = go (eqb e 0) (changed-le l)

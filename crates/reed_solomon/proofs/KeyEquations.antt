@@ -1,7 +1,7 @@
 -- The steps of the elimination that finds the locator, on eight rows of sixteen bytes.
 -- Assumes nothing.
 use mathlib.Core.Path.{_≡_, refl, sym, ap, ap₂, _∙_, subst}
-use mathlib.Core.Bool.{Bool, true, false, not, true≢false, false≢true}
+use mathlib.Core.Bool.{true, false}
 use mathlib.Core.List.{List, _++_}
 use mathlib.Core.Logic.{_⊎_, inl, inr}
 use Prim.Native.Nat.{ℕ, suc, _+_, _*_, _<_, _≤_, _/_, _%_, Fin}
@@ -181,14 +181,6 @@ cleared-done o m k i h C = record { kept = C .kept; most = omega arith; one = C 
 
 pub units-none : (m : ℕ → ℕ → Fin 256) → Units bytes 8 0 m
 units-none m = record { off = λ r c a b. absurd (omega arith); on = λ c b. absurd (omega arith) }
-
-pub eliminated-flag : (o m n : List ℕ) (k : ℕ) (b : Bool) → k < 8 → not b ≡ true → Kept o m k → Pivoted m n k b → Eliminated o n k
-eliminated-flag o m n k true l e P Q = absurd (false≢true e)
-eliminated-flag o m n k false l e P Q = eliminated o m n k l P Q
-
-pub pivoted-flag : (m n : List ℕ) (k : ℕ) (b : Bool) → not b ≡ false → Pivoted m n k b → Pivoted m n k true
-pivoted-flag m n k true e Q = Q
-pivoted-flag m n k false e Q = absurd (true≢false e)
 
 -- ---- the matrix of the key equations, and the solution read from it
 

@@ -9,3 +9,5 @@ pub mod ErrorValues
 pub mod ErrorTerms
 pub mod Zeros
 pub mod Completeness
+pub mod Soundness
+pub mod Outcome

@@ -123,7 +123,7 @@ module _ (v x degrees places : List ℕ) (count i : ℕ) where
     pub searched-skip : (getD v i 0 ≡ 0 → ⊥) → Searched v x degrees places count (i + 1)
     searched-skip z =
         let e : zerosFrom 0 (take i v) ≡ zerosFrom 0 (take (i + 1) v) =
-            sym (append-nil (zerosFrom 0 (take i v))) ∙ sym (zeros-more v i (omega arith) ∙ ap (λ b. zerosFrom 0 (take i v) ++ pick b (i ∷ []) []) (ne-eqb _ _ z)) in
+        sym (append-nil (zerosFrom 0 (take i v))) ∙ sym (zeros-more v i (omega arith) ∙ ap (λ b. zerosFrom 0 (take i v) ++ pick b (i ∷ []) []) (ne-eqb _ _ z)) in
         record {
           most = omega arith;
           degrees-len = s .degrees-len;
@@ -136,7 +136,7 @@ module _ (v x degrees places : List ℕ) (count i : ℕ) where
     pub searched-more : count ≤ 8 → getD v i 0 ≡ 0 → Searched v x (set degrees count i) (set places count (getD x i 0)) (count + 1) (i + 1)
     searched-more r z =
         let e : zerosFrom 0 (take i v) ++ i ∷ [] ≡ zerosFrom 0 (take (i + 1) v) =
-            sym (zeros-more v i (omega arith) ∙ ap (λ b. zerosFrom 0 (take i v) ++ pick b (i ∷ []) []) (eq-eqb _ _ z)) in
+        sym (zeros-more v i (omega arith) ∙ ap (λ b. zerosFrom 0 (take i v) ++ pick b (i ∷ []) []) (eq-eqb _ _ z)) in
         record {
           most = omega arith;
           degrees-len = length-set degrees count i ∙ s .degrees-len;

@@ -1,7 +1,10 @@
 // The outer code: Reed-Solomon RS(204,188), EN 300 421, 4.4.2.
 ghost use mathlib.Core.Path.{_≡_};
 ghost use Rattle.answer.specs.Number.{numberOf};
+ghost use lib.ListN.{length};
 ghost use Rattle.reed_solomon.specs.Encode.{encodeNumber, encodeRoom};
+ghost use Rattle.reed_solomon.specs.Decode.{Decodes};
+ghost use Rattle.reed_solomon.specs.Steps.{residueOf};
 use answer::Answer;
 
 mod correction;
@@ -35,4 +38,40 @@ pub fn encode(message: &[u8], room: &mut [u8]) -> Answer
     division::put(message, 0, room);
     division::put(&check, 188, room);
     Answer::Done
+}
+
+// Finds up to eight wrong bytes of a block, and takes them away where that explains the whole residue.
+fn repair(block: &mut [u8], residue: [u8; 16]) -> Decoded
+    requires { ⌜ (length (now block) ≡ 204) × (residue ≡ residueOf (now block)) ⌝ }
+    ensures { λ r. ⌜ Decodes (now (block .entry)) (now (block .exit)) r ⌝ }
+{
+    let x = syndromes::powers();
+    let s = syndromes::syndromes(residue, &x);
+    let q = locator::locator(s);
+    let v = correction::evaluate(q, &x);
+    let roots = correction::find_roots(&v, &x);
+    let degrees = roots.degrees;
+    let places = roots.places;
+    let count = roots.count;
+    let p = correction::root_product(places, count);
+    let values = correction::error_values(p, s, places, count);
+    if !correction::explains(places, values, &s) {
+        return Decoded::Uncorrectable;
+    }
+    let changed = correction::correct(block, degrees, values, count);
+    Decoded::Corrected(changed)
+}
+
+// Leaves the codeword within eight bytes of the block, if there is one. A clean block costs the division alone.
+pub fn decode(block: &mut [u8]) -> Decoded
+    ensures { λ r. ⌜ Decodes (now (block .entry)) (now (block .exit)) r ⌝ }
+{
+    if block.len() != 204 {
+        return Decoded::BlockLength;
+    }
+    let residue = division::residue(block);
+    if division::is_zero(residue) {
+        return Decoded::Corrected(0);
+    }
+    repair(block, residue)
 }

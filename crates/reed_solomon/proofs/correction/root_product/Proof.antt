@@ -54,8 +54,8 @@ loop-again c =
     let s = c .before .before .before .before .before in
     let few : length (take (s .args .count) (s .args .t1)) ≤ 8 = omega (arith, length-take-le (s .args .count) (s .args .t1) (omega (arith, s .good .0 .1 .0 .1))) in
     let e : c .sum .result ≡ multiplied (take (s .args .count) (s .args .t1)) (l .p) (l .l) few (l .inv .1) (search needs) =
-        c .sum .ensures ∙ ap₂ (plus numbers)
-        (c .before .before .scale .ensures ∙ ap (λ (y : ℕ). scaled y (l .p)) (sym (getD-take (s .args .count) (s .args .t1) (l .l - 1) 0 (omega arith)))) (c .before .raised .ensures) in
+    c .sum .ensures ∙ ap₂ (plus numbers)
+    (c .before .before .scale .ensures ∙ ap (λ (y : ℕ). scaled y (l .p)) (sym (getD-take (s .args .count) (s .args .t1) (l .l - 1) 0 (omega arith)))) (c .before .raised .ensures) in
     (search needs, subst (λ (q : List ℕ). Multiplied (take (s .args .count) (s .args .t1)) q (l .l - 1)) (sym e) (multiplied-more (take (s .args .count) (s .args .t1)) (l .p) (l .l) few (l .inv .1) (search needs)))
 
 returns : tie.Need-returns Inv-loop μ-loop

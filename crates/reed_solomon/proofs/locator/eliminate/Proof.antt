@@ -2,8 +2,9 @@
 -- Assumes nothing.
 use Prim.Native.Nat.{_-_, _≤_}
 use native.Mathlib.Omega.{arith}
-use Rattle.reed_solomon.specs.Steps.{Kept}
-use Rattle.reed_solomon.proofs.KeyEquations.{kept-refl, units-none, kept-more, pivoted-flag, eliminated-flag, eliminated-all}
+use Rattle.reed_solomon.specs.Steps.{Kept, Pivoted}
+use Rattle.common.proofs.Choice.{flag-false, flag-true}
+use Rattle.reed_solomon.proofs.KeyEquations.{kept-refl, units-none, kept-more, eliminated, eliminated-all}
 use borrow.Author.Needs.{needs}
 use Rattle.reed_solomon.proofs.locator.eliminate.Statement.{statement}
 use Rattle.reed_solomon.proofs.locator.eliminate.Tie as tie
@@ -24,11 +25,11 @@ same-length : tie.Need-same-length Inv-loop μ-loop
 same-length c = search needs
 
 returns : tie.Need-returns Inv-loop μ-loop
-returns c = eliminated-flag _ _ _ _ _ (omega arith) (c .if1 .taken) (c .before .before .before .before .before .before .loop .inv .1) (c .before .before .before .pivot .ensures)
+returns c = eliminated _ _ _ _ (omega arith) (c .before .before .before .before .before .before .loop .inv .1) (flag-false (Pivoted _ _ _) _ (c .if1 .taken) (c .before .before .before .pivot .ensures))
 
 clear-requires : tie.Need-clear-requires Inv-loop μ-loop
 clear-requires c κs =
-    let P = pivoted-flag _ _ _ _ (c .before .if1 .left) (c .before .before .before .before .pivot .ensures) in
+    let P = flag-true (Pivoted _ _ _) _ (c .before .if1 .left) (c .before .before .before .before .pivot .ensures) in
     (P .kept .len, omega arith, P .kept .units, P .outcome)
 
 add-k : tie.Need-add-k Inv-loop μ-loop
@@ -39,7 +40,7 @@ loop-less c = search needs
 
 loop-again : tie.Need-loop-again Inv-loop μ-loop
 loop-again c =
-    let P = pivoted-flag _ _ _ _ (c .before .before .before .before .if1 .left) (c .before .before .before .before .before .before .before .pivot .ensures) in
+    let P = flag-true (Pivoted _ _ _) _ (c .before .before .before .before .if1 .left) (c .before .before .before .before .before .before .before .pivot .ensures) in
     (omega arith, kept-more _ _ _ _ _ (omega arith) (c .before .before .before .before .before .before .before .before .before .before .loop .inv .1) P (c .before .before .clear .ensures))
 
 same-length-2 : tie.Need-same-length-2 Inv-loop μ-loop

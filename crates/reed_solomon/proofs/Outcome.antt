@@ -1,0 +1,163 @@
+-- The decoder's steps put together: what it leaves and answers is what decoding means.
+-- Assumes nothing.
+use mathlib.Core.Path.{_≡_, refl, sym, ap, ap₂, _∙_, subst}
+use mathlib.Core.Bool.{Bool, true, false}
+use mathlib.Core.List.{List, [], _∷_, _++_, map}
+use Prim.Native.Nat.{ℕ, zero, suc, _+_, _-_, _≤_, _<_, Fin}
+use Prim.{tt}
+use native.Mathlib.Decide.{decLt, ℕ-discrete}
+use native.Mathlib.Nat.{not-suc-le-zero}
+use native.Mathlib.Omega.{arith}
+use borrow.Author.Tests.{eq-eqb, ne-eqb}
+use lib.Dec.{eqb}
+use lib.ListN.{length, getD, take, drop, length-drop, length-take, length-map, take-append-drop, List·getD-eq-default}
+use lib.Seq.{length-take-le, getD-take}
+use Rattle.common.specs.Choice.{pick}
+use Rattle.common.specs.Lists.{All, Bytes}
+use Rattle.common.proofs.Choice.{false-true}
+use Rattle.common.proofs.Lists.{getD-map-in}
+use Rattle.algebra.specs.Field.{Field, ops}
+use Rattle.algebra.specs.Polynomial.{power, eval}
+use Rattle.algebra.proofs.Lists.{All-map, All-at}
+use Rattle.algebra.proofs.Ring.{add-comm, add-self, zero-add, mul-zero}
+use Rattle.algebra.proofs.Syndromes.{syndrome}
+use Rattle.galois.proofs.Instance.{bytes, byte, byte-zero}
+use Rattle.reed_solomon.specs.Code.{Codeword, differ}
+use Rattle.reed_solomon.specs.Encode.{checkBytes}
+use Rattle.reed_solomon.specs.Decode.{Accepted, Rejected}
+use Rattle.reed_solomon.specs.Steps.{point, word, residueOf, allZero, Powers, SyndromesOf, Located, Evaluated, zerosOf, FoundRoots, RootProduct, errorValue, ErrorValues, termsOf, Explains, Explained, correctedBy, changedIn}
+use Rattle.reed_solomon.proofs.Codewords.{blockSyndrome, codeword-of, generator-root}
+use Rattle.reed_solomon.proofs.Distance.{differ-none, accepted}
+use Rattle.reed_solomon.proofs.LongDivision.{high, high-nil, high-cons, high-append, high-plus, high-check, check-remainder}
+use Rattle.reed_solomon.proofs.Completeness.{spots, roots-vanish, roots-distinct, roots-few, found}
+use Rattle.reed_solomon.proofs.Soundness.{corrected-length, corrected-bytes, corrected-value, corrected-differ, terms-cut, terms-spots, distinct-unmap}
+use Rattle.reed_solomon.proofs.ErrorTerms.{changed-le}
+
+-- a list whose every element is below 256
+pub bytes-of : (l : List ℕ) → ((i : ℕ) → getD l i 0 < 256) → Bytes l
+bytes-of [] h = tt
+bytes-of (x ∷ l) h = (h 0, bytes-of l (λ i. h (suc i)))
+
+-- ---- the residue
+
+module _ (came : List ℕ) (n : length came ≡ 204) where
+  pub residue-value : (j : ℕ) → j < 16 → high (point j) (residueOf came) ≡ blockSyndrome came j
+  unfolding residueOf
+  residue-value j h =
+      high-plus (point j) (checkBytes (take 188 came)) (drop 188 came) (check-remainder (take 188 came) .size ∙ sym last)
+      ∙ ap (λ (u : Fin 256). bytes .add u (high (point j) (drop 188 came))) (high-check (point j) (generator-root j h) (take 188 came))
+      ∙ add-comm bytes (bytes .mul (power (ops bytes) (point j) 16) (high (point j) (take 188 came))) (high (point j) (drop 188 came))
+      ∙ ap (λ (k : ℕ). bytes .add (high (point j) (drop 188 came)) (bytes .mul (power (ops bytes) (point j) k) (high (point j) (take 188 came)))) (sym last)
+      ∙ sym (high-append (point j) (take 188 came) (drop 188 came)) ∙ ap (high (point j)) (take-append-drop 188 came)
+    where
+      last : length (drop 188 came) ≡ 16
+      last = omega (arith, length-drop 188 came)
+
+  zero-value : (x : Fin 256) (l : List ℕ) → allZero l ≡ true → high x l ≡ bytes .𝟘
+  zero-value x [] h = high-nil x
+  zero-value x (y ∷ l) h = go (ℕ-discrete y 0) (λ k. zero-value x l k)
+    where
+      go : Dec (y ≡ 0) → (allZero l ≡ true → high x l ≡ bytes .𝟘) → high x (y ∷ l) ≡ bytes .𝟘
+      go (yes e) r =
+          high-cons x y l
+          ∙ ap₂ (λ (u v : Fin 256). bytes .add u (bytes .mul (power (ops bytes) x (length l)) v)) (r (rw (eq-eqb y 0 e) at h)) (ap byte e ∙ byte-zero)
+          ∙ zero-add bytes (bytes .mul (power (ops bytes) x (length l)) (bytes .𝟘)) ∙ mul-zero bytes (power (ops bytes) x (length l))
+      go (no e) r = false-true (rw (ne-eqb y 0 e) at h)
+
+  -- a block whose residue is zero is a codeword already
+  pub clean : Bytes came → allZero (residueOf came) ≡ true → Accepted came came 0
+  clean b h =
+      accepted came came 0 n (codeword-of came n b (λ j l. sym (residue-value j l) ∙ zero-value (point j) (residueOf came) h)) (sym (differ-none came)) (omega arith)
+
+-- ---- the search for errors
+
+-- what the steps have found
+pub record Decoding (came x s q v degrees places : List ℕ) (count : ℕ) (p values : List ℕ) : Type 0 where
+  pub n : length came ≡ 204
+  pub b : Bytes came
+  pub px : Powers x
+  pub sy : SyndromesOf (residueOf came) s
+  pub loc : Located s q
+  pub lq : length q ≡ 9
+  pub ev : Evaluated q v
+  pub lv : length v ≡ 208
+  pub fr : FoundRoots v x degrees places count
+  pub rp : RootProduct (take count places) p
+  pub lp : length p ≡ 16
+  pub vs : ErrorValues p s places count values
+  pub lvs : length values ≡ 16
+
+module _ {came x s q v degrees places : List ℕ} {count : ℕ} {p values : List ℕ} (D : Decoding came x s q v degrees places count p values) where
+  open Decoding D using (n, b, px, sy, loc, lq, ev, lv, fr, rp, lp, vs, lvs)
+
+  syndromes : (j : ℕ) → j < 16 → byte (getD s j 0) ≡ blockSyndrome came j
+  syndromes j h = sy .each j h ∙ residue-value came n j h
+
+  few : count ≤ 8
+  few = omega (arith, fr .number, roots-few q v lq lv ev (loc .nonzero))
+
+  abbrev es : List ℕ
+  es = take count values
+
+  es-length : length es ≡ length (zerosOf v)
+  es-length = length-take-le count values (omega (arith, few)) ∙ fr .number
+
+  in-range : All (λ d. d < 204) (zerosOf v)
+  in-range = All-map _ (λ d. d < 204) (λ d h. h .0) (zerosOf v) (roots-vanish q v lq lv ev)
+
+  -- sixteen lanes have the syndromes of the errors found
+  lanes : (j : ℕ) → syndrome bytes (termsOf places values) j ≡ syndrome bytes (spots (zerosOf v) es) j
+  lanes j =
+      terms-cut count places values j (vs .rest)
+      ∙ ap (λ (l : List ℕ). syndrome bytes (termsOf l es) j) (fr .placed)
+      ∙ ap (λ t. syndrome bytes t j) (terms-spots x (zerosOf v) es px in-range)
+
+  es-value : (l : ℕ) → l < length (zerosOf v) → byte (getD es l 0) ≡ errorValue p s (getD x (getD (zerosOf v) l 0) 0)
+  es-value l h =
+      let k : l < count = omega (arith, fr .number) in
+      ap byte (getD-take count values l 0 k) ∙ vs .own l k
+      ∙ ap (errorValue p s)
+      (sym (getD-take count places l 0 k) ∙ ap (λ (m : List ℕ). getD m l 0) (fr .placed) ∙ getD-map-in (λ d. getD x d 0) (zerosOf v) 0 0 l h)
+
+  -- not explained: no codeword is within eight bytes
+  pub rejected : Explained places values s false → Rejected came came
+  rejected f = record { unchanged = refl; far = λ c cw. go c cw (decLt 8 (differ came c)) }
+    where
+      go : (c : List ℕ) → Codeword c → Dec (8 < differ came c) → 8 < differ came c
+      go c cw (yes h) = h
+      go c cw (no h) =
+          absurd (f (record {
+            each = λ j l. lanes j
+                ∙ found came c n b cw (omega arith) s syndromes q v lq lv loc ev x p lp px (subst (λ (m : List ℕ). RootProduct m p) (fr .placed) rp) es es-length es-value j l;
+          }))
+
+  es-bytes : Bytes es
+  es-bytes = bytes-of es (λ i. small i (decLt i count))
+    where
+      small : (i : ℕ) → Dec (i < count) → getD es i 0 < 256
+      small i (yes h) = subst (λ (k : ℕ). k < 256) (sym (getD-take count values i 0 h)) (vs .small i h)
+      small i (no h) =
+          subst (λ (k : ℕ). k < 256) (sym (List·getD-eq-default es 0 {n = i} (omega (arith, length-take-le count values (omega (arith, few)))))) (omega arith)
+
+  -- explained: what is left is a codeword, and the count is true
+  pub repaired : (left : List ℕ) (k : ℕ) → Explained places values s true → left ≡ correctedBy came (take count degrees) es → k ≡ changedIn es → Accepted came left k
+  repaired left k f e g =
+      subst (λ (l : List ℕ). Accepted came l k) (sym whole)
+      (accepted came done k n
+      (codeword-of done (corrected-length came (zerosOf v) es ∙ n) (corrected-bytes came (zerosOf v) es n b es-bytes)
+      (λ j l. corrected-value j came (zerosOf v) es n in-range es-length
+      ∙ ap (λ (u : Fin 256). bytes .add (blockSyndrome came j) u) (sym (lanes j) ∙ f .each j l ∙ syndromes j l) ∙ add-self bytes (blockSyndrome came j)))
+      (g ∙ sym (corrected-differ came (zerosOf v) es n in-range (distinct-unmap point (zerosOf v) (roots-distinct q v lq lv ev)) es-length ∙ ap (λ (m : ℕ). m + changedIn es) (differ-none came) ∙ omega arith))
+      (omega (arith, changed-le es, es-length, fr .number, few)))
+    where
+      done : List ℕ
+      done = correctedBy came (zerosOf v) es
+
+      whole : left ≡ correctedBy came (zerosOf v) es
+      whole = e ∙ ap (λ (ds : List ℕ). correctedBy came ds es) (fr .listed)
+
+  -- the degrees are those of a block
+  pub degrees-range : (l : ℕ) → l < count → getD degrees l 0 < 204
+  degrees-range l h =
+      subst (λ (k : ℕ). k < 204) (sym (sym (getD-take count degrees l 0 h) ∙ ap (λ (m : List ℕ). getD m l 0) (fr .listed)))
+      (All-at (λ d. d < 204) (zerosOf v) 0 l in-range (omega (arith, fr .number)))

@@ -1,0 +1,196 @@
+-- What the decoder leaves: the errors taken away change the block's values at the roots by the syndromes of the errors, and its bytes where an error is not zero.
+-- Assumes nothing.
+use mathlib.Core.Path.{_≡_, refl, sym, ap, ap₂, _∙_, subst}
+use mathlib.Core.List.{List, [], _∷_, _++_, map}
+use Prim.Native.Nat.{ℕ, zero, suc, _+_, _-_, _≤_, _<_, Fin}
+use Prim.{tt}
+use native.Mathlib.Decide.{ℕ-discrete, decLt}
+use native.Mathlib.Nat.{add-zero, zero-add, not-suc-le-zero, le-of-suc-le-suc}
+use native.Mathlib.Omega.{arith}
+use borrow.Author.Tests.{eq-eqb, ne-eqb}
+use lib.Bits.{bitXor, xor-lt, xor-comm, xor-zero-r, xor-self}
+use lib.Dec.{eqb}
+use lib.ListN.{length, getD, take, drop, set, length-set, length-map}
+use lib.Seq.{getD-set-other, length-take-le}
+use Rattle.common.specs.Choice.{pick}
+use Rattle.common.specs.Lists.{All, Bytes}
+use Rattle.common.proofs.Xor.{xor-undo}
+use Rattle.algebra.specs.Field.{Field, ops}
+use Rattle.algebra.specs.Polynomial.{power}
+use Rattle.algebra.proofs.Lists.{All-at, Away, Distinct}
+use Rattle.algebra.proofs.Ring.{ring, zero-mul, zero-add as field-zero-add, add-zero as field-add-zero}
+use Rattle.algebra.proofs.Syndromes.{Term, syndrome}
+use Rattle.algebra.proofs.Decoding.{power-swap}
+use Rattle.galois.proofs.Instance.{bytes, byte, byte-zero, byte-add, byte-power}
+use Rattle.reed_solomon.specs.Code.{differ}
+use Rattle.reed_solomon.specs.Steps.{point, Powers, termsOf, correctedBy, changedIn}
+use Rattle.reed_solomon.proofs.Distance.{unequal, unequal-same, unequal-other}
+use Rattle.reed_solomon.proofs.LongDivision.{high, high-cons}
+use Rattle.reed_solomon.proofs.Completeness.{spots}
+
+-- ---- identities
+
+module _ (K : Field) where
+  open Field K using (F, add as _⊕_, mul as _⊗_, 𝟘, 𝟙)
+
+  infixl 65 _⊕_
+  infixl 70 _⊗_
+  here-identity : (u p y e : F) → u ⊕ p ⊗ (y ⊕ e) ≡ (u ⊕ p ⊗ y) ⊕ p ⊗ e
+  here-identity u p y e = simp ring
+
+  there-identity : (u w t : F) → (u ⊕ w) ⊕ t ≡ (u ⊕ t) ⊕ w
+  there-identity u w t = simp ring
+
+  next-identity : (u p e s : F) → (u ⊕ p ⊗ e) ⊕ s ≡ u ⊕ (e ⊗ p ⊕ s)
+  next-identity u p e s = simp ring
+
+-- ---- one byte changed
+
+-- the value of a block with e added to byte k
+high-set : (x : Fin 256) (b : List ℕ) (k e : ℕ) → k < length b
+    → high x (set b k (bitXor (getD b k 0) e)) ≡ bytes .add (high x b) (bytes .mul (power (ops bytes) x (length b - 1 - k)) (byte e))
+high-set x [] k e h = absurd (not-suc-le-zero h)
+high-set x (y ∷ b) zero e h =
+    high-cons x (bitXor y e) b
+    ∙ ap (λ (u : Fin 256). bytes .add (high x b) (bytes .mul (power (ops bytes) x (length b)) u)) (byte-add y e)
+    ∙ here-identity bytes (high x b) (power (ops bytes) x (length b)) (byte y) (byte e)
+    ∙ ap₂ (λ (u : Fin 256) (n : ℕ). bytes .add u (bytes .mul (power (ops bytes) x n) (byte e))) (sym (high-cons x y b)) last
+  where
+    last : length b ≡ suc (length b) - 1 - 0
+    last = omega arith
+high-set x (y ∷ b) (suc k) e h =
+    high-cons x y (set b k (bitXor (getD b k 0) e))
+    ∙ ap₂ (λ (u : Fin 256) (n : ℕ). bytes .add u (bytes .mul (power (ops bytes) x n) (byte y))) (high-set x b k e (le-of-suc-le-suc h)) (length-set b k (bitXor (getD b k 0) e))
+    ∙ there-identity bytes (high x b) (bytes .mul (power (ops bytes) x (length b - 1 - k)) (byte e)) (bytes .mul (power (ops bytes) x (length b)) (byte y))
+    ∙ ap₂ (λ (u : Fin 256) (n : ℕ). bytes .add u (bytes .mul (power (ops bytes) x n) (byte e))) (sym (high-cons x y b)) same
+  where
+    same : length b - 1 - k ≡ suc (length b) - 1 - suc k
+    same = omega arith
+
+bytes-set : (l : List ℕ) (i v : ℕ) → Bytes l → v < 256 → Bytes (set l i v)
+bytes-set [] i v h b = tt
+bytes-set (x ∷ l) zero v h b = (b, h .1)
+bytes-set (x ∷ l) (suc i) v h b = (h .0, bytes-set l i v (h .1) b)
+
+bytes-at : (l : List ℕ) (i : ℕ) → Bytes l → i < length l → getD l i 0 < 256
+bytes-at l i h b = All-at (λ x. x < 256) l 0 i h b
+
+-- ---- all errors taken away
+
+pub corrected-length : (b ds es : List ℕ) → length (correctedBy b ds es) ≡ length b
+unfolding correctedBy
+corrected-length b [] es = refl
+corrected-length b (d ∷ ds) [] = refl
+corrected-length b (d ∷ ds) (e ∷ es) = corrected-length _ ds es ∙ length-set b (203 - d) (bitXor (getD b (203 - d) 0) e)
+
+pub corrected-bytes : (b ds es : List ℕ) → length b ≡ 204 → Bytes b → Bytes es → Bytes (correctedBy b ds es)
+unfolding correctedBy
+corrected-bytes b [] es n h k = h
+corrected-bytes b (d ∷ ds) [] n h k = h
+corrected-bytes b (d ∷ ds) (e ∷ es) n h k =
+    corrected-bytes (set b (203 - d) (bitXor (getD b (203 - d) 0) e)) ds es (length-set b (203 - d) (bitXor (getD b (203 - d) 0) e) ∙ n)
+    (bytes-set b (203 - d) (bitXor (getD b (203 - d) 0) e) h (xor-lt 8 (getD b (203 - d) 0) e (bytes-at b (203 - d) h (omega arith)) (k .0))) (k .1)
+
+pub corrected-value : (j : ℕ) (b ds es : List ℕ) → length b ≡ 204 → All (λ d. d < 204) ds → length es ≡ length ds
+    → high (point j) (correctedBy b ds es) ≡ bytes .add (high (point j) b) (syndrome bytes (spots ds es) j)
+unfolding correctedBy spots syndrome
+corrected-value j b [] es n h m = sym (field-add-zero bytes (high (point j) b))
+corrected-value j b (d ∷ ds) [] n h m = absurd (omega arith)
+corrected-value j b (d ∷ ds) (e ∷ es) n h m =
+    corrected-value j (set b (203 - d) (bitXor (getD b (203 - d) 0) e)) ds es (length-set b (203 - d) (bitXor (getD b (203 - d) 0) e) ∙ n) (h .1) (omega arith)
+    ∙ ap (λ (u : Fin 256). bytes .add u (syndrome bytes (spots ds es) j)) (high-set (point j) b (203 - d) e (omega (arith, h .0)))
+    ∙ ap (λ (u : Fin 256). bytes .add (bytes .add (high (point j) b) (bytes .mul u (byte e))) (syndrome bytes (spots ds es) j)) place
+    ∙ next-identity bytes (high (point j) b) (power (ops bytes) (point d) j) (byte e) (syndrome bytes (spots ds es) j)
+  where
+    degree : length b - 1 - (203 - d) ≡ d
+    degree = omega (arith, h .0)
+
+    place : power (ops bytes) (point j) (length b - 1 - (203 - d)) ≡ power (ops bytes) (point d) j
+    place = ap (power (ops bytes) (point j)) degree ∙ power-swap bytes (byte 2) j d
+
+-- ---- in how many bytes
+
+differ-set : (a b : List ℕ) (k v : ℕ) → length a ≡ length b → k < length b → getD b k 0 ≡ getD a k 0
+    → differ a (set b k v) ≡ differ a b + unequal (getD a k 0) v
+unfolding differ
+differ-set [] [] k v n h e = absurd (not-suc-le-zero h)
+differ-set [] (y ∷ b) k v n h e = absurd (omega arith)
+differ-set (x ∷ a) [] k v n h e = absurd (omega arith)
+differ-set (x ∷ a) (y ∷ b) zero v n h e = rw (eq-eqb x y (sym e)) (omega arith)
+differ-set (x ∷ a) (y ∷ b) (suc k) v n h e = omega (arith, differ-set a b k v (omega arith) (le-of-suc-le-suc h) e)
+
+xor-none : (x e : ℕ) → x ≡ bitXor x e → e ≡ 0
+xor-none x e h = sym (xor-undo e x) ∙ ap (λ (k : ℕ). bitXor k x) (xor-comm e x ∙ sym h) ∙ xor-self x
+
+changed-one : (x e : ℕ) → unequal x (bitXor x e) ≡ unequal e 0
+changed-one x e = go (ℕ-discrete e 0)
+  where
+    go : Dec (e ≡ 0) → unequal x (bitXor x e) ≡ unequal e 0
+    go (yes z) = unequal-same x (bitXor x e) (sym (ap (bitXor x) z ∙ xor-zero-r x)) ∙ sym (unequal-same e 0 z)
+    go (no z) = unequal-other x (bitXor x e) (λ h. z (xor-none x e h)) ∙ sym (unequal-other e 0 z)
+
+-- at the degrees of the list the two blocks agree
+abbrev Agree : List ℕ → List ℕ → List ℕ → Type 0
+Agree a b ds = All (λ d. getD b (203 - d) 0 ≡ getD a (203 - d) 0) ds
+
+agree-set : (a b : List ℕ) (d v : ℕ) (ds : List ℕ) → d < 204 → All (λ d. d < 204) ds → Away d ds → Agree a b ds → Agree a (set b (203 - d) v) ds
+agree-set a b d v [] l h w g = tt
+agree-set a b d v (k ∷ ds) l h w g = (
+  getD-set-other b (203 - d) (203 - k) v 0 (λ e. w .0 (omega (arith, h .0))) ∙ g .0,
+  agree-set a b d v ds l (h .1) (w .1) (g .1),
+)
+
+corrected-from : (a b ds es : List ℕ) → length a ≡ 204 → length b ≡ 204 → All (λ d. d < 204) ds → Distinct ds → Agree a b ds → length es ≡ length ds
+    → differ a (correctedBy b ds es) ≡ differ a b + changedIn es
+unfolding correctedBy changedIn
+corrected-from a b [] [] na nb h w g m = omega arith
+corrected-from a b [] (e ∷ es) na nb h w g m = absurd (omega arith)
+corrected-from a b (d ∷ ds) [] na nb h w g m = absurd (omega arith)
+corrected-from a b (d ∷ ds) (e ∷ es) na nb h w g m =
+    corrected-from a (set b (203 - d) (bitXor (getD b (203 - d) 0) e)) ds es na (length-set b (203 - d) (bitXor (getD b (203 - d) 0) e) ∙ nb) (h .1) (w .1)
+    (agree-set a b d (bitXor (getD b (203 - d) 0) e) ds (h .0) (h .1) (w .0) (g .1)) (omega arith)
+    ∙ omega (arith, differ-set a b (203 - d) (bitXor (getD b (203 - d) 0) e) (na ∙ sym nb) (omega arith) (g .0), one)
+  where
+    one : unequal (getD a (203 - d) 0) (bitXor (getD b (203 - d) 0) e) ≡ unequal e 0
+    one = ap (λ (x : ℕ). unequal (getD a (203 - d) 0) (bitXor x e)) (g .0) ∙ changed-one (getD a (203 - d) 0) e
+
+agree-self : (a ds : List ℕ) → Agree a a ds
+agree-self a [] = tt
+agree-self a (d ∷ ds) = (refl, agree-self a ds)
+
+pub corrected-differ : (a ds es : List ℕ) → length a ≡ 204 → All (λ d. d < 204) ds → Distinct ds → length es ≡ length ds
+    → differ a (correctedBy a ds es) ≡ differ a a + changedIn es
+corrected-differ a ds es n h w m = corrected-from a a ds es n n h w (agree-self a ds) m
+
+-- ---- sixteen lanes, of which the values from place n on are zero
+
+terms-none : (xs es : List ℕ) (j : ℕ) → ((l : ℕ) → getD es l 0 ≡ 0) → syndrome bytes (termsOf xs es) j ≡ bytes .𝟘
+unfolding termsOf syndrome
+terms-none [] es j z = refl
+terms-none (x ∷ xs) [] j z = refl
+terms-none (x ∷ xs) (e ∷ es) j z =
+    ap₂ (λ (u v : Fin 256). bytes .add (bytes .mul u (power (ops bytes) (byte x) j)) v) (ap byte (z 0) ∙ byte-zero) (terms-none xs es j (λ l. z (suc l)))
+    ∙ field-add-zero bytes (bytes .mul (bytes .𝟘) (power (ops bytes) (byte x) j)) ∙ zero-mul bytes (power (ops bytes) (byte x) j)
+
+pub terms-cut : (n : ℕ) (xs es : List ℕ) (j : ℕ) → ((l : ℕ) → n ≤ l → getD es l 0 ≡ 0) → syndrome bytes (termsOf xs es) j ≡ syndrome bytes (termsOf (take n xs) (take n es)) j
+unfolding termsOf syndrome
+terms-cut zero xs es j z = terms-none xs es j (λ l. z l (omega arith))
+terms-cut (suc n) [] es j z = refl
+terms-cut (suc n) (x ∷ xs) [] j z = refl
+terms-cut (suc n) (x ∷ xs) (e ∷ es) j z =
+    ap (λ (u : Fin 256). bytes .add (bytes .mul (byte e) (power (ops bytes) (byte x) j)) u) (terms-cut n xs es j (λ l h. z (suc l) (omega arith)))
+
+pub terms-spots : (x ds es : List ℕ) → Powers x → All (λ d. d < 204) ds → termsOf (map (λ d. getD x d 0) ds) es ≡ spots ds es
+unfolding termsOf spots
+terms-spots x [] es p h = refl
+terms-spots x (d ∷ ds) [] p h = refl
+terms-spots x (d ∷ ds) (e ∷ es) p h =
+    ap₂ (λ (u : Fin 256) (l : List (Term bytes)). (u, byte e) ∷ l) (ap byte (p .each d (omega (arith, h .0))) ∙ byte-power 2 d) (terms-spots x ds es p (h .1))
+
+pub distinct-unmap : (f : ℕ → Fin 256) (l : List ℕ) → Distinct (map f l) → Distinct l
+distinct-unmap f [] h = tt
+distinct-unmap f (x ∷ l) h = (away l (h .0), distinct-unmap f l (h .1))
+  where
+    away : (l : List ℕ) → Away (f x) (map f l) → Away x l
+    away [] h = tt
+    away (y ∷ l) h = ((λ e. h .0 (ap f e)), away l (h .1))

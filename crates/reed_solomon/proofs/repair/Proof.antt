@@ -1,0 +1,125 @@
+-- `repair` meets its contract: each step gives what the theorems of the decoder ask of it.
+-- Assumes nothing.
+use mathlib.Core.Path.{_≡_, refl, sym, ap, _∙_, subst}
+use mathlib.Core.List.{List}
+use Prim.Native.Nat.{ℕ, _≤_, _<_}
+use native.Mathlib.Omega.{arith}
+use lib.ListN.{length, getD, take}
+use Rattle.common.proofs.Choice.{flag-false, flag-true}
+use Rattle.reed_solomon.specs.Steps.{SyndromesOf, zerosOf, Explained}
+use Rattle.reed_solomon.proofs.Completeness.{roots-few}
+use Rattle.reed_solomon.proofs.Outcome.{Decoding, bytes-of, rejected, repaired, degrees-range}
+use borrow.Author.Needs.{needs}
+use Rattle.reed_solomon.proofs.repair.Statement.{statement}
+use Rattle.reed_solomon.proofs.repair.Tie as tie
+use Rattle.reed_solomon.proofs.repair.Reads as reads
+use Rattle.reed_solomon.proofs.repair.Lts as lts
+use Rattle.reed_solomon.proofs.correction.correct.Reads as correct-reads
+use Rattle.reed_solomon.proofs.correction.error_values.Reads as error-values-reads
+use Rattle.reed_solomon.proofs.correction.evaluate.Reads as evaluate-reads
+use Rattle.reed_solomon.proofs.correction.explains.Reads as explains-reads
+use Rattle.reed_solomon.proofs.correction.find_roots.Reads as find-roots-reads
+use Rattle.reed_solomon.proofs.correction.root_product.Reads as root-product-reads
+use Rattle.reed_solomon.proofs.locator.locator.Reads as locator-reads
+use Rattle.reed_solomon.proofs.syndromes.powers.Reads as powers-reads
+use Rattle.reed_solomon.proofs.syndromes.syndromes.Reads as syndromes-reads
+
+-- the locator has at most eight roots
+few-roots : (c : tie.After-evaluate) → length (zerosOf (c .evaluate .result)) ≤ 8
+few-roots c =
+    let l = c .before .before .locator in
+    roots-few (l .result) (c .evaluate .result) (l .ok .1 .0 .1) (c .evaluate .ok .1 .0 .1) (c .evaluate .ensures) (l .ensures .nonzero)
+
+few-found : (c : tie.After-find-roots) → c .find-roots .result .count ≤ 8
+few-found c = omega (arith, c .find-roots .ensures .number, few-roots (c .before .before .before))
+
+-- what all steps have found
+steps : (e : tie.After-error-values) → Decoding (e .before .before .before .before .before .before .before .before .before .before .before .before .before .before .args .block .now) (e .before .before .before .before .before .before .before .before .before .before .before .before .powers .result) (e .before .before .before .before .before .before .before .before .before .before .syndromes .result) (e .before .before .before .before .before .before .before .before .before .locator .result) (e .before .before .before .before .before .before .before .evaluate .result)
+    (e .before .before .before .before .find-roots .result .degrees) (e .before .before .before .before .find-roots .result .places) (e .before .before .before .before .find-roots .result .count) (e .before .root-product .result) (e .error-values .result)
+steps e =
+    let t = e .before .before .before .before .before .before .before .before .before .before .before .before .before .before in
+    record {
+      n = t .pre .0;
+      b = bytes-of (t .args .block .now) (λ i. e .before .before .before .before .before .before .before .before .before .before .before .before .before .slice-known .given i .fits);
+      px = e .before .before .before .before .before .before .before .before .before .before .before .before .powers .ensures;
+      sy = subst (λ r. SyndromesOf r (e .before .before .before .before .before .before .before .before .before .before .syndromes .result)) (t .pre .1) (e .before .before .before .before .before .before .before .before .before .before .syndromes .ensures);
+      loc = e .before .before .before .before .before .before .before .before .before .locator .ensures;
+      lq = e .before .before .before .before .before .before .before .before .before .locator .ok .1 .0 .1;
+      ev = e .before .before .before .before .before .before .before .evaluate .ensures;
+      lv = e .before .before .before .before .before .before .before .evaluate .ok .1 .0 .1;
+      fr = e .before .before .before .before .find-roots .ensures;
+      rp = e .before .root-product .ensures;
+      lp = e .before .root-product .ok .1 .0 .1;
+      vs = e .error-values .ensures;
+      lvs = e .error-values .ok .1 .0 .1;
+    }
+
+powers-requires : tie.Need-powers-requires
+powers-requires c κs = search needs
+
+syndromes-requires : tie.Need-syndromes-requires
+syndromes-requires c κs = search needs
+
+locator-requires : tie.Need-locator-requires
+locator-requires c κs = search needs
+
+evaluate-requires : tie.Need-evaluate-requires
+evaluate-requires c κs = search needs
+
+slice-aggregate-find-roots : tie.Need-slice-aggregate-find-roots
+slice-aggregate-find-roots c = search needs
+
+find-roots-requires : tie.Need-find-roots-requires
+find-roots-requires c κs = (c .before .before .evaluate .ok .1 .0 .1, few-roots (c .before .before))
+
+root-product-requires : tie.Need-root-product-requires
+root-product-requires c κs = few-found (c .before .before)
+
+error-values-requires : tie.Need-error-values-requires
+error-values-requires c κs = few-found (c .before .before .before)
+
+slice-aggregate-explains : tie.Need-slice-aggregate-explains
+slice-aggregate-explains c = search needs
+
+explains-requires : tie.Need-explains-requires
+explains-requires c κs = c .before .before .before .before .before .before .before .before .before .before .before .syndromes .ok .1 .0 .1
+
+returns : tie.Need-returns
+returns c =
+    let e = c .before .before .before in
+    (e .before .before .before .before .before .before .before .before .before .before .before .before .before .before .pre .0, rejected (steps e) (flag-false (Explained (e .before .before .before .before .find-roots .result .places) (e .error-values .result) (e .before .before .before .before .before .before .before .before .before .before .syndromes .result)) (c .before .explains .result) (c .if1 .taken) (c .before .explains .ensures)))
+
+correct-requires : tie.Need-correct-requires
+correct-requires c κs =
+    let e = c .before .before .before .before in
+    (e .before .before .before .before .before .before .before .before .before .before .before .before .before .before .pre .0, few-found (e .before .before .before .before), degrees-range (steps e))
+
+same-length : tie.Need-same-length
+same-length c = search needs
+
+returns-2 : tie.Need-returns-2
+returns-2 c =
+    let e = c .before .before .before .before .before .before .before in (
+      e .before .before .before .before .before .before .before .before .before .before .before .before .before .before .pre .0,
+      repaired (steps e) _ _ (flag-true (Explained (e .before .before .before .before .find-roots .result .places) (e .error-values .result) (e .before .before .before .before .before .before .before .before .before .before .syndromes .result)) (c .before .before .before .before .before .explains .result) (c .before .before .before .before .if1 .left) (c .before .before .before .before .before .explains .ensures))
+          (c .before .before .correct .ensures .1) (c .before .before .correct .ensures .0),
+    )
+
+pub repair-spec : {M : Type 1} → statement M
+repair-spec =
+    tie.close
+    (tie.spec
+    powers-requires
+    syndromes-requires
+    locator-requires
+    evaluate-requires
+    slice-aggregate-find-roots
+    find-roots-requires
+    root-product-requires
+    error-values-requires
+    slice-aggregate-explains
+    explains-requires
+    returns
+    correct-requires
+    same-length
+    returns-2)
