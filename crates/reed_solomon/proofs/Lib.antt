@@ -11,3 +11,5 @@ pub mod Zeros
 pub mod Completeness
 pub mod Soundness
 pub mod Outcome
+pub mod FiniteSearch
+pub mod Laws
