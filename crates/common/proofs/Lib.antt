@@ -1,3 +1,4 @@
+pub mod Bytes
 pub mod Choice
 pub mod Computed
 pub mod Written

@@ -1,0 +1,19 @@
+-- Lists of bytes, and lists of them: the packets or the blocks of a stream.
+-- Assumes nothing.
+use mathlib.Core.Path.{_≡_}
+use mathlib.Core.List.{List, [], _∷_}
+use Prim.Native.Nat.{ℕ, _<_}
+use lib.ListN.{length, getD}
+
+-- each member of the list is such a one
+abbrev pub Each : {A : Type 0} → (A → Type 0) → List A → Type 0
+Each P [] = Unit {0}
+Each P (x ∷ xs) = P x × Each P xs
+
+-- the list has n members
+abbrev pub Length : ℕ → List ℕ → Type 0
+Length n xs = length xs ≡ n
+
+-- every number of the list is a byte
+abbrev pub Bytes : List ℕ → Type 0
+Bytes xs = (i : ℕ) → getD xs i 0 < 256
