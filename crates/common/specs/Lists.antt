@@ -1,8 +1,8 @@
 -- Lists of bytes, and lists of them: the packets or the blocks of a stream.
 -- Assumes nothing.
 use mathlib.Core.Path.{_≡_}
-use mathlib.Core.List.{List, [], _∷_}
-use Prim.Native.Nat.{ℕ, _<_}
+use mathlib.Core.List.{List, [], _∷_, _++_}
+use Prim.Native.Nat.{ℕ, zero, suc, _<_}
 use lib.ListN.{length, getD}
 
 -- each member of the list is such a one
@@ -17,3 +17,8 @@ Length n xs = length xs ≡ n
 -- every number of the list is a byte
 abbrev pub Bytes : List ℕ → Type 0
 Bytes xs = (i : ℕ) → getD xs i 0 < 256
+
+-- the list f 0, f 1, .. f (n - 1)
+unfoldable pub listOf : {A : Type 0} → ℕ → (ℕ → A) → List A
+listOf zero f = []
+listOf (suc n) f = listOf n f ++ f n ∷ []
