@@ -14,9 +14,13 @@ Each P (x ∷ xs) = P x × Each P xs
 abbrev pub Length : ℕ → List ℕ → Type 0
 Length n xs = length xs ≡ n
 
+-- every number of the list is such a one, and so is 0, which is read past its end
+abbrev pub Entries : (ℕ → Type 0) → List ℕ → Type 0
+Entries P xs = (i : ℕ) → P (getD xs i 0)
+
 -- every number of the list is a byte
 abbrev pub Bytes : List ℕ → Type 0
-Bytes xs = (i : ℕ) → getD xs i 0 < 256
+Bytes xs = Entries (λ x. x < 256) xs
 
 -- the list f 0, f 1, .. f (n - 1)
 unfoldable pub listOf : {A : Type 0} → ℕ → (ℕ → A) → List A

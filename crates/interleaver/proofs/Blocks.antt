@@ -8,7 +8,8 @@ use native.Mathlib.Numerals.{add-one}
 use native.Mathlib.Omega.{arith}
 use lib.ListN.{length, getD, take, drop, set, length-append, length-drop, take-append-drop}
 use lib.Seq.{drop-cons, set-at, drop-at, take-at, drop-drop, getD-append-add, getD-drop, drop-length, append-snoc, ext-getD, getD-take}
-use Rattle.common.specs.Lists.{listOf}
+use Rattle.common.specs.Lists.{Entries, listOf}
+use Rattle.common.proofs.Entries.{entries-take, entries-drop, entries-append, entries-listOf}
 use Rattle.common.proofs.Lists.{length-listOf, getD-listOf}
 use Rattle.interleaver.specs.Branch.{delayOf, sizeOf, baseOf, inRange, cellsOf, turned, queue}
 use Rattle.interleaver.specs.Column.{column, placed}
@@ -133,3 +134,39 @@ unfolding leaving staying
 queue-law side s block g j h =
     sym (take-append-drop 17 (queue side s j ++ column j block))
     ∙ ap₂ (λ (a b : List ℕ). a ++ b) (sym (column-out side s block j h)) (sym (queue-after side s block g j h))
+
+-- ---- numbers that are all such ones, as bytes: in the cells, and in what goes in and out
+
+module _ (P : ℕ → Type 0) (z : P 0) where
+  entries-turned : (p : ℕ) (l : List ℕ) → Entries P l → Entries P (turned p l)
+  entries-turned p l e = entries-append P z (drop p l) (take p l) (entries-drop P p l e) (entries-take P z p l e)
+
+  pub entries-queue : (side : Side) (s : Branches) → Entries P (s .cells) → (j : ℕ) → Entries P (queue side s j)
+  unfolding queue
+  entries-queue side s e j =
+      entries-turned (getD (s .positions) j 0) (cellsOf side s j)
+      (entries-take P z (sizeOf side j) (drop (baseOf side j) (s .cells)) (entries-drop P (baseOf side j) (s .cells) e))
+
+  module _ (side : Side) (s : Branches) (block : List ℕ) (e : Entries P (s .cells)) (f : Entries P block) where
+    entries-through : (j : ℕ) → Entries P (queue side s j ++ column j block)
+    unfolding column
+    entries-through j =
+        entries-append P z (queue side s j) (column j block) (entries-queue side s e j)
+        (entries-listOf P z 17 (λ k. getD block (12 * k + j) 0) (λ k. f (12 * k + j)))
+
+    pub entries-out : Entries P (blockOut side s block)
+    unfolding blockOut leaving
+    entries-out =
+        entries-listOf P z 204 (λ n. getD (leaving side s block (n % 12)) (n / 12) 0)
+        (λ n. entries-take P z 17 (queue side s (n % 12) ++ column (n % 12) block) (entries-through (n % 12)) (n / 12))
+
+    pub entries-after : Entries P (after side s block .cells)
+    unfolding after joined storedOf staying
+    entries-after = go 12
+      where
+        go : (n : ℕ) → Entries P (joined n (storedOf side s block))
+        go zero = λ i. z
+        go (suc n) =
+            entries-append P z (joined n (storedOf side s block)) (storedOf side s block n) (go n)
+            (entries-turned (sizeOf side n - positionOf side s n) (staying side s block n)
+            (entries-drop P 17 (queue side s n ++ column n block) (entries-through n)))

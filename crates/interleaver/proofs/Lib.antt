@@ -5,3 +5,5 @@ pub mod Cells
 pub mod Filling
 pub mod Blocks
 pub mod Passing
+pub mod Whole
+pub mod Streams

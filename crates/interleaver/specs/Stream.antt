@@ -1,9 +1,9 @@
 -- Interleaving of a whole stream of blocks of 204 bytes: EN 300 421, 4.4.2.
 -- Assumes nothing.
-use mathlib.Core.List.{List, [], _∷_}
+use mathlib.Core.List.{List, [], _∷_, _++_}
 use Prim.Native.Nat.{ℕ, _-_, _%_}
 use lib.Dec.{ltb}
-use lib.ListN.{length, getD}
+use lib.ListN.{length, getD, take, replicate}
 use Rattle.common.specs.Choice.{pick}
 use Rattle.common.specs.Lists.{listOf}
 use Rattle.interleaver.specs.Branch.{delayOf}
@@ -26,6 +26,14 @@ interleaved = delayed Sending
 
 abbrev pub deinterleaved : List (List ℕ) → List (List ℕ)
 deinterleaved = delayed Receiving
+
+-- a block of zeros
+abbrev pub zeroBlock : List ℕ
+zeroBlock = replicate 204 0
+
+-- what both sides make of a stream: eleven blocks of zeros, and then the blocks in order, all but the last eleven
+unfoldable pub elevenLate : List (List ℕ) → List (List ℕ)
+elevenLate blocks = take (length blocks) (replicate 11 zeroBlock ++ blocks)
 
 -- call after call
 unfoldable pub run : Side → Branches → List (List ℕ) → List (List ℕ)

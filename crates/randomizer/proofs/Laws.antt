@@ -12,7 +12,7 @@ use lib.Seq.{getD-drop}
 use Rattle.common.specs.Choice.{pick}
 use Rattle.common.proofs.Computed.{agree-at}
 use Rattle.common.specs.Lists.{Bytes}
-use Rattle.common.proofs.Bytes.{every-byte, bytes-drop}
+use Rattle.common.proofs.Entries.{every-byte, entries-drop}
 use Rattle.randomizer.specs.Prbs.{masks}
 use Rattle.randomizer.specs.Packet.{randomized, derandomized}
 use Rattle.randomizer.proofs.Xors.{length-out, getD-xors, bytes-xors, xors-undo}
@@ -52,7 +52,7 @@ module _ (place : ℕ) (packet : List ℕ) (h : place ≤ 7) (n : length packet 
   -- bytes give bytes
   pub bytes-randomized : Bytes packet → Bytes (randomized place packet)
   unfolding randomized
-  bytes-randomized b = bytes-xors packet (drop (188 * place) masks) b (bytes-drop (188 * place) masks bytes-masks)
+  bytes-randomized b = bytes-xors packet (drop (188 * place) masks) b (entries-drop (λ x. x < 256) (188 * place) masks bytes-masks)
 
   -- derandomizing gives the packet back
   pub back : getD packet 0 0 ≡ 0x47 → derandomized place (randomized place packet) ≡ packet
