@@ -2,25 +2,24 @@
 -- Assumes nothing.
 use mathlib.Core.Path.{_≡_, refl, ap, ap₂, sym, _∙_}
 use mathlib.Core.Bool.{true}
-use mathlib.Core.List.{List, [], _∷_, _++_, append-assoc}
+use mathlib.Core.List.{List, _++_}
 use Prim.Native.Nat.{ℕ, zero, suc, _+_, _-_, _*_, _%_, _/_, _≤_, _<_, max}
-use native.Mathlib.Numerals.{add-one}
 use native.Mathlib.Omega.{arith}
-use lib.ListN.{length, getD, take, drop, set, length-append, length-drop, take-append-drop}
-use lib.Seq.{drop-cons, set-at, drop-at, take-at, drop-drop, getD-append-add, getD-drop, drop-length, append-snoc, ext-getD, getD-take}
+use borrow.Author.Tests.{eq-eqb, le-ltb}
+use lib.ListN.{length, getD, take, drop, length-append, length-drop, take-append-drop}
+use lib.Seq.{ext-getD}
 use Rattle.common.specs.Lists.{Entries, listOf}
 use Rattle.common.proofs.Entries.{entries-take, entries-drop, entries-append, entries-listOf}
 use Rattle.common.proofs.Lists.{length-listOf, getD-listOf}
 use Rattle.interleaver.specs.Branch.{delayOf, sizeOf, baseOf, inRange, cellsOf, turned, queue}
-use Rattle.interleaver.specs.Column.{column, placed}
-use Rattle.interleaver.specs.Block.{leaving, staying, positionAfter, positionOf, storedOf, joined, blockOut, after}
+use Rattle.interleaver.specs.Column.{column}
+use Rattle.interleaver.specs.Block.{leaving, staying, positionOf, storedOf, joined, blockOut, after, passNumber, passBranches, passRoom}
 use Rattle.interleaver.specs.declared.Side.{Side}
 use Rattle.interleaver.specs.declared.Branches.{Branches}
 use Rattle.interleaver.proofs.Columns.{length-column, getD-column}
 use Rattle.interleaver.proofs.Rings.{length-turned, length-leaving, returned, positionAfter-small}
 use Rattle.interleaver.proofs.Positions.{within-bound, within-all}
 use Rattle.interleaver.proofs.Cells.{base-end, length-cells, length-joined, joined-part}
-use Rattle.interleaver.proofs.Filling.{Filled, filled-none, filled-placed, filled-all}
 
 -- what a caller keeps of a state: its arrays are whole, and its positions are in range
 pub record Good (side : Side) (s : Branches) : Type 0 where
@@ -72,14 +71,14 @@ module _ (side : Side) (s : Branches) (g : Good side s) (block : List ℕ) (j : 
       short : (p : ℕ) (l : List ℕ) (size : ℕ) → length l ≡ size → p < max 1 size → length (turned p l) ≡ size
       short p l size n b = length-turned p l (omega arith) ∙ n
 
-  pub length-staying : length (staying side s block j) ≡ sizeOf side j
+  length-staying : length (staying side s block j) ≡ sizeOf side j
   unfolding staying
   length-staying =
       let n = length-column j block in
       let m = length-queue in
       rw (length-drop 17 (queue side s j ++ column j block), length-append (queue side s j) (column j block)) (omega arith)
 
-  pub position-small : positionOf side s j < max 1 (sizeOf side j)
+  position-small : positionOf side s j < max 1 (sizeOf side j)
   unfolding positionOf
   position-small = positionAfter-small (sizeOf side j) (getD (s .positions) j 0) position-bound (enough (delayOf side j))
 
@@ -90,7 +89,7 @@ module _ (side : Side) (s : Branches) (g : Good side s) (block : List ℕ) (j : 
       length-turned (sizeOf side j - positionOf side s j) (staying side s block j) (omega arith) ∙ n
 
   -- turned back, what is stored is what stays
-  pub stored-queue : turned (positionOf side s j) (storedOf side s block j) ≡ staying side s block j
+  stored-queue : turned (positionOf side s j) (storedOf side s block j) ≡ staying side s block j
   unfolding storedOf
   stored-queue =
       let n : length (staying side s block j) ≡ sizeOf side j = length-staying in
@@ -110,9 +109,17 @@ good-after side s block g = record {
       (λ j h. rw (getD-listOf 12 (positionOf side s) 0 j h) (position-small side s g block j h));
 }
 
+-- ---- a call on a good state, with a block and room enough, is answered
+
+pub pass-done : (side : Side) (s : Branches) (block room : List ℕ) → Good side s → length block ≡ 204 → 204 ≤ length room
+    → (passNumber side s block room ≡ 0)
+    × (passBranches side s block room ≡ after side s block)
+    × (passRoom side s block room ≡ blockOut side s block ++ drop 204 room)
+pass-done side s block room g n l = simp (g .range, eq-eqb _ _ n, le-ltb _ _ l) (refl, refl, refl)
+
 -- ---- the law of the queues: what was in a branch and what enters it is what leaves it and what is in it then
 
-pub column-out : (side : Side) (s : Branches) (block : List ℕ) (j : ℕ) → j < 12 → column j (blockOut side s block) ≡ leaving side s block j
+column-out : (side : Side) (s : Branches) (block : List ℕ) (j : ℕ) → j < 12 → column j (blockOut side s block) ≡ leaving side s block j
 column-out side s block j h =
     ext-getD 0 (column j (blockOut side s block)) (leaving side s block j) (length-column j _ ∙ sym (length-leaves side s block j))
     (λ k l. each k (let n = length-column j (blockOut side s block) in omega arith))
@@ -120,7 +127,7 @@ column-out side s block j h =
     each : (k : ℕ) → k < 17 → getD (column j (blockOut side s block)) k 0 ≡ getD (leaving side s block j) k 0
     each k l = getD-column j (blockOut side s block) k l ∙ sym (leaves-at side s block j k h l)
 
-pub queue-after : (side : Side) (s : Branches) (block : List ℕ) → Good side s → (j : ℕ) → j < 12
+queue-after : (side : Side) (s : Branches) (block : List ℕ) → Good side s → (j : ℕ) → j < 12
     → queue side (after side s block) j ≡ staying side s block j
 unfolding queue after
 queue-after side s block g j h =

@@ -1,14 +1,13 @@
 -- The bytes of one branch: in a block, and as a loop writes them, twelve places apart.
 -- Assumes nothing.
 use mathlib.Core.Path.{_≡_, refl, ap, _∙_, sym}
-use mathlib.Core.List.{List, [], _∷_}
-use Prim.Native.Nat.{ℕ, zero, suc, _+_, _*_, _≤_, _<_}
+use mathlib.Core.List.{List, _∷_}
+use Prim.Native.Nat.{ℕ, _+_, _*_, _<_}
 use native.Mathlib.Nat.{zero-add}
 use native.Mathlib.Numerals.{add-one}
 use native.Mathlib.Omega.{arith}
 use lib.ListN.{length, getD, drop, set, length-set}
 use lib.Seq.{drop-cons, drop-length}
-use Rattle.common.specs.Lists.{listOf}
 use Rattle.common.proofs.Lists.{length-listOf, getD-listOf}
 use Rattle.interleaver.specs.Column.{column, placed}
 
@@ -19,11 +18,6 @@ length-column j block = length-listOf 17 (λ k. getD block (12 * k + j) 0)
 pub getD-column : (j : ℕ) (block : List ℕ) (k : ℕ) → k < 17 → getD (column j block) k 0 ≡ getD block (12 * k + j) 0
 unfolding column
 getD-column j block k h = getD-listOf 17 (λ i. getD block (12 * i + j) 0) 0 k h
-
-pub length-placed : (n : ℕ) (bs room : List ℕ) → length (placed n bs room) ≡ length room
-unfolding placed
-length-placed n [] room = refl
-length-placed n (b ∷ bs) room = length-placed (n + 12) bs (set room n b) ∙ length-set room n b
 
 -- k of the bytes of branch j are written; r is the room now
 pub record Placing (j : ℕ) (bs d : List ℕ) (r : List ℕ) (k : ℕ) : Type 0 where

@@ -45,7 +45,7 @@ pub length-turned : (p : ℕ) (s : List ℕ) → p ≤ length s → length (turn
 length-turned p s h = length-append (drop p s) (take p s) ∙ simp (length-drop, length-take) (omega arith)
 
 -- turned on by what is missing, a ring is as it was
-pub unturned : (p : ℕ) (s : List ℕ) → p ≤ length s → turned (length s - p) (turned p s) ≡ s
+unturned : (p : ℕ) (s : List ℕ) → p ≤ length s → turned (length s - p) (turned p s) ≡ s
 unturned p s h =
     let n : length (drop p s) ≡ length s - p = length-drop p s in
     ap₂ (λ (a b : List ℕ). a ++ b) (drop-at (drop p s) (take p s) (length s - p) n) (take-at (drop p s) (take p s) (length s - p) n)
@@ -58,7 +58,7 @@ returned p q h =
     let e : length q - (length q - p) ≡ p = omega arith in
     ap (λ (m : ℕ). turned m (turned (length q - p) q)) (sym e) ∙ unturned (length q - p) q k
 
-pub turned-nil : (p : ℕ) → turned p [] ≡ []
+turned-nil : (p : ℕ) → turned p [] ≡ []
 turned-nil p = ap₂ (λ (a b : List ℕ). a ++ b) (drop-nil p) (take-nil p)
 
 -- as many bytes come out as go in

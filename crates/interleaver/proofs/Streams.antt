@@ -1,21 +1,20 @@
 -- Laws of the interleaved stream: where a byte goes, and that both sides together delay every byte by eleven blocks.
 -- Assumes nothing.
-use mathlib.Core.Path.{_≡_, refl, ap, sym, _∙_}
-use mathlib.Core.List.{List, [], _∷_, _++_}
+use mathlib.Core.Path.{_≡_, ap, sym, _∙_}
+use mathlib.Core.List.{List, [], _++_}
 use Prim.Native.Nat.{ℕ, _+_, _-_, _%_, _≤_, _<_}
 use native.Mathlib.Decide.{decLt}
 use native.Mathlib.Omega.{arith}
 use borrow.Author.Tests.{lt-ltb, le-ltb}
-use lib.ListN.{length, getD, take, replicate, length-append, length-replicate, getD-replicate, List·getD-append, List·getD-eq-default}
+use lib.ListN.{length, getD, take, replicate, length-append, length-replicate, getD-replicate, List·getD-append}
 use lib.Seq.{getD-append-add, getD-take, ext-getD, length-take-le}
-use Rattle.common.specs.Lists.{Each, Length, Entries, Bytes, listOf}
+use Rattle.common.specs.Lists.{Each, Length, Bytes, listOf}
 use Rattle.common.proofs.Lists.{length-listOf, getD-listOf, each-at, each-listOf}
-use Rattle.common.proofs.Entries.{entries-below, entries-listOf}
+use Rattle.common.proofs.Entries.{entries-listOf}
 use Rattle.interleaver.specs.Branch.{delayOf}
 use Rattle.interleaver.specs.Stream.{earlier, delayed, interleaved, deinterleaved, zeroBlock, elevenLate}
 use Rattle.interleaver.specs.declared.Side.{Side}
 use Rattle.interleaver.specs.declared.Side.the-variants.{Sending, Receiving}
-use Rattle.interleaver.proofs.Cells.{delay-small}
 
 module _ (side : Side) (blocks : List (List ℕ)) where
   pub length-delayed : length (delayed side blocks) ≡ length blocks

@@ -1,18 +1,18 @@
 -- Call after call from fresh branches gives the interleaving of the whole stream.
 -- Assumes nothing.
-use mathlib.Core.Path.{_≡_, refl, ap, ap₂, sym, _∙_}
+use mathlib.Core.Path.{_≡_, refl, ap, sym, _∙_}
 use mathlib.Core.List.{List, [], _∷_, _++_, append-assoc, append-nil}
-use Prim.Native.Nat.{ℕ, zero, suc, _+_, _-_, _*_, _%_, _/_, _≤_, _<_}
+use Prim.Native.Nat.{ℕ, zero, suc, _+_, _-_, _*_, _%_, _/_, _<_}
 use native.Mathlib.Nat.{not-suc-le-zero, zero-add}
 use native.Mathlib.Decide.{decLt}
 use native.Mathlib.Omega.{arith}
 use borrow.Author.Tests.{lt-ltb, le-ltb}
-use lib.ListN.{length, getD, take, drop, replicate, length-append, length-replicate, getD-replicate, List·getD-append, List·getD-eq-default}
-use lib.Seq.{getD-append-add, getD-take, getD-drop, ext-getD}
+use lib.ListN.{length, getD, replicate, length-append, length-replicate, getD-replicate, List·getD-append}
+use lib.Seq.{getD-append-add, ext-getD}
 use Rattle.common.specs.Lists.{Entries, listOf}
 use Rattle.common.proofs.Entries.{entries-below}
 use Rattle.common.proofs.Lists.{length-listOf, getD-listOf}
-use Rattle.interleaver.specs.Branch.{delayOf, sizeOf, baseOf, within, cellsOf, queue}
+use Rattle.interleaver.specs.Branch.{delayOf, sizeOf, within, queue}
 use Rattle.interleaver.specs.Column.{column}
 use Rattle.interleaver.specs.Block.{fresh, blockOut, after}
 use Rattle.interleaver.specs.Stream.{earlier, delayed, run, runAfter}
@@ -20,7 +20,6 @@ use Rattle.interleaver.specs.declared.Side.{Side}
 use Rattle.interleaver.specs.declared.Side.the-variants.{Sending, Receiving}
 use Rattle.interleaver.specs.declared.Branches.{Branches}
 use Rattle.interleaver.proofs.Columns.{length-column, getD-column}
-use Rattle.interleaver.proofs.Cells.{cells-fit}
 use Rattle.interleaver.proofs.Blocks.{Good, length-queue, length-out, good-after, queue-law, entries-queue}
 
 -- ---- the bytes of a branch, block after block
@@ -138,9 +137,9 @@ module _ (side : Side) (blocks : List (List ℕ)) (b n : ℕ) (h : b < length bl
           ∙ columns-at j blocks (b - delayOf side j) k (omega arith) (omega arith)
           ∙ ap (λ (i : ℕ). getD (getD blocks (b - delayOf side j) []) i 0) place)
 
-pub stream : (side : Side) (blocks : List (List ℕ)) → run side fresh blocks ≡ delayed side blocks
+pub run-delayed : (side : Side) (blocks : List (List ℕ)) → run side fresh blocks ≡ delayed side blocks
 unfolding delayed j out
-stream side blocks =
+run-delayed side blocks =
     ext-getD [] (run side fresh blocks) (delayed side blocks) (length-run side fresh blocks ∙ sym (length-listOf (length blocks) _))
     (λ b h. block b (rw (length-run side fresh blocks) at h))
   where

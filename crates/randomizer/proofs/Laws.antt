@@ -5,6 +5,7 @@ use mathlib.Core.List.{List, [], _∷_, _++_}
 use Prim.Native.Nat.{ℕ, _+_, _*_, _≤_, _<_}
 use native.Mathlib.Nat.{not-suc-le-zero, add-zero}
 use native.Mathlib.Omega.{arith}
+use borrow.Author.Tests.{eq-eqb, le-ltb}
 use lib.Bits.{bitXor}
 use lib.Dec.{eqb}
 use lib.ListN.{length, getD, drop, set, length-drop}
@@ -14,7 +15,7 @@ use Rattle.common.proofs.Computed.{agree-at}
 use Rattle.common.specs.Lists.{Bytes}
 use Rattle.common.proofs.Entries.{every-byte, entries-drop}
 use Rattle.randomizer.specs.Prbs.{masks}
-use Rattle.randomizer.specs.Packet.{randomized, derandomized}
+use Rattle.randomizer.specs.Packet.{randomized, derandomized, randomizeNumber, randomizeRoom, derandomizeNumber, derandomizeRoom}
 use Rattle.randomizer.proofs.Xors.{length-out, getD-xors, bytes-xors, xors-undo}
 
 pub length-masks : length masks ≡ 1504
@@ -63,6 +64,15 @@ module _ (place : ℕ) (packet : List ℕ) (h : place ≤ 7) (n : length packet 
       headed : (l : List ℕ) → 0 < length l → getD l 0 0 ≡ 0x47 → 0x47 ∷ drop 1 l ≡ l
       headed [] k e = absurd (not-suc-le-zero k)
       headed (x ∷ xs) k e = ap (λ (a : ℕ). a ∷ xs) (sym e)
+
+  -- a call at that place, with room enough, is answered
+  module _ (room : List ℕ) (l : 188 ≤ length room) where
+    pub randomize-done : getD packet 0 0 ≡ 0x47
+        → (randomizeNumber place packet room ≡ 0) × (randomizeRoom place packet room ≡ randomized place packet ++ drop 188 room)
+    randomize-done e = simp (le-ltb _ _ h, eq-eqb _ _ n, eq-eqb _ _ e, le-ltb _ _ l) (refl, refl)
+
+    pub derandomize-done : (derandomizeNumber place packet room ≡ 0) × (derandomizeRoom place packet room ≡ derandomized place packet ++ drop 188 room)
+    derandomize-done = simp (le-ltb _ _ h, eq-eqb _ _ n, le-ltb _ _ l) (refl, refl)
 
 -- the room when the sync byte is set
 pub first-set : (xs ys : List ℕ) (v : ℕ) → 0 < length xs → set (xs ++ ys) 0 v ≡ (v ∷ drop 1 xs) ++ ys

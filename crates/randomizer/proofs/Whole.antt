@@ -2,7 +2,7 @@
 -- Assumes nothing.
 use mathlib.Core.Path.{_≡_, refl, ap, ap₂, _∙_, sym}
 use mathlib.Core.List.{List, [], _∷_, _++_, zipWith, flatten}
-use Prim.Native.Nat.{ℕ, zero, suc, _+_, _*_, _%_, _≤_, _<_}
+use Prim.Native.Nat.{ℕ, suc, _+_, _*_, _%_, _≤_}
 use native.Mathlib.Nat.{add-zero}
 use native.Mathlib.Omega.{arith}
 use lib.Bits.{bitXor}
@@ -60,9 +60,9 @@ from n (p ∷ ps) g = go (from (n + 1) ps (g .1))
         ∙ ap₂ (λ (a b : List ℕ). a ∷ inPackets (length ps) b) (take-at first _ 188 size) (drop-at first _ 188 size)
         ∙ ap (λ (l : List (List ℕ)). first ∷ l) r
 
-pub stream : (packets : List (List ℕ)) → Each (Length 188) packets → randomizedFrom 0 packets ≡ randomizedStream packets
+pub randomized-stream : (packets : List (List ℕ)) → Each (Length 188) packets → randomizedFrom 0 packets ≡ randomizedStream packets
 unfolding randomizedStream
-stream packets g = sym (from 0 packets g)
+randomized-stream packets g = sym (from 0 packets g)
 
 -- the packets sent are as long as those that came
 pub each-length : (n : ℕ) (packets : List (List ℕ)) → Each (Length 188) packets → Each (Length 188) (randomizedFrom n packets)

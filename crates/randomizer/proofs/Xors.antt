@@ -11,7 +11,7 @@ use native.Mathlib.Omega.{arith}
 use Rattle.common.specs.Lists.{Bytes}
 use Rattle.common.proofs.Xor.{xor-undo}
 
-pub length-xors : (xs ys : List ℕ) → length xs ≤ length ys → length (zipWith bitXor xs ys) ≡ length xs
+length-xors : (xs ys : List ℕ) → length xs ≤ length ys → length (zipWith bitXor xs ys) ≡ length xs
 unfolding zipWith
 length-xors [] ys h = refl
 length-xors (x ∷ xs) [] h = absurd (not-suc-le-zero h)

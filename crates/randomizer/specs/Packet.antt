@@ -1,6 +1,6 @@
 -- What one call gives for a packet at a place, 0 to 7, of its group of eight.
 -- Assumes nothing.
-use mathlib.Core.List.{List, [], _∷_, _++_, zipWith}
+use mathlib.Core.List.{List, _∷_, _++_, zipWith}
 use Prim.Native.Nat.{ℕ, _*_}
 use lib.Bits.{bitXor}
 use lib.Dec.{ltb, eqb}

@@ -1,13 +1,13 @@
 -- `interleaver::pass_column` meets its contract.
 -- Assumes nothing.
-use mathlib.Core.Path.{_≡_, _∙_, ap, sym}
+use mathlib.Core.Path.{_∙_, ap, sym}
 use mathlib.Core.List.{List}
-use Prim.Native.Nat.{ℕ, _≤_, _<_}
+use Prim.Native.Nat.{ℕ}
 use native.Mathlib.Omega.{arith}
 use borrow.Author.Tests.{ne-eqb}
 use lib.ListN.{length}
 use Rattle.interleaver.specs.Column.{column, placed}
-use Rattle.interleaver.specs.Block.{positionAfter, advanced}
+use Rattle.interleaver.specs.Block.{positionAfter}
 use Rattle.interleaver.proofs.Columns.{length-column}
 use Rattle.interleaver.proofs.Rings.{through, advanced-small}
 use borrow.Author.Needs.{needs}
