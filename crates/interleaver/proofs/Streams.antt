@@ -12,22 +12,22 @@ use Rattle.common.specs.Lists.{Each, Length, Bytes, listOf}
 use Rattle.common.proofs.Lists.{length-listOf, getD-listOf, each-at, each-listOf}
 use Rattle.common.proofs.Entries.{entries-listOf}
 use Rattle.interleaver.specs.Branch.{delayOf}
-use Rattle.interleaver.specs.Stream.{earlier, delayed, interleaved, deinterleaved, zeroBlock, elevenLate}
+use Rattle.interleaver.specs.Block.{fresh}
+use Rattle.interleaver.specs.Stream.{earlier, delayedByte, delayed, run, interleaved, deinterleaved, zeroBlock, elevenLate}
 use Rattle.interleaver.specs.declared.Side.{Side}
 use Rattle.interleaver.specs.declared.Side.the-variants.{Sending, Receiving}
+use Rattle.interleaver.proofs.Whole.{run-delayed}
 
 module _ (side : Side) (blocks : List (List ℕ)) where
   pub length-delayed : length (delayed side blocks) ≡ length blocks
   unfolding delayed
-  length-delayed = length-listOf (length blocks) (λ b. listOf 204 (λ n. earlier blocks (delayOf side (n % 12)) b n))
-
-  block-is : (b : ℕ) → b < length blocks → getD (delayed side blocks) b [] ≡ listOf 204 (λ n. earlier blocks (delayOf side (n % 12)) b n)
-  unfolding delayed
-  block-is b h = getD-listOf (length blocks) (λ i. listOf 204 (λ n. earlier blocks (delayOf side (n % 12)) i n)) [] b h
+  length-delayed = length-listOf (length blocks) (λ b. listOf 204 (delayedByte side blocks b))
 
   pub delayed-at : (b n : ℕ) → b < length blocks → n < 204 → getD (getD (delayed side blocks) b []) n 0 ≡ earlier blocks (delayOf side (n % 12)) b n
+  unfolding delayed delayedByte
   delayed-at b n h l =
-      ap (λ (x : List ℕ). getD x n 0) (block-is b h) ∙ getD-listOf 204 (λ i. earlier blocks (delayOf side (i % 12)) b i) 0 n l
+      ap (λ (x : List ℕ). getD x n 0) (getD-listOf (length blocks) (λ i. listOf 204 (delayedByte side blocks i)) [] b h)
+      ∙ getD-listOf 204 (delayedByte side blocks b) 0 n l
 
   -- byte n of block b leaves in place n of a later block
   pub delayed-later : (b n : ℕ) → n < 204 → b + delayOf side (n % 12) < length blocks
@@ -40,13 +40,14 @@ module _ (side : Side) (blocks : List (List ℕ)) where
 
   pub delayed-lengths : Each (Length 204) (delayed side blocks)
   unfolding delayed
-  delayed-lengths = each-listOf (Length 204) (length blocks) _ (λ b h. length-listOf 204 (λ n. earlier blocks (delayOf side (n % 12)) b n))
+  delayed-lengths = each-listOf (Length 204) (length blocks) _ (λ b h. length-listOf 204 (delayedByte side blocks b))
 
   -- bytes give bytes
   pub delayed-bytes : Each Bytes blocks → Each Bytes (delayed side blocks)
-  unfolding delayed earlier
+  unfolding delayed delayedByte earlier
   delayed-bytes g =
-      each-listOf Bytes (length blocks) _ (λ b h. entries-listOf (λ x. x < 256) (omega arith) 204 (λ n. earlier blocks (delayOf side (n % 12)) b n) (λ n. one b n h (decLt b (delayOf side (n % 12)))))
+      each-listOf Bytes (length blocks) _
+      (λ b h. entries-listOf (λ x. x < 256) (omega arith) 204 (delayedByte side blocks b) (λ n. one b n h (decLt b (delayOf side (n % 12)))))
     where
       one : (b n : ℕ) → b < length blocks → Dec (b < delayOf side (n % 12)) → earlier blocks (delayOf side (n % 12)) b n < 256
       one b n h (yes t) = rw (lt-ltb b (delayOf side (n % 12)) t) (omega arith)
@@ -128,3 +129,7 @@ module _ (blocks : List (List ℕ)) where
           ext-getD 0 (getD (deinterleaved sent) b []) (getD late b []) (size b h ∙ sym (late-length g b h))
           (λ n l. let m : n < 204 = rw (size b h) at l in through b n h m ∙ sym (late-at b n m))
           ∙ sym (getD-take (length blocks) late b [] h)
+
+-- call after call on both sides, each from fresh branches
+pub both-runs : (blocks : List (List ℕ)) → Each (Length 204) blocks → run Receiving fresh (run Sending fresh blocks) ≡ elevenLate blocks
+both-runs blocks g = ap (run Receiving fresh) (run-delayed Sending blocks) ∙ run-delayed Receiving (interleaved blocks) ∙ both-sides blocks g

@@ -15,7 +15,7 @@ use Rattle.common.proofs.Lists.{length-listOf, getD-listOf}
 use Rattle.interleaver.specs.Branch.{delayOf, sizeOf, within, queue}
 use Rattle.interleaver.specs.Column.{column}
 use Rattle.interleaver.specs.Block.{fresh, blockOut, after}
-use Rattle.interleaver.specs.Stream.{earlier, delayed, run, runAfter}
+use Rattle.interleaver.specs.Stream.{earlier, delayedByte, delayed, run, runAfter}
 use Rattle.interleaver.specs.declared.Side.{Side}
 use Rattle.interleaver.specs.declared.Side.the-variants.{Sending, Receiving}
 use Rattle.interleaver.specs.declared.Branches.{Branches}
@@ -137,18 +137,22 @@ module _ (side : Side) (blocks : List (List ℕ)) (b n : ℕ) (h : b < length bl
           ∙ columns-at j blocks (b - delayOf side j) k (omega arith) (omega arith)
           ∙ ap (λ (i : ℕ). getD (getD blocks (b - delayOf side j) []) i 0) place)
 
+-- as the stream says
+byte-is : (side : Side) (blocks : List (List ℕ)) (b n : ℕ) → b < length blocks → n < 204
+    → getD (getD (run side fresh blocks) b []) n 0 ≡ delayedByte side blocks b n
+unfolding delayedByte j out
+byte-is side blocks b n h l = byte side blocks b n h l
+
 pub run-delayed : (side : Side) (blocks : List (List ℕ)) → run side fresh blocks ≡ delayed side blocks
-unfolding delayed j out
+unfolding delayed
 run-delayed side blocks =
     ext-getD [] (run side fresh blocks) (delayed side blocks) (length-run side fresh blocks ∙ sym (length-listOf (length blocks) _))
     (λ b h. block b (rw (length-run side fresh blocks) at h))
   where
-    given : ℕ → ℕ → ℕ
-    given b n = earlier blocks (delayOf side (n % 12)) b n
-
     block : (b : ℕ) → b < length blocks → getD (run side fresh blocks) b [] ≡ getD (delayed side blocks) b []
     block b h =
-        ext-getD 0 (getD (run side fresh blocks) b []) (listOf 204 (given b)) (length-run-block side fresh blocks b h ∙ sym (length-listOf 204 (given b)))
+        ext-getD 0 (getD (run side fresh blocks) b []) (listOf 204 (delayedByte side blocks b))
+        (length-run-block side fresh blocks b h ∙ sym (length-listOf 204 (delayedByte side blocks b)))
         (λ n l. let m : n < 204 = rw (length-run-block side fresh blocks b h) at l in
-        byte side blocks b n h m ∙ sym (getD-listOf 204 (given b) 0 n m))
-        ∙ sym (getD-listOf (length blocks) (λ i. listOf 204 (given i)) [] b h)
+        byte-is side blocks b n h m ∙ sym (getD-listOf 204 (delayedByte side blocks b) 0 n m))
+        ∙ sym (getD-listOf (length blocks) (λ i. listOf 204 (delayedByte side blocks i)) [] b h)

@@ -1,4 +1,4 @@
--- The branches of the convolutional interleaver: EN 300 421, 4.4.2, with depth I = 12 and M = 17.
+-- The branches of the convolutional interleaver: EN 300 421, 4.4.2, with depth I = 12 and M = 17. Document 01 calls them delay branches.
 -- Assumes nothing.
 use mathlib.Core.Bool.{Bool, true, false}
 use mathlib.Core.List.{List, _++_}
@@ -29,7 +29,7 @@ unfoldable pub within : Side → List ℕ → ℕ → Bool
 within side positions zero = true
 within side positions (suc j) = pick (within side positions j) (ltb (getD positions j 0) (max 1 (sizeOf side j))) false
 
--- document 01's range of a state
+-- what document 01 asks of the delay positions of a state
 abbrev pub inRange : Side → Branches → Bool
 inRange side s = within side (s .positions) 12
 
@@ -37,6 +37,7 @@ inRange side s = within side (s .positions) 12
 abbrev pub cellsOf : Side → Branches → ℕ → List ℕ
 cellsOf side s j = take (sizeOf side j) (drop (baseOf side j) (s .cells))
 
+-- the cells from position p on, and then those before it
 abbrev pub turned : ℕ → List ℕ → List ℕ
 turned p cells = drop p cells ++ take p cells
 

@@ -16,10 +16,16 @@ use Rattle.interleaver.specs.declared.Branches.{Branches}
 unfoldable pub earlier : List (List ℕ) → ℕ → ℕ → ℕ → ℕ
 earlier blocks d b n = pick (ltb b d) 0 (getD (getD blocks (b - d) []) n 0)
 
--- byte n of a block goes through branch n mod 12, and leaves in place n of a later block
+-- Byte n of a block goes through branch n mod 12, and leaves in place n of a later block.
+-- So this is byte n of block b of those that leave.
+unfoldable pub delayedByte : Side → List (List ℕ) → ℕ → ℕ → ℕ
+unfolding earlier
+delayedByte side blocks b n = earlier blocks (delayOf side (n % 12)) b n
+
+-- the blocks that leave, as many as enter
 unfoldable pub delayed : Side → List (List ℕ) → List (List ℕ)
-unfolding earlier listOf
-delayed side blocks = listOf (length blocks) (λ b. listOf 204 (λ n. earlier blocks (delayOf side (n % 12)) b n))
+unfolding delayedByte listOf
+delayed side blocks = listOf (length blocks) (λ b. listOf 204 (delayedByte side blocks b))
 
 abbrev pub interleaved : List (List ℕ) → List (List ℕ)
 interleaved = delayed Sending

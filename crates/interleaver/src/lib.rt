@@ -24,24 +24,29 @@ pub struct Branches {
     pub positions: [u8; 12],
 }
 
+// An answer, and the branches after it.
 struct Passed {
     answer: Answer,
     branches: Branches,
 }
 
+// The sending side.
 pub struct Interleaver {
     pub branches: Branches,
 }
 
+// An answer, and the sending side after it.
 pub struct Interleaved {
     pub answer: Answer,
     pub interleaver: Interleaver,
 }
 
+// The receiving side.
 pub struct Deinterleaver {
     pub branches: Branches,
 }
 
+// An answer, and the receiving side after it.
 pub struct Deinterleaved {
     pub answer: Answer,
     pub deinterleaver: Deinterleaver,

@@ -11,7 +11,7 @@ use lib.Seq.{drop-cons, take-at, drop-at}
 use Rattle.common.specs.Lists.{Each, Length}
 use Rattle.randomizer.specs.Prbs.{masks}
 use Rattle.randomizer.specs.Packet.{randomized}
-use Rattle.randomizer.specs.Stream.{dispersed, inPackets, randomizedStream, randomizedFrom}
+use Rattle.randomizer.specs.Stream.{maskAt, dispersed, inPackets, randomizedStream, randomizedFrom}
 use Rattle.randomizer.proofs.Laws.{length-masks, length-randomized}
 
 dispersed-append : (xs ys : List ℕ) (n : ℕ) → dispersed n (xs ++ ys) ≡ dispersed n xs ++ dispersed (n + length xs) ys
@@ -19,12 +19,12 @@ unfolding dispersed
 dispersed-append [] ys n = ap (λ (k : ℕ). dispersed k ys) (sym (add-zero n))
 dispersed-append (x ∷ xs) ys n =
     let k : n + 1 + length xs ≡ n + suc (length xs) = omega arith in
-    ap (λ (l : List ℕ). bitXor x (getD masks (n % 1504) 0) ∷ l)
+    ap (λ (l : List ℕ). bitXor x (maskAt n) ∷ l)
     (dispersed-append xs ys (n + 1) ∙ ap (λ (m : ℕ). dispersed (n + 1) xs ++ dispersed m ys) k)
 
 -- within a group, byte m of the group being byte n of the stream
 within : (xs : List ℕ) (n m : ℕ) → n % 1504 ≡ m % 1504 → m + length xs ≤ 1504 → dispersed n xs ≡ zipWith bitXor xs (drop m masks)
-unfolding dispersed zipWith
+unfolding dispersed maskAt zipWith
 within [] n m e h = refl
 within (x ∷ xs) n m e h =
     let k : n % 1504 ≡ m = omega arith in

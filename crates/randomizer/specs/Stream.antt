@@ -7,12 +7,17 @@ use lib.ListN.{length, getD, take, drop}
 use Rattle.randomizer.specs.Prbs.{masks}
 use Rattle.randomizer.specs.Packet.{randomized}
 
--- The bytes of a stream from byte n on, byte 0 being the first of a group.
--- Every group of 1,504 bytes is xored with the same ones, since the register is loaded anew for each.
-unfoldable pub dispersed : ℕ → List ℕ → List ℕ
+-- What byte n of a stream is xored with, byte 0 being the first of a group.
+-- It is the same for every group of 1,504 bytes, since the register is loaded anew for each.
+unfoldable pub maskAt : ℕ → ℕ
 unfolding masks
+maskAt n = getD masks (n % 1504) 0
+
+-- the bytes of a stream from byte n on
+unfoldable pub dispersed : ℕ → List ℕ → List ℕ
+unfolding maskAt
 dispersed n [] = []
-dispersed n (b ∷ bs) = bitXor b (getD masks (n % 1504) 0) ∷ dispersed (n + 1) bs
+dispersed n (b ∷ bs) = bitXor b (maskAt n) ∷ dispersed (n + 1) bs
 
 -- the first n packets of 188 bytes
 unfoldable pub inPackets : ℕ → List ℕ → List (List ℕ)
