@@ -1,4 +1,4 @@
--- What one call gives for a packet at a place, 0 to 7, of its group of eight.
+-- What one call gives for a packet at a place of its group of eight: 0 to 7, document 01's group place.
 -- Assumes nothing.
 use mathlib.Core.List.{List, _∷_, _++_, zipWith}
 use Prim.Native.Nat.{ℕ, _*_}
@@ -8,7 +8,7 @@ use lib.ListN.{length, getD, drop}
 use Rattle.common.specs.Choice.{pick}
 use Rattle.randomizer.specs.Prbs.{masks}
 
--- the packet's bytes, each xored with its own of the group's
+-- each byte of the packet xored with what its place in the group asks
 unfoldable pub randomized : ℕ → List ℕ → List ℕ
 unfolding zipWith
 randomized place packet = zipWith bitXor packet (drop (188 * place) masks)
