@@ -12,7 +12,8 @@ use Rattle.algebra.specs.Field.{Field, ops}
 use Rattle.algebra.specs.Polynomial.{power, eval, plus}
 use Rattle.algebra.proofs.Ring.{ring, zero-add, mul-zero, one-mul, mul-one}
 use Rattle.common.specs.Lists.{All}
-use Rattle.algebra.proofs.Lists.{All-at, All-of, Away, Distinct, Distinct-of}
+use Rattle.common.proofs.Lists.{All-at, All-of}
+use Rattle.algebra.proofs.Lists.{Away, Distinct, Distinct-of}
 use Rattle.algebra.proofs.Polynomial.{eval-plus, Zero, fromRoots, fromRoots-ne}
 use Rattle.algebra.proofs.Syndromes.{Term, syndrome, dot, places, weight, key, value, vandermonde-weight, AllZero}
 

@@ -1,4 +1,4 @@
--- What holds of each element of a list, and lists whose elements differ.
+-- Lists whose elements differ.
 -- Assumes nothing.
 use mathlib.Core.Path.{_≡_, sym}
 use mathlib.Core.List.{List, [], _∷_, _++_}
@@ -8,27 +8,7 @@ use native.Mathlib.Omega.{arith}
 use lib.ListN.{length, getD}
 use Prim.{Unit, tt}
 use Rattle.common.specs.Lists.{All}
-
-pub All-each : {A : Type 0} (P : A → Type 0) → ((x : A) → P x) → (xs : List A) → All P xs
-All-each P f [] = tt
-All-each P f (x ∷ xs) = (f x, All-each P f xs)
-
-pub All-map : {A : Type 0} (P Q : A → Type 0) → ((x : A) → P x → Q x) → (xs : List A) → All P xs → All Q xs
-All-map P Q f [] h = tt
-All-map P Q f (x ∷ xs) h = (f x (h .0), All-map P Q f xs (h .1))
-
-pub All-zip : {A : Type 0} (P Q R : A → Type 0) → ((x : A) → P x → Q x → R x) → (xs : List A) → All P xs → All Q xs → All R xs
-All-zip P Q R f [] h k = tt
-All-zip P Q R f (x ∷ xs) h k = (f x (h .0) (k .0), All-zip P Q R f xs (h .1) (k .1))
-
-pub All-of : {A : Type 0} (P : A → Type 0) (xs : List A) (d : A) → ((i : ℕ) → i < length xs → P (getD xs i d)) → All P xs
-All-of P [] d h = tt
-All-of P (x ∷ xs) d h = (h zero (omega arith), All-of P xs d (λ i l. h (suc i) (omega arith)))
-
-pub All-at : {A : Type 0} (P : A → Type 0) (xs : List A) (d : A) (i : ℕ) → All P xs → i < length xs → P (getD xs i d)
-All-at P [] d i h l = absurd (not-suc-le-zero l)
-All-at P (x ∷ xs) d zero h l = h .0
-All-at P (x ∷ xs) d (suc i) h l = All-at P xs d i (h .1) (le-of-suc-le-suc l)
+use Rattle.common.proofs.Lists.{All-of}
 
 -- no element of the list is x; the elements differ
 abbrev pub Away : {A : Type 0} → A → List A → Type 0

@@ -13,7 +13,8 @@ use Rattle.algebra.specs.Field.{Field, ops}
 use Rattle.algebra.specs.Polynomial.{power, eval, plus, scale, product}
 use Rattle.algebra.proofs.Ring.{ring, cancel, eq-of-add, add-eq-zero, mul-ne, add-zero, mul-zero, zero-add, zero-mul}
 use Rattle.common.specs.Lists.{All}
-use Rattle.algebra.proofs.Lists.{All-each, All-map, All-zip, Away, Distinct}
+use Rattle.common.proofs.Lists.{All-each, All-map, All-zip}
+use Rattle.algebra.proofs.Lists.{Away, Distinct}
 
 module _ (K : Field) where
   open Field K using (F, add as _+_, mul as _*_, 𝟘, 𝟙, inv)

@@ -14,7 +14,8 @@ use Rattle.algebra.specs.Field.{Field, ops}
 use Rattle.algebra.specs.Polynomial.{power, eval}
 use Rattle.algebra.proofs.Ring.{ring, cancel, eq-of-add, mul-ne, add-zero, mul-zero, zero-mul, zero-add, mul-div, mul-comm, mul-one}
 use Rattle.common.specs.Lists.{All}
-use Rattle.algebra.proofs.Lists.{All-map, All-zip, All-of, All-at, Away, Distinct}
+use Rattle.common.proofs.Lists.{All-map, All-zip, All-of, All-at}
+use Rattle.algebra.proofs.Lists.{Away, Distinct}
 use Rattle.algebra.proofs.Polynomial.{fromRoots, length-fromRoots, fromRoots-roots, fromRoots-ne}
 
 module _ (K : Field) where

@@ -1,6 +1,7 @@
 pub mod Choice
 pub mod Computed
 pub mod Lists
+pub mod Entries
 pub mod Written
 pub mod Each
 pub mod Xor

@@ -1,13 +1,68 @@
--- Facts on lists that the library lacks.
+-- Lists each of whose members is such a one, lists given by their members, and lists written into a buffer.
 -- Assumes nothing.
-use mathlib.Core.Path.{_≡_, refl, sym, ap, ap₂, _∙_}
+use mathlib.Core.Path.{_≡_, refl, sym, ap, ap₂, _∙_, subst}
 use mathlib.Core.List.{List, [], _∷_, _++_, map}
 use mathlib.Core.Logic.{_⊎_, inl, inr}
 use Prim.Native.Nat.{ℕ, zero, suc, _+_, _-_, _≤_, _<_}
+use Prim.{Unit, tt}
 use native.Mathlib.Nat.{le-of-suc-le-suc, not-suc-le-zero}
+use native.Mathlib.Decide.{ℕ-discrete}
+use native.Mathlib.Numerals.{add-one}
 use native.Mathlib.Omega.{arith}
 use lib.ListN.{length, getD, take, drop, length-append, List·getD-append}
-use lib.Seq.{take-at, drop-append-add, drop-drop, length-take-le, getD-append-add, getD-take, getD-drop}
+use lib.Seq.{take-at, drop-append-add, drop-drop, length-take-le, getD-append-add, getD-take, getD-drop, getD-at}
+use Rattle.common.specs.Lists.{All, listOf}
+
+-- ---- each member
+
+pub All-each : {A : Type 0} (P : A → Type 0) → ((x : A) → P x) → (xs : List A) → All P xs
+All-each P f [] = tt
+All-each P f (x ∷ xs) = (f x, All-each P f xs)
+
+pub All-map : {A : Type 0} (P Q : A → Type 0) → ((x : A) → P x → Q x) → (xs : List A) → All P xs → All Q xs
+All-map P Q f [] h = tt
+All-map P Q f (x ∷ xs) h = (f x (h .0), All-map P Q f xs (h .1))
+
+pub All-zip : {A : Type 0} (P Q R : A → Type 0) → ((x : A) → P x → Q x → R x) → (xs : List A) → All P xs → All Q xs → All R xs
+All-zip P Q R f [] h k = tt
+All-zip P Q R f (x ∷ xs) h k = (f x (h .0) (k .0), All-zip P Q R f xs (h .1) (k .1))
+
+pub All-of : {A : Type 0} (P : A → Type 0) (xs : List A) (d : A) → ((i : ℕ) → i < length xs → P (getD xs i d)) → All P xs
+All-of P [] d h = tt
+All-of P (x ∷ xs) d h = (h zero (omega arith), All-of P xs d (λ i l. h (suc i) (omega arith)))
+
+pub All-at : {A : Type 0} (P : A → Type 0) (xs : List A) (d : A) (i : ℕ) → All P xs → i < length xs → P (getD xs i d)
+All-at P [] d i h l = absurd (not-suc-le-zero l)
+All-at P (x ∷ xs) d zero h l = h .0
+All-at P (x ∷ xs) d (suc i) h l = All-at P xs d i (h .1) (le-of-suc-le-suc l)
+
+-- ---- lists given by their members
+
+pub length-listOf : {A : Type 0} (n : ℕ) (f : ℕ → A) → length (listOf n f) ≡ n
+unfolding listOf
+length-listOf zero f = refl
+length-listOf (suc n) f = length-append (listOf n f) (f n ∷ []) ∙ ap (λ (k : ℕ). k + 1) (length-listOf n f) ∙ add-one n
+
+pub getD-listOf : {A : Type 0} (n : ℕ) (f : ℕ → A) (d : A) (i : ℕ) → i < n → getD (listOf n f) i d ≡ f i
+unfolding listOf
+getD-listOf zero f d i h = absurd (not-suc-le-zero h)
+getD-listOf (suc n) f d i h = by (ℕ-discrete i n) (getD-listOf n f d i)
+  where
+    by : Dec (i ≡ n) → (i < n → getD (listOf n f) i d ≡ f i) → getD (listOf n f ++ f n ∷ []) i d ≡ f i
+    by (yes e) r = subst (λ (k : ℕ). getD (listOf n f ++ f n ∷ []) i d ≡ f k) (sym e) (getD-at (listOf n f) (f n) [] d i (length-listOf n f ∙ sym e))
+    by (no e) r = List·getD-append (listOf n f) (f n ∷ []) d i (rw (length-listOf n f) (omega arith)) ∙ r (omega arith)
+
+module _ {A : Type 0} (P : A → Type 0) where
+  all-snoc : (xs : List A) (x : A) → All P xs → P x → All P (xs ++ x ∷ [])
+  all-snoc [] x g h = (h, tt)
+  all-snoc (y ∷ xs) x g h = (g .0, all-snoc xs x (g .1) h)
+
+  pub all-listOf : (n : ℕ) (f : ℕ → A) → ((i : ℕ) → i < n → P (f i)) → All P (listOf n f)
+  unfolding listOf
+  all-listOf zero f h = tt
+  all-listOf (suc n) f h = all-snoc (listOf n f) (f n) (all-listOf n f (λ i k. h i (omega arith))) (h n (omega arith))
+
+-- ---- members and places
 
 -- an element of a list that is mapped, whatever stands for what is past the end
 pub getD-map-in : {A B : Type 0} (f : A → B) (l : List A) (d : A) (e : B) (i : ℕ) → i < length l → getD (map f l) i e ≡ f (getD l i d)

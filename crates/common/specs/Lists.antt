@@ -1,8 +1,11 @@
--- What holds of each element of a list.
+-- Lists of bytes, and lists of them: the packets or the blocks of a stream.
 -- Assumes nothing.
-use mathlib.Core.List.{List, [], _∷_}
-use Prim.Native.Nat.{ℕ, _<_}
+use mathlib.Core.Path.{_≡_}
+use mathlib.Core.List.{List, [], _∷_, _++_}
+use Prim.Native.Nat.{ℕ, zero, suc, _<_}
+use lib.ListN.{length, getD}
 
+-- what holds of each member of a list
 abbrev pub All : {A : Type 0} → (A → Type 0) → List A → Type 0
 All P [] = Unit {0}
 All P (x ∷ xs) = P x × All P xs
@@ -10,3 +13,20 @@ All P (x ∷ xs) = P x × All P xs
 -- each number is a byte
 abbrev pub Bytes : List ℕ → Type 0
 Bytes l = All (λ b. b < 256) l
+
+-- the list has n members
+abbrev pub Length : ℕ → List ℕ → Type 0
+Length n xs = length xs ≡ n
+
+-- what holds of each number of a list by its place, and of 0, which is read past the end
+abbrev pub Entries : (ℕ → Type 0) → List ℕ → Type 0
+Entries P xs = (i : ℕ) → P (getD xs i 0)
+
+-- each number is a byte, by its place
+abbrev pub ByteEntries : List ℕ → Type 0
+ByteEntries xs = Entries (λ x. x < 256) xs
+
+-- the list f 0, f 1, .. f (n - 1)
+unfoldable pub listOf : {A : Type 0} → ℕ → (ℕ → A) → List A
+listOf zero f = []
+listOf (suc n) f = listOf n f ++ f n ∷ []

@@ -11,10 +11,10 @@ use lib.Dec.{lit<}
 use lib.ListN.{length, getD, take, drop, length-map, length-append, length-take, List·getD-map, take-append-drop}
 use lib.Seq.{length-take-le, getD-take, split-at}
 use Rattle.common.specs.Lists.{All, Bytes}
-use Rattle.common.proofs.Lists.{getD-map-in}
+use Rattle.common.proofs.Lists.{getD-map-in, All-at, All-of, All-map}
 use Rattle.algebra.specs.Field.{Field, ops}
 use Rattle.algebra.specs.Polynomial.{power, eval, plus}
-use Rattle.algebra.proofs.Lists.{All-at, All-of, All-map, Away, Distinct, Distinct-away}
+use Rattle.algebra.proofs.Lists.{Away, Distinct, Distinct-away}
 use Rattle.algebra.proofs.Ring.{ring, add-zero, one-mul, mul-ne}
 use Rattle.algebra.proofs.Polynomial.{Zero, root-count, quotient, quotient-zero, quotient-value, length-quotient, length-plus-max, length-timesLinearFrom, timesLinear, fromRoots, length-fromRoots, fromRoots-roots, fromRoots-ne, eval-fromRoots-out}
 use Rattle.algebra.proofs.Syndromes.{Term, dot, dot-ext, syndrome, places, weight, key, value}

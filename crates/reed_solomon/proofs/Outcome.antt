@@ -15,10 +15,10 @@ use lib.Seq.{length-take-le, getD-take}
 use Rattle.common.specs.Choice.{pick}
 use Rattle.common.specs.Lists.{All, Bytes}
 use Rattle.common.proofs.Choice.{false-true}
-use Rattle.common.proofs.Lists.{getD-map-in}
+use Rattle.common.proofs.Entries.{bytes-of}
+use Rattle.common.proofs.Lists.{getD-map-in, All-map, All-at}
 use Rattle.algebra.specs.Field.{Field, ops}
 use Rattle.algebra.specs.Polynomial.{power, eval}
-use Rattle.algebra.proofs.Lists.{All-map, All-at}
 use Rattle.algebra.proofs.Ring.{add-comm, add-self, zero-add, mul-zero}
 use Rattle.algebra.proofs.Syndromes.{syndrome}
 use Rattle.galois.proofs.Instance.{bytes, byte, byte-zero}
@@ -32,11 +32,6 @@ use Rattle.reed_solomon.proofs.LongDivision.{high, high-nil, high-cons,
 use Rattle.reed_solomon.proofs.Completeness.{spots, roots-vanish, roots-distinct, roots-few, found}
 use Rattle.reed_solomon.proofs.Soundness.{corrected-length, corrected-bytes, corrected-value, corrected-differ, terms-cut, terms-spots, distinct-unmap}
 use Rattle.reed_solomon.proofs.ErrorTerms.{changed-le}
-
--- a list whose every element is below 256
-pub bytes-of : (l : List ℕ) → ((i : ℕ) → getD l i 0 < 256) → Bytes l
-bytes-of [] h = tt
-bytes-of (x ∷ l) h = (h 0, bytes-of l (λ i. h (suc i)))
 
 -- ---- the residue
 

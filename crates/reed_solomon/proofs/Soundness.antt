@@ -17,7 +17,8 @@ use Rattle.common.specs.Lists.{All, Bytes}
 use Rattle.common.proofs.Xor.{xor-undo}
 use Rattle.algebra.specs.Field.{Field, ops}
 use Rattle.algebra.specs.Polynomial.{power}
-use Rattle.algebra.proofs.Lists.{All-at, Away, Distinct}
+use Rattle.common.proofs.Lists.{All-at}
+use Rattle.algebra.proofs.Lists.{Away, Distinct}
 use Rattle.algebra.proofs.Ring.{ring, zero-mul, zero-add as field-zero-add, add-zero as field-add-zero}
 use Rattle.algebra.proofs.Syndromes.{Term, syndrome}
 use Rattle.algebra.proofs.Decoding.{power-swap}

@@ -2,7 +2,8 @@
 -- Assumes nothing.
 use mathlib.Core.Path.{sym, ap, _∙_}
 use Rattle.reed_solomon.specs.Steps.{allZero}
-use Rattle.reed_solomon.proofs.Outcome.{bytes-of, clean}
+use Rattle.common.proofs.Entries.{bytes-of}
+use Rattle.reed_solomon.proofs.Outcome.{clean}
 use borrow.Author.Needs.{needs}
 use Rattle.reed_solomon.proofs.decode.Statement.{statement}
 use Rattle.reed_solomon.proofs.decode.Tie as tie

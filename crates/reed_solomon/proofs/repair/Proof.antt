@@ -8,7 +8,8 @@ use lib.ListN.{length, getD, take}
 use Rattle.common.proofs.Choice.{flag-false, flag-true}
 use Rattle.reed_solomon.specs.Steps.{SyndromesOf, zerosOf, Explained}
 use Rattle.reed_solomon.proofs.Completeness.{roots-few}
-use Rattle.reed_solomon.proofs.Outcome.{Decoding, bytes-of, rejected, repaired, degrees-range}
+use Rattle.common.proofs.Entries.{bytes-of}
+use Rattle.reed_solomon.proofs.Outcome.{Decoding, rejected, repaired, degrees-range}
 use borrow.Author.Needs.{needs}
 use Rattle.reed_solomon.proofs.repair.Statement.{statement}
 use Rattle.reed_solomon.proofs.repair.Tie as tie

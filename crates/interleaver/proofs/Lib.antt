@@ -1,0 +1,9 @@
+pub mod Columns
+pub mod Rings
+pub mod Positions
+pub mod Cells
+pub mod Filling
+pub mod Blocks
+pub mod Passing
+pub mod Whole
+pub mod Streams

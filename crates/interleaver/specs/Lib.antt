@@ -1,0 +1,4 @@
+pub mod Branch
+pub mod Column
+pub mod Block
+pub mod Stream

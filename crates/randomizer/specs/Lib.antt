@@ -1,0 +1,3 @@
+pub mod Prbs
+pub mod Packet
+pub mod Stream

@@ -1,0 +1,40 @@
+-- What one call gives for a packet at a place of its group of eight: 0 to 7, document 01's group place.
+-- Assumes nothing.
+use mathlib.Core.List.{List, _∷_, _++_, zipWith}
+use Prim.Native.Nat.{ℕ, _*_}
+use lib.Bits.{bitXor}
+use lib.Dec.{ltb, eqb}
+use lib.ListN.{length, getD, drop}
+use Rattle.common.specs.Choice.{pick}
+use Rattle.randomizer.specs.Prbs.{masks}
+
+-- each byte of the packet xored with what its place in the group asks
+unfoldable pub randomized : ℕ → List ℕ → List ℕ
+unfolding zipWith
+randomized place packet = zipWith bitXor packet (drop (188 * place) masks)
+
+-- the same, with the sync byte 47 hex first, whatever came
+unfoldable pub derandomized : ℕ → List ℕ → List ℕ
+unfolding randomized
+derandomized place packet = 0x47 ∷ drop 1 (randomized place packet)
+
+-- the number of the answer, by the tests in the order of document 01
+abbrev pub randomizeNumber : ℕ → List ℕ → List ℕ → ℕ
+randomizeNumber place packet room =
+    pick (ltb 7 place) 5
+    (pick (eqb (length packet) 188)
+    (pick (eqb (getD packet 0 0) 0x47) (pick (ltb (length room) 188) 4 0) 2)
+    1)
+
+abbrev pub derandomizeNumber : ℕ → List ℕ → List ℕ → ℕ
+derandomizeNumber place packet room =
+    pick (ltb 7 place) 5 (pick (eqb (length packet) 188) (pick (ltb (length room) 188) 4 0) 1)
+
+-- the room after the call
+abbrev pub randomizeRoom : ℕ → List ℕ → List ℕ → List ℕ
+randomizeRoom place packet room =
+    pick (eqb (randomizeNumber place packet room) 0) (randomized place packet ++ drop 188 room) room
+
+abbrev pub derandomizeRoom : ℕ → List ℕ → List ℕ → List ℕ
+derandomizeRoom place packet room =
+    pick (eqb (derandomizeNumber place packet room) 0) (derandomized place packet ++ drop 188 room) room

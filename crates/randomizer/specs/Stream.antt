@@ -1,0 +1,36 @@
+-- Energy dispersal of a whole transport stream: EN 300 421, 4.4.1.
+-- Assumes nothing.
+use mathlib.Core.List.{List, [], _∷_, flatten}
+use Prim.Native.Nat.{ℕ, zero, suc, _+_, _%_}
+use lib.Bits.{bitXor}
+use lib.ListN.{length, getD, take, drop}
+use Rattle.randomizer.specs.Prbs.{masks}
+use Rattle.randomizer.specs.Packet.{randomized}
+
+-- What byte n of a stream is xored with, byte 0 being the first of a group.
+-- It is the same for every group of 1,504 bytes, since the register is loaded anew for each.
+unfoldable pub maskAt : ℕ → ℕ
+unfolding masks
+maskAt n = getD masks (n % 1504) 0
+
+-- the bytes of a stream from byte n on
+unfoldable pub dispersed : ℕ → List ℕ → List ℕ
+unfolding maskAt
+dispersed n [] = []
+dispersed n (b ∷ bs) = bitXor b (maskAt n) ∷ dispersed (n + 1) bs
+
+-- the first n packets of 188 bytes
+unfoldable pub inPackets : ℕ → List ℕ → List (List ℕ)
+inPackets zero bs = []
+inPackets (suc n) bs = take 188 bs ∷ inPackets n (drop 188 bs)
+
+-- the transport packets as they are sent to the outer coder, from the start of a group
+unfoldable pub randomizedStream : List (List ℕ) → List (List ℕ)
+unfolding dispersed inPackets flatten
+randomizedStream packets = inPackets (length packets) (dispersed 0 (flatten packets))
+
+-- call after call, the first packet being packet n of the stream: the places go 0, 1, .. 7, 0, ..
+unfoldable pub randomizedFrom : ℕ → List (List ℕ) → List (List ℕ)
+unfolding randomized
+randomizedFrom n [] = []
+randomizedFrom n (p ∷ ps) = randomized (n % 8) p ∷ randomizedFrom (n + 1) ps
