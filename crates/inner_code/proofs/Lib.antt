@@ -1,0 +1,7 @@
+pub mod Bits
+pub mod Unpacked
+pub mod Mother
+pub mod Places
+pub mod Steps
+pub mod Coder
+pub mod Run

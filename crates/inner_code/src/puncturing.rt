@@ -1,0 +1,252 @@
+// The puncturing of the coded bits, and the symbols that they make up.
+ghost use mathlib.Core.Path.{_≡_};
+ghost use Prim.Native.Nat.{ℕ, _+_, _*_, _<_, _≤_};
+ghost use lib.ListN.{length};
+ghost use Rattle.inner_code.specs.Step.{patternLength, nextPlace, heldCount, punctured, symbolsIn};
+ghost use Rattle.inner_code.specs.Serial.{Bits, byKind, punctureStep, sentSymbols, progress, sentRoom};
+use super::Symbol;
+
+pub const LENGTHS: [u8; 5] = [1, 4, 3, 5, 7];
+
+// The symbol that each bit of a rate's pattern completes: 0 none, 1 (X,Y), 2 the held I with X, 3 the held I with Y. Seven entries for each rate.
+const COMPLETED: [u8; 35] = [
+    1,
+    0,
+    0,
+    0,
+    0,
+    0,
+    0,
+    1,
+    0,
+    2,
+    3,
+    0,
+    0,
+    0,
+    1,
+    0,
+    2,
+    0,
+    0,
+    0,
+    0,
+    1,
+    0,
+    2,
+    0,
+    2,
+    0,
+    0,
+    1,
+    0,
+    3,
+    0,
+    2,
+    0,
+    2,
+];
+
+// 1 where an I is held before the bit. Seven entries for each rate.
+const HELD: [u8; 35] = [
+    0,
+    0,
+    0,
+    0,
+    0,
+    0,
+    0,
+    0,
+    0,
+    1,
+    1,
+    0,
+    0,
+    0,
+    0,
+    0,
+    1,
+    0,
+    0,
+    0,
+    0,
+    0,
+    0,
+    1,
+    0,
+    1,
+    0,
+    0,
+    0,
+    0,
+    1,
+    0,
+    1,
+    0,
+    1,
+];
+
+// How many symbols a block gives that begins at a place of the pattern. Seven entries for each rate.
+const COUNTS: [u16; 35] = [
+    1632,
+    0,
+    0,
+    0,
+    0,
+    0,
+    0,
+    1224,
+    1224,
+    1224,
+    1224,
+    0,
+    0,
+    0,
+    1088,
+    1088,
+    1088,
+    0,
+    0,
+    0,
+    0,
+    979,
+    979,
+    979,
+    979,
+    980,
+    0,
+    0,
+    933,
+    932,
+    933,
+    932,
+    933,
+    932,
+    933,
+];
+
+pub fn pattern_length(rate: u8) -> u8
+    requires { ⌜ rate < 5 ⌝ }
+    ensures { λ r. ⌜ r ≡ patternLength rate ⌝ }
+{
+    LENGTHS[rate as usize]
+}
+
+// The entry of a table for a place of a rate's pattern.
+fn cell(rate: u8, place: u8) -> usize
+    requires { ⌜ (rate < 5) × (place < patternLength rate) ⌝ }
+    ensures { λ r. ⌜ (r ≡ rate * 7 + place) × (r < 35) ⌝ }
+{
+    rate as usize * 7 + place as usize
+}
+
+pub fn held_count(rate: u8, place: u8) -> u8
+    requires { ⌜ (rate < 5) × (place < patternLength rate) ⌝ }
+    ensures { λ r. ⌜ r ≡ heldCount rate place ⌝ }
+{
+    HELD[cell(rate, place)]
+}
+
+pub fn block_count(rate: u8, place: u8) -> u16
+    requires { ⌜ (rate < 5) × (place < patternLength rate) ⌝ }
+    ensures { λ r. ⌜ r ≡ symbolsIn rate place 1632 ⌝ }
+{
+    COUNTS[cell(rate, place)]
+}
+
+fn completed_at(rate: u8, place: u8) -> u8
+    requires { ⌜ (rate < 5) × (place < patternLength rate) ⌝ }
+    ensures { λ r. ⌜ ((x y held : ℕ) → punctured rate place x y held ≡ byKind r x y held) ⌝ }
+{
+    COMPLETED[cell(rate, place)]
+}
+
+fn next_place(rate: u8, place: u8) -> u8
+    requires { ⌜ (rate < 5) × (place < patternLength rate) ⌝ }
+    ensures { λ r. ⌜ r ≡ nextPlace rate place ⌝ }
+{
+    (place + 1) % pattern_length(rate)
+}
+
+pub struct Punctured {
+    pub place: u8,
+    pub held: u8,
+    pub symbol: Symbol,
+}
+
+// X and Y of one bit.
+pub fn puncture(rate: u8, place: u8, held: u8, x: u8, y: u8) -> Punctured
+    requires { ⌜ (rate < 5) × (place < patternLength rate) × (held < 2) × (x < 2) × (y < 2) ⌝ }
+    ensures { λ r. ⌜ r ≡ punctureStep rate place held x y ⌝ }
+{
+    let next = next_place(rate, place);
+    let kept = y * held_count(rate, next);
+    let kind = completed_at(rate, place);
+    if kind == 0 {
+        return Punctured {
+            place: next,
+            held: kept,
+            symbol: Symbol::None,
+        };
+    }
+    if kind == 1 {
+        return Punctured {
+            place: next,
+            held: kept,
+            symbol: Symbol::One(2 * x + y),
+        };
+    }
+    if kind == 2 {
+        return Punctured {
+            place: next,
+            held: kept,
+            symbol: Symbol::One(2 * held + x),
+        };
+    }
+    Punctured {
+        place: next,
+        held: kept,
+        symbol: Symbol::One(2 * held + y),
+    }
+}
+
+// Where the puncturing stands after a run, and how many symbols the run gave.
+pub struct Progress {
+    pub place: u8,
+    pub held: u8,
+    pub count: usize,
+}
+
+// X and Y of each bit of a run, into a room that is long enough.
+pub fn puncture_all(rate: u8, place: u8, held: u8, coded: &[u8], room: &mut [u8]) -> Progress
+    requires { ⌜
+        (rate < 5)
+        × (place < patternLength rate)
+        × (held ≤ heldCount rate place)
+        × (Bits (now coded))
+        × (length (sentSymbols rate place held (now coded)) ≤ length (now room)) ⌝ }
+    ensures { λ r. ⌜
+        (r ≡ progress rate place held (now (coded .entry)))
+        × (now (room .exit) ≡ sentRoom rate place held (now (coded .entry)) (now (room .entry))) ⌝ }
+{
+    let mut at = place;
+    let mut i = held;
+    let mut count: usize = 0;
+    let mut n: usize = 0;
+    while n + 1 < coded.len() {
+        let punctured = puncture(rate, at, i, coded[n], coded[n + 1]);
+        let symbol = punctured.symbol;
+        if let Symbol::One(v) = symbol {
+            room[count] = v;
+            count += 1;
+        }
+        at = punctured.place;
+        i = punctured.held;
+        n += 2;
+    }
+    Progress {
+        place: at,
+        held: i,
+        count,
+    }
+}
