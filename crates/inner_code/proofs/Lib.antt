@@ -5,3 +5,4 @@ pub mod Places
 pub mod Steps
 pub mod Coder
 pub mod Run
+pub mod Stream

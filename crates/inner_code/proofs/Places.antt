@@ -32,11 +32,11 @@ length-le r h = leb→le _ _ (computed.below-at (λ r. leb (patternLength r) 7) 
 -- a fact that no test decides, at each number below n, the greatest first
 infixr 5 _&_
 pub data Below (P : ℕ → Type 0) : ℕ → Type 0 where
-  none : Below P zero
+  end : Below P zero
   _&_ : {n : ℕ} → P n → Below P n → Below P (suc n)
 
 pub below : (P : ℕ → Type 0) (n : ℕ) → Below P n → (k : ℕ) → k < n → P k
-below P zero none k h = absurd (not-suc-le-zero h)
+below P zero end k h = absurd (not-suc-le-zero h)
 below P (suc n) (t & ts) k h = ⊎-elim (λ e. subst P (sym e) t) (λ l. below P n ts k l) (eq-or-lt-of-le (le-of-suc-le-suc h))
 
 -- the same at each place of each rate's pattern

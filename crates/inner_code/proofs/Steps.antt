@@ -9,7 +9,7 @@ use lib.ListN.{length}
 use Rattle.common.specs.Choice.{pick}
 use Rattle.inner_code.specs.Mode.{modeOf, completed}
 use Rattle.inner_code.specs.Step.{patternLength, nextPlace, heldCount, listOf, punctured, heldAfter}
-use Rattle.inner_code.proofs.Places.{tested-at, none, _&_, Everywhere, everywhere}
+use Rattle.inner_code.proofs.Places.{tested-at, end, _&_, Everywhere, everywhere}
 
 pub next-lt : (r p : ℕ) → p < patternLength r → nextPlace r p < patternLength r
 next-lt r p h = mod-lt (p + 1) (omega arith)
@@ -25,12 +25,12 @@ Holds r p = (x y h : ℕ) → heldAfter r p x y h ≡ pick (eqb (heldCount r (ne
 holds : Everywhere Holds
 unfolding heldAfter heldCount patternLength modeOf
 holds =
-    ((λ x y h. refl) & (λ x y h. refl) & (λ x y h. refl) & (λ x y h. refl) & (λ x y h. refl) & (λ x y h. refl) & (λ x y h. refl) & none)
-    & ((λ x y h. refl) & (λ x y h. refl) & (λ x y h. refl) & (λ x y h. refl) & (λ x y h. refl) & none)
-    & ((λ x y h. refl) & (λ x y h. refl) & (λ x y h. refl) & none)
-    & ((λ x y h. refl) & (λ x y h. refl) & (λ x y h. refl) & (λ x y h. refl) & none)
-    & ((λ x y h. refl) & none)
-    & none
+    ((λ x y h. refl) & (λ x y h. refl) & (λ x y h. refl) & (λ x y h. refl) & (λ x y h. refl) & (λ x y h. refl) & (λ x y h. refl) & end)
+    & ((λ x y h. refl) & (λ x y h. refl) & (λ x y h. refl) & (λ x y h. refl) & (λ x y h. refl) & end)
+    & ((λ x y h. refl) & (λ x y h. refl) & (λ x y h. refl) & end)
+    & ((λ x y h. refl) & (λ x y h. refl) & (λ x y h. refl) & (λ x y h. refl) & end)
+    & ((λ x y h. refl) & end)
+    & end
 
 times : (n y : ℕ) → n ≤ 1 → pick (eqb n 1) y 0 ≡ y * n
 times zero y h = omega arith
@@ -56,12 +56,12 @@ Single r p = (x y h : ℕ) → length (listOf (punctured r p x y h)) ≡ length 
 single : Everywhere Single
 unfolding punctured patternLength modeOf
 single =
-    ((λ x y h. refl) & (λ x y h. refl) & (λ x y h. refl) & (λ x y h. refl) & (λ x y h. refl) & (λ x y h. refl) & (λ x y h. refl) & none)
-    & ((λ x y h. refl) & (λ x y h. refl) & (λ x y h. refl) & (λ x y h. refl) & (λ x y h. refl) & none)
-    & ((λ x y h. refl) & (λ x y h. refl) & (λ x y h. refl) & none)
-    & ((λ x y h. refl) & (λ x y h. refl) & (λ x y h. refl) & (λ x y h. refl) & none)
-    & ((λ x y h. refl) & none)
-    & none
+    ((λ x y h. refl) & (λ x y h. refl) & (λ x y h. refl) & (λ x y h. refl) & (λ x y h. refl) & (λ x y h. refl) & (λ x y h. refl) & end)
+    & ((λ x y h. refl) & (λ x y h. refl) & (λ x y h. refl) & (λ x y h. refl) & (λ x y h. refl) & end)
+    & ((λ x y h. refl) & (λ x y h. refl) & (λ x y h. refl) & end)
+    & ((λ x y h. refl) & (λ x y h. refl) & (λ x y h. refl) & (λ x y h. refl) & end)
+    & ((λ x y h. refl) & end)
+    & end
 
 pub symbol-count : (r p x y h : ℕ) → r < 5 → p < patternLength r → length (listOf (punctured r p x y h)) ≡ length (completed (modeOf r) (p + 1))
 symbol-count r p x y h hr hp = everywhere Single single r p hr hp x y h

@@ -1,7 +1,7 @@
 -- What each call gives: its answer, by its tests in the order of document 01, the coder, and the room.
 -- Assumes nothing.
 use mathlib.Core.Bool.{Bool, true, false}
-use mathlib.Core.List.{List, _++_}
+use mathlib.Core.List.{List, [], _∷_, _++_}
 use Prim.Native.Nat.{ℕ}
 use lib.Dec.{ltb, eqb}
 use lib.ListN.{length, drop}
@@ -42,6 +42,11 @@ blockSymbols c block = symbolsOf c (bitsOf block)
 
 abbrev pub blockCoder : InnerCoder → List ℕ → InnerCoder
 blockCoder c block = coderAfter c (bitsOf block)
+
+-- the symbols of a list of blocks, each coded by a call with the coder that the call before handed back
+unfoldable pub callsSymbols : InnerCoder → List (List ℕ) → List ℕ
+callsSymbols c [] = []
+callsSymbols c (b ∷ bs) = blockSymbols c b ++ callsSymbols (blockCoder c b) bs
 
 -- how many symbols a block of 204 bytes, 1,632 bits, gives; 0 of a coder that is out of range
 abbrev pub symbolCount : InnerCoder → ℕ

@@ -8,7 +8,7 @@ use lib.ListN.{getD}
 use Rattle.inner_code.specs.Mode.{modeOf}
 use Rattle.inner_code.specs.Step.{patternLength, punctured}
 use Rattle.inner_code.specs.Serial.{byKind}
-use Rattle.inner_code.proofs.Places.{none, _&_, Everywhere, everywhere}
+use Rattle.inner_code.proofs.Places.{end, _&_, Everywhere, everywhere}
 use Rattle.inner_code.proofs.puncturing.completed_at.Statement.{statement}
 use Rattle.inner_code.proofs.puncturing.completed_at.Tie as tie
 
@@ -27,12 +27,12 @@ Told r p = (x y held : ℕ) → punctured r p x y held ≡ byKind (getD table (r
 told : Everywhere Told
 unfolding table punctured patternLength modeOf
 told =
-    ((λ x y h. refl) & (λ x y h. refl) & (λ x y h. refl) & (λ x y h. refl) & (λ x y h. refl) & (λ x y h. refl) & (λ x y h. refl) & none)
-    & ((λ x y h. refl) & (λ x y h. refl) & (λ x y h. refl) & (λ x y h. refl) & (λ x y h. refl) & none)
-    & ((λ x y h. refl) & (λ x y h. refl) & (λ x y h. refl) & none)
-    & ((λ x y h. refl) & (λ x y h. refl) & (λ x y h. refl) & (λ x y h. refl) & none)
-    & ((λ x y h. refl) & none)
-    & none
+    ((λ x y h. refl) & (λ x y h. refl) & (λ x y h. refl) & (λ x y h. refl) & (λ x y h. refl) & (λ x y h. refl) & (λ x y h. refl) & end)
+    & ((λ x y h. refl) & (λ x y h. refl) & (λ x y h. refl) & (λ x y h. refl) & (λ x y h. refl) & end)
+    & ((λ x y h. refl) & (λ x y h. refl) & (λ x y h. refl) & end)
+    & ((λ x y h. refl) & (λ x y h. refl) & (λ x y h. refl) & (λ x y h. refl) & end)
+    & ((λ x y h. refl) & end)
+    & end
 
 returns : tie.Need-returns
 unfolding table
