@@ -36,16 +36,24 @@ bits-oldest m =
     more (digit m) (more (digit (m / 2)) (more (digit (m / 4)) (more (digit (m / 8))
     (more (digit (m / 16)) (more (digit (m / 32)) none)))))
 
-pub bits-mother : (memory : ℕ) (l : List ℕ) → Bits (motherOf memory l)
+pub bits-mother : (taps : List ℕ) (memory : ℕ) (l : List ℕ) → Bits (motherOf taps memory l)
 unfolding motherOf
-bits-mother m [] = none
-bits-mother m (b ∷ bs) =
-    more (digit (total tapsX (b ∷ recent m))) (more (digit (total tapsY (b ∷ recent m))) (bits-mother (nextMemory m b) bs))
+bits-mother taps m [] = none
+bits-mother taps m (b ∷ bs) = more (digit (total taps (b ∷ recent m))) (bits-mother taps (nextMemory m b) bs)
+
+pub length-mother : (taps : List ℕ) (memory : ℕ) (l : List ℕ) → length (motherOf taps memory l) ≡ length l
+unfolding motherOf
+length-mother taps m [] = refl
+length-mother taps m (b ∷ bs) = ap suc (length-mother taps (nextMemory m b) bs)
 
 pub length-bits : (l : List ℕ) → length (bitsOf l) ≡ 8 * length l
 unfolding bitsOf
 length-bits [] = refl
 length-bits (b ∷ bs) = let e = length-bits bs in omega arith
+
+-- a block of 204 bytes has 1,632 bits
+pub block-bits : (block : List ℕ) → length block ≡ 204 → length (bitsOf block) ≡ 1632
+block-bits block h = let e = length-bits block in omega arith
 
 pub bits-split : (a b : List ℕ) → bitsOf (a ++ b) ≡ bitsOf a ++ bitsOf b
 unfolding bitsOf

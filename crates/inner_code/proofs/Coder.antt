@@ -3,17 +3,19 @@
 use mathlib.Core.Path.{_≡_, refl, ap, ap₂, sym, _∙_}
 use mathlib.Core.Bool.{true}
 use mathlib.Core.List.{List, [], _∷_, _++_, append-assoc}
-use Prim.Native.Nat.{ℕ, _+_, _<_}
+use Prim.Native.Nat.{ℕ, suc, suc-le-suc, _+_, _<_}
+use native.Mathlib.Nat.{add-zero, zero-add}
 use native.Mathlib.Omega.{arith}
 use borrow.Author.Tests.{ltb-true, leb-true}
-use lib.ListN.{length, length-append}
+use lib.ListN.{length, getD, length-append, List·getD-append}
+use lib.Seq.{getD-append-add}
 use Rattle.common.proofs.Choice.{both-true}
 use Rattle.inner_code.specs.Stream.{bitsOf, tapsX, tapsY}
-use Rattle.inner_code.specs.Step.{coded, inRange, InRange, listOf, coderStep, symbolStep, symbolsOf, coderAfter, symbolsIn}
-use Rattle.inner_code.specs.Serial.{Bits, none, more, motherOf, memoryAfter, sentSymbols, placeAfter, heldBehind}
+use Rattle.inner_code.specs.Step.{nextMemory, coded, nextPlace, inRange, InRange, listOf, punctured, heldAfter, coderStep, symbolStep, symbolsOf, coderAfter, symbolsIn}
+use Rattle.inner_code.specs.Serial.{Bits, none, more, motherOf, memoryAfter, blockMother, sentSymbols, placeAfter, heldBehind}
 use Rattle.inner_code.specs.Encode.{blockSymbols, blockCoder}
 use Rattle.inner_code.specs.declared.InnerCoder.{InnerCoder}
-use Rattle.inner_code.proofs.Bits.{bits-bits, bits-split, length-bits}
+use Rattle.inner_code.proofs.Bits.{bits-bits, bits-split, block-bits, length-mother}
 use Rattle.inner_code.proofs.Steps.{next-lt, held-in-range, symbol-count}
 
 -- ---- the range
@@ -54,9 +56,7 @@ length-symbols c g (more {b} {l} h t) =
 -- each block of 204 bytes gives as many symbols
 pub length-block : (c : InnerCoder) (block : List ℕ) → InRange c → length block ≡ 204
     → length (blockSymbols c block) ≡ symbolsIn (c .rate) (c .place) 1632
-length-block c block g h =
-    let n : length (bitsOf block) ≡ 1632 = let e = length-bits block in omega arith in
-    length-symbols c g (bits-bits block) ∙ ap (symbolsIn (c .rate) (c .place)) n
+length-block c block g h = length-symbols c g (bits-bits block) ∙ ap (symbolsIn (c .rate) (c .place)) (block-bits block h)
 
 -- ---- one list after another
 
@@ -82,19 +82,87 @@ block-coder-append a b c = ap (coderAfter c) (bits-split a b) ∙ coder-append (
 
 -- ---- the mother code, and then the puncturing
 
-pub symbols-serial : (c : InnerCoder) (bits : List ℕ) → symbolsOf c bits ≡ sentSymbols (c .rate) (c .place) (c .held) (motherOf (c .memory) bits)
-unfolding symbolsOf sentSymbols motherOf
-symbols-serial c [] = refl
-symbols-serial c (b ∷ bs) = ap (λ (l : List ℕ). listOf (symbolStep c b) ++ l) (symbols-serial (coderStep c b) bs)
+-- the list has X and Y of each bit, from n and from 1632 + n on
+data Holds (l : List ℕ) : ℕ → ℕ → List ℕ → Type 0 where
+  nothing : {n m : ℕ} → Holds l n m []
+  also : {n m b : ℕ} {bs : List ℕ} → getD l n 0 ≡ coded tapsX m b → getD l (1632 + n) 0 ≡ coded tapsY m b → Holds l (suc n) (nextMemory m b) bs
+      → Holds l n m (b ∷ bs)
 
-pub coder-serial : (c : InnerCoder) (bits : List ℕ)
+holds : (l : List ℕ) (n m : ℕ) (bits : List ℕ) → ((i : ℕ) → i < length bits → getD l (n + i) 0 ≡ getD (motherOf tapsX m bits) i 0)
+    → ((i : ℕ) → i < length bits → getD l (1632 + n + i) 0 ≡ getD (motherOf tapsY m bits) i 0) → Holds l n m bits
+unfolding motherOf
+holds l n m [] x y = nothing
+holds l n m (b ∷ bs) x y =
+    also (ap (λ (k : ℕ). getD l k 0) (sym (add-zero n)) ∙ x 0 (omega arith))
+    (ap (λ (k : ℕ). getD l k 0) (sym (add-zero (1632 + n))) ∙ y 0 (omega arith))
+    (holds l (suc n) (nextMemory m b) bs (λ i h. ap (λ (k : ℕ). getD l k 0) (one n i) ∙ x (suc i) (suc-le-suc h))
+    (λ i h. ap (λ (k : ℕ). getD l k 0) (two n i) ∙ y (suc i) (suc-le-suc h)))
+  where
+    one : (n i : ℕ) → suc n + i ≡ n + suc i
+    one n i = omega arith
+
+    two : (n i : ℕ) → 1632 + suc n + i ≡ 1632 + n + suc i
+    two n i = omega arith
+
+holds-block : (m : ℕ) (bits : List ℕ) → length bits ≡ 1632 → Holds (blockMother m bits) 0 m bits
+holds-block m bits n =
+    let x = motherOf tapsX m bits in
+    let y = motherOf tapsY m bits in
+    let size : length x ≡ 1632 = length-mother tapsX m bits ∙ n in
+    holds (x ++ y) 0 m bits
+    (λ i h. ap (λ (k : ℕ). getD (x ++ y) k 0) (zero-add i) ∙ List·getD-append x y 0 i (rw (length-mother tapsX m bits) h))
+    (λ i h. ap (λ (k : ℕ). getD (x ++ y) (k + i) 0) (sym size) ∙ getD-append-add x y i 0)
+
+symbols-held : (c : InnerCoder) (l : List ℕ) {n : ℕ} {bits : List ℕ} → Holds l n (c .memory) bits
+    → symbolsOf c bits ≡ sentSymbols (c .rate) (c .place) (c .held) l n (length bits)
+unfolding symbolsOf sentSymbols
+symbols-held c l nothing = refl
+symbols-held c l (also {n} {b = b} {bs} ex ey t) =
+    ap (λ (s : List ℕ). listOf (symbolStep c b) ++ s) (symbols-held (coderStep c b) l t)
+    ∙ (λ i.
+    listOf (punctured (c .rate) (c .place) (sym ex i) (sym ey i) (c .held))
+    ++ sentSymbols (c .rate) (nextPlace (c .rate) (c .place)) (heldAfter (c .rate) (c .place) (sym ex i) (sym ey i) (c .held)) l (suc n) (length bs))
+
+coder-held : (c : InnerCoder) (l : List ℕ) {n : ℕ} {bits : List ℕ} → Holds l n (c .memory) bits
     → coderAfter c bits
     ≡ record {
       rate = c .rate;
       memory = memoryAfter (c .memory) bits;
-      place = placeAfter (c .rate) (c .place) (motherOf (c .memory) bits);
-      held = heldBehind (c .rate) (c .place) (c .held) (motherOf (c .memory) bits);
+      place = placeAfter (c .rate) (c .place) (length bits);
+      held = heldBehind (c .rate) (c .place) (c .held) l n (length bits);
     }
-unfolding coderAfter memoryAfter placeAfter heldBehind motherOf
-coder-serial c [] = refl
-coder-serial c (b ∷ bs) = coder-serial (coderStep c b) bs
+unfolding coderAfter memoryAfter placeAfter heldBehind
+coder-held c l nothing = refl
+coder-held c l (also {n} {b = b} {bs} ex ey t) =
+    coder-held (coderStep c b) l t
+    ∙ (λ i. record {
+      rate = c .rate;
+      memory = memoryAfter (nextMemory (c .memory) b) bs;
+      place = placeAfter (c .rate) (nextPlace (c .rate) (c .place)) (length bs);
+      held = heldBehind (c .rate) (nextPlace (c .rate) (c .place)) (heldAfter (c .rate) (c .place) (sym ex i) (sym ey i) (c .held)) l (suc n) (length bs);
+    })
+
+-- a block of 1,632 bits
+module _ (c : InnerCoder) (bits : List ℕ) (n : length bits ≡ 1632) where
+  pub symbols-serial : symbolsOf c bits ≡ sentSymbols (c .rate) (c .place) (c .held) (blockMother (c .memory) bits) 0 1632
+  symbols-serial =
+      symbols-held c (blockMother (c .memory) bits) (holds-block (c .memory) bits n)
+      ∙ ap (sentSymbols (c .rate) (c .place) (c .held) (blockMother (c .memory) bits) 0) n
+
+  pub coder-serial : coderAfter c bits
+      ≡ record {
+        rate = c .rate;
+        memory = memoryAfter (c .memory) bits;
+        place = placeAfter (c .rate) (c .place) 1632;
+        held = heldBehind (c .rate) (c .place) (c .held) (blockMother (c .memory) bits) 0 1632;
+      }
+  coder-serial =
+      coder-held c (blockMother (c .memory) bits) (holds-block (c .memory) bits n)
+      ∙ ap
+      (λ (k : ℕ). record {
+        rate = c .rate;
+        memory = memoryAfter (c .memory) bits;
+        place = placeAfter (c .rate) (c .place) k;
+        held = heldBehind (c .rate) (c .place) (c .held) (blockMother (c .memory) bits) 0 k;
+      })
+      n

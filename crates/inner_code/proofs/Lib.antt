@@ -4,5 +4,7 @@ pub mod Mother
 pub mod Places
 pub mod Steps
 pub mod Coder
+pub mod Rooms
 pub mod Run
+pub mod Patterns
 pub mod Stream

@@ -1,38 +1,27 @@
 -- The mother code from a list that holds the bits of the memory before those of a block.
 -- Assumes nothing.
-use mathlib.Core.Path.{_≡_, refl, ap, sym, _∙_}
+use mathlib.Core.Path.{_≡_, refl, ap, ap₂, sym, _∙_}
 use mathlib.Core.List.{List, [], _∷_, _++_}
 use Prim.Native.Nat.{ℕ, zero, suc, _+_, _*_, _/_, _%_, _<_}
-use native.Mathlib.Nat.{suc-add, not-suc-le-zero, le-of-suc-le-suc}
+use native.Mathlib.Nat.{add-zero, add-suc, suc-add, not-suc-le-zero, le-of-suc-le-suc}
 use native.Mathlib.Omega.{arith}
 use lib.ListN.{length, getD}
 use Rattle.inner_code.specs.Stream.{bitsOf, tapsX, tapsY, convolved}
 use Rattle.inner_code.specs.Step.{nextMemory, coded}
-use Rattle.inner_code.specs.Serial.{Bits, motherOf, memoryAfter, oldest, window, windows, memoryAt}
-use Rattle.inner_code.proofs.Bits.{bits-at, bits-tail, bits-bits, length-bits}
+use Rattle.inner_code.specs.Serial.{Bits, motherOf, memoryAfter, oldest, offsetsX, offsetsY, totalAt, sweep, memoryAt, blockMother}
+use Rattle.inner_code.proofs.Bits.{bits-at, bits-tail, bits-bits, block-bits}
 
-pub length-windows : (h : List ℕ) (n k : ℕ) → length (windows h n k) ≡ 2 * k
-unfolding windows
-length-windows h n zero = refl
-length-windows h n (suc k) = let e = length-windows h (suc n) k in omega arith
+pub length-sweep : (os h : List ℕ) (n k : ℕ) → length (sweep os h n k) ≡ k
+unfolding sweep
+length-sweep os h n zero = refl
+length-sweep os h n (suc k) = ap suc (length-sweep os h (suc n) k)
 
--- bit i of those that windows codes
-pub windows-at : (h : List ℕ) (n k i : ℕ) → i < k
-    → (getD (windows h n k) (2 * i) 0 ≡ convolved tapsX (window h (n + i))) × (getD (windows h n k) (2 * i + 1) 0 ≡ convolved tapsY (window h (n + i)))
-unfolding windows
-windows-at h n zero i l = absurd (not-suc-le-zero l)
-windows-at h n (suc k) zero l =
-    let e : n ≡ n + 0 = omega arith in
-    (ap (λ (m : ℕ). convolved tapsX (window h m)) e, ap (λ (m : ℕ). convolved tapsY (window h m)) e)
-windows-at h n (suc k) (suc i) l =
-    let s = windows-at h (suc n) k i (le-of-suc-le-suc l) in
-    let all = windows h n (suc k) in
-    let e : 2 * suc i ≡ suc (suc (2 * i)) = omega arith in
-    let f : 2 * suc i + 1 ≡ suc (suc (2 * i + 1)) = omega arith in
-    let g : suc n + i ≡ n + suc i = omega arith in (
-      ap (λ (m : ℕ). getD all m 0) e ∙ s .0 ∙ ap (λ (m : ℕ). convolved tapsX (window h m)) g,
-      ap (λ (m : ℕ). getD all m 0) f ∙ s .1 ∙ ap (λ (m : ℕ). convolved tapsY (window h m)) g,
-    )
+pub sweep-at : (os h : List ℕ) (n k i : ℕ) → i < k → getD (sweep os h n k) i 0 ≡ totalAt os h (n + i) % 2
+unfolding sweep
+sweep-at os h n zero i l = absurd (not-suc-le-zero l)
+sweep-at os h n (suc k) zero l = ap (λ (m : ℕ). totalAt os h m % 2) (sym (add-zero n))
+sweep-at os h n (suc k) (suc i) l =
+    sweep-at os h (suc n) k i (le-of-suc-le-suc l) ∙ ap (λ (m : ℕ). totalAt os h m % 2) (suc-add n i ∙ sym (add-suc n i))
 
 -- the digits of a memory that a bit was put on top of
 digits-under : (b q : ℕ)
@@ -68,27 +57,32 @@ shift m b bs h k =
 next-small : (memory b : ℕ) → memory < 64 → b < 2 → nextMemory memory b < 64
 next-small m b h k = omega arith
 
-windows-tail : (a : ℕ) (h : List ℕ) (n k : ℕ) → windows (a ∷ h) (suc n) k ≡ windows h n k
-unfolding windows
-windows-tail a h n zero = refl
-windows-tail a h n (suc k) =
-    let at : (j : ℕ) → getD (a ∷ h) (suc n + j) 0 ≡ getD h (n + j) 0 = λ j. ap (λ (m : ℕ). getD (a ∷ h) m 0) (suc-add n j) in
-    let w : window (a ∷ h) (suc n) ≡ window h n
-    = λ i. at 6 i ∷ at 5 i ∷ at 4 i ∷ at 3 i ∷ at 2 i ∷ at 1 i ∷ getD h n 0 ∷ []
-    in
-    λ i. convolved tapsX (w i) ∷ convolved tapsY (w i) ∷ windows-tail a h (suc n) k i
+-- a list from its second element on
+total-tail : (os : List ℕ) (a : ℕ) (h : List ℕ) (n : ℕ) → totalAt os (a ∷ h) (suc n) ≡ totalAt os h n
+total-tail [] a h n = refl
+total-tail (o ∷ os) a h n = ap₂ (λ (x y : ℕ). x + y) (ap (λ (k : ℕ). getD (a ∷ h) k 0) (suc-add n o)) (total-tail os a h n)
 
-pub windows-mother : (memory : ℕ) (bits : List ℕ) → memory < 64 → Bits bits → windows (oldest memory ++ bits) 0 (length bits) ≡ motherOf memory bits
-unfolding windows motherOf
-windows-mother m [] h t = refl
-windows-mother m (b ∷ bs) h t =
+sweep-tail : (os : List ℕ) (a : ℕ) (h : List ℕ) (n k : ℕ) → sweep os (a ∷ h) (suc n) k ≡ sweep os h n k
+unfolding sweep
+sweep-tail os a h n zero = refl
+sweep-tail os a h n (suc k) = ap₂ (λ (x : ℕ) (l : List ℕ). x % 2 ∷ l) (total-tail os a h n) (sweep-tail os a h (suc n) k)
+
+-- offsets that are the taps of a generator
+abbrev Offsets : List ℕ → List ℕ → Type 0
+Offsets os taps = (memory b : ℕ) (bs : List ℕ) → totalAt os (oldest memory ++ b ∷ bs) 0 % 2 ≡ coded taps memory b
+
+sweep-mother : (os taps : List ℕ) → Offsets os taps → (memory : ℕ) (bits : List ℕ) → memory < 64 → Bits bits
+    → sweep os (oldest memory ++ bits) 0 (length bits) ≡ motherOf taps memory bits
+unfolding sweep motherOf
+sweep-mother os taps same m [] h t = refl
+sweep-mother os taps same m (b ∷ bs) h t =
     let next = nextMemory m b in
-    let rest : windows (oldest m ++ b ∷ bs) 1 (length bs) ≡ motherOf next bs
-    = ap (λ (l : List ℕ). windows l 1 (length bs)) (shift m b bs h (bits-at t 0))
-    ∙ windows-tail (m % 2) (oldest next ++ bs) 0 (length bs)
-    ∙ windows-mother next bs (next-small m b h (bits-at t 0)) (bits-tail t)
+    let rest : sweep os (oldest m ++ b ∷ bs) 1 (length bs) ≡ motherOf taps next bs
+    = ap (λ (l : List ℕ). sweep os l 1 (length bs)) (shift m b bs h (bits-at t 0))
+    ∙ sweep-tail os (m % 2) (oldest next ++ bs) 0 (length bs)
+    ∙ sweep-mother os taps same next bs (next-small m b h (bits-at t 0)) (bits-tail t)
     in
-    ap (λ (l : List ℕ). coded tapsX m b ∷ coded tapsY m b ∷ l) rest
+    ap₂ (λ (x : ℕ) (l : List ℕ). x ∷ l) (same m b bs) rest
 
 -- six binary digits add up to their number
 summed : (m q1 q2 q3 q4 q5 d0 d1 d2 d3 d4 d5 : ℕ) → m ≡ 2 * q1 + d0 → q1 ≡ 2 * q2 + d1 → q2 ≡ 2 * q3 + d2 → q3 ≡ 2 * q4 + d3 → q4 ≡ 2 * q5 + d4
@@ -115,11 +109,12 @@ memory-mother m (b ∷ bs) h t =
 
 -- a block of 204 bytes
 module _ (memory : ℕ) (block : List ℕ) (h : memory < 64) (n : length block ≡ 204) where
-  count : length (bitsOf block) ≡ 1632
-  count = let e = length-bits block in omega arith
+  swept : (os taps : List ℕ) → Offsets os taps → sweep os (oldest memory ++ bitsOf block) 0 1632 ≡ motherOf taps memory (bitsOf block)
+  swept os taps same = ap (sweep os (oldest memory ++ bitsOf block) 0) (sym (block-bits block n)) ∙ sweep-mother os taps same memory (bitsOf block) h (bits-bits block)
 
-  pub block-mother : windows (oldest memory ++ bitsOf block) 0 1632 ≡ motherOf memory (bitsOf block)
-  block-mother = ap (windows (oldest memory ++ bitsOf block) 0) (sym count) ∙ windows-mother memory (bitsOf block) h (bits-bits block)
+  pub block-mother : sweep offsetsX (oldest memory ++ bitsOf block) 0 1632 ++ sweep offsetsY (oldest memory ++ bitsOf block) 0 1632
+      ≡ blockMother memory (bitsOf block)
+  block-mother = ap₂ (λ (x y : List ℕ). x ++ y) (swept offsetsX tapsX (λ m b bs. refl)) (swept offsetsY tapsY (λ m b bs. refl))
 
   pub block-memory : memoryAt (oldest memory ++ bitsOf block) 1632 ≡ memoryAfter memory (bitsOf block)
-  block-memory = ap (memoryAt (oldest memory ++ bitsOf block)) (sym count) ∙ memory-mother memory (bitsOf block) h (bits-bits block)
+  block-memory = ap (memoryAt (oldest memory ++ bitsOf block)) (sym (block-bits block n)) ∙ memory-mother memory (bitsOf block) h (bits-bits block)

@@ -5,7 +5,7 @@ ghost use Prim.Native.Nat.{_+_, _*_, _%_, _≤_, _<_};
 ghost use lib.ListN.{length, drop};
 ghost use Rattle.inner_code.specs.Stream.{bitsOf, tapsX, tapsY};
 ghost use Rattle.inner_code.specs.Step.{coded, nextMemory};
-ghost use Rattle.inner_code.specs.Serial.{Bits, oldest, windows, memoryAt};
+ghost use Rattle.inner_code.specs.Serial.{Bits, oldest, offsetsX, offsetsY, sweep, memoryAt, placed};
 
 pub fn x_of(memory: u8, bit: u8) -> u8
     requires { ⌜ bit < 2 ⌝ }
@@ -78,24 +78,48 @@ fn parity(a: u8, b: u8, c: u8, d: u8, e: u8) -> u8
     (a + b + c + d + e) % 2
 }
 
-// Writes X and Y of each bit but the first six.
-pub fn convolve(history: &[u8], coded: &mut [u8])
-    requires { ⌜ (Bits (now history)) × (length (now history) ≡ 1638) × (length (now coded) ≡ 3264) ⌝ }
-    ensures { λ r. ⌜ now (coded .exit) ≡ windows (now (history .entry)) 0 1632 ⌝ }
+// Writes a coded bit for each bit but the first six, from at on. The taps are counted from the oldest of seven bits.
+fn convolve(
+    history: &[u8],
+    a: usize,
+    b: usize,
+    c: usize,
+    d: usize,
+    e: usize,
+    coded: &mut [u8],
+    at: usize,
+)
+    requires { ⌜
+        (Bits (now history))
+        × (length (now history) ≡ 1638)
+        × (a ≤ 6)
+        × (b ≤ 6)
+        × (c ≤ 6)
+        × (d ≤ 6)
+        × (e ≤ 6)
+        × (at + 1632 ≤ length (now coded)) ⌝ }
+    ensures { λ r. ⌜ now (coded .exit) ≡ placed (now (coded .entry)) at (sweep (a ∷ b ∷ c ∷ d ∷ e ∷ []) (now (history .entry)) 0 1632) ⌝ }
 {
     let mut n: usize = 0;
     while n < 1632 {
-        let u0 = history[n + 6];
-        let u1 = history[n + 5];
-        let u2 = history[n + 4];
-        let u3 = history[n + 3];
-        let u5 = history[n + 1];
-        let u6 = history[n];
-        let k = 2 * n;
-        coded[k] = parity(u0, u1, u2, u3, u6);
-        coded[k + 1] = parity(u0, u2, u3, u5, u6);
+        coded[at + n] = parity(
+            history[n + a],
+            history[n + b],
+            history[n + c],
+            history[n + d],
+            history[n + e],
+        );
         n += 1;
     }
+}
+
+// Writes X and then Y of each bit but the first six.
+pub fn mother(history: &[u8], coded: &mut [u8])
+    requires { ⌜ (Bits (now history)) × (length (now history) ≡ 1638) × (length (now coded) ≡ 3264) ⌝ }
+    ensures { λ r. ⌜ now (coded .exit) ≡ sweep offsetsX (now (history .entry)) 0 1632 ++ sweep offsetsY (now (history .entry)) 0 1632 ⌝ }
+{
+    convolve(history, 6, 5, 4, 3, 0, coded, 0);
+    convolve(history, 6, 4, 3, 1, 0, coded, 1632);
 }
 
 // The number that six bits make, the oldest first.

@@ -11,8 +11,8 @@ use answer::Answer;
 mod convolution;
 mod puncturing;
 
-use convolution::convolve;
 use convolution::memory_of;
+use convolution::mother;
 use convolution::next_memory;
 use convolution::unpack;
 use convolution::x_of;
@@ -21,7 +21,7 @@ use puncturing::block_count;
 use puncturing::held_count;
 use puncturing::pattern_length;
 use puncturing::puncture;
-use puncturing::puncture_all;
+use puncturing::puncture_block;
 
 // The state of the coder. place is where in the puncturing pattern the next bit stands; held is an I whose Q has not come, 0 where none is held.
 pub struct InnerCoder {
@@ -202,9 +202,9 @@ fn encode_block(coder: InnerCoder, block: &[u8], room: &mut [u8]) -> Encoded
     let mut history = [0u8; 1638];
     unpack(memory, block, &mut history);
     let mut coded = [0u8; 3264];
-    convolve(&history, &mut coded);
+    mother(&history, &mut coded);
     let next = memory_of(&history);
-    let progress = puncture_all(rate, place, held, &coded, room);
+    let progress = puncture_block(rate, place, held, &coded, room);
     Encoded {
         answer: Answer::Done,
         coder: InnerCoder {

@@ -1,9 +1,9 @@
 // The puncturing of the coded bits, and the symbols that they make up.
 ghost use mathlib.Core.Path.{_≡_};
-ghost use Prim.Native.Nat.{ℕ, _+_, _*_, _<_, _≤_};
-ghost use lib.ListN.{length};
+ghost use Prim.Native.Nat.{ℕ, _+_, _-_, _*_, _<_, _≤_};
+ghost use lib.ListN.{length, getD};
 ghost use Rattle.inner_code.specs.Step.{patternLength, nextPlace, heldCount, punctured, symbolsIn};
-ghost use Rattle.inner_code.specs.Serial.{Bits, byKind, punctureStep, sentSymbols, progress, sentRoom};
+ghost use Rattle.inner_code.specs.Serial.{Bits, byKind, punctureStep, sentSymbols, progress, placed, patternSymbols};
 use super::Symbol;
 
 pub const LENGTHS: [u8; 5] = [1, 4, 3, 5, 7];
@@ -210,43 +210,89 @@ pub fn puncture(rate: u8, place: u8, held: u8, x: u8, y: u8) -> Punctured
     }
 }
 
-// Where the puncturing stands after a run, and how many symbols the run gave.
+// Where the puncturing stands after a run, and how many symbols are in the room.
 pub struct Progress {
     pub place: u8,
     pub held: u8,
     pub count: usize,
 }
 
-// X and Y of each bit of a run, into a room that is long enough.
-pub fn puncture_all(rate: u8, place: u8, held: u8, coded: &[u8], room: &mut [u8]) -> Progress
+// Bits from .. to, one by one, into a room that has space for their symbols from at on.
+fn puncture_bits(
+    rate: u8,
+    place: u8,
+    held: u8,
+    coded: &[u8],
+    from: usize,
+    to: usize,
+    room: &mut [u8],
+    at: usize,
+) -> Progress
     requires { ⌜
         (rate < 5)
         × (place < patternLength rate)
         × (held ≤ heldCount rate place)
         × (Bits (now coded))
-        × (length (sentSymbols rate place held (now coded)) ≤ length (now room)) ⌝ }
+        × (length (now coded) ≡ 3264)
+        × (from ≤ to)
+        × (to ≤ 1632)
+        × (at + length (sentSymbols rate place held (now coded) from (to - from)) ≤ length (now room)) ⌝ }
     ensures { λ r. ⌜
-        (r ≡ progress rate place held (now (coded .entry)))
-        × (now (room .exit) ≡ sentRoom rate place held (now (coded .entry)) (now (room .entry))) ⌝ }
+        (r ≡ progress rate place held (now (coded .entry)) from (to - from) at)
+        × (now (room .exit) ≡ placed (now (room .entry)) at (sentSymbols rate place held (now (coded .entry)) from (to - from))) ⌝ }
 {
-    let mut at = place;
+    let mut p = place;
     let mut i = held;
-    let mut count: usize = 0;
-    let mut n: usize = 0;
-    while n + 1 < coded.len() {
-        let punctured = puncture(rate, at, i, coded[n], coded[n + 1]);
+    let mut count = at;
+    let mut n = from;
+    while n < to {
+        let punctured = puncture(rate, p, i, coded[n], coded[1632 + n]);
         let symbol = punctured.symbol;
         if let Symbol::One(v) = symbol {
             room[count] = v;
             count += 1;
         }
-        at = punctured.place;
+        p = punctured.place;
         i = punctured.held;
-        n += 2;
+        n += 1;
     }
     Progress {
-        place: at,
+        place: p,
         held: i,
         count,
     }
+}
+
+// One pattern whose first bit is bit n: each symbol from where its I and its Q stand.
+fn pattern(coded: &[u8], n: usize, i: &[usize], q: &[usize], room: &mut [u8], at: usize)
+    requires { ⌜
+        (Bits (now coded))
+        × (length (now i) ≤ 4)
+        × (length (now i) ≡ length (now q))
+        × ((j : ℕ) → n + getD (now i) j 0 < length (now coded))
+        × ((j : ℕ) → n + getD (now q) j 0 < length (now coded))
+        × (at + length (now i) ≤ length (now room)) ⌝ }
+    ensures { λ r. ⌜ now (room .exit) ≡ placed (now (room .entry)) at (patternSymbols (now (i .entry)) (now (q .entry)) (now (coded .entry)) n) ⌝ }
+{
+    let mut j: usize = 0;
+    while j < i.len() {
+        room[at + j] = 2 * coded[n + i[j]] + coded[n + q[j]];
+        j += 1;
+    }
+}
+
+// X and Y of each bit of a block, into a room that is long enough.
+pub fn puncture_block(rate: u8, place: u8, held: u8, coded: &[u8], room: &mut [u8]) -> Progress
+    requires { ⌜
+        (rate < 5)
+        × (place < patternLength rate)
+        × (held ≤ heldCount rate place)
+        × (Bits (now coded))
+        × (length (now coded) ≡ 3264)
+        × (length (sentSymbols rate place held (now coded) 0 1632) ≤ length (now room)) ⌝ }
+    ensures { λ r. ⌜
+        (r ≡ progress rate place held (now (coded .entry)) 0 1632 0)
+        × (now (room .exit) ≡ placed (now (room .entry)) 0 (sentSymbols rate place held (now (coded .entry)) 0 1632)) ⌝ }
+{
+    puncture_bits(rate, place, held, coded, 0, 1632, room, 0)
 }
