@@ -7,4 +7,5 @@ pub mod Coder
 pub mod Rooms
 pub mod Run
 pub mod Patterns
+pub mod Rates
 pub mod Stream

@@ -1,17 +1,23 @@
 -- A room with a list written to a place of it.
 -- Assumes nothing.
 use mathlib.Core.Path.{_≡_, ap, ap₂, sym, _∙_}
-use mathlib.Core.List.{List, _++_, append-assoc, append-nil}
+use mathlib.Core.List.{List, [], _++_, append-assoc, append-nil}
 use Prim.Native.Nat.{ℕ, _+_, _-_, _≤_}
-use native.Mathlib.Nat.{add-assoc}
+use native.Mathlib.Nat.{add-zero, add-assoc}
 use native.Mathlib.Omega.{arith}
-use lib.ListN.{length, take, drop, length-append, length-drop, drop-of-length-le}
+use lib.ListN.{length, take, drop, length-append, length-drop, drop-of-length-le, take-append-drop}
 use lib.Seq.{take-at, drop-at, length-take-le, drop-drop}
 use Rattle.common.proofs.Written.{Written, written-all}
 use Rattle.inner_code.specs.Serial.{placed}
 
 pub placed-all : {at : ℕ} {d s r : List ℕ} {n : ℕ} → Written at d s r n → length s ≡ n → r ≡ placed d at s
 placed-all {at} {d} {s} {r} {n} w e = written-all w e ∙ ap (λ (m : ℕ). take at d ++ s ++ drop (at + m) d) (sym e)
+
+-- nothing written
+pub placed-none : (room : List ℕ) (at : ℕ) → room ≡ placed room at []
+placed-none room at =
+    sym
+    (ap₂ (λ (x : List ℕ) (n : ℕ). x ++ drop n room) (append-nil (take at room)) (add-zero at) ∙ take-append-drop at room)
 
 -- a list that fills the room
 pub placed-full : (room s : List ℕ) → length s ≡ length room → placed room 0 s ≡ s

@@ -1,8 +1,9 @@
 -- The two halves of the inner coder apart: the mother code, from bits to coded bits in the order X Y X Y .., and the puncturing of those.
 -- Assumes nothing.
-use mathlib.Core.List.{List, [], _∷_, _++_}
-use Prim.Native.Nat.{ℕ, zero, suc, _+_, _*_, _/_, _%_, _<_}
+use mathlib.Core.List.{List, [], _∷_, _++_, map}
+use Prim.Native.Nat.{ℕ, zero, suc, _+_, _-_, _*_, _/_, _%_, _<_}
 use lib.ListN.{length, getD, take, drop}
+use Rattle.inner_code.specs.Mode.{CodedBit, X, Y, modeOf}
 use Rattle.inner_code.specs.Stream.{tapsX, tapsY}
 use Rattle.inner_code.specs.Step.{nextMemory, coded, nextPlace, listOf, punctured, heldAfter}
 use Rattle.inner_code.specs.declared.Symbol.{Symbol}
@@ -110,3 +111,15 @@ patternSymbols (i ∷ is) (q ∷ qs) l n = (2 * getD l (n + i) 0 + getD l (n + q
 unfoldable pub patternsSymbols : List ℕ → List ℕ → List ℕ → ℕ → ℕ → ℕ → List ℕ
 patternsSymbols is qs l len n zero = []
 patternsSymbols is qs l len n (suc t) = patternSymbols is qs l n ++ patternsSymbols is qs l len (n + len) t
+
+-- where the coded bit of a pattern stands, from the pattern's first bit on
+abbrev pub standsAt : CodedBit → ℕ
+standsAt (X j) = j - 1
+standsAt (Y j) = 1632 + (j - 1)
+
+-- where the I and the Q of each symbol of a rate's pattern stand
+unfoldable pub iBits : ℕ → List ℕ
+iBits rate = map (λ (s : List CodedBit). getD (map standsAt s) 0 0) (modeOf rate .symbols)
+
+unfoldable pub qBits : ℕ → List ℕ
+qBits rate = map (λ (s : List CodedBit). getD (map standsAt s) 1 0) (modeOf rate .symbols)

@@ -3,9 +3,29 @@ ghost use mathlib.Core.Path.{_≡_};
 ghost use Prim.Native.Nat.{ℕ, _+_, _-_, _*_, _<_, _≤_};
 ghost use lib.ListN.{length, getD};
 ghost use Rattle.inner_code.specs.Step.{patternLength, nextPlace, heldCount, punctured, symbolsIn};
-ghost use Rattle.inner_code.specs.Serial.{Bits, byKind, punctureStep, sentSymbols, progress, placed, patternSymbols};
+ghost use Rattle.inner_code.specs.Serial.{Bits, byKind, punctureStep, sentSymbols, progress, placed, patternSymbols, patternsSymbols, iBits, qBits};
 use super::Symbol;
 
+// Where the coded bits of a pattern stand, from its first bit on: the X of a block come before the Y.
+const X1: usize = 0;
+
+const X3: usize = 2;
+
+const X5: usize = 4;
+
+const X7: usize = 6;
+
+const Y1: usize = 1632;
+
+const Y2: usize = 1633;
+
+const Y3: usize = 1634;
+
+const Y4: usize = 1635;
+
+const Y6: usize = 1637;
+
+// The bits of each rate's pattern.
 pub const LENGTHS: [u8; 5] = [1, 4, 3, 5, 7];
 
 // The symbol that each bit of a rate's pattern completes: 0 none, 1 (X,Y), 2 the held I with X, 3 the held I with Y. Seven entries for each rate.
@@ -279,6 +299,105 @@ fn pattern(coded: &[u8], n: usize, i: &[usize], q: &[usize], room: &mut [u8], at
         room[at + j] = 2 * coded[n + i[j]] + coded[n + q[j]];
         j += 1;
     }
+}
+
+// Patterns of the given length, one after another, from bit from on. Gives how far the room is written.
+fn patterns(
+    coded: &[u8],
+    from: usize,
+    i: &[usize],
+    q: &[usize],
+    len: usize,
+    turns: usize,
+    room: &mut [u8],
+    at: usize,
+) -> usize
+    requires { ⌜
+        (Bits (now coded))
+        × (length (now coded) ≡ 3264)
+        × (length (now i) ≤ 4)
+        × (length (now i) ≡ length (now q))
+        × ((j : ℕ) → getD (now i) j 0 < 1632 + len)
+        × ((j : ℕ) → getD (now q) j 0 < 1632 + len)
+        × (from + turns * len ≤ 1632)
+        × (at + turns * length (now i) ≤ length (now room)) ⌝ }
+    ensures { λ r. ⌜
+        (r ≡ at + turns * length (now (i .entry)))
+        × (now (room .exit)
+        ≡ placed (now (room .entry)) at (patternsSymbols (now (i .entry)) (now (q .entry)) (now (coded .entry)) len from turns)) ⌝ }
+{
+    let mut n = from;
+    let mut k = at;
+    let mut left = turns;
+    while 0 < left {
+        pattern(coded, n, i, q, room, k);
+        n += len;
+        k += i.len();
+        left -= 1;
+    }
+    k
+}
+
+// Whole patterns of a rate, from bit from on. The symbols are those of document 01, as (I,Q).
+fn whole_patterns(
+    rate: u8,
+    coded: &[u8],
+    from: usize,
+    turns: usize,
+    room: &mut [u8],
+    at: usize,
+) -> usize
+    requires { ⌜
+        (rate < 5)
+        × (Bits (now coded))
+        × (length (now coded) ≡ 3264)
+        × (from + turns * patternLength rate ≤ 1632)
+        × (at + turns * length (iBits rate) ≤ length (now room)) ⌝ }
+    ensures { λ r. ⌜
+        (r ≡ at + turns * length (iBits rate))
+        × (now (room .exit)
+        ≡ placed (now (room .entry)) at (patternsSymbols (iBits rate) (qBits rate) (now (coded .entry)) (patternLength rate) from turns)) ⌝ }
+{
+    if rate == 0 {
+        return patterns(coded, from, &[X1], &[Y1], 1, turns, room, at);
+    }
+    if rate == 1 {
+        return patterns(
+            coded,
+            from,
+            &[X1, Y2, Y3],
+            &[Y1, X3, Y4],
+            4,
+            turns,
+            room,
+            at,
+        );
+    }
+    if rate == 2 {
+        return patterns(coded, from, &[X1, Y2], &[Y1, X3], 3, turns, room, at);
+    }
+    if rate == 3 {
+        return patterns(
+            coded,
+            from,
+            &[X1, Y2, Y4],
+            &[Y1, X3, X5],
+            5,
+            turns,
+            room,
+            at,
+        );
+    }
+    patterns(
+        coded,
+        from,
+        &[X1, Y2, Y4, Y6],
+        &[Y1, Y3, X5, X7],
+        7,
+        turns,
+        room,
+        at,
+    )
 }
 
 // X and Y of each bit of a block, into a room that is long enough.
