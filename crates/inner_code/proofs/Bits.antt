@@ -5,7 +5,7 @@ use mathlib.Core.List.{List, [], _∷_, _++_}
 use Prim.Native.Nat.{ℕ, zero, suc, _+_, _*_, _/_, _%_, _<_}
 use native.Mathlib.Omega.{arith}
 use lib.ListN.{length, getD}
-use Rattle.inner_code.specs.Stream.{bitsOf, tapsX, tapsY, total}
+use Rattle.inner_code.specs.Stream.{bitsOf, total}
 use Rattle.inner_code.specs.Step.{recent, nextMemory}
 use Rattle.inner_code.specs.Serial.{Bits, none, more, motherOf, oldest}
 

@@ -8,4 +8,5 @@ pub mod Rooms
 pub mod Run
 pub mod Patterns
 pub mod Rates
+pub mod Parts
 pub mod Stream

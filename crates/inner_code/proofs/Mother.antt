@@ -6,7 +6,7 @@ use Prim.Native.Nat.{ℕ, zero, suc, _+_, _*_, _/_, _%_, _<_}
 use native.Mathlib.Nat.{add-zero, add-suc, suc-add, not-suc-le-zero, le-of-suc-le-suc}
 use native.Mathlib.Omega.{arith}
 use lib.ListN.{length, getD}
-use Rattle.inner_code.specs.Stream.{bitsOf, tapsX, tapsY, convolved}
+use Rattle.inner_code.specs.Stream.{bitsOf, tapsX, tapsY}
 use Rattle.inner_code.specs.Step.{nextMemory, coded}
 use Rattle.inner_code.specs.Serial.{Bits, motherOf, memoryAfter, oldest, offsetsX, offsetsY, totalAt, sweep, memoryAt, blockMother}
 use Rattle.inner_code.proofs.Bits.{bits-at, bits-tail, bits-bits, block-bits}

@@ -1,18 +1,17 @@
 -- The whole patterns of a rate: its table of symbols, and what they give.
 -- Assumes nothing.
-use mathlib.Core.Path.{_≡_, refl, ap, ap₂, sym, subst, _∙_}
+use mathlib.Core.Path.{_≡_, sym, subst}
 use mathlib.Core.Bool.{Bool, true}
-use mathlib.Core.List.{List, [], _∷_, _++_}
-use Prim.Native.Nat.{ℕ, zero, suc, _+_, _-_, _*_, _%_, _≤_, _<_}
-use native.Mathlib.Nat.{add-zero, add-suc, suc-add, suc-mul, zero-mul, add-comm}
+use mathlib.Core.List.{List, [], _∷_}
+use Prim.Native.Nat.{ℕ, zero, suc, _+_, _-_, _*_, _≤_, _<_}
 use native.Mathlib.Omega.{arith}
-use lib.Dec.{T, ltb, leb, eqb, ltb→lt, leb→le, eqb→eq}
+use lib.Dec.{T, ltb, leb, ltb→lt, leb→le}
 use lib.ListN.{length, getD}
 use Rattle.common.proofs.Computed.{both, both-left, both-right}
 use Rattle.common.proofs.Computed as computed
 use Rattle.inner_code.specs.Mode.{modeOf}
-use Rattle.inner_code.specs.Step.{patternLength, nextPlace, heldCount, listOf, punctured, heldAfter}
-use Rattle.inner_code.specs.Serial.{Bits, sentSymbols, placeAfter, heldBehind, placed, patternSymbols, patternsSymbols, iBits, qBits}
+use Rattle.inner_code.specs.Step.{patternLength}
+use Rattle.inner_code.specs.Serial.{Bits, placed, patternsSymbols, iBits, qBits}
 
 -- every entry is below a bound
 abbrev allUnder : ℕ → List ℕ → Bool

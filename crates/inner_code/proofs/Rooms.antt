@@ -48,3 +48,12 @@ module _ (room : List ℕ) (at : ℕ) (s : List ℕ) (fits : at + length s ≤ l
       in
       ap₂ (λ (x y : List ℕ). x ++ t ++ y) a b
       ∙ ap (λ (x : List ℕ). x ++ drop (at + length (s ++ t)) room) (append-assoc (take at room) s t)
+
+-- three lists, one after another
+pub placed-three : (room a b c : List ℕ) → length (a ++ b ++ c) ≤ length room
+    → placed (placed (placed room 0 a) (0 + length a) b) (0 + length a + length b) c ≡ placed room 0 (a ++ b ++ c)
+placed-three room a b c fits =
+    let m : length (a ++ b) ≡ length a + length b = length-append a b in
+    let n : length (a ++ b ++ c) ≡ length (a ++ b) + length c = length-append (a ++ b) c in
+    let k : 0 + length a + length b ≡ 0 + length (a ++ b) = omega arith in
+    ap₂ (λ (x : List ℕ) (i : ℕ). placed x i c) (placed-append room 0 a (omega arith) b) k ∙ placed-append room 0 (a ++ b) (omega arith) c

@@ -5,9 +5,9 @@ use mathlib.Core.List.{List, [], _∷_, _++_}
 use Prim.Native.Nat.{ℕ, suc, _+_, _-_, _≤_, _<_}
 use native.Mathlib.Numerals.{add-one}
 use native.Mathlib.Omega.{arith}
-use lib.ListN.{length, getD, take, drop, set, length-drop}
+use lib.ListN.{length, getD, drop, set, length-drop}
 use lib.Seq.{drop-cons}
-use Rattle.common.proofs.Written.{Written, written-none, written-more, written-length, written-all}
+use Rattle.common.proofs.Written.{Written, written-none, written-more, written-length}
 use Rattle.inner_code.specs.Step.{patternLength, nextPlace, heldCount, listOf, punctured, heldAfter}
 use Rattle.inner_code.specs.Serial.{Bits, sentSymbols, placeAfter, heldBehind, placed, progress}
 use Rattle.inner_code.specs.declared.Symbol.{Symbol}

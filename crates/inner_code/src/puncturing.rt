@@ -3,7 +3,7 @@ ghost use mathlib.Core.Path.{_≡_};
 ghost use Prim.Native.Nat.{ℕ, _+_, _-_, _*_, _<_, _≤_};
 ghost use lib.ListN.{length, getD};
 ghost use Rattle.inner_code.specs.Step.{patternLength, nextPlace, heldCount, punctured, symbolsIn};
-ghost use Rattle.inner_code.specs.Serial.{Bits, byKind, punctureStep, sentSymbols, progress, placed, patternSymbols, patternsSymbols, iBits, qBits};
+ghost use Rattle.inner_code.specs.Serial.{Bits, byKind, punctureStep, sentSymbols, placeAfter, progress, placed, patternSymbols, patternsSymbols, iBits, qBits};
 use super::Symbol;
 
 // Where the coded bits of a pattern stand, from its first bit on: the X of a block come before the Y.
@@ -400,6 +400,36 @@ fn whole_patterns(
     )
 }
 
+// X and Y of each bit of a block: bit by bit to the start of a pattern, then whole patterns up to tail, then the rest bit by bit.
+fn puncture_parts(
+    rate: u8,
+    place: u8,
+    held: u8,
+    coded: &[u8],
+    head: usize,
+    turns: usize,
+    tail: usize,
+    room: &mut [u8],
+) -> Progress
+    requires { ⌜
+        (rate < 5)
+        × (place < patternLength rate)
+        × (held ≤ heldCount rate place)
+        × (Bits (now coded))
+        × (length (now coded) ≡ 3264)
+        × (placeAfter rate place head ≡ 0)
+        × (tail ≡ head + turns * patternLength rate)
+        × (tail ≤ 1632)
+        × (length (sentSymbols rate place held (now coded) 0 1632) ≤ length (now room)) ⌝ }
+    ensures { λ r. ⌜
+        (r ≡ progress rate place held (now (coded .entry)) 0 1632 0)
+        × (now (room .exit) ≡ placed (now (room .entry)) 0 (sentSymbols rate place held (now (coded .entry)) 0 1632)) ⌝ }
+{
+    let first = puncture_bits(rate, place, held, coded, 0, head, room, 0);
+    let next = whole_patterns(rate, coded, head, turns, room, first.count);
+    puncture_bits(rate, 0, 0, coded, tail, 1632, room, next)
+}
+
 // X and Y of each bit of a block, into a room that is long enough.
 pub fn puncture_block(rate: u8, place: u8, held: u8, coded: &[u8], room: &mut [u8]) -> Progress
     requires { ⌜
@@ -413,5 +443,17 @@ pub fn puncture_block(rate: u8, place: u8, held: u8, coded: &[u8], room: &mut [u
         (r ≡ progress rate place held (now (coded .entry)) 0 1632 0)
         × (now (room .exit) ≡ placed (now (room .entry)) 0 (sentSymbols rate place held (now (coded .entry)) 0 1632)) ⌝ }
 {
-    puncture_bits(rate, place, held, coded, 0, 1632, room, 0)
+    let len = pattern_length(rate) as usize;
+    let head = (len - place as usize) % len;
+    let turns = (1632 - head) / len;
+    puncture_parts(
+        rate,
+        place,
+        held,
+        coded,
+        head,
+        turns,
+        head + turns * len,
+        room,
+    )
 }

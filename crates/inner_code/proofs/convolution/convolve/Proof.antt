@@ -1,7 +1,7 @@
 -- `inner_code::convolution::convolve` meets its contract.
 -- Assumes nothing.
 use mathlib.Core.Path.{_≡_, refl, ap, sym, _∙_}
-use mathlib.Core.List.{List, [], _∷_, _++_}
+use mathlib.Core.List.{List, [], _∷_}
 use Prim.Native.Nat.{ℕ, _+_, _-_, _%_, _≤_, _<_}
 use native.Mathlib.Nat.{zero-add}
 use native.Mathlib.Omega.{arith}
@@ -13,9 +13,6 @@ use Rattle.inner_code.proofs.Bits.{bits-at}
 use Rattle.inner_code.proofs.Mother.{length-sweep, sweep-at}
 use Rattle.inner_code.proofs.convolution.convolve.Statement.{statement}
 use Rattle.inner_code.proofs.convolution.convolve.Tie as tie
-use Rattle.inner_code.proofs.convolution.convolve.Reads as reads
-use Rattle.inner_code.proofs.convolution.convolve.Lts as lts
-use Rattle.inner_code.proofs.convolution.parity.Reads as parity-reads
 
 abbrev Inv-loop : tie.InvT-loop
 Inv-loop history a b c d e coded₀ at n₀ coded n = (n ≤ 1632) × Written at coded₀ (sweep (a ∷ b ∷ c ∷ d ∷ e ∷ []) history 0 1632) coded n

@@ -11,9 +11,6 @@ use Rattle.inner_code.proofs.Rooms.{placed-append, placed-full}
 use borrow.Author.Needs.{needs}
 use Rattle.inner_code.proofs.convolution.mother.Statement.{statement}
 use Rattle.inner_code.proofs.convolution.mother.Tie as tie
-use Rattle.inner_code.proofs.convolution.mother.Reads as reads
-use Rattle.inner_code.proofs.convolution.mother.Lts as lts
-use Rattle.inner_code.proofs.convolution.convolve.Reads as convolve-reads
 
 convolve-requires : tie.Need-convolve-requires
 convolve-requires c κs = search needs

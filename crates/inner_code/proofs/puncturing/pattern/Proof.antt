@@ -11,8 +11,6 @@ use Rattle.inner_code.proofs.Rooms.{placed-all}
 use Rattle.inner_code.proofs.Patterns.{length-pattern, pattern-at}
 use Rattle.inner_code.proofs.puncturing.pattern.Statement.{statement}
 use Rattle.inner_code.proofs.puncturing.pattern.Tie as tie
-use Rattle.inner_code.proofs.puncturing.pattern.Reads as reads
-use Rattle.inner_code.proofs.puncturing.pattern.Lts as lts
 
 abbrev Inv-loop : tie.InvT-loop
 Inv-loop coded n i q room₀ at j₀ room j = (j ≤ length i) × Written at room₀ (patternSymbols i q coded n) room j

@@ -5,9 +5,6 @@ use native.Mathlib.Omega.{arith}
 use Rattle.inner_code.proofs.Patterns.{Repeating, repeating-bit, repeating-room, repeating-more, repeating-end}
 use Rattle.inner_code.proofs.puncturing.patterns.Statement.{statement}
 use Rattle.inner_code.proofs.puncturing.patterns.Tie as tie
-use Rattle.inner_code.proofs.puncturing.patterns.Reads as reads
-use Rattle.inner_code.proofs.puncturing.patterns.Lts as lts
-use Rattle.inner_code.proofs.puncturing.pattern.Reads as pattern-reads
 
 abbrev Inv-loop : tie.InvT-loop
 Inv-loop coded from i q len turns room₀ at n₀ k₀ left₀ room n k left = Repeating i q coded len from turns room₀ at room n k left

@@ -7,9 +7,6 @@ use Rattle.inner_code.proofs.Rates.{asked, given, four}
 use borrow.Author.Needs.{needs}
 use Rattle.inner_code.proofs.puncturing.whole_patterns.Statement.{statement}
 use Rattle.inner_code.proofs.puncturing.whole_patterns.Tie as tie
-use Rattle.inner_code.proofs.puncturing.whole_patterns.Reads as reads
-use Rattle.inner_code.proofs.puncturing.whole_patterns.Lts as lts
-use Rattle.inner_code.proofs.puncturing.patterns.Reads as patterns-reads
 
 slice-aggregate-patterns : tie.Need-slice-aggregate-patterns
 slice-aggregate-patterns c = search needs
