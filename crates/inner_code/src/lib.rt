@@ -10,6 +10,8 @@ use answer::Answer;
 
 mod convolution;
 mod puncturing;
+mod tables;
+mod whole;
 
 use convolution::memory_of;
 use convolution::mother;
@@ -61,7 +63,7 @@ impl InnerCoder {
     pub const BLOCK_LENGTH: usize = 204;
 
     // The bits of each rate's puncturing pattern.
-    pub const PATTERN_LENGTHS: [u8; 5] = puncturing::LENGTHS;
+    pub const PATTERN_LENGTHS: [u8; 5] = tables::LENGTHS;
 
     pub fn new(rate: u8) -> Created
         ensures { λ r. ⌜ (numberOf (r .answer) ≡ newNumber rate) × (r .coder ≡ freshCoder rate) ⌝ }

@@ -1,12 +1,12 @@
--- `inner_code::puncturing::whole_patterns` meets its contract: the arrays are the tables of the modes.
+-- `inner_code::whole::whole_patterns` meets its contract: the arrays are the tables of the modes.
 -- Assumes nothing.
 use Rattle.inner_code.specs.Mode.{modeOf}
 use Rattle.inner_code.specs.Step.{patternLength}
 use Rattle.inner_code.specs.Serial.{iBits, qBits}
 use Rattle.inner_code.proofs.Rates.{asked, given, four}
 use borrow.Author.Needs.{needs}
-use Rattle.inner_code.proofs.puncturing.whole_patterns.Statement.{statement}
-use Rattle.inner_code.proofs.puncturing.whole_patterns.Tie as tie
+use Rattle.inner_code.proofs.whole.whole_patterns.Statement.{statement}
+use Rattle.inner_code.proofs.whole.whole_patterns.Tie as tie
 
 slice-aggregate-patterns : tie.Need-slice-aggregate-patterns
 slice-aggregate-patterns c = search needs

@@ -1,4 +1,4 @@
--- `inner_code::puncturing::pattern` meets its contract.
+-- `inner_code::whole::pattern` meets its contract.
 -- Assumes nothing.
 use mathlib.Core.Path.{_≡_, refl, sym, _∙_}
 use Prim.Native.Nat.{_+_, _-_, _≤_, _<_}
@@ -9,8 +9,8 @@ use Rattle.inner_code.specs.Serial.{patternSymbols}
 use Rattle.inner_code.proofs.Bits.{bits-at}
 use Rattle.inner_code.proofs.Rooms.{placed-all}
 use Rattle.inner_code.proofs.Patterns.{length-pattern, pattern-at}
-use Rattle.inner_code.proofs.puncturing.pattern.Statement.{statement}
-use Rattle.inner_code.proofs.puncturing.pattern.Tie as tie
+use Rattle.inner_code.proofs.whole.pattern.Statement.{statement}
+use Rattle.inner_code.proofs.whole.pattern.Tie as tie
 
 abbrev Inv-loop : tie.InvT-loop
 Inv-loop coded n i q room₀ at j₀ room j = (j ≤ length i) × Written at room₀ (patternSymbols i q coded n) room j

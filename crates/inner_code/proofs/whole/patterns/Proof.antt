@@ -1,10 +1,10 @@
--- `inner_code::puncturing::patterns` meets its contract: proofs/Patterns.antt has what holds as the loop goes.
+-- `inner_code::whole::patterns` meets its contract: proofs/Patterns.antt has what holds as the loop goes.
 -- Assumes nothing.
 use mathlib.Core.Path.{refl}
 use native.Mathlib.Omega.{arith}
 use Rattle.inner_code.proofs.Patterns.{Repeating, repeating-bit, repeating-room, repeating-more, repeating-end}
-use Rattle.inner_code.proofs.puncturing.patterns.Statement.{statement}
-use Rattle.inner_code.proofs.puncturing.patterns.Tie as tie
+use Rattle.inner_code.proofs.whole.patterns.Statement.{statement}
+use Rattle.inner_code.proofs.whole.patterns.Tie as tie
 
 abbrev Inv-loop : tie.InvT-loop
 Inv-loop coded from i q len turns room₀ at n₀ k₀ left₀ room n k left = Repeating i q coded len from turns room₀ at room n k left
