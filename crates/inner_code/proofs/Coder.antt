@@ -6,17 +6,17 @@ use mathlib.Core.List.{List, [], _∷_, _++_, append-assoc}
 use Prim.Native.Nat.{ℕ, suc, suc-le-suc, _+_, _<_}
 use native.Mathlib.Nat.{add-zero, zero-add}
 use native.Mathlib.Omega.{arith}
-use borrow.Author.Tests.{ltb-true, leb-true}
+use borrow.Author.Tests.{ltb-true, leb-true, lt-ltb, le-leb}
 use lib.ListN.{length, getD, length-append, List·getD-append}
 use lib.Seq.{getD-append-add}
 use Rattle.common.proofs.Choice.{both-true}
 use Rattle.inner_code.specs.Stream.{bitsOf, tapsX, tapsY}
 use Rattle.inner_code.specs.Step.{nextMemory, coded, nextPlace, inRange, InRange, listOf, punctured, heldAfter, coderStep, symbolStep, symbolsOf, coderAfter, symbolsIn}
 use Rattle.inner_code.specs.Serial.{Bits, none, more, motherOf, memoryAfter, blockMother, sentSymbols, placeAfter, heldBehind}
-use Rattle.inner_code.specs.Encode.{blockSymbols, blockCoder}
+use Rattle.inner_code.specs.Encode.{freshCoder, blockSymbols, blockCoder}
 use Rattle.inner_code.specs.declared.InnerCoder.{InnerCoder}
 use Rattle.inner_code.proofs.Bits.{bits-bits, bits-split, block-bits, length-mother}
-use Rattle.inner_code.proofs.Steps.{next-lt, held-in-range, symbol-count}
+use Rattle.inner_code.proofs.Steps.{some-bits, next-lt, held-in-range, symbol-count}
 
 -- ---- the range
 
@@ -27,6 +27,13 @@ in-range c e =
     let b = both-true _ _ (a .1) in
     let d = both-true _ _ (b .1) in
     record { rate = ltb-true _ _ (a .0); memory = ltb-true _ _ (b .0); place = ltb-true _ _ (d .0); held = leb-true _ _ (d .1) }
+
+pub range-test : (c : InnerCoder) → InRange c → inRange c ≡ true
+unfolding inRange
+range-test c g = simp (lt-ltb _ _ (g .rate), lt-ltb _ _ (g .memory), lt-ltb _ _ (g .place), le-leb _ _ (g .held))
+
+pub fresh-in-range : (r : ℕ) → r < 5 → InRange (freshCoder r)
+fresh-in-range r h = record { rate = h; memory = omega arith; place = some-bits r h; held = omega arith }
 
 pub step-in-range : (c : InnerCoder) (b : ℕ) → InRange c → b < 2 → InRange (coderStep c b)
 step-in-range c b g h = record {

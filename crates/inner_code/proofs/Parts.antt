@@ -5,7 +5,6 @@ use mathlib.Core.List.{List, [], _++_, append-assoc}
 use Prim.Native.Nat.{ℕ, zero, suc, _+_, _-_, _*_, _%_, _≤_, _<_}
 use native.Mathlib.Nat.{zero-add, add-zero, add-suc, suc-add, suc-mul, zero-mul}
 use native.Mathlib.Omega.{arith}
-use lib.Dec.{leb, leb→le}
 use lib.ListN.{length, getD, length-append}
 use Rattle.common.proofs.Computed as computed
 use Rattle.inner_code.specs.Mode.{modeOf}
@@ -13,7 +12,7 @@ use Rattle.inner_code.specs.Step.{patternLength, nextPlace, heldCount, l
 use Rattle.inner_code.specs.Serial.{Bits, sentSymbols, placeAfter, heldBehind, patternSymbols, patternsSymbols, iBits, qBits}
 use Rattle.inner_code.proofs.Bits.{bits-at}
 use Rattle.inner_code.proofs.Places.{agreed-at, end, _&_, Below, below}
-use Rattle.inner_code.proofs.Steps.{next-lt, held-in-range}
+use Rattle.inner_code.proofs.Steps.{some-bits, next-lt, held-in-range}
 use Rattle.inner_code.proofs.Patterns.{length-pattern}
 use Rattle.inner_code.proofs.Rates.{table}
 
@@ -60,10 +59,6 @@ held-behind r p h l n (suc k) hr hp hh t =
     (held-in-range r p (getD l n 0) (getD l (1632 + n) 0) h hr hp (bits-at t (1632 + n))) t
 
 -- ---- where a pattern begins
-
-some-bits : (r : ℕ) → r < 5 → 0 < patternLength r
-unfolding patternLength modeOf
-some-bits r h = leb→le _ _ (computed.below-at (λ r. leb 1 (patternLength r)) 5 tt r h)
 
 none-held : (r : ℕ) → r < 5 → heldCount r 0 ≡ 0
 unfolding heldCount modeOf

@@ -7,9 +7,14 @@ use native.Mathlib.Omega.{arith}
 use lib.Dec.{leb, eqb, leb→le}
 use lib.ListN.{length}
 use Rattle.common.specs.Choice.{pick}
+use Rattle.common.proofs.Computed as computed
 use Rattle.inner_code.specs.Mode.{modeOf, completed}
 use Rattle.inner_code.specs.Step.{patternLength, nextPlace, heldCount, listOf, punctured, heldAfter}
 use Rattle.inner_code.proofs.Places.{tested-at, end, _&_, Everywhere, everywhere}
+
+pub some-bits : (r : ℕ) → r < 5 → 0 < patternLength r
+unfolding patternLength modeOf
+some-bits r h = leb→le _ _ (computed.below-at (λ r. leb 1 (patternLength r)) 5 tt r h)
 
 pub next-lt : (r p : ℕ) → p < patternLength r → nextPlace r p < patternLength r
 next-lt r p h = mod-lt (p + 1) (omega arith)

@@ -2,11 +2,10 @@
 -- Assumes nothing.
 use mathlib.Core.Path.{_≡_, refl, ap, ap₂, sym, _∙_}
 use mathlib.Core.List.{List, [], _∷_, _++_, map, flatten}
-use Prim.Native.Nat.{ℕ, _+_, _*_, _/_, _%_, _≤_, _<_}
+use Prim.Native.Nat.{ℕ, _+_, _*_, _/_, _%_, _<_}
 use native.Mathlib.Nat.{mod-lt, mod-add-mod, zero-mod}
 use native.Mathlib.Numerals.{add-one}
 use native.Mathlib.Omega.{arith}
-use lib.Dec.{leb, leb→le}
 use lib.ListN.{length, getD}
 use Rattle.common.proofs.Computed as computed
 use Rattle.inner_code.specs.Mode.{CodedBit, modeOf, begun, binary}
@@ -17,6 +16,7 @@ use Rattle.inner_code.specs.Encode.{freshCoder, blockSymbols, blockCoder
 use Rattle.inner_code.specs.declared.InnerCoder.{InnerCoder}
 use Rattle.inner_code.proofs.Bits.{bits-at, bits-bits}
 use Rattle.inner_code.proofs.Coder.{block-symbols-append}
+use Rattle.inner_code.proofs.Steps.{some-bits}
 use Rattle.inner_code.proofs.Places.{end, _&_, Everywhere, everywhere}
 
 -- ---- the memory
@@ -107,10 +107,6 @@ streams =
     & ((λ past b. record { sent = refl; holds = refl }) & (λ past b. record { sent = refl; holds = refl }) & (λ past b. record { sent = refl; holds = refl }) & (λ past b. record { sent = refl; holds = refl }) & end)
     & ((λ past b. record { sent = refl; holds = refl }) & end)
     & end
-
-some-bits : (r : ℕ) → r < 5 → 1 ≤ patternLength r
-unfolding patternLength modeOf
-some-bits r h = leb→le _ _ (computed.below-at (λ r. leb 1 (patternLength r)) 5 tt r h)
 
 -- ---- the stream
 
