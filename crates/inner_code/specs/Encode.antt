@@ -1,0 +1,66 @@
+-- What each call gives: its answer, by its tests in the order of document 01, the coder, and the room.
+-- Assumes nothing.
+use mathlib.Core.Bool.{Bool, true, false}
+use mathlib.Core.List.{List, [], _∷_, _++_}
+use Prim.Native.Nat.{ℕ}
+use lib.Dec.{ltb, eqb}
+use lib.ListN.{length, drop}
+use Rattle.common.specs.Choice.{pick}
+use Rattle.inner_code.specs.Stream.{bitsOf}
+use Rattle.inner_code.specs.Step.{inRange, coderStep, symbolStep, symbolsOf, coderAfter, symbolsIn}
+use Rattle.inner_code.specs.declared.InnerCoder.{InnerCoder}
+use Rattle.inner_code.specs.declared.Symbol.{Symbol}
+use Rattle.inner_code.specs.declared.Symbol.the-variants.{None}
+
+-- a coder at a rate, with memory, place and held bit 0
+abbrev pub freshCoder : ℕ → InnerCoder
+freshCoder rate = record { rate = rate; memory = 0; place = 0; held = 0 }
+
+abbrev pub newNumber : ℕ → ℕ
+newNumber rate = pick (ltb rate 5) 0 6
+
+-- ---- one bit
+
+abbrev pub bitValue : Bool → ℕ
+bitValue true = 1
+bitValue false = 0
+
+abbrev pub stepNumber : InnerCoder → ℕ
+stepNumber c = pick (inRange c) 0 5
+
+abbrev pub stepCoder : InnerCoder → Bool → InnerCoder
+stepCoder c bit = pick (inRange c) (coderStep c (bitValue bit)) c
+
+abbrev pub stepSymbol : InnerCoder → Bool → Symbol
+stepSymbol c bit = pick (inRange c) (symbolStep c (bitValue bit)) None
+
+-- ---- one block
+
+-- the symbols of a list of bytes, and the coder after them
+abbrev pub blockSymbols : InnerCoder → List ℕ → List ℕ
+blockSymbols c block = symbolsOf c (bitsOf block)
+
+abbrev pub blockCoder : InnerCoder → List ℕ → InnerCoder
+blockCoder c block = coderAfter c (bitsOf block)
+
+-- the symbols of a list of blocks, each coded by a call with the coder that the call before handed back
+unfoldable pub callsSymbols : InnerCoder → List (List ℕ) → List ℕ
+callsSymbols c [] = []
+callsSymbols c (b ∷ bs) = blockSymbols c b ++ callsSymbols (blockCoder c b) bs
+
+-- how many symbols a block of 204 bytes, 1,632 bits, gives; 0 of a coder that is out of range
+abbrev pub symbolCount : InnerCoder → ℕ
+symbolCount c = pick (inRange c) (symbolsIn (c .rate) (c .place) 1632) 0
+
+abbrev pub encodeNumber : InnerCoder → List ℕ → List ℕ → ℕ
+encodeNumber c block room = pick (inRange c) (pick (eqb (length block) 204) (pick (ltb (length room) (length (blockSymbols c block))) 4 0) 3) 5
+
+abbrev pub encodeCoder : InnerCoder → List ℕ → List ℕ → InnerCoder
+encodeCoder c block room = pick (eqb (encodeNumber c block room) 0) (blockCoder c block) c
+
+abbrev pub encodeCount : InnerCoder → List ℕ → List ℕ → ℕ
+encodeCount c block room = pick (eqb (encodeNumber c block room) 0) (length (blockSymbols c block)) 0
+
+-- the symbols, and what stood in the room beyond them
+abbrev pub encodeRoom : InnerCoder → List ℕ → List ℕ → List ℕ
+encodeRoom c block room = pick (eqb (encodeNumber c block room) 0) (blockSymbols c block ++ drop (length (blockSymbols c block)) room) room

@@ -1,0 +1,5 @@
+pub mod Mode
+pub mod Stream
+pub mod Step
+pub mod Serial
+pub mod Encode

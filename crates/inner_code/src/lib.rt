@@ -1,0 +1,220 @@
+// The inner coder: convolutional mother code, puncturing and the mapping to QPSK symbols. EN 300 421, 4.4.3 and 4.5.
+ghost use mathlib.Core.Path.{_≡_};
+ghost use Prim.Native.Nat.{_<_, _≤_};
+ghost use mathlib.Core.List.{_++_};
+ghost use lib.ListN.{length, drop};
+ghost use Rattle.answer.specs.Number.{numberOf};
+ghost use Rattle.inner_code.specs.Step.{InRange, inRange};
+ghost use Rattle.inner_code.specs.Encode.{freshCoder, newNumber, bitValue, stepNumber, stepCoder, stepSymbol, blockSymbols, blockCoder, symbolCount, encodeNumber, encodeCoder, encodeCount, encodeRoom};
+use answer::Answer;
+
+mod convolution;
+mod puncturing;
+mod tables;
+mod whole;
+
+use convolution::memory_of;
+use convolution::mother;
+use convolution::next_memory;
+use convolution::unpack;
+use convolution::x_of;
+use convolution::y_of;
+use puncturing::block_count;
+use puncturing::held_count;
+use puncturing::pattern_length;
+use puncturing::puncture;
+use puncturing::puncture_block;
+
+// The state of the coder. place is where in the puncturing pattern the next bit stands; held is an I whose Q has not come, 0 where none is held.
+pub struct InnerCoder {
+    pub rate: u8,
+    pub memory: u8,
+    pub place: u8,
+    pub held: u8,
+}
+
+// What a bit completes: no symbol yet, or one with this number.
+pub enum Symbol {
+    None,
+    One(u8),
+}
+
+// A fresh coder. As for every constructor of the project the answer stands beside the state, since an enum cannot hold a state with arrays.
+// Where the answer is 6 the coder holds the rate that was wanted, so it is out of range, and every call refuses it with 5.
+pub struct Created {
+    pub answer: Answer,
+    pub coder: InnerCoder,
+}
+
+pub struct Stepped {
+    pub answer: Answer,
+    pub coder: InnerCoder,
+    pub symbol: Symbol,
+}
+
+pub struct Encoded {
+    pub answer: Answer,
+    pub coder: InnerCoder,
+    pub count: usize,
+}
+
+impl InnerCoder {
+    // The bytes of a block.
+    pub const BLOCK_LENGTH: usize = 204;
+
+    // The bits of each rate's puncturing pattern.
+    pub const PATTERN_LENGTHS: [u8; 5] = tables::LENGTHS;
+
+    pub fn new(rate: u8) -> Created
+        ensures { λ r. ⌜ (numberOf (r .answer) ≡ newNumber rate) × (r .coder ≡ freshCoder rate) ⌝ }
+    {
+        let coder = InnerCoder {
+            rate,
+            memory: 0,
+            place: 0,
+            held: 0,
+        };
+        if rate < 5 {
+            return Created {
+                answer: Answer::Done,
+                coder,
+            };
+        }
+        Created {
+            answer: Answer::UnknownRate,
+            coder,
+        }
+    }
+
+    // Whether each number is in its range.
+    pub fn in_range(self) -> bool
+        ensures { λ r. ⌜ r ≡ inRange self ⌝ }
+    {
+        let rate = self.rate;
+        let memory = self.memory;
+        let place = self.place;
+        let held = self.held;
+        if rate >= 5 {
+            return false;
+        }
+        if memory >= 64 {
+            return false;
+        }
+        if place >= pattern_length(rate) {
+            return false;
+        }
+        held <= held_count(rate, place)
+    }
+
+    // How many symbols the next block gives; 0 of a coder that is out of range.
+    pub fn symbol_count(self) -> usize
+        ensures { λ r. ⌜ r ≡ symbolCount self ⌝ }
+    {
+        if !self.in_range() {
+            return 0;
+        }
+        let rate = self.rate;
+        let place = self.place;
+        block_count(rate, place) as usize
+    }
+
+    // Codes one bit.
+    pub fn step(self, bit: bool) -> Stepped
+        ensures { λ r. ⌜ (numberOf (r .answer) ≡ stepNumber self) × (r .coder ≡ stepCoder self bit) × (r .symbol ≡ stepSymbol self bit) ⌝ }
+    {
+        if !self.in_range() {
+            return Stepped {
+                answer: Answer::StateRange,
+                coder: self,
+                symbol: Symbol::None,
+            };
+        }
+        let rate = self.rate;
+        let memory = self.memory;
+        let place = self.place;
+        let held = self.held;
+        let b = bit_value(bit);
+        let next = next_memory(memory, b);
+        let punctured = puncture(rate, place, held, x_of(memory, b), y_of(memory, b));
+        let symbol = punctured.symbol;
+        Stepped {
+            answer: Answer::Done,
+            coder: InnerCoder {
+                rate,
+                memory: next,
+                place: punctured.place,
+                held: punctured.held,
+            },
+            symbol,
+        }
+    }
+
+    // Codes a block of 204 bytes into the room.
+    pub fn encode(self, block: &[u8], room: &mut [u8]) -> Encoded
+        ensures { λ r. ⌜
+            (numberOf (r .answer) ≡ encodeNumber self (now (block .entry)) (now (room .entry)))
+            × (r .coder ≡ encodeCoder self (now (block .entry)) (now (room .entry)))
+            × (r .count ≡ encodeCount self (now (block .entry)) (now (room .entry)))
+            × (now (room .exit) ≡ encodeRoom self (now (block .entry)) (now (room .entry))) ⌝ }
+    {
+        if !self.in_range() {
+            return Encoded {
+                answer: Answer::StateRange,
+                coder: self,
+                count: 0,
+            };
+        }
+        if block.len() != 204 {
+            return Encoded {
+                answer: Answer::BlockLength,
+                coder: self,
+                count: 0,
+            };
+        }
+        if room.len() < self.symbol_count() {
+            return Encoded {
+                answer: Answer::RoomLength,
+                coder: self,
+                count: 0,
+            };
+        }
+        encode_block(self, block, room)
+    }
+}
+
+fn bit_value(bit: bool) -> u8
+    ensures { λ r. ⌜ r ≡ bitValue bit ⌝ }
+{
+    if bit { 1 } else { 0 }
+}
+
+// Codes a block into a room that is long enough.
+fn encode_block(coder: InnerCoder, block: &[u8], room: &mut [u8]) -> Encoded
+    requires { ⌜ (InRange coder) × (length (now block) ≡ 204) × (length (blockSymbols coder (now block)) ≤ length (now room)) ⌝ }
+    ensures { λ r. ⌜
+        (numberOf (r .answer) ≡ 0)
+        × (r .coder ≡ blockCoder coder (now (block .entry)))
+        × (r .count ≡ length (blockSymbols coder (now (block .entry))))
+        × (now (room .exit) ≡ blockSymbols coder (now (block .entry)) ++ drop (length (blockSymbols coder (now (block .entry)))) (now (room .entry))) ⌝ }
+{
+    let rate = coder.rate;
+    let memory = coder.memory;
+    let place = coder.place;
+    let held = coder.held;
+    let mut history = [0u8; 1638];
+    unpack(memory, block, &mut history);
+    let mut coded = [0u8; 3264];
+    mother(&history, &mut coded);
+    let next = memory_of(&history);
+    let progress = puncture_block(rate, place, held, &coded, room);
+    Encoded {
+        answer: Answer::Done,
+        coder: InnerCoder {
+            rate,
+            memory: next,
+            place: progress.place,
+            held: progress.held,
+        },
+        count: progress.count,
+    }
+}

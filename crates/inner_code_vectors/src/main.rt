@@ -1,0 +1,153 @@
+// Compares the inner coder with the symbols that GNU Radio (gr-dtv) made of the same interleaved bytes, and shows both sides of each refusal.
+use inner_code::InnerCoder;
+use libc::STDOUT_FILENO;
+
+// The coder after a block, and whether the block's symbols were those of the file.
+struct Compared {
+    coder: InnerCoder,
+    same: bool,
+}
+
+// Whether the next bytes of a file are those of the slice.
+fn same_as_file(wanted: i32, symbols: &[u8], expected: &mut [u8]) -> bool {
+    io::read_full(wanted, expected) == symbols.len() && check::same(symbols, expected)
+}
+
+// The first so many of the room.
+fn same_symbols(wanted: i32, room: &[u8], expected: &mut [u8], count: usize) -> bool {
+    if count > room.len() {
+        return false;
+    }
+    if count > expected.len() {
+        return false;
+    }
+    same_as_file(wanted, &room[..count], &mut expected[..count])
+}
+
+fn compare_block(coder: InnerCoder, input: i32, wanted: i32) -> Compared {
+    let mut block = [0u8; 204];
+    let mut room = [0u8; 1632];
+    let mut expected = [0u8; 1632];
+    let got = io::read_full(input, &mut block);
+    let encoded = coder.encode(&block, &mut room);
+    let count = encoded.count;
+    let answer = encoded.answer;
+    let next = encoded.coder;
+    if got != 204 || answer.number() != 0 {
+        return Compared {
+            coder: next,
+            same: false,
+        };
+    }
+    let same = same_symbols(wanted, &room, &mut expected, count);
+    Compared { coder: next, same }
+}
+
+// Forty blocks, and then the end of both files.
+fn compare_all(rate: u8, input: i32, wanted: i32) -> bool {
+    let created = InnerCoder::new(rate);
+    let mut coder = created.coder;
+    let mut same = true;
+    let mut k: usize = 0;
+    while k < 40 {
+        let compared = compare_block(coder, input, wanted);
+        coder = compared.coder;
+        if !compared.same {
+            same = false;
+        }
+        k += 1;
+    }
+    same && at_end(input) && at_end(wanted)
+}
+
+fn at_end(fd: i32) -> bool {
+    let mut more = [0u8; 1];
+    io::read_full(fd, &mut more) == 0
+}
+
+fn print_line(name: &[u8], n: u64) {
+    io::write_all(STDOUT_FILENO, name);
+    io::print_decimal(STDOUT_FILENO, n);
+    io::write_all(STDOUT_FILENO, b"\n");
+}
+
+fn compare(rate: u8, name: &[u8]) {
+    let input = os::open_read(b"interleaved.bin");
+    let wanted = os::open_read(name);
+    if input < 0 || wanted < 0 {
+        os::fail(name);
+        return;
+    }
+    io::write_all(STDOUT_FILENO, name);
+    if compare_all(rate, input, wanted) {
+        io::write_all(STDOUT_FILENO, b" same\n");
+    } else {
+        io::write_all(STDOUT_FILENO, b" differs\n");
+    }
+    libc::close(input);
+    libc::close(wanted);
+}
+
+// The answer to a fresh coder at a rate.
+fn answer_new(name: &[u8], rate: u8) {
+    let created = InnerCoder::new(rate);
+    let answer = created.answer;
+    print_line(name, answer.number() as u64);
+}
+
+// The answer to a block and a room.
+fn answer_encode(name: &[u8], coder: InnerCoder, block: &[u8], room: &mut [u8]) {
+    let encoded = coder.encode(block, room);
+    let answer = encoded.answer;
+    print_line(name, answer.number() as u64);
+}
+
+// The answer to a block of so many bytes.
+fn answer_block(name: &[u8], rate: u8, bytes: &[u8], length: usize) {
+    let mut room = [0u8; 1632];
+    if length > bytes.len() {
+        return;
+    }
+    let created = InnerCoder::new(rate);
+    let coder = created.coder;
+    answer_encode(name, coder, &bytes[..length], &mut room);
+}
+
+// The answer to a room of so many bytes, from a place of the pattern.
+fn answer_room(name: &[u8], rate: u8, place: u8, room: &mut [u8], length: usize) {
+    let block = [0u8; 204];
+    if length > room.len() {
+        return;
+    }
+    let coder = InnerCoder {
+        rate,
+        memory: 0,
+        place,
+        held: 0,
+    };
+    answer_encode(name, coder, &block, &mut room[..length]);
+}
+
+fn main() {
+    compare(0, b"symbols_rate0.bin");
+    compare(1, b"symbols_rate1.bin");
+    compare(2, b"symbols_rate2.bin");
+    compare(3, b"symbols_rate3.bin");
+    compare(4, b"symbols_rate4.bin");
+    let bytes = [0u8; 205];
+    let mut room = [0u8; 980];
+    answer_new(b"fresh coder at rate 4: ", 4);
+    answer_new(b"fresh coder at rate 5: ", 5);
+    answer_block(b"coder of rate 5: ", 5, &bytes, 204);
+    answer_block(b"block of 203 bytes: ", 0, &bytes, 203);
+    answer_block(b"block of 204 bytes: ", 0, &bytes, 204);
+    answer_block(b"block of 205 bytes: ", 0, &bytes, 205);
+    answer_room(b"rate 3, place 0, room of 978: ", 3, 0, &mut room, 978);
+    answer_room(b"rate 3, place 0, room of 979: ", 3, 0, &mut room, 979);
+    answer_room(b"rate 3, place 4, room of 979: ", 3, 4, &mut room, 979);
+    answer_room(b"rate 3, place 4, room of 980: ", 3, 4, &mut room, 980);
+    answer_room(b"rate 4, place 0, room of 932: ", 4, 0, &mut room, 932);
+    answer_room(b"rate 4, place 0, room of 933: ", 4, 0, &mut room, 933);
+    answer_room(b"rate 4, place 1, room of 931: ", 4, 1, &mut room, 931);
+    answer_room(b"rate 4, place 1, room of 932: ", 4, 1, &mut room, 932);
+}
