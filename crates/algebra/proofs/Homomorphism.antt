@@ -1,6 +1,6 @@
 -- A map that keeps sums and products keeps those of polynomials.
 -- Assumes nothing.
-use mathlib.Core.Path.{_≡_, refl, sym, ap, ap₂, _∙_}
+use mathlib.Core.Path.{_≡_, refl, ap₂, _∙_}
 use mathlib.Core.List.{List, [], _∷_, map}
 use Rattle.algebra.specs.Field.{Operations}
 use Rattle.algebra.specs.Polynomial.{plus, scale, product}

@@ -3,5 +3,5 @@ pub mod Lists
 pub mod Polynomial
 pub mod Homomorphism
 pub mod Syndromes
-pub mod Decoding
+pub mod Terms
 pub mod Elimination

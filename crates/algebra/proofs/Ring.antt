@@ -1,6 +1,6 @@
 -- What follows in every field of characteristic two, and `ring`, the laws by which `simp` decides identities of sums and products.
 -- Assumes nothing.
-use mathlib.Core.Path.{_≡_, refl, sym, ap, _∙_}
+use mathlib.Core.Path.{_≡_, sym, ap, _∙_}
 use Rattle.algebra.specs.Field.{Field}
 
 module _ (K : Field) where

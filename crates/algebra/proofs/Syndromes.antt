@@ -1,20 +1,19 @@
 -- Syndromes of a list of terms (place, value), and what they determine: Vandermonde's theorem, the key equations of an error locator, and the values at its roots.
 -- Assumes nothing.
-use mathlib.Core.Path.{_≡_, refl, sym, ap, _∙_, fun-ext, subst}
-use mathlib.Core.List.{List, [], _∷_, _++_, map}
+use mathlib.Core.Path.{_≡_, refl, sym, ap, _∙_, fun-ext}
+use mathlib.Core.List.{List, [], _∷_, map}
 use Prim.Native.Nat.{ℕ, zero, suc, _≤_, _<_}
 use Prim.Native.Nat.{_+_ as _+ℕ_}
-use native.Mathlib.Nat.{not-suc-le-zero, le-of-suc-le-suc}
+use native.Mathlib.Nat.{not-suc-le-zero}
 use native.Mathlib.Nat.{add-zero as ℕ-add-zero, add-suc as ℕ-add-suc}
 use native.Mathlib.Omega.{arith}
-use native.Mathlib.Decide.{decLt}
 use lib.ListN.{length, getD}
-use Prim.{Unit, tt}
+use Prim.{tt}
 use Rattle.algebra.specs.Field.{Field, ops}
 use Rattle.algebra.specs.Polynomial.{power, eval}
-use Rattle.algebra.proofs.Ring.{ring, cancel, eq-of-add, mul-ne, add-zero, mul-zero, zero-mul, zero-add, mul-div, mul-comm, mul-one}
+use Rattle.algebra.proofs.Ring.{ring, cancel, add-zero, mul-zero, zero-mul, zero-add, mul-div, mul-comm, mul-one}
 use Rattle.common.specs.Lists.{All}
-use Rattle.common.proofs.Lists.{All-map, All-zip, All-of, All-at}
+use Rattle.common.proofs.Lists.{All-map, All-of}
 use Rattle.algebra.proofs.Lists.{Away, Distinct}
 use Rattle.algebra.proofs.Polynomial.{fromRoots, length-fromRoots, fromRoots-roots, fromRoots-ne}
 

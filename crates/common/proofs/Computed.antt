@@ -1,6 +1,6 @@
 -- Rules that hold of every number below a bound, or of every entry of a table, each proved by one test that antt computes.
 -- Assumes nothing.
-use mathlib.Core.Path.{_≡_, _∙_, subst, subst₂, ap₂, sym}
+use mathlib.Core.Path.{_≡_, _∙_, subst, subst₂, sym}
 use mathlib.Core.Bool.{Bool, true, false}
 use mathlib.Core.List.{List, [], _∷_}
 use mathlib.Core.Logic.{⊎-elim}
@@ -57,14 +57,6 @@ from f (x ∷ xs) i t (suc k) h =
 
 pub at : (f : ℕ → ℕ → Bool) (xs : List ℕ) → T (every f 0 xs) → (k : ℕ) → k < length xs → T (f k (getD xs k 0))
 at f xs t k h = subst (λ (m : ℕ). T (f m (getD xs k 0))) (zero-add k) (from f xs 0 t k h)
-
--- the entry of a table with w entries in a row, by its row and its column
-abbrev pub entry : ℕ → (ℕ → ℕ → ℕ) → ℕ → ℕ → Bool
-entry w f k x = eqb x (f (k / w) (k % w))
-
-pub flat : (w : ℕ) (f : ℕ → ℕ → ℕ) (xs : List ℕ) → T (every (entry w f) 0 xs) → (i j : ℕ) → (i * w + j) / w ≡ i → (i * w + j) % w ≡ j
-    → i * w + j < length xs → getD xs (i * w + j) 0 ≡ f i j
-flat w f xs t i j r q k = eqb→eq _ _ (at (entry w f) xs t (i * w + j) k) ∙ ap₂ f r q
 
 -- a test that passes at each row and column of a table of n entries
 abbrev pub tested : ℕ → ℕ → (ℕ → ℕ → Bool) → Bool

@@ -1,13 +1,12 @@
 -- The laws of the product. All but the unit's hold of every number: `mul` reads eight bits of each factor.
 -- Assumes nothing.
-use mathlib.Core.Path.{_≡_, refl, sym, ap, ap₂, _∙_, subst}
-use Prim.Native.Nat.{ℕ, zero, suc, _+_, _*_, _/_, _%_, _^_, _<_}
+use mathlib.Core.Path.{_≡_, refl, sym, ap, ap₂, _∙_}
+use Prim.Native.Nat.{ℕ, zero, suc, _*_, _/_, _%_, _^_, _<_}
 use native.Mathlib.Nat.{mod-lt, mod-mod, mod-eq-of-lt, zero-mul, one-mul}
 use native.Mathlib.Numerals.{add-one}
-use native.Mathlib.Omega.{arith}
-use lib.Bits.{bitXor, xor-shr, xor-mod, xor-lt, xor-comm, xor-zero-r}
+use lib.Bits.{bitXor, xor-shr, xor-mod, xor-lt}
 use lib.Pow.{field, mod-mod-pow}
-use lib.Dec.{T, eqb, ltb, ltb→lt, lit<}
+use lib.Dec.{T, ltb, ltb→lt, lit<}
 use Rattle.galois.specs.Field256.{timesX, rounds, mul}
 use Rattle.common.proofs.Computed.{below, below-at, agree, agree-at}
 use Rattle.common.proofs.Xor.{xor-half, xor-low}
@@ -95,9 +94,6 @@ pub mul-add-right : (a b c : ℕ) → mul a (bitXor b c) ≡ bitXor (mul a b) (m
 unfolding mul
 mul-add-right a b c = rounds-right 8 (a % 256) b c
 
-pub mul-zero-left : (a : ℕ) → mul 0 a ≡ 0
-mul-zero-left a = linear-zero (λ x. mul x a) (λ x y. mul-add-left x y a)
-
 pub mul-zero-right : (a : ℕ) → mul a 0 ≡ 0
 mul-zero-right a = linear-zero (mul a) (mul-add-right a)
 
@@ -119,7 +115,7 @@ mul-comm a b =
     ∙ mul-mod-left b (a % 256) ∙ mul-mod-right b a
 
 -- times x passes out of the first factor
-rounds-timesX : (n a b : ℕ) → rounds n (timesX a) b ≡ timesX (rounds n a b)
+pub rounds-timesX : (n a b : ℕ) → rounds n (timesX a) b ≡ timesX (rounds n a b)
 unfolding rounds
 rounds-timesX zero a b = sym (linear-zero timesX timesX-linear)
 rounds-timesX (suc n) a b =

@@ -1,9 +1,9 @@
 -- Xor passes through doubling and through products by a bit, and linear functions.
 -- A function is linear where it takes sums to sums; two that are agree below 2 ^ k where they agree at k powers of two.
 -- Assumes nothing.
-use mathlib.Core.Path.{_≡_, refl, sym, ap, ap₂, _∙_, subst}
-use Prim.Native.Nat.{ℕ, zero, suc, _+_, _*_, _/_, _%_, _^_, _<_, _≤_}
-use native.Mathlib.Nat.{mod-lt, zero-mul, one-mul, add-zero, div-lt-iff-lt-mul, le-refl, zero-lt-suc, pow-suc, mul-comm}
+use mathlib.Core.Path.{_≡_, sym, ap, ap₂, _∙_, subst}
+use Prim.Native.Nat.{ℕ, zero, suc, _*_, _/_, _%_, _^_, _<_}
+use native.Mathlib.Nat.{mod-lt, zero-mul, one-mul, add-zero, div-lt-iff-lt-mul, le-refl, pow-suc, mul-comm}
 use native.Mathlib.Omega.{arith}
 use lib.Bits.{bitXor, xor-comm, xor-self, xor-zero-r, xor-block, xor-shifted}
 use lib.Arith.{lt-one}

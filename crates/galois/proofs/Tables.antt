@@ -1,15 +1,13 @@
 -- Tables to compute with, each one native number that holds its byte i at 256 ^ i: a look-up is a division. The powers of 02 and the logarithms, and the product by them.
 -- Assumes nothing.
-use mathlib.Core.Path.{_≡_, refl, sym, ap, ap₂, _∙_, subst}
-use mathlib.Core.Bool.{Bool, true, false}
-use Prim.Native.Nat.{ℕ, zero, suc, _/_, _%_, _^_, _<_, _+_, _*_}
-use native.Mathlib.Nat.{mod-lt, div-add-mod', suc-mul}
+use mathlib.Core.Path.{_≡_, refl, sym, ap, _∙_}
+use Prim.Native.Nat.{ℕ, zero, suc, _/_, _%_, _^_, _<_}
 use native.Mathlib.Omega.{arith}
-use lib.Dec.{T, eqb, ltb, ltb→lt, lit<}
+use lib.Dec.{T, ltb, ltb→lt}
 use Rattle.algebra.specs.Polynomial.{power}
 use Rattle.galois.specs.Field256.{timesX, rounds, mul, pow, inv}
 use Rattle.common.proofs.Computed.{below, below-at, agree, agree-at}
-use Rattle.galois.proofs.Powers.{pow-pow, one-pow, pow-add, pow-lt, one-mul}
+use Rattle.galois.proofs.Powers.{pow-pow, one-pow}
 
 -- byte i of a table
 abbrev pub at : ℕ → ℕ → ℕ

@@ -9,15 +9,17 @@ pub fn times_x(a: u8) -> u8
     (a << 1) ^ ((a >> 7) * 0x1D)
 }
 
-// The product, in eight rounds over the bits of b, from the highest.
+// The product, in eight rounds over the bits of b, from the lowest: x is a times the power of the round.
 pub fn mul(a: u8, b: u8) -> u8
     ensures { λ r. ⌜ r ≡ mulOf a b ⌝ }
 {
     let mut r: u8 = 0;
-    let mut i: u8 = 8;
-    while 0 < i {
-        i -= 1;
-        r = times_x(r) ^ (((b >> i) & 1) * a);
+    let mut x = a;
+    let mut i: u8 = 0;
+    while i < 8 {
+        r = r ^ (((b >> i) & 1) * x);
+        x = times_x(x);
+        i += 1;
     }
     r
 }

@@ -1,23 +1,23 @@
 -- A block of 204 bytes is a codeword exactly when its values at the sixteen roots of g are zero.
 -- Assumes nothing.
 use mathlib.Core.Path.{_≡_, refl, sym, ap, ap₂, _∙_, subst}
-use mathlib.Core.List.{List, [], _∷_, map, reverse, reverse-reverse}
+use mathlib.Core.List.{List, [], _∷_, reverse, reverse-reverse}
 use Prim.Native.Nat.{ℕ, zero, suc, _≤_, _<_, Fin}
 use Prim.{tt}
 use native.Mathlib.Decide.{ℕ-discrete}
 use native.Mathlib.Omega.{arith}
-use lib.ListN.{length, length-map, length-reverse}
+use lib.ListN.{length, length-map}
 use Rattle.common.specs.Lists.{All, Bytes}
-use Rattle.algebra.specs.Field.{Field, ops}
+use Rattle.algebra.specs.Field.{ops}
 use Rattle.algebra.specs.Polynomial.{power, eval, plus, scale, product}
 use Rattle.algebra.proofs.Lists.{Away, Distinct}
 use Rattle.algebra.proofs.Ring.{zero-mul}
-use Rattle.algebra.proofs.Polynomial.{eval-linear, eval-product, eval-timesLinear, length-product, fromRoots, fromRoots-root-self, fromRoots-root-more, timesLinear, Factored, factored, equal-of-values}
+use Rattle.algebra.proofs.Polynomial.{eval-linear, eval-product, eval-timesLinear, length-product, fromRoots, fromRoots-root-self, fromRoots-root-more, Factored, factored, equal-of-values}
 use Rattle.algebra.proofs.Syndromes.{places}
-use Rattle.algebra.proofs.Decoding.{terms, distinct-terms, length-terms}
+use Rattle.algebra.proofs.Terms.{terms, distinct-terms, length-terms}
 use Rattle.galois.specs.Field256.{numbers, mul, rounds, timesX, pow}
 use Rattle.galois.proofs.Instance.{bytes, byte, byte-one, byte-power, powers-differ}
-use Rattle.reed_solomon.specs.Code.{factors, generator, polynomial, Codeword}
+use Rattle.reed_solomon.specs.Code.{factors, generator, Codeword}
 use Rattle.reed_solomon.specs.Steps.{elements, word, point}
 use Rattle.reed_solomon.proofs.Words.{values, length-word, elements-values, elements-inj, elements-product, bytes-reverse, bytes-values, bytes-product}
 

@@ -2,27 +2,26 @@
 -- Assumes nothing.
 use mathlib.Core.Path.{_≡_, refl, sym, ap, ap₂, _∙_, subst}
 use mathlib.Core.List.{List, [], _∷_, _++_, map}
-use Prim.Native.Nat.{ℕ, zero, suc, _+_, _-_, _≤_, _<_, Fin, max}
+use Prim.Native.Nat.{ℕ, suc, _+_, _≤_, _<_, Fin}
 use Prim.{tt}
-use native.Mathlib.Decide.{ℕ-discrete, decLt}
-use native.Mathlib.Nat.{zero-add, not-suc-le-zero, le-of-suc-le-suc}
+use native.Mathlib.Decide.{decLt}
+use native.Mathlib.Nat.{zero-add}
 use native.Mathlib.Omega.{arith}
 use lib.Dec.{lit<}
-use lib.ListN.{length, getD, take, drop, length-map, length-append, length-take, List·getD-map, take-append-drop}
+use lib.ListN.{length, getD, take, drop, length-map, length-append, List·getD-map}
 use lib.Seq.{length-take-le, getD-take, split-at}
 use Rattle.common.specs.Lists.{All, Bytes}
-use Rattle.common.proofs.Lists.{getD-map-in, All-at, All-of, All-map}
-use Rattle.algebra.specs.Field.{Field, ops}
+use Rattle.common.proofs.Lists.{All-at, All-map}
+use Rattle.algebra.specs.Field.{ops}
 use Rattle.algebra.specs.Polynomial.{power, eval, plus}
-use Rattle.algebra.proofs.Lists.{Away, Distinct, Distinct-away}
-use Rattle.algebra.proofs.Ring.{ring, add-zero, one-mul, mul-ne}
+use Rattle.algebra.proofs.Lists.{Distinct, Distinct-away}
+use Rattle.algebra.proofs.Ring.{add-zero, one-mul}
 use Rattle.algebra.proofs.Polynomial.{Zero, root-count, quotient, quotient-zero, quotient-value, length-quotient, length-plus-max, length-timesLinearFrom, timesLinear, fromRoots, length-fromRoots, fromRoots-roots, fromRoots-ne, eval-fromRoots-out}
-use Rattle.algebra.proofs.Syndromes.{Term, dot, dot-ext, syndrome, places, weight, key, value}
-use Rattle.algebra.proofs.Decoding.{terms, length-terms, place-at, value-at}
-use Rattle.galois.specs.Field256.{pow}
+use Rattle.algebra.proofs.Syndromes.{Term, dot, dot-ext, syndrome, key, value}
+use Rattle.algebra.proofs.Terms.{length-terms, place-at, value-at}
 use Rattle.galois.proofs.Instance.{bytes, byte, byte-inj, byte-zero, byte-power, powers-differ}
 use Rattle.reed_solomon.specs.Code.{Codeword, differ}
-use Rattle.reed_solomon.specs.Steps.{elements, point, Powers, Located, Evaluated, zerosFrom, zerosOf, RootProduct, valueBy, errorValue}
+use Rattle.reed_solomon.specs.Steps.{elements, point, Powers, Located, Evaluated, zerosOf, RootProduct, valueBy, errorValue}
 use Rattle.reed_solomon.proofs.Codewords.{blockSyndrome, codeword-length, codeword-bytes, codeword-syndromes, rootsBelow, distinct-roots, length-roots}
 use Rattle.reed_solomon.proofs.Distance.{difference, difference-length, errors, errors-distinct, errors-weight, errors-syndrome}
 use Rattle.reed_solomon.proofs.Zeros.{zeros-all, zeros-has, zeros-distinct, zeros-syndrome}

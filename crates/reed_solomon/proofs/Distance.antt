@@ -1,24 +1,22 @@
 -- The Hamming distance of blocks, and that two codewords which differ in at most sixteen bytes are one.
 -- Assumes nothing.
-use mathlib.Core.Path.{_≡_, refl, sym, ap, ap₂, _∙_, subst}
-use mathlib.Core.Bool.{Bool, true, false}
+use mathlib.Core.Path.{_≡_, refl, sym, ap, ap₂, _∙_}
 use mathlib.Core.List.{List, [], _∷_, _++_, reverse, reverse-cons, reverse-reverse}
-use Prim.Native.Nat.{ℕ, zero, suc, _+_, _≤_, _<_, Fin}
+use Prim.Native.Nat.{ℕ, _+_, _≤_, _<_, Fin}
 use Prim.{tt}
 use native.Mathlib.Decide.{ℕ-discrete, decLt}
 use native.Mathlib.Omega.{arith}
-use native.Mathlib.Nat.{add-comm}
 use borrow.Author.Tests.{eq-eqb, ne-eqb}
 use lib.Dec.{eqb}
 use lib.ListN.{length, length-reverse}
 use Rattle.common.specs.Choice.{pick}
-use Rattle.common.specs.Lists.{All, Bytes}
+use Rattle.common.specs.Lists.{Bytes}
 use Rattle.algebra.specs.Field.{ops}
 use Rattle.algebra.specs.Polynomial.{eval, plus}
 use Rattle.algebra.proofs.Ring.{add-eq-zero, eq-of-add, add-self}
 use Rattle.algebra.proofs.Polynomial.{Zero, equal-of-zero, eval-plus, length-plus-max}
 use Rattle.algebra.proofs.Syndromes.{Term, AllZero, keep, support, weight, syndrome, vandermonde-weight}
-use Rattle.algebra.proofs.Decoding.{terms, distinct-terms, word-syndrome}
+use Rattle.algebra.proofs.Terms.{terms, distinct-terms, word-syndrome}
 use Rattle.galois.proofs.Instance.{bytes, byte, byte-inj, powers-differ}
 use Rattle.reed_solomon.specs.Code.{Codeword, differ}
 use Rattle.reed_solomon.specs.Decode.{Accepted}

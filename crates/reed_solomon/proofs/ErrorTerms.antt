@@ -1,28 +1,27 @@
 -- The syndromes of the errors found, and the block with those errors taken away.
 -- Assumes nothing.
-use mathlib.Core.Path.{_≡_, refl, sym, ap, ap₂, _∙_, subst}
+use mathlib.Core.Path.{_≡_, refl, sym, ap, ap₂, _∙_}
 use mathlib.Core.Bool.{Bool, true, false}
-use mathlib.Core.List.{List, [], _∷_, _++_}
+use mathlib.Core.List.{List, [], _∷_}
 use Prim.Native.Nat.{ℕ, zero, suc, _+_, _-_, _≤_, _<_, Fin}
-use Prim.{tt}
 use mathlib.Core.Logic.{_⊎_, inl, inr}
 use native.Mathlib.Nat.{zero-add, not-suc-le-zero, le-of-suc-le-suc, eq-or-lt-of-le}
 use native.Mathlib.Numerals.{add-one}
 use native.Mathlib.Omega.{arith}
 use borrow.Author.Tests.{eq-eqb, ne-eqb}
-use lib.Bits.{bitXor, xor-zero-l, xor-zero-r}
+use lib.Bits.{bitXor, xor-zero-r}
 use lib.Dec.{eqb}
-use lib.ListN.{length, getD, take, drop, set, length-take, length-set, drop-of-length-le}
-use lib.Seq.{drop-cons, take-all, length-take-le, getD-take}
+use lib.ListN.{length, getD, take, drop, set, length-set, drop-of-length-le}
+use lib.Seq.{drop-cons, length-take-le, getD-take}
 use Rattle.common.specs.Choice.{pick}
 use Rattle.common.proofs.Xor.{xor-assoc}
 use Rattle.algebra.specs.Field.{ops}
 use Rattle.algebra.specs.Polynomial.{power}
 use Rattle.algebra.proofs.Ring.{mul-one, mul-left-comm}
-use Rattle.algebra.proofs.Syndromes.{Term, syndrome}
+use Rattle.algebra.proofs.Syndromes.{syndrome}
 use Rattle.galois.specs.Field256.{mul}
 use Rattle.galois.proofs.Instance.{bytes, byte, byte-inj, byte-zero, byte-add, byte-mul}
-use Rattle.reed_solomon.specs.Steps.{sumOf, productsOf, termsOf, Explains, Explained, correctedBy, changedIn}
+use Rattle.reed_solomon.specs.Steps.{sumOf, productsOf, termsOf, Explained, correctedBy, changedIn}
 
 -- ---- the sum of a list
 

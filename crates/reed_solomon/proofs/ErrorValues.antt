@@ -1,29 +1,28 @@
 -- The product of x + r over the roots, and the values of the errors from it.
 -- Assumes nothing.
 use mathlib.Core.Path.{_≡_, refl, sym, ap, ap₂, _∙_, subst}
-use mathlib.Core.List.{List, [], _∷_, _++_, map}
+use mathlib.Core.List.{List, [], _∷_}
 use Prim.Native.Nat.{ℕ, zero, suc, _+_, _-_, _≤_, _<_, Fin}
-use Prim.{tt}
-use native.Mathlib.Nat.{zero-add, not-suc-le-zero}
+use native.Mathlib.Nat.{zero-add}
 use native.Mathlib.Numerals.{add-one}
 use native.Mathlib.Decide.{decLt}
 use native.Mathlib.Omega.{arith}
 use lib.Bits.{bitXor}
-use lib.ListN.{length, getD, take, drop, replicate, length-map, length-drop, length-take, List·getD-eq-default}
+use lib.ListN.{length, getD, take, drop, replicate, length-map, List·getD-eq-default}
 use lib.Seq.{drop-cons, drop-length, length-take-le, getD-take}
 use Rattle.common.proofs.Lists.{getD-map-in}
 use Rattle.algebra.specs.Field.{Field, ops}
 use Rattle.algebra.specs.Polynomial.{eval, plus, scale}
-use Rattle.algebra.proofs.Ring.{ring, mul-comm, mul-zero, add-zero}
-use Rattle.algebra.proofs.Polynomial.{eval-plus, eval-scale, fromRoots, timesLinear, eval-timesLinear, quotient, quotient-at, length-quotient}
+use Rattle.algebra.proofs.Ring.{ring}
+use Rattle.algebra.proofs.Polynomial.{eval-plus, eval-scale, fromRoots, eval-timesLinear, quotient, quotient-at, length-quotient}
 use Rattle.algebra.proofs.Syndromes.{dot, dot-ext}
 use Rattle.galois.specs.Field256.{numbers, mul, inv, scaled}
 use Rattle.galois.proofs.Laws.{mul-zero-right}
 use Rattle.galois.proofs.Instance.{bytes, byte, byte-zero, byte-one, byte-add, byte-mul, byte-inv}
-use Rattle.reed_solomon.specs.Steps.{elements, RootProduct, valueBy, errorValue}
+use Rattle.reed_solomon.specs.Steps.{elements, RootProduct, errorValue}
 use Rattle.reed_solomon.proofs.Words.{elements-plus, elements-scale, length-sum, sum-at}
 use Rattle.reed_solomon.proofs.Residue.{zeros-at}
-use Rattle.reed_solomon.proofs.RootSearch.{eval-from}
+use Rattle.reed_solomon.proofs.RootSearch.{Zeros, eval-zeros, eval-from}
 
 -- ---- identities
 
@@ -35,22 +34,10 @@ module _ (K : Field) where
   linear-identity : (c e y : F) → c ⊗ e ⊕ (𝟘 ⊕ y ⊗ e) ≡ (y ⊕ c) ⊗ e
   linear-identity c e y = simp ring
 
-  zero-identity : (a y e : F) → a ≡ 𝟘 → e ≡ 𝟘 → a ⊕ y ⊗ e ≡ 𝟘
-  zero-identity a y e h k = simp (ring, h, k)
-
   next-identity : (a y b : F) → a ⊗ y ⊕ b ≡ b ⊕ y ⊗ a
   next-identity a y b = simp ring
 
 -- ---- coefficients that are zero
-
--- from place n on
-abbrev Zeros : List ℕ → ℕ → Type 0
-Zeros p n = (k : ℕ) → n ≤ k → getD p k 0 ≡ 0
-
-eval-zeros : (p : List ℕ) (y : Fin 256) → Zeros p 0 → eval (ops bytes) (elements p) y ≡ bytes .𝟘
-unfolding eval
-eval-zeros [] y h = refl
-eval-zeros (a ∷ p) y h = zero-identity bytes (byte a) y (eval (ops bytes) (elements p) y) (ap byte (h 0 (omega arith)) ∙ byte-zero) (eval-zeros p y (λ k l. h (suc k) (omega arith)))
 
 eval-cut : (n : ℕ) (p : List ℕ) (y : Fin 256) → Zeros p n → eval (ops bytes) (elements p) y ≡ eval (ops bytes) (elements (take n p)) y
 unfolding eval

@@ -1,10 +1,10 @@
 -- The steps of the elimination that finds the locator, on eight rows of sixteen bytes.
 -- Assumes nothing.
-use mathlib.Core.Path.{_≡_, refl, sym, ap, ap₂, _∙_, subst}
+use mathlib.Core.Path.{_≡_, refl, sym, ap, ap₂, _∙_}
 use mathlib.Core.Bool.{true, false}
 use mathlib.Core.List.{List, _++_}
 use mathlib.Core.Logic.{_⊎_, inl, inr}
-use Prim.Native.Nat.{ℕ, suc, _+_, _*_, _<_, _≤_, _/_, _%_, Fin}
+use Prim.Native.Nat.{ℕ, _+_, _*_, _<_, _≤_, _/_, _%_, Fin}
 use native.Mathlib.Omega.{arith}
 use native.Mathlib.Numerals.{add-one}
 use native.Mathlib.Decide.{ℕ-discrete, decLt}
@@ -18,7 +18,7 @@ use Rattle.algebra.proofs.Elimination.{AddRow, MulRow, Units, Reach, Vector, So
 use Rattle.galois.specs.Field256.{numbers, mul, scaled}
 use Rattle.galois.proofs.Instance.{bytes, byte, byte-inj, byte-zero, byte-one, byte-add, byte-mul}
 use Rattle.reed_solomon.proofs.Words.{length-sum, sum-at}
-use Rattle.reed_solomon.specs.Steps.{elements, mat, FirstPivot, Kept, Outcome, Pivoted, Cleared, Eliminated, Filled, SolutionAt, Solution, Located}
+use Rattle.reed_solomon.specs.Steps.{elements, mat, FirstPivot, Kept, Pivoted, Cleared, Eliminated, Filled, SolutionAt, Solution, Located}
 
 -- ---- a row written anew
 

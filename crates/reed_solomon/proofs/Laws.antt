@@ -1,14 +1,12 @@
 -- Laws of decoding for callers: it is total and unique, a codeword decodes to itself, and a block within eight bytes of a codeword decodes to that codeword.
 -- Assumes nothing.
 use mathlib.Core.Path.{_≡_, refl, sym, ap, _∙_, subst}
-use mathlib.Core.List.{List, [], _∷_}
-use Prim.Native.Nat.{ℕ, zero, suc, _+_, _≤_, _<_, Fin}
-use Prim.{tt}
+use mathlib.Core.List.{List}
+use Prim.Native.Nat.{ℕ, zero, suc, _≤_, _<_}
 use native.Mathlib.Decide.{ℕ-discrete, decLe, decLt}
 use native.Mathlib.Nat.{not-suc-le-zero}
 use native.Mathlib.Omega.{arith}
 use lib.ListN.{length}
-use Rattle.common.specs.Lists.{Bytes}
 use Rattle.galois.proofs.Instance.{bytes}
 use Rattle.reed_solomon.specs.Code.{Codeword, differ}
 use Rattle.reed_solomon.specs.Decode.{Accepted, Rejected, Decodes}

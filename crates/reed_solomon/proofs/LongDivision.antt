@@ -1,20 +1,19 @@
 -- Long division by g keeps a block's values at the roots of g: the check bytes make a codeword, and the only one with that message.
 -- Assumes nothing.
-use mathlib.Core.Path.{_≡_, refl, sym, ap, ap₂, _∙_, subst}
-use mathlib.Core.List.{List, [], _∷_, _++_, map, reverse, reverse-cons, reverse-append, reverse-reverse}
-use Prim.Native.Nat.{ℕ, zero, suc, _+_, _≤_, _<_, Fin}
+use mathlib.Core.Path.{_≡_, refl, sym, ap, ap₂, _∙_}
+use mathlib.Core.List.{List, [], _∷_, _++_, reverse, reverse-append, reverse-reverse}
+use Prim.Native.Nat.{ℕ, zero, suc, _+_, _<_, Fin}
 use Prim.{tt}
-use native.Mathlib.Nat.{not-suc-le-zero}
 use native.Mathlib.Omega.{arith}
 use native.Mathlib.Numerals.{add-one}
-use lib.Bits.{bitXor, xor-lt}
+use lib.Bits.{bitXor}
 use lib.Dec.{lit<}
-use lib.ListN.{length, getD, take, drop, replicate, length-map, length-reverse, length-append, length-drop, length-take, take-append-drop, length-replicate}
+use lib.ListN.{length, getD, take, drop, replicate, length-map, length-append, length-drop, take-append-drop}
 use lib.Seq.{take-suc}
-use Rattle.common.specs.Lists.{All, Bytes}
+use Rattle.common.specs.Lists.{Bytes}
 use Rattle.algebra.specs.Field.{Field, ops}
 use Rattle.algebra.specs.Polynomial.{power, eval, plus, scale, product}
-use Rattle.algebra.proofs.Ring.{ring, add-zero, zero-add, mul-zero, mul-one, add-eq-zero, eq-of-add}
+use Rattle.algebra.proofs.Ring.{ring, add-zero, zero-add, mul-zero, add-eq-zero, eq-of-add}
 use Rattle.algebra.proofs.Polynomial.{eval-append}
 use Rattle.galois.specs.Field256.{numbers, mul, rounds, timesX, scaled}
 use Rattle.galois.proofs.Instance.{bytes, byte, byte-zero, byte-one, byte-add, byte-mul}
@@ -22,7 +21,7 @@ use Rattle.reed_solomon.specs.Code.{factors, generator, Codeword, differ
 use Rattle.reed_solomon.specs.Encode.{generatorTail, divided, remainderFrom, checkBytes, encoded}
 use Rattle.reed_solomon.specs.Steps.{elements, word, point}
 use Rattle.reed_solomon.proofs.Words.{length-sum, elements-append, length-word, bytes-append, bytes-drop, bytes-zeros, bytes-plus, bytes-scale}
-use Rattle.reed_solomon.proofs.Codewords.{blockSyndrome, codeword-of, codeword-length, generator-root}
+use Rattle.reed_solomon.proofs.Codewords.{codeword-of, codeword-length, generator-root}
 use Rattle.reed_solomon.proofs.Distance.{same-codeword, differ-append, differ-none, differ-le}
 
 -- ---- identities

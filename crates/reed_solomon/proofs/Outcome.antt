@@ -1,31 +1,27 @@
 -- The decoder's steps put together: what it leaves and answers is what decoding means.
 -- Assumes nothing.
 use mathlib.Core.Path.{_≡_, refl, sym, ap, ap₂, _∙_, subst}
-use mathlib.Core.Bool.{Bool, true, false}
-use mathlib.Core.List.{List, [], _∷_, _++_, map}
-use Prim.Native.Nat.{ℕ, zero, suc, _+_, _-_, _≤_, _<_, Fin}
-use Prim.{tt}
+use mathlib.Core.Bool.{true, false}
+use mathlib.Core.List.{List, [], _∷_}
+use Prim.Native.Nat.{ℕ, _+_, _≤_, _<_, Fin}
 use native.Mathlib.Decide.{decLt, ℕ-discrete}
-use native.Mathlib.Nat.{not-suc-le-zero}
 use native.Mathlib.Omega.{arith}
 use borrow.Author.Tests.{eq-eqb, ne-eqb}
-use lib.Dec.{eqb}
-use lib.ListN.{length, getD, take, drop, length-drop, length-take, length-map, take-append-drop, List·getD-eq-default}
+use lib.ListN.{length, getD, take, drop, length-drop, take-append-drop, List·getD-eq-default}
 use lib.Seq.{length-take-le, getD-take}
-use Rattle.common.specs.Choice.{pick}
 use Rattle.common.specs.Lists.{All, Bytes}
 use Rattle.common.proofs.Choice.{false-true}
 use Rattle.common.proofs.Entries.{bytes-of}
 use Rattle.common.proofs.Lists.{getD-map-in, All-map, All-at}
-use Rattle.algebra.specs.Field.{Field, ops}
-use Rattle.algebra.specs.Polynomial.{power, eval}
+use Rattle.algebra.specs.Field.{ops}
+use Rattle.algebra.specs.Polynomial.{power}
 use Rattle.algebra.proofs.Ring.{add-comm, add-self, zero-add, mul-zero}
 use Rattle.algebra.proofs.Syndromes.{syndrome}
 use Rattle.galois.proofs.Instance.{bytes, byte, byte-zero}
 use Rattle.reed_solomon.specs.Code.{Codeword, differ}
 use Rattle.reed_solomon.specs.Encode.{checkBytes}
 use Rattle.reed_solomon.specs.Decode.{Accepted, Rejected}
-use Rattle.reed_solomon.specs.Steps.{point, word, residueOf, allZero, Powers, SyndromesOf, Located, Evaluated, zerosOf, FoundRoots, RootProduct, errorValue, ErrorValues, termsOf, Explains, Explained, correctedBy, changedIn}
+use Rattle.reed_solomon.specs.Steps.{point, residueOf, allZero, Powers, SyndromesOf, Located, Evaluated, zerosOf, FoundRoots, RootProduct, errorValue, ErrorValues, termsOf, Explained, correctedBy, changedIn}
 use Rattle.reed_solomon.proofs.Codewords.{blockSyndrome, codeword-of, generator-root}
 use Rattle.reed_solomon.proofs.Distance.{differ-none, accepted}
 use Rattle.reed_solomon.proofs.LongDivision.{high, high-nil, high-cons, high-append, high-plus, high-check, check-remainder}

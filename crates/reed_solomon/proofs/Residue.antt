@@ -1,15 +1,15 @@
 -- The residue of a block has its values at the roots of g, so that a block with residue zero is a codeword.
 -- Assumes nothing.
-use mathlib.Core.Path.{_≡_, refl, sym, ap, ap₂, _∙_}
+use mathlib.Core.Path.{_≡_, refl, sym, ap, _∙_}
 use mathlib.Core.Bool.{true, false}
-use mathlib.Core.List.{List, [], _∷_, _++_}
+use mathlib.Core.List.{List, [], _∷_}
 use Prim.Native.Nat.{ℕ, zero, suc, _+_, _≤_, _<_, Fin}
 use native.Mathlib.Numerals.{add-one}
 use native.Mathlib.Omega.{arith}
 use borrow.Author.Tests.{eq-eqb, ne-eqb}
 use lib.ListN.{length, getD, take, drop, replicate, drop-of-length-le}
 use lib.Seq.{drop-cons, take-suc, take-all}
-use Rattle.algebra.specs.Field.{Field, ops}
+use Rattle.algebra.specs.Field.{Field}
 use Rattle.algebra.specs.Polynomial.{power}
 use Rattle.algebra.proofs.Ring.{ring}
 use Rattle.galois.specs.Field256.{mul}

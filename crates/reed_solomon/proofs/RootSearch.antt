@@ -4,23 +4,23 @@ use mathlib.Core.Path.{_≡_, refl, sym, ap, ap₂, _∙_, subst}
 use mathlib.Core.List.{List, [], _∷_, _++_, map, append-assoc, append-nil}
 use Prim.Native.Nat.{ℕ, zero, suc, _+_, _-_, _≤_, _<_, Fin}
 use Prim.{tt}
-use native.Mathlib.Nat.{zero-add, add-zero, add-suc, suc-add, not-suc-le-zero, le-of-suc-le-suc}
+use native.Mathlib.Nat.{zero-add, add-zero}
 use native.Mathlib.Numerals.{add-one}
+use native.Mathlib.Decide.{ℕ-discrete}
 use native.Mathlib.Omega.{arith}
 use borrow.Author.Tests.{eq-eqb, ne-eqb}
 use lib.Bits.{xor-lt}
 use lib.Dec.{eqb, lit<}
-use lib.ListN.{length, getD, take, drop, set, replicate, length-append, length-take, length-map, length-set, drop-of-length-le}
-use lib.Seq.{drop-cons, take-suc, take-suc-set, length-take-le}
+use lib.ListN.{length, getD, take, drop, set, replicate, length-append, length-set, List·getD-eq-default}
+use lib.Seq.{drop-cons, getD-drop, take-suc, take-suc-set, length-take-le}
 use Rattle.common.specs.Choice.{pick}
-use Rattle.common.specs.Lists.{All}
 use Rattle.algebra.specs.Field.{ops}
 use Rattle.algebra.specs.Polynomial.{eval}
-use Rattle.algebra.proofs.Ring.{add-comm}
-use Rattle.galois.specs.Field256.{mul, pow}
+use Rattle.algebra.proofs.Ring.{add-comm, zero-add as field-zero-add, mul-zero as field-mul-zero}
+use Rattle.galois.specs.Field256.{mul}
 use Rattle.galois.proofs.Laws.{mul-lt}
-use Rattle.galois.proofs.Instance.{bytes, byte, byte-zero, byte-power}
-use Rattle.reed_solomon.specs.Steps.{elements, point, Powers, Advanced, Evaluated, zerosFrom, zerosOf, FoundRoots}
+use Rattle.galois.proofs.Instance.{bytes, byte, byte-zero}
+use Rattle.reed_solomon.specs.Steps.{elements, point, Powers, Advanced, EndsAt, Evaluated, zerosFrom, zerosOf, FoundRoots}
 use Rattle.reed_solomon.proofs.Residue.{zeros-at, advanced}
 
 -- ---- the values
@@ -33,14 +33,32 @@ eval-from l k y h =
     ap (λ (m : List ℕ). eval (ops bytes) (elements m) y) (drop-cons l k 0 h)
     ∙ ap (λ (n : ℕ). bytes .add (byte (getD l k 0)) (bytes .mul y (eval (ops bytes) (elements (drop n l)) y))) (sym (add-one k))
 
-eval-nothing : (l : List ℕ) (k : ℕ) (y : Fin 256) → length l ≤ k → eval (ops bytes) (elements (drop k l)) y ≡ bytes .𝟘
-unfolding eval
-eval-nothing l k y h = ap (λ (m : List ℕ). eval (ops bytes) (elements m) y) (drop-of-length-le l {i = k} h)
+-- coefficients that are zero from place n on
+abbrev pub Zeros : List ℕ → ℕ → Type 0
+Zeros p n = (k : ℕ) → n ≤ k → getD p k 0 ≡ 0
 
-pub evaluated-none : (q : List ℕ) → length q ≡ 9 → Evaluated (drop 9 q) (replicate 208 0)
-evaluated-none q n =
+pub eval-zeros : (p : List ℕ) (y : Fin 256) → Zeros p 0 → eval (ops bytes) (elements p) y ≡ bytes .𝟘
+unfolding eval
+eval-zeros [] y h = refl
+eval-zeros (a ∷ p) y h =
+    ap₂ (λ (u v : Fin 256). bytes .add u (bytes .mul y v)) (ap byte (h 0 (omega arith)) ∙ byte-zero) (eval-zeros p y (λ k l. h (suc k) (omega arith)))
+    ∙ field-zero-add bytes (bytes .mul y (bytes .𝟘)) ∙ field-mul-zero bytes y
+
+-- the search for the last coefficient that is not zero
+pub ends-none : (q : List ℕ) → length q ≡ 9 → EndsAt q 9
+ends-none q n = record { most = omega arith; zeros = λ i h. List·getD-eq-default q 0 {n = i} (omega arith) }
+
+pub ends-less : (q : List ℕ) (k : ℕ) → 0 < k → getD q (k - 1) 0 ≡ 0 → EndsAt q k → EndsAt q (k - 1)
+ends-less q k h z e = record { most = omega (arith, e .most); zeros = λ i l. go i l (ℕ-discrete i (k - 1)) }
+  where
+    go : (i : ℕ) → k - 1 ≤ i → Dec (i ≡ k - 1) → getD q i 0 ≡ 0
+    go i l (yes p) = ap (λ (j : ℕ). getD q j 0) p ∙ z
+    go i l (no p) = e .zeros i (omega arith)
+
+pub evaluated-none : (q : List ℕ) (k : ℕ) → EndsAt q k → Evaluated (drop k q) (replicate 208 0)
+evaluated-none q k n =
     record {
-      each = λ i h. ap byte (zeros-at 208 i) ∙ byte-zero ∙ sym (eval-nothing q 9 (point i) (omega arith));
+      each = λ i h. ap byte (zeros-at 208 i) ∙ byte-zero ∙ sym (eval-zeros (drop k q) (point i) (λ j l. getD-drop k q j 0 ∙ n .zeros (k + j) (omega arith)));
       small = λ i h. subst (λ (k : ℕ). k < 256) (sym (zeros-at 208 i)) (lit< tt);
     }
 

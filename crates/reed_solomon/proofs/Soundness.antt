@@ -1,27 +1,25 @@
 -- What the decoder leaves: the errors taken away change the block's values at the roots by the syndromes of the errors, and its bytes where an error is not zero.
 -- Assumes nothing.
-use mathlib.Core.Path.{_≡_, refl, sym, ap, ap₂, _∙_, subst}
-use mathlib.Core.List.{List, [], _∷_, _++_, map}
+use mathlib.Core.Path.{_≡_, refl, sym, ap, ap₂, _∙_}
+use mathlib.Core.List.{List, [], _∷_, map}
 use Prim.Native.Nat.{ℕ, zero, suc, _+_, _-_, _≤_, _<_, Fin}
 use Prim.{tt}
-use native.Mathlib.Decide.{ℕ-discrete, decLt}
-use native.Mathlib.Nat.{add-zero, zero-add, not-suc-le-zero, le-of-suc-le-suc}
+use native.Mathlib.Decide.{ℕ-discrete}
+use native.Mathlib.Nat.{not-suc-le-zero, le-of-suc-le-suc}
 use native.Mathlib.Omega.{arith}
-use borrow.Author.Tests.{eq-eqb, ne-eqb}
+use borrow.Author.Tests.{eq-eqb}
 use lib.Bits.{bitXor, xor-lt, xor-comm, xor-zero-r, xor-self}
-use lib.Dec.{eqb}
-use lib.ListN.{length, getD, take, drop, set, length-set, length-map}
-use lib.Seq.{getD-set-other, length-take-le}
-use Rattle.common.specs.Choice.{pick}
+use lib.ListN.{length, getD, take, set, length-set}
+use lib.Seq.{getD-set-other}
 use Rattle.common.specs.Lists.{All, Bytes}
 use Rattle.common.proofs.Xor.{xor-undo}
 use Rattle.algebra.specs.Field.{Field, ops}
 use Rattle.algebra.specs.Polynomial.{power}
 use Rattle.common.proofs.Lists.{All-at}
 use Rattle.algebra.proofs.Lists.{Away, Distinct}
-use Rattle.algebra.proofs.Ring.{ring, zero-mul, zero-add as field-zero-add, add-zero as field-add-zero}
+use Rattle.algebra.proofs.Ring.{ring, zero-mul, add-zero as field-add-zero}
 use Rattle.algebra.proofs.Syndromes.{Term, syndrome}
-use Rattle.algebra.proofs.Decoding.{power-swap}
+use Rattle.algebra.proofs.Terms.{power-swap}
 use Rattle.galois.proofs.Instance.{bytes, byte, byte-zero, byte-add, byte-power}
 use Rattle.reed_solomon.specs.Code.{differ}
 use Rattle.reed_solomon.specs.Steps.{point, Powers, termsOf, correctedBy, changedIn}

@@ -1,18 +1,18 @@
 -- Lists of numbers as lists over the field of bytes.
 -- Assumes nothing.
 use mathlib.Core.Path.{_≡_, refl, sym, ap, ap₂, _∙_}
-use mathlib.Core.List.{List, [], _∷_, _++_, map, reverse, reverse-cons, reverse-reverse}
-use Prim.Native.Nat.{ℕ, zero, suc, _<_, Fin}
+use mathlib.Core.List.{List, [], _∷_, _++_, map, reverse, reverse-cons}
+use Prim.Native.Nat.{ℕ, zero, suc, Fin}
 use Prim.{tt}
 use native.Mathlib.Omega.{arith}
 use lib.Bits.{bitXor, xor-lt}
 use lib.Dec.{lit<}
 use lib.ListN.{length, getD, take, drop, replicate, length-map, length-reverse}
-use Rattle.common.specs.Lists.{All, Bytes}
-use Rattle.algebra.specs.Field.{Field, ops}
+use Rattle.common.specs.Lists.{Bytes}
+use Rattle.algebra.specs.Field.{ops}
 use Rattle.algebra.specs.Polynomial.{plus, scale, product}
 use Rattle.algebra.proofs.Homomorphism as Hom
-use Rattle.galois.specs.Field256.{numbers, mul}
+use Rattle.galois.specs.Field256.{numbers}
 use Rattle.galois.proofs.Laws.{mul-lt}
 use Rattle.reed_solomon.specs.Steps.{elements, word}
 use Rattle.galois.proofs.Instance.{bytes, byte, byte-inj, byte-of, byte-zero, byte-add, byte-mul}

@@ -1,9 +1,8 @@
 -- What the list of a list's zeros holds.
 -- Assumes nothing.
 use mathlib.Core.Path.{_≡_, refl, sym, ap, ap₂, _∙_, subst}
-use mathlib.Core.Bool.{Bool, true, false}
 use mathlib.Core.List.{List, [], _∷_, _++_, map}
-use Prim.Native.Nat.{ℕ, zero, suc, _+_, _-_, _≤_, _<_, Fin}
+use Prim.Native.Nat.{ℕ, zero, suc, _+_, _≤_, _<_, Fin}
 use Prim.{tt}
 use native.Mathlib.Decide.{ℕ-discrete}
 use native.Mathlib.Nat.{add-zero, not-suc-le-zero}
@@ -18,8 +17,8 @@ use Rattle.algebra.specs.Field.{ops}
 use Rattle.algebra.specs.Polynomial.{power}
 use Rattle.algebra.proofs.Lists.{Away, Distinct}
 use Rattle.algebra.proofs.Ring.{mul-comm, zero-mul, zero-add}
-use Rattle.algebra.proofs.Syndromes.{Term, syndrome}
-use Rattle.algebra.proofs.Decoding.{terms}
+use Rattle.algebra.proofs.Syndromes.{syndrome}
+use Rattle.algebra.proofs.Terms.{terms}
 use Rattle.galois.proofs.Instance.{bytes, byte}
 use Rattle.reed_solomon.specs.Steps.{point, zerosFrom}
 

@@ -3,7 +3,7 @@
 use mathlib.Core.Path.{_≡_}
 use mathlib.Core.Bool.{Bool, true, false}
 use mathlib.Core.List.{List, [], _∷_, _++_, map, reverse}
-use Prim.Native.Nat.{ℕ, zero, suc, _+_, _-_, _*_, _≤_, _<_, Fin}
+use Prim.Native.Nat.{ℕ, _+_, _-_, _*_, _≤_, _<_, Fin}
 use lib.Bits.{bitXor}
 use lib.Dec.{eqb}
 use lib.ListN.{length, getD, take, drop, set}
@@ -116,6 +116,11 @@ pub record Located (s q : List ℕ) : Type 0 where
   pub equations : (j : ℕ) → j < 8 → dot bytes (elements q) (λ i. byte (getD s (j + i) 0)) ≡ bytes .𝟘
 
 -- ---- the errors
+
+-- the coefficients from k on are zero
+pub record EndsAt (q : List ℕ) (k : ℕ) : Type 0 where
+  pub most : k ≤ 9
+  pub zeros : (i : ℕ) → k ≤ i → getD q i 0 ≡ 0
 
 -- the values of a polynomial at the first 208 powers of 02
 pub record Evaluated (q v : List ℕ) : Type 0 where

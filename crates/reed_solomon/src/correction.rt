@@ -4,7 +4,7 @@ ghost use mathlib.Core.List.{_∷_};
 ghost use Prim.Native.Nat.{ℕ, _<_, _≤_};
 ghost use lib.ListN.{length, getD, take};
 ghost use Rattle.galois.proofs.Instance.{byte};
-ghost use Rattle.reed_solomon.specs.Steps.{Powers, Advanced, Evaluated, zerosOf, FoundRoots, RootProduct, errorValue, ErrorValues, sumOf, productsOf, Explained, correctedBy, changedIn};
+ghost use Rattle.reed_solomon.specs.Steps.{Powers, Advanced, EndsAt, Evaluated, zerosOf, FoundRoots, RootProduct, errorValue, ErrorValues, sumOf, productsOf, Explained, correctedBy, changedIn};
 use crate::division;
 
 // The degrees at which the locator vanishes, in order, their places, and how many they are. The places after them are zero.
@@ -26,13 +26,27 @@ fn advance(v: &mut [u8], x: &[u8; 208], c: u8)
     }
 }
 
+// How many coefficients of the locator count: those from there on are zero.
+fn coefficients(q: [u8; 9]) -> usize
+    ensures { λ r. ⌜ EndsAt q r ⌝ }
+{
+    let mut k: usize = 9;
+    while 0 < k {
+        if q[k - 1] != 0 {
+            return k;
+        }
+        k -= 1;
+    }
+    k
+}
+
 // The values of the locator at every place.
 pub fn evaluate(q: [u8; 9], x: &[u8; 208]) -> [u8; 208]
     requires { ⌜ Powers (now x) ⌝ }
     ensures { λ r. ⌜ Evaluated q r ⌝ }
 {
     let mut v = [0u8; 208];
-    let mut k: usize = 9;
+    let mut k = coefficients(q);
     while 0 < k {
         k -= 1;
         advance(&mut v, x, q[k]);

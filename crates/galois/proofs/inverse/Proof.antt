@@ -1,7 +1,7 @@
 -- `galois::inverse` meets its contract: each product is the power of a that its name says.
 -- Assumes nothing.
 use mathlib.Core.Path.{_≡_, sym, _∙_}
-use Prim.Native.Nat.{ℕ, _<_}
+use Prim.Native.Nat.{ℕ}
 use native.Mathlib.Omega.{arith}
 use borrow.Author.Needs.{needs}
 use Rattle.galois.specs.Field256.{pow, inv}

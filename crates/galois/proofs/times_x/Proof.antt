@@ -1,6 +1,6 @@
 -- `galois::times_x` meets its contract: the code's expression and `timesX` agree at each of the 256 bytes, by computation.
 -- Assumes nothing.
-use Prim.Native.Nat.{ℕ, _*_, _/_, _%_, _<_}
+use Prim.Native.Nat.{_*_, _/_, _%_}
 use lib.Bits.{bitXor}
 use native.Mathlib.Omega.{arith}
 use borrow.Author.Needs.{needs}

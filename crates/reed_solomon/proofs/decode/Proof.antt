@@ -7,11 +7,6 @@ use Rattle.reed_solomon.proofs.Outcome.{clean}
 use borrow.Author.Needs.{needs}
 use Rattle.reed_solomon.proofs.decode.Statement.{statement}
 use Rattle.reed_solomon.proofs.decode.Tie as tie
-use Rattle.reed_solomon.proofs.decode.Reads as reads
-use Rattle.reed_solomon.proofs.decode.Lts as lts
-use Rattle.reed_solomon.proofs.division.is_zero.Reads as is-zero-reads
-use Rattle.reed_solomon.proofs.division.residue.Reads as residue-reads
-use Rattle.reed_solomon.proofs.repair.Reads as repair-reads
 
 returns : tie.Need-returns
 returns c = search needs

@@ -1,6 +1,6 @@
 -- `reed_solomon::encode` meets its contract.
 -- Assumes nothing.
-use mathlib.Core.Path.{_≡_, refl, sym, ap, ap₂, _∙_}
+use mathlib.Core.Path.{_≡_, refl, ap, ap₂, _∙_}
 use mathlib.Core.List.{List, _++_}
 use Prim.Native.Nat.{ℕ, _+_}
 use native.Mathlib.Omega.{arith}
@@ -14,10 +14,6 @@ use Rattle.reed_solomon.proofs.LongDivision.{check-remainder}
 use borrow.Author.Needs.{needs}
 use Rattle.reed_solomon.proofs.encode.Statement.{statement}
 use Rattle.reed_solomon.proofs.encode.Tie as tie
-use Rattle.reed_solomon.proofs.encode.Reads as reads
-use Rattle.reed_solomon.proofs.encode.Lts as lts
-use Rattle.reed_solomon.proofs.division.check_bytes.Reads as check-bytes-reads
-use Rattle.reed_solomon.proofs.division.put.Reads as put-reads
 
 -- the two parts, one after the other
 written : (m room first check : List ℕ) → length m ≡ 188 → check ≡ checkBytes m → first ≡ take 0 room ++ m ++ drop (0 + length m) room

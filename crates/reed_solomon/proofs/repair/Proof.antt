@@ -1,10 +1,9 @@
 -- `repair` meets its contract: each step gives what the theorems of the decoder ask of it.
 -- Assumes nothing.
-use mathlib.Core.Path.{_≡_, refl, sym, ap, _∙_, subst}
-use mathlib.Core.List.{List}
-use Prim.Native.Nat.{ℕ, _≤_, _<_}
+use mathlib.Core.Path.{subst}
+use Prim.Native.Nat.{_≤_}
 use native.Mathlib.Omega.{arith}
-use lib.ListN.{length, getD, take}
+use lib.ListN.{length}
 use Rattle.common.proofs.Choice.{flag-false, flag-true}
 use Rattle.reed_solomon.specs.Steps.{SyndromesOf, zerosOf, Explained}
 use Rattle.reed_solomon.proofs.Completeness.{roots-few}
@@ -13,17 +12,6 @@ use Rattle.reed_solomon.proofs.Outcome.{Decoding, rejected, repaired, d
 use borrow.Author.Needs.{needs}
 use Rattle.reed_solomon.proofs.repair.Statement.{statement}
 use Rattle.reed_solomon.proofs.repair.Tie as tie
-use Rattle.reed_solomon.proofs.repair.Reads as reads
-use Rattle.reed_solomon.proofs.repair.Lts as lts
-use Rattle.reed_solomon.proofs.correction.correct.Reads as correct-reads
-use Rattle.reed_solomon.proofs.correction.error_values.Reads as error-values-reads
-use Rattle.reed_solomon.proofs.correction.evaluate.Reads as evaluate-reads
-use Rattle.reed_solomon.proofs.correction.explains.Reads as explains-reads
-use Rattle.reed_solomon.proofs.correction.find_roots.Reads as find-roots-reads
-use Rattle.reed_solomon.proofs.correction.root_product.Reads as root-product-reads
-use Rattle.reed_solomon.proofs.locator.locator.Reads as locator-reads
-use Rattle.reed_solomon.proofs.syndromes.powers.Reads as powers-reads
-use Rattle.reed_solomon.proofs.syndromes.syndromes.Reads as syndromes-reads
 
 -- the locator has at most eight roots
 few-roots : (c : tie.After-evaluate) → length (zerosOf (c .evaluate .result)) ≤ 8

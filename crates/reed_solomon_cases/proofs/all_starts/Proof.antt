@@ -1,9 +1,6 @@
 -- `all_starts` ends.
 -- Assumes nothing.
-use mathlib.Core.Path.{_≡_, refl, sym, _∙_}
-use Prim.Native.Nat.{_-_, _≤_, _<_}
-use native.Mathlib.Omega.{arith}
-use lib.ListN.{length, length-set}
+use Prim.Native.Nat.{_-_, _≤_}
 use borrow.Author.Needs.{needs}
 use Rattle.reed_solomon_cases.proofs.all_starts.Statement.{statement}
 use Rattle.reed_solomon_cases.proofs.all_starts.Tie as tie

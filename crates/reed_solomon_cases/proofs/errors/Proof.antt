@@ -1,9 +1,6 @@
 -- `errors` ends.
 -- Assumes nothing.
-use mathlib.Core.Path.{_≡_, refl, sym, _∙_}
-use Prim.Native.Nat.{_-_, _≤_, _<_}
-use native.Mathlib.Omega.{arith}
-use lib.ListN.{length, length-set}
+use Prim.Native.Nat.{_-_, _≤_}
 use borrow.Author.Needs.{needs}
 use Rattle.reed_solomon_cases.proofs.errors.Statement.{statement}
 use Rattle.reed_solomon_cases.proofs.errors.Tie as tie

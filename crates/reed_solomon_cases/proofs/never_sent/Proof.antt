@@ -1,9 +1,8 @@
 -- `never_sent` stays in the block.
 -- Assumes nothing.
-use mathlib.Core.Path.{_≡_, refl, sym, _∙_}
-use Prim.Native.Nat.{_-_, _≤_, _<_}
-use native.Mathlib.Omega.{arith}
-use lib.ListN.{length, length-set}
+use mathlib.Core.Path.{_≡_}
+use Prim.Native.Nat.{_-_, _≤_}
+use lib.ListN.{length}
 use borrow.Author.Needs.{needs}
 use Rattle.reed_solomon_cases.proofs.never_sent.Statement.{statement}
 use Rattle.reed_solomon_cases.proofs.never_sent.Tie as tie

@@ -1,16 +1,13 @@
 -- `correction::correct` meets its contract: the errors from l on are left to do.
 -- Assumes nothing.
-use mathlib.Core.Path.{_≡_, refl, sym, ap, _∙_, subst}
+use mathlib.Core.Path.{sym, subst}
 use mathlib.Core.Logic.{⊎-elim}
-use Prim.Native.Nat.{ℕ, _+_, _-_, _≤_, _<_}
+use Prim.Native.Nat.{_+_, _-_}
 use native.Mathlib.Omega.{arith}
-use lib.ListN.{length}
 use Rattle.reed_solomon.proofs.ErrorTerms.{Correcting, correcting-none, changed-fits, fixed, correcting-same, correcting-more, correcting-count, correcting-block}
 use borrow.Author.Needs.{needs}
 use Rattle.reed_solomon.proofs.correction.correct.Statement.{statement}
 use Rattle.reed_solomon.proofs.correction.correct.Tie as tie
-use Rattle.reed_solomon.proofs.correction.correct.Reads as reads
-use Rattle.reed_solomon.proofs.correction.correct.Lts as lts
 
 abbrev Inv-loop : tie.InvT-loop
 Inv-loop block₀ count degrees values changed₀ l₀ block changed l = Correcting block₀ block degrees values count changed l

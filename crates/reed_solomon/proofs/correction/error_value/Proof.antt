@@ -1,19 +1,10 @@
 -- `correction::error_value` meets its contract: the sums run over the coefficients of the quotient from k on.
 -- Assumes nothing.
-use mathlib.Core.Path.{_≡_, refl, sym, ap, ap₂, _∙_, subst}
-use Prim.Native.Nat.{ℕ, _-_, _≤_}
-use native.Mathlib.Omega.{arith}
-use lib.Bits.{bitXor}
-use lib.ListN.{length, getD}
 use Rattle.galois.specs.Field256.{mul}
 use Rattle.reed_solomon.proofs.ErrorValues.{Summed, summed-none, summed-step, summed-all}
 use borrow.Author.Needs.{needs}
 use Rattle.reed_solomon.proofs.correction.error_value.Statement.{statement}
 use Rattle.reed_solomon.proofs.correction.error_value.Tie as tie
-use Rattle.reed_solomon.proofs.correction.error_value.Reads as reads
-use Rattle.reed_solomon.proofs.correction.error_value.Lts as lts
-use Rattle.galois.proofs.inverse.Reads as inverse-reads
-use Rattle.galois.proofs.mul.Reads as mul-reads
 
 abbrev Inv-loop : tie.InvT-loop
 Inv-loop y p s coefficient₀ numerator₀ denominator₀ k₀ coefficient numerator denominator k = Summed p s y coefficient numerator denominator k

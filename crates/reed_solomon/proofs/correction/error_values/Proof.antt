@@ -1,7 +1,7 @@
 -- `correction::error_values` meets its contract: the values of the first l errors are stored.
 -- Assumes nothing.
-use mathlib.Core.Path.{_≡_, refl, sym, ap, _∙_}
-use Prim.Native.Nat.{ℕ, _-_, _≤_, _<_}
+use mathlib.Core.Path.{_≡_, _∙_}
+use Prim.Native.Nat.{_-_, _≤_, _<_}
 use native.Mathlib.Omega.{arith}
 use lib.ListN.{getD}
 use Rattle.common.proofs.Each.{Updated, updated-none, updated-more}
@@ -11,9 +11,6 @@ use Rattle.reed_solomon.proofs.Residue.{zeros-at}
 use borrow.Author.Needs.{needs}
 use Rattle.reed_solomon.proofs.correction.error_values.Statement.{statement}
 use Rattle.reed_solomon.proofs.correction.error_values.Tie as tie
-use Rattle.reed_solomon.proofs.correction.error_values.Reads as reads
-use Rattle.reed_solomon.proofs.correction.error_values.Lts as lts
-use Rattle.reed_solomon.proofs.correction.error_value.Reads as error-value-reads
 
 abbrev Inv-loop : tie.InvT-loop
 Inv-loop p s count places e₀ l₀ e l = (l ≤ count) × Updated (λ k v. (byte v ≡ errorValue p s (getD places k 0)) × (v < 256)) e₀ e l

@@ -1,17 +1,13 @@
 -- `correction::evaluate` meets its contract: v has the values of the coefficients from k on.
 -- Assumes nothing.
-use mathlib.Core.Path.{_≡_, refl, sym, ap, _∙_}
-use Prim.Native.Nat.{ℕ, _-_, _≤_}
-use native.Mathlib.Omega.{arith}
+use mathlib.Core.Path.{_≡_, refl, _∙_}
+use Prim.Native.Nat.{_≤_}
 use lib.ListN.{length, drop}
 use Rattle.reed_solomon.specs.Steps.{Evaluated}
 use Rattle.reed_solomon.proofs.RootSearch.{evaluated-none, evaluated-more, evaluated-all}
 use borrow.Author.Needs.{needs}
 use Rattle.reed_solomon.proofs.correction.evaluate.Statement.{statement}
 use Rattle.reed_solomon.proofs.correction.evaluate.Tie as tie
-use Rattle.reed_solomon.proofs.correction.evaluate.Reads as reads
-use Rattle.reed_solomon.proofs.correction.evaluate.Lts as lts
-use Rattle.reed_solomon.proofs.correction.advance.Reads as advance-reads
 
 abbrev Inv-loop : tie.InvT-loop
 Inv-loop x q v₀ k₀ v k = (k ≤ 9) × (length v ≡ 208) × Evaluated (drop k q) v
@@ -19,8 +15,11 @@ Inv-loop x q v₀ k₀ v k = (k ≤ 9) × (length v ≡ 208) × Evaluated (drop 
 abbrev μ-loop : tie.MeasureT-loop
 μ-loop x q v₀ k₀ v k = k
 
+coefficients-requires : tie.Need-coefficients-requires Inv-loop μ-loop
+coefficients-requires c κs = search needs
+
 loop-holds : tie.Need-loop-holds Inv-loop μ-loop
-loop-holds c = (search needs, refl, evaluated-none (c .args .t1) (c .good .0 .1 .0 .1))
+loop-holds c = (c .coefficients .ensures .most, refl, evaluated-none _ _ (c .coefficients .ensures))
 
 sub-k : tie.Need-sub-k Inv-loop μ-loop
 sub-k c = search needs
@@ -40,13 +39,13 @@ loop-less c = search needs
 loop-again : tie.Need-loop-again Inv-loop μ-loop
 loop-again c =
     let l = c .before .before .before .before .loop in
-    let s = c .before .before .before .before .before in
+    let s = c .before .before .before .before .before .before in
     (search needs, c .before .advance .kept .0 ∙ l .inv .1, evaluated-more _ (s .args .t1) (l .k) _ _ (s .good .0 .1 .0 .1) (search needs) (search needs) (s .pre) (l .inv .2) (c .before .advance .ensures))
 
 returns : tie.Need-returns Inv-loop μ-loop
 returns c =
     let l = c .before .loop in
-    evaluated-all (c .before .before .args .t1) (l .k) _ (search needs) (l .inv .2)
+    evaluated-all (c .before .before .before .args .t1) (l .k) _ (search needs) (l .inv .2)
 
 pub evaluate-spec : {M : Type 1} → statement M
 evaluate-spec =
@@ -54,6 +53,7 @@ evaluate-spec =
     (tie.spec
     Inv-loop
     μ-loop
+    coefficients-requires
     loop-holds
     sub-k
     slice-aggregate-advance

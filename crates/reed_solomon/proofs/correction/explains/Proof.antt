@@ -1,16 +1,11 @@
 -- `correction::explains` meets its contract: the first j syndromes agree.
 -- Assumes nothing.
-use mathlib.Core.Path.{_≡_, refl, sym, _∙_}
 use Prim.Native.Nat.{_-_}
 use native.Mathlib.Omega.{arith}
 use Rattle.reed_solomon.proofs.ErrorTerms.{Compared, compared-none, compared-more, compared-stop, compared-all}
 use borrow.Author.Needs.{needs}
 use Rattle.reed_solomon.proofs.correction.explains.Statement.{statement}
 use Rattle.reed_solomon.proofs.correction.explains.Tie as tie
-use Rattle.reed_solomon.proofs.correction.explains.Reads as reads
-use Rattle.reed_solomon.proofs.correction.explains.Lts as lts
-use Rattle.reed_solomon.proofs.correction.products.Reads as products-reads
-use Rattle.reed_solomon.proofs.correction.total.Reads as total-reads
 
 abbrev Inv-loop : tie.InvT-loop
 Inv-loop places s w₀ j₀ w j = Compared places w₀ s w j

@@ -1,15 +1,12 @@
 -- `correction::find_roots` meets its contract: the zeros among the first i values are listed.
 -- Assumes nothing.
-use mathlib.Core.Path.{refl}
 use mathlib.Core.Logic.{⊎-elim}
-use Prim.Native.Nat.{ℕ, _-_, _≤_}
+use Prim.Native.Nat.{_-_, _≤_}
 use native.Mathlib.Omega.{arith}
 use Rattle.reed_solomon.proofs.RootSearch.{Searched, searched-none, searched-room, searched-skip, searched-more, searched-all, searched-as}
 use borrow.Author.Needs.{needs}
 use Rattle.reed_solomon.proofs.correction.find_roots.Statement.{statement}
 use Rattle.reed_solomon.proofs.correction.find_roots.Tie as tie
-use Rattle.reed_solomon.proofs.correction.find_roots.Reads as reads
-use Rattle.reed_solomon.proofs.correction.find_roots.Lts as lts
 
 abbrev Inv-loop : tie.InvT-loop
 Inv-loop v x degrees₀ places₀ count₀ i₀ degrees places count i = Searched v x degrees places count i

@@ -1,11 +1,11 @@
 -- `correction::raised` meets its contract: after j turns the first j coefficients are moved.
 -- Assumes nothing.
-use mathlib.Core.Path.{_≡_, refl, sym, ap, _∙_}
-use mathlib.Core.List.{_∷_, [], _++_, append-nil}
-use Prim.Native.Nat.{ℕ, _+_, _-_}
+use mathlib.Core.Path.{_≡_, sym, _∙_}
+use mathlib.Core.List.{_∷_, append-nil}
+use Prim.Native.Nat.{_-_}
 use native.Mathlib.Nat.{add-comm}
 use native.Mathlib.Omega.{arith}
-use lib.ListN.{length, getD, take}
+use lib.ListN.{length, take}
 use lib.Seq.{length-take-le, getD-take}
 use Rattle.common.proofs.Written.{Written, written-none, written-more, written-all}
 use borrow.Author.Needs.{needs}

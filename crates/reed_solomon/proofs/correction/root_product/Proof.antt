@@ -1,10 +1,10 @@
 -- `correction::root_product` meets its contract: p is the product over the places from l on.
 -- Assumes nothing.
-use mathlib.Core.Path.{_≡_, refl, sym, ap, ap₂, _∙_, subst}
-use mathlib.Core.List.{List, _∷_}
+use mathlib.Core.Path.{_≡_, sym, ap, ap₂, _∙_, subst}
+use mathlib.Core.List.{List}
 use Prim.Native.Nat.{ℕ, _-_, _≤_}
 use native.Mathlib.Omega.{arith}
-use lib.ListN.{length, getD, take}
+use lib.ListN.{length, take}
 use lib.Seq.{length-take-le, getD-take}
 use Rattle.algebra.specs.Polynomial.{plus}
 use Rattle.galois.specs.Field256.{numbers, scaled}
@@ -12,11 +12,6 @@ use Rattle.reed_solomon.proofs.ErrorValues.{Multiplied, multiplied-none
 use borrow.Author.Needs.{needs}
 use Rattle.reed_solomon.proofs.correction.root_product.Statement.{statement}
 use Rattle.reed_solomon.proofs.correction.root_product.Tie as tie
-use Rattle.reed_solomon.proofs.correction.root_product.Reads as reads
-use Rattle.reed_solomon.proofs.correction.root_product.Lts as lts
-use Rattle.galois.proofs.scale.Reads as scale-reads
-use Rattle.reed_solomon.proofs.correction.raised.Reads as raised-reads
-use Rattle.reed_solomon.proofs.division.sum.Reads as sum-reads
 
 abbrev Inv-loop : tie.InvT-loop
 Inv-loop count places p₀ l₀ p l = (l ≤ count) × Multiplied (take count places) p l

@@ -1,10 +1,9 @@
 -- `division::check_bytes` meets its contract: after i turns r is the remainder of the first i bytes.
 -- Assumes nothing.
-use mathlib.Core.Path.{_≡_, refl, sym, ap, _∙_}
-use Prim.Native.Nat.{ℕ, _+_, _-_, _≤_}
+use mathlib.Core.Path.{_≡_, refl, _∙_}
+use Prim.Native.Nat.{_-_, _≤_}
 use native.Mathlib.Omega.{arith}
-use native.Mathlib.Numerals.{add-one}
-use lib.ListN.{length, take, replicate}
+use lib.ListN.{take}
 use Rattle.reed_solomon.specs.Encode.{remainderFrom, checkBytes}
 use Rattle.reed_solomon.proofs.LongDivision.{check-more}
 use borrow.Author.Needs.{needs}

@@ -1,9 +1,8 @@
 -- `division::is_zero` meets its contract: the bytes below j are zero, so that what is left decides.
 -- Assumes nothing.
-use mathlib.Core.Path.{_≡_, refl, sym, ap, _∙_}
-use Prim.Native.Nat.{ℕ, _-_, _≤_, _<_, _+_}
-use native.Mathlib.Omega.{arith}
-use lib.ListN.{length, drop}
+use mathlib.Core.Path.{_≡_, refl, sym, _∙_}
+use Prim.Native.Nat.{_-_, _≤_}
+use lib.ListN.{drop}
 use Rattle.reed_solomon.specs.Steps.{allZero}
 use Rattle.reed_solomon.proofs.Residue.{zero-skip, zero-stop, zero-end}
 use borrow.Author.Needs.{needs}

@@ -1,9 +1,9 @@
 -- `division::sum` meets its contract: after j turns the first j bytes are those of the sum.
 -- Assumes nothing.
-use mathlib.Core.Path.{_≡_, refl, sym, ap, _∙_}
-use Prim.Native.Nat.{ℕ, _+_, _-_, _≤_, _<_}
+use mathlib.Core.Path.{_≡_, refl, sym, _∙_}
+use Prim.Native.Nat.{_-_}
 use native.Mathlib.Omega.{arith}
-use lib.ListN.{length, getD}
+use lib.ListN.{length}
 use Rattle.algebra.specs.Polynomial.{plus}
 use Rattle.galois.specs.Field256.{numbers}
 use Rattle.common.proofs.Written.{Written, written-none, written-next, written-whole}

@@ -2,7 +2,6 @@
 -- Assumes nothing.
 use mathlib.Core.Path.{refl}
 use Prim.Native.Nat.{_-_}
-use native.Mathlib.Omega.{arith}
 use Rattle.reed_solomon.proofs.KeyEquations.{FilledTo, filled-none, filled-more, filled-all}
 use borrow.Author.Needs.{needs}
 use Rattle.reed_solomon.proofs.locator.fill.Statement.{statement}

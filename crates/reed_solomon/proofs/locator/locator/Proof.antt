@@ -4,11 +4,6 @@ use Rattle.reed_solomon.proofs.KeyEquations.{located}
 use borrow.Author.Needs.{needs}
 use Rattle.reed_solomon.proofs.locator.locator.Statement.{statement}
 use Rattle.reed_solomon.proofs.locator.locator.Tie as tie
-use Rattle.reed_solomon.proofs.locator.locator.Reads as reads
-use Rattle.reed_solomon.proofs.locator.locator.Lts as lts
-use Rattle.reed_solomon.proofs.locator.eliminate.Reads as eliminate-reads
-use Rattle.reed_solomon.proofs.locator.fill.Reads as fill-reads
-use Rattle.reed_solomon.proofs.locator.solution.Reads as solution-reads
 
 slice-aggregate-fill : tie.Need-slice-aggregate-fill
 slice-aggregate-fill c = search needs

@@ -2,19 +2,12 @@
 -- Assumes nothing.
 use mathlib.Core.Path.{sym, ap, _∙_, subst}
 use mathlib.Core.Logic.{⊎-elim}
-use Prim.Native.Nat.{_+_, _*_}
 use native.Mathlib.Omega.{arith}
 use Rattle.galois.proofs.Instance.{byte, byte-inv}
 use Rattle.reed_solomon.proofs.KeyEquations.{Ready, ready-add, ready-same, pivoted, pivoted-none}
 use borrow.Author.Needs.{needs}
 use Rattle.reed_solomon.proofs.locator.pivot.Statement.{statement}
 use Rattle.reed_solomon.proofs.locator.pivot.Tie as tie
-use Rattle.reed_solomon.proofs.locator.pivot.Reads as reads
-use Rattle.reed_solomon.proofs.locator.pivot.Lts as lts
-use Rattle.galois.proofs.inverse.Reads as inverse-reads
-use Rattle.reed_solomon.proofs.locator.add_row.Reads as add-row-reads
-use Rattle.reed_solomon.proofs.locator.find_pivot.Reads as find-pivot-reads
-use Rattle.reed_solomon.proofs.locator.scale_row.Reads as scale-row-reads
 
 -- where the two ways meet, the pivot's row has an element that is not zero
 ready : (c : tie.Joined2) → Ready (c .before .before .before .before .before .args .m .now) (c .if2 .m) (c .before .before .before .before .before .args .k)

@@ -1,6 +1,6 @@
 -- `syndromes::advance` meets its contract.
 -- Assumes nothing.
-use mathlib.Core.Path.{_≡_, refl, ap, _∙_}
+use mathlib.Core.Path.{_≡_, refl, ap}
 use Prim.Native.Nat.{ℕ, _-_}
 use native.Mathlib.Omega.{arith}
 use lib.Bits.{bitXor}
@@ -10,9 +10,6 @@ use Rattle.galois.specs.Field256.{mul}
 use borrow.Author.Needs.{needs}
 use Rattle.reed_solomon.proofs.syndromes.advance.Statement.{statement}
 use Rattle.reed_solomon.proofs.syndromes.advance.Tie as tie
-use Rattle.reed_solomon.proofs.syndromes.advance.Reads as reads
-use Rattle.reed_solomon.proofs.syndromes.advance.Lts as lts
-use Rattle.galois.proofs.mul.Reads as mul-reads
 
 abbrev Inv-loop : tie.InvT-loop
 Inv-loop x d s r₀ j₀ r j = Each (λ k v. v ≡ bitXor (mul (getD x k 0) (getD s k 0)) d) 16 r j

@@ -1,18 +1,12 @@
 -- `syndromes::syndromes` meets its contract: after i turns s has the values of the first i coefficients.
 -- Assumes nothing.
-use mathlib.Core.Path.{_≡_, refl, ap, _∙_}
-use Prim.Native.Nat.{ℕ, _-_, _≤_}
-use native.Mathlib.Omega.{arith}
+use Prim.Native.Nat.{_-_, _≤_}
 use lib.ListN.{take}
-use lib.Seq.{take-all}
 use Rattle.reed_solomon.specs.Steps.{SyndromesOf}
 use Rattle.reed_solomon.proofs.Residue.{syndromes-none, syndromes-more, syndromes-all}
 use borrow.Author.Needs.{needs}
 use Rattle.reed_solomon.proofs.syndromes.syndromes.Statement.{statement}
 use Rattle.reed_solomon.proofs.syndromes.syndromes.Tie as tie
-use Rattle.reed_solomon.proofs.syndromes.syndromes.Reads as reads
-use Rattle.reed_solomon.proofs.syndromes.syndromes.Lts as lts
-use Rattle.reed_solomon.proofs.syndromes.advance.Reads as advance-reads
 
 abbrev Inv-loop : tie.InvT-loop
 Inv-loop x residue s₀ i₀ s i = (i ≤ 16) × SyndromesOf (take i residue) s

@@ -1,21 +1,16 @@
--- From the syndromes of a received word to its errors.
+-- A word as a list of terms: each coefficient at its place, whose syndromes are the values of the word.
 -- Assumes nothing.
-use mathlib.Core.Path.{_≡_, refl, sym, ap, _∙_, fun-ext}
-use mathlib.Core.List.{List, [], _∷_, map}
-use Prim.Native.Nat.{ℕ, zero, suc, _≤_, _<_}
-use Prim.Native.Nat.{_+_ as _+ℕ_}
+use mathlib.Core.Path.{_≡_, refl, sym, ap, _∙_}
+use mathlib.Core.List.{List, [], _∷_}
+use Prim.Native.Nat.{ℕ, zero, suc, _<_}
 use native.Mathlib.Omega.{arith}
 use native.Mathlib.Nat.{not-suc-le-zero, le-of-suc-le-suc}
 use lib.ListN.{length, getD, length-map}
-use Prim.{Unit, tt}
 use Rattle.algebra.specs.Field.{Field, ops}
-use Rattle.algebra.specs.Polynomial.{power, eval, plus}
-use Rattle.algebra.proofs.Ring.{ring, zero-add, mul-zero, one-mul, mul-one}
-use Rattle.common.specs.Lists.{All}
-use Rattle.common.proofs.Lists.{All-at, All-of}
-use Rattle.algebra.proofs.Lists.{Away, Distinct, Distinct-of}
-use Rattle.algebra.proofs.Polynomial.{eval-plus, Zero, fromRoots, fromRoots-ne}
-use Rattle.algebra.proofs.Syndromes.{Term, syndrome, dot, places, weight, key, value, vandermonde-weight, AllZero}
+use Rattle.algebra.specs.Polynomial.{power, eval}
+use Rattle.algebra.proofs.Ring.{ring, mul-zero, one-mul, mul-one}
+use Rattle.algebra.proofs.Lists.{Distinct, Distinct-of}
+use Rattle.algebra.proofs.Syndromes.{Term, syndrome, places}
 
 module _ (K : Field) where
   open Field K using (F, add as _+_, mul as _*_, 𝟘, 𝟙, inv, dec)
@@ -58,10 +53,6 @@ module _ (K : Field) where
   pub word-syndrome : (a : F) (p : List F) (j : ℕ) → eval (ops K) p (power (ops K) a j) ≡ syndrome K (terms a 𝟙 p) j
   word-syndrome a p j = sym (syn-terms a 𝟙 p j ∙ ap (λ u. u * eval (ops K) p (power (ops K) a j)) (power-one j) ∙ one-mul K _)
 
-  -- a received word c + e, where c is a code word: the syndromes are those of e
-  pub received : (a : F) (c e : List F) (j : ℕ) → eval (ops K) c (power (ops K) a j) ≡ 𝟘 → eval (ops K) (plus (ops K) c e) (power (ops K) a j) ≡ syndrome K (terms a 𝟙 e) j
-  received a c e j h = eval-plus K c e (power (ops K) a j) ∙ ap (λ u. u + eval (ops K) e (power (ops K) a j)) h ∙ zero-add K _ ∙ word-syndrome a e j
-
   pub length-terms : (a x : F) (p : List F) → length (terms a x p) ≡ length p
   unfolding terms
   length-terms a x [] = refl
@@ -86,24 +77,3 @@ module _ (K : Field) where
   distinct-terms a p h = Distinct-of (places K (terms a 𝟙 p)) 𝟘 (λ i j b l e.
       let m : j < length p = omega (arith, length-map (terms a 𝟙 p) (λ e. e .0), length-terms a 𝟙 p) in
       h i j b m (sym (one-mul K (power (ops K) a j)) ∙ sym (place-at a 𝟙 p 𝟘 j m) ∙ e ∙ place-at a 𝟙 p 𝟘 i (omega arith) ∙ one-mul K (power (ops K) a i)))
-
-  -- The decoder. q is any solution of the key equations, other than zero.
-  module _ (E : List (Term K)) (t : ℕ) (q : List F) (z : Term K)
-      (distinct : Distinct (places K E)) (few : weight K E ≤ t)
-      (solution : (j : ℕ) → j < t → dot K q (λ i. syndrome K E (j +ℕ i)) ≡ 𝟘) where
-    -- where q is not zero there is no error
-    pub no-error : (l : ℕ) → l < length E → (eval (ops K) q ((getD E l z) .0) ≡ 𝟘 → ⊥) → (getD E l z) .1 ≡ 𝟘
-    no-error l b n = go (dec ((getD E l z) .1) 𝟘)
-      where
-        go : Dec ((getD E l z) .1 ≡ 𝟘) → (getD E l z) .1 ≡ 𝟘
-        go (yes e) = e
-        go (no e) = absurd (n (All-at (λ e. (e .1 ≡ 𝟘 → ⊥) → eval (ops K) q (e .0) ≡ 𝟘) E z l (key K E q t distinct few solution) b e))
-
-    -- where q is zero, and rs has the other roots of q among the places: the value
-    pub error-value : (l : ℕ) (rs : List F) → l < length E → Away ((getD E l z) .0) rs
-        → ((i : ℕ) → i < length E → (i ≡ l → ⊥) → eval (ops K) q ((getD E i z) .0) ≡ 𝟘 → eval (ops K) (fromRoots K rs) ((getD E i z) .0) ≡ 𝟘)
-        → dot K (fromRoots K rs) (syndrome K E) * inv (eval (ops K) (fromRoots K rs) ((getD E l z) .0)) ≡ (getD E l z) .1
-    error-value l rs b a h =
-        value K E z l (fromRoots K rs) b
-        (λ i c n y. h i c n (All-at (λ e. (e .1 ≡ 𝟘 → ⊥) → eval (ops K) q (e .0) ≡ 𝟘) E z i (key K E q t distinct few solution) c y))
-        (fromRoots-ne K rs ((getD E l z) .0) a)
