@@ -1,0 +1,62 @@
+// Functions for C and Rust, on numbers and byte slices. A slice is a pointer and a length; slices of one call must not overlap.
+// Their declarations for C are in include/dvbs.h.
+ghost use mathlib.Core.Path.{_≡_};
+ghost use Rattle.randomizer.specs.Packet.{randomizeNumber, randomizeRoom, derandomizeNumber, derandomizeRoom};
+ghost use Rattle.reed_solomon.specs.Encode.{encodeNumber, encodeRoom};
+ghost use Rattle.exports.specs.Decode.{DecodeExported};
+use reed_solomon::Decoded;
+
+// Randomizes a packet at a place of its group: the number of the answer.
+#[no_mangle]
+pub extern "C" fn dvbs_randomize(place: u8, packet: &[u8], room: &mut [u8]) -> u8
+    ensures { λ r. ⌜
+        (r ≡ randomizeNumber place (now (packet .entry)) (now (room .entry)))
+        × (now (room .exit) ≡ randomizeRoom place (now (packet .entry)) (now (room .entry))) ⌝ }
+{
+    let answer = randomizer::randomize(place, packet, room);
+    answer.number()
+}
+
+// Derandomizes a packet at a place of its group: the number of the answer.
+#[no_mangle]
+pub extern "C" fn dvbs_derandomize(place: u8, packet: &[u8], room: &mut [u8]) -> u8
+    ensures { λ r. ⌜
+        (r ≡ derandomizeNumber place (now (packet .entry)) (now (room .entry)))
+        × (now (room .exit) ≡ derandomizeRoom place (now (packet .entry)) (now (room .entry))) ⌝ }
+{
+    let answer = randomizer::derandomize(place, packet, room);
+    answer.number()
+}
+
+// Codes 188 bytes to a block of 204: the number of the answer.
+#[no_mangle]
+pub extern "C" fn dvbs_rs_encode(message: &[u8], room: &mut [u8]) -> u8
+    ensures { λ r. ⌜
+        (r ≡ encodeNumber (now (message .entry)) (now (room .entry)))
+        × (now (room .exit) ≡ encodeRoom (now (message .entry)) (now (room .entry))) ⌝ }
+{
+    let answer = reed_solomon::encode(message, room);
+    answer.number()
+}
+
+// Decodes a block in place: the number of the answer. Where it is 0, the first byte of count has the number of bytes changed.
+#[no_mangle]
+pub extern "C" fn dvbs_rs_decode(block: &mut [u8], count: &mut [u8]) -> u8
+    ensures { λ r. ⌜ DecodeExported (now (block .entry)) (now (block .exit)) (now (count .entry)) (now (count .exit)) r ⌝ }
+{
+    if block.len() != 204 {
+        return 3;
+    }
+    if count.len() < 1 {
+        return 4;
+    }
+    let decoded = reed_solomon::decode(block);
+    match decoded {
+        Decoded::Corrected(k) => {
+            count[0] = k;
+            0
+        }
+        Decoded::Uncorrectable => 8,
+        Decoded::BlockLength => 3,
+    }
+}
