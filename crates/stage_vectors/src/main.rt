@@ -1,4 +1,4 @@
-// Compares the randomizer and the interleaver with what GNU Radio gives for the same 40 packets, and calls both at their limits.
+// Compares the randomizer, the outer coder and the interleaver with what GNU Radio gives for the same 40 packets, and calls both at their limits.
 ghost use mathlib.Core.Path.{_≡_};
 ghost use Prim.Native.Nat.{_<_};
 ghost use lib.ListN.{length};
@@ -154,6 +154,28 @@ fn compared(packets: &[u8], randomized: &[u8], coded: &[u8], interleaved: &[u8])
     run
 }
 
+// Randomized packet i through the outer coder.
+fn with_coded(n: u64, i: usize, randomized: &[u8], coded: &[u8]) -> u64
+    requires { ⌜ (i < 40) × (length (now randomized) ≡ 7520) × (length (now coded) ≡ 8160) ⌝ }
+{
+    let mut room = [0u8; 204];
+    reed_solomon::encode(packet_of(randomized, i), &mut room);
+    counted(n, check::same(&room, block_of(coded, i)))
+}
+
+// How many of the 40 are coded alike.
+fn all_coded(randomized: &[u8], coded: &[u8]) -> u64
+    requires { ⌜ (length (now randomized) ≡ 7520) × (length (now coded) ≡ 8160) ⌝ }
+{
+    let mut n: u64 = 0;
+    let mut i: usize = 0;
+    while i < 40 {
+        n = with_coded(n, i, randomized, coded);
+        i += 1;
+    }
+    n
+}
+
 fn vectors() {
     let mut packets = [0u8; 7520];
     let mut randomized = [0u8; 7520];
@@ -171,6 +193,15 @@ fn vectors() {
         b"blocks deinterleaved, eleven blocks late: ",
         run.deinterleaved,
     );
+}
+
+fn outer_code_vectors() {
+    let mut randomized = [0u8; 7520];
+    let mut coded = [0u8; 8160];
+    load(b"randomized.bin", &mut randomized);
+    load(b"coded.bin", &mut coded);
+    let agreed = all_coded(&randomized, &coded);
+    report(b"packets coded as by GNU Radio: ", agreed);
 }
 
 // The answers of the randomizer.
@@ -234,6 +265,7 @@ fn interleaver_limits() {
 
 fn main() {
     vectors();
+    outer_code_vectors();
     randomizer_limits();
     interleaver_limits();
 }
