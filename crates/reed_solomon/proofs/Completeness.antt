@@ -30,18 +30,18 @@ use Rattle.reed_solomon.proofs.Zeros.{zeros-all, zeros-has, zeros-disti
 
 -- the locator, its values and its roots
 module _ (q v : List ℕ) (lq : length q ≡ 9) (lv : length v ≡ 208) (ev : Evaluated q v) where
-  two-oh-four : length (take 204 v) ≡ 204
-  two-oh-four = length-take-le 204 v (omega arith)
+  searched-size : length (take 204 v) ≡ 204
+  searched-size = length-take-le 204 v (omega arith)
 
   -- at each degree listed the locator vanishes
   pub roots-vanish : All (λ d. (d < 204) × (eval (ops bytes) (elements q) (point d) ≡ bytes .𝟘)) (zerosOf v)
   roots-vanish =
       zeros-all (λ d. (d < 204) × (eval (ops bytes) (elements q) (point d) ≡ bytes .𝟘)) 0 (take 204 v)
       (λ i h z. subst (λ (d : ℕ). (d < 204) × (eval (ops bytes) (elements q) (point d) ≡ bytes .𝟘)) (sym (zero-add i))
-      (omega (arith, two-oh-four), sym (ev .each i (omega (arith, two-oh-four))) ∙ ap byte (sym (getD-take 204 v i 0 (omega (arith, two-oh-four))) ∙ z) ∙ byte-zero))
+      (omega (arith, searched-size), sym (ev .each i (omega (arith, searched-size))) ∙ ap byte (sym (getD-take 204 v i 0 (omega (arith, searched-size))) ∙ z) ∙ byte-zero))
 
   pub roots-distinct : Distinct (map point (zerosOf v))
-  roots-distinct = zeros-distinct point 255 0 (take 204 v) powers-differ (omega (arith, two-oh-four))
+  roots-distinct = zeros-distinct point 255 0 (take 204 v) powers-differ (omega (arith, searched-size))
 
   pub roots-few : (Zero bytes (elements q) → ⊥) → length (zerosOf v) ≤ 8
   roots-few n =
@@ -72,17 +72,17 @@ places-point x [] p h = refl
 places-point x (d ∷ l) p h = ap₂ _∷_ (ap byte (p .each d (omega (arith, h .0))) ∙ byte-power 2 d) (places-point x l p (h .1))
 
 -- degrees and values as terms
-unfoldable pub spots : List ℕ → List ℕ → List (Term bytes)
-spots [] es = []
-spots (d ∷ ds) [] = []
-spots (d ∷ ds) (e ∷ es) = (point d, byte e) ∷ spots ds es
+unfoldable pub degreeTerms : List ℕ → List ℕ → List (Term bytes)
+degreeTerms [] es = []
+degreeTerms (d ∷ ds) [] = []
+degreeTerms (d ∷ ds) (e ∷ es) = (point d, byte e) ∷ degreeTerms ds es
 
-spots-map : (g : ℕ → Fin 256) (ds es : List ℕ) → length es ≡ length ds → ((l : ℕ) → l < length ds → byte (getD es l 0) ≡ g (getD ds l 0)) → spots ds es ≡ map (λ d. (point d, g d)) ds
-unfolding spots
-spots-map g [] es n h = refl
-spots-map g (d ∷ ds) [] n h = absurd (omega arith)
-spots-map g (d ∷ ds) (e ∷ es) n h =
-    ap₂ (λ (u : Fin 256) (l : List (Term bytes)). (point d, u) ∷ l) (h 0 (omega arith)) (spots-map g ds es (omega arith) (λ l b. h (suc l) (omega arith)))
+degree-terms-map : (g : ℕ → Fin 256) (ds es : List ℕ) → length es ≡ length ds → ((l : ℕ) → l < length ds → byte (getD es l 0) ≡ g (getD ds l 0)) → degreeTerms ds es ≡ map (λ d. (point d, g d)) ds
+unfolding degreeTerms
+degree-terms-map g [] es n h = refl
+degree-terms-map g (d ∷ ds) [] n h = absurd (omega arith)
+degree-terms-map g (d ∷ ds) (e ∷ es) n h =
+    ap₂ (λ (u : Fin 256) (l : List (Term bytes)). (point d, u) ∷ l) (h 0 (omega arith)) (degree-terms-map g ds es (omega arith) (λ l b. h (suc l) (omega arith)))
 
 point-differs : (i d : ℕ) → i < 204 → d < 204 → (i ≡ d → ⊥) → point i ≡ point d → ⊥
 point-differs i d a b n e = go (decLt i d)
@@ -243,10 +243,10 @@ module _ (came c : List ℕ) (n : length came ≡ 204) (b : Bytes came) (cw : Co
 
   -- the values found have the sixteen syndromes
   pub found : (es : List ℕ) → length es ≡ length (zerosOf v) → ((l : ℕ) → l < length (zerosOf v) → byte (getD es l 0) ≡ errorValue p s (getD x (getD (zerosOf v) l 0) 0))
-      → (j : ℕ) → j < 16 → syndrome bytes (spots (zerosOf v) es) j ≡ byte (getD s j 0)
+      → (j : ℕ) → j < 16 → syndrome bytes (degreeTerms (zerosOf v) es) j ≡ byte (getD s j 0)
   unfolding power
   found es k h j m =
-      ap (λ (t : List (Term bytes)). syndrome bytes t j) (spots-map g (zerosOf v) es k (λ l i. h l i ∙ on l i))
+      ap (λ (t : List (Term bytes)). syndrome bytes t j) (degree-terms-map g (zerosOf v) es k (λ l i. h l i ∙ on l i))
       ∙ zeros-syndrome g 0 (take 204 v) e j (length-take-le 204 v (omega arith) ∙ sym e-length) (λ i a. ap g (sym (zero-add i)))
       (λ i a z. ap g (zero-add i) ∙ off i (omega (arith, length-take-le 204 v (omega arith))) (λ y. z (getD-take 204 v i 0 (omega (arith, length-take-le 204 v (omega arith))) ∙ y)))
       ∙ sym (E-syndrome j m)

@@ -25,8 +25,8 @@ use Rattle.reed_solomon.specs.Steps.{point, residueOf, allZero, Powers, 
 use Rattle.reed_solomon.proofs.Codewords.{blockSyndrome, codeword-of, generator-root}
 use Rattle.reed_solomon.proofs.Distance.{differ-none, accepted}
 use Rattle.reed_solomon.proofs.LongDivision.{high, high-nil, high-cons, high-append, high-plus, high-check, check-remainder}
-use Rattle.reed_solomon.proofs.Completeness.{spots, roots-vanish, roots-distinct, roots-few, found}
-use Rattle.reed_solomon.proofs.Soundness.{corrected-length, corrected-bytes, corrected-value, corrected-differ, terms-cut, terms-spots, distinct-unmap}
+use Rattle.reed_solomon.proofs.Completeness.{degreeTerms, roots-vanish, roots-distinct, roots-few, found}
+use Rattle.reed_solomon.proofs.Soundness.{corrected-length, corrected-bytes, corrected-value, corrected-differ, terms-cut, terms-by-degree, distinct-unmap}
 use Rattle.reed_solomon.proofs.ErrorTerms.{changed-le}
 
 -- ---- the residue
@@ -64,22 +64,22 @@ module _ (came : List ℕ) (n : length came ≡ 204) where
 
 -- what the steps have found
 pub record Decoding (came x s q v degrees places : List ℕ) (count : ℕ) (p values : List ℕ) : Type 0 where
-  pub n : length came ≡ 204
-  pub b : Bytes came
-  pub px : Powers x
-  pub sy : SyndromesOf (residueOf came) s
-  pub loc : Located s q
-  pub lq : length q ≡ 9
-  pub ev : Evaluated q v
-  pub lv : length v ≡ 208
-  pub fr : FoundRoots v x degrees places count
-  pub rp : RootProduct (take count places) p
-  pub lp : length p ≡ 16
-  pub vs : ErrorValues p s places count values
-  pub lvs : length values ≡ 16
+  pub size : length came ≡ 204
+  pub small : Bytes came
+  pub powers : Powers x
+  pub syndromes-of : SyndromesOf (residueOf came) s
+  pub locator : Located s q
+  pub locator-size : length q ≡ 9
+  pub evaluated : Evaluated q v
+  pub evaluated-size : length v ≡ 208
+  pub roots : FoundRoots v x degrees places count
+  pub product : RootProduct (take count places) p
+  pub product-size : length p ≡ 16
+  pub errors : ErrorValues p s places count values
+  pub errors-size : length values ≡ 16
 
 module _ {came x s q v degrees places : List ℕ} {count : ℕ} {p values : List ℕ} (D : Decoding came x s q v degrees places count p values) where
-  open Decoding D using (n, b, px, sy, loc, lq, ev, lv, fr, rp, lp, vs, lvs)
+  open Decoding D using (size as n, small as b, powers as px, syndromes-of as sy, locator as loc, locator-size as lq, evaluated as ev, evaluated-size as lv, roots as fr, product as rp, product-size as lp, errors as vs, errors-size as lvs)
 
   syndromes : (j : ℕ) → j < 16 → byte (getD s j 0) ≡ blockSyndrome came j
   syndromes j h = sy .each j h ∙ residue-value came n j h
@@ -97,11 +97,11 @@ module _ {came x s q v degrees places : List ℕ} {count : ℕ} {p values : List
   in-range = All-map _ (λ d. d < 204) (λ d h. h .0) (zerosOf v) (roots-vanish q v lq lv ev)
 
   -- sixteen lanes have the syndromes of the errors found
-  lanes : (j : ℕ) → syndrome bytes (termsOf places values) j ≡ syndrome bytes (spots (zerosOf v) es) j
+  lanes : (j : ℕ) → syndrome bytes (termsOf places values) j ≡ syndrome bytes (degreeTerms (zerosOf v) es) j
   lanes j =
       terms-cut count places values j (vs .rest)
       ∙ ap (λ (l : List ℕ). syndrome bytes (termsOf l es) j) (fr .placed)
-      ∙ ap (λ t. syndrome bytes t j) (terms-spots x (zerosOf v) es px in-range)
+      ∙ ap (λ t. syndrome bytes t j) (terms-by-degree x (zerosOf v) es px in-range)
 
   es-value : (l : ℕ) → l < length (zerosOf v) → byte (getD es l 0) ≡ errorValue p s (getD x (getD (zerosOf v) l 0) 0)
   es-value l h =

@@ -25,7 +25,7 @@ use Rattle.reed_solomon.specs.Code.{differ}
 use Rattle.reed_solomon.specs.Steps.{point, Powers, termsOf, correctedBy, changedIn}
 use Rattle.reed_solomon.proofs.Distance.{unequal, unequal-same, unequal-other}
 use Rattle.reed_solomon.proofs.LongDivision.{high, high-cons}
-use Rattle.reed_solomon.proofs.Completeness.{spots}
+use Rattle.reed_solomon.proofs.Completeness.{degreeTerms}
 
 -- ---- identities
 
@@ -91,15 +91,15 @@ corrected-bytes b (d ∷ ds) (e ∷ es) n h k =
     (bytes-set b (203 - d) (bitXor (getD b (203 - d) 0) e) h (xor-lt 8 (getD b (203 - d) 0) e (bytes-at b (203 - d) h (omega arith)) (k .0))) (k .1)
 
 pub corrected-value : (j : ℕ) (b ds es : List ℕ) → length b ≡ 204 → All (λ d. d < 204) ds → length es ≡ length ds
-    → high (point j) (correctedBy b ds es) ≡ bytes .add (high (point j) b) (syndrome bytes (spots ds es) j)
-unfolding correctedBy spots syndrome
+    → high (point j) (correctedBy b ds es) ≡ bytes .add (high (point j) b) (syndrome bytes (degreeTerms ds es) j)
+unfolding correctedBy degreeTerms syndrome
 corrected-value j b [] es n h m = sym (field-add-zero bytes (high (point j) b))
 corrected-value j b (d ∷ ds) [] n h m = absurd (omega arith)
 corrected-value j b (d ∷ ds) (e ∷ es) n h m =
     corrected-value j (set b (203 - d) (bitXor (getD b (203 - d) 0) e)) ds es (length-set b (203 - d) (bitXor (getD b (203 - d) 0) e) ∙ n) (h .1) (omega arith)
-    ∙ ap (λ (u : Fin 256). bytes .add u (syndrome bytes (spots ds es) j)) (high-set (point j) b (203 - d) e (omega (arith, h .0)))
-    ∙ ap (λ (u : Fin 256). bytes .add (bytes .add (high (point j) b) (bytes .mul u (byte e))) (syndrome bytes (spots ds es) j)) place
-    ∙ next-identity bytes (high (point j) b) (power (ops bytes) (point d) j) (byte e) (syndrome bytes (spots ds es) j)
+    ∙ ap (λ (u : Fin 256). bytes .add u (syndrome bytes (degreeTerms ds es) j)) (high-set (point j) b (203 - d) e (omega (arith, h .0)))
+    ∙ ap (λ (u : Fin 256). bytes .add (bytes .add (high (point j) b) (bytes .mul u (byte e))) (syndrome bytes (degreeTerms ds es) j)) place
+    ∙ next-identity bytes (high (point j) b) (power (ops bytes) (point d) j) (byte e) (syndrome bytes (degreeTerms ds es) j)
   where
     degree : length b - 1 - (203 - d) ≡ d
     degree = omega (arith, h .0)
@@ -179,12 +179,12 @@ terms-cut (suc n) (x ∷ xs) [] j z = refl
 terms-cut (suc n) (x ∷ xs) (e ∷ es) j z =
     ap (λ (u : Fin 256). bytes .add (bytes .mul (byte e) (power (ops bytes) (byte x) j)) u) (terms-cut n xs es j (λ l h. z (suc l) (omega arith)))
 
-pub terms-spots : (x ds es : List ℕ) → Powers x → All (λ d. d < 204) ds → termsOf (map (λ d. getD x d 0) ds) es ≡ spots ds es
-unfolding termsOf spots
-terms-spots x [] es p h = refl
-terms-spots x (d ∷ ds) [] p h = refl
-terms-spots x (d ∷ ds) (e ∷ es) p h =
-    ap₂ (λ (u : Fin 256) (l : List (Term bytes)). (u, byte e) ∷ l) (ap byte (p .each d (omega (arith, h .0))) ∙ byte-power 2 d) (terms-spots x ds es p (h .1))
+pub terms-by-degree : (x ds es : List ℕ) → Powers x → All (λ d. d < 204) ds → termsOf (map (λ d. getD x d 0) ds) es ≡ degreeTerms ds es
+unfolding termsOf degreeTerms
+terms-by-degree x [] es p h = refl
+terms-by-degree x (d ∷ ds) [] p h = refl
+terms-by-degree x (d ∷ ds) (e ∷ es) p h =
+    ap₂ (λ (u : Fin 256) (l : List (Term bytes)). (u, byte e) ∷ l) (ap byte (p .each d (omega (arith, h .0))) ∙ byte-power 2 d) (terms-by-degree x ds es p (h .1))
 
 pub distinct-unmap : (f : ℕ → Fin 256) (l : List ℕ) → Distinct (map f l) → Distinct l
 distinct-unmap f [] h = tt

@@ -28,19 +28,19 @@ steps : (e : tie.After-error-values) → Decoding (e .before .before .before .be
 steps e =
     let t = e .before .before .before .before .before .before .before .before .before .before .before .before .before .before in
     record {
-      n = t .pre .0;
-      b = bytes-of (t .args .block .now) (λ i. e .before .before .before .before .before .before .before .before .before .before .before .before .before .slice-known .given i .fits);
-      px = e .before .before .before .before .before .before .before .before .before .before .before .before .powers .ensures;
-      sy = subst (λ r. SyndromesOf r (e .before .before .before .before .before .before .before .before .before .before .syndromes .result)) (t .pre .1) (e .before .before .before .before .before .before .before .before .before .before .syndromes .ensures);
-      loc = e .before .before .before .before .before .before .before .before .before .locator .ensures;
-      lq = e .before .before .before .before .before .before .before .before .before .locator .ok .1 .0 .1;
-      ev = e .before .before .before .before .before .before .before .evaluate .ensures;
-      lv = e .before .before .before .before .before .before .before .evaluate .ok .1 .0 .1;
-      fr = e .before .before .before .before .find-roots .ensures;
-      rp = e .before .root-product .ensures;
-      lp = e .before .root-product .ok .1 .0 .1;
-      vs = e .error-values .ensures;
-      lvs = e .error-values .ok .1 .0 .1;
+      size = t .pre .0;
+      small = bytes-of (t .args .block .now) (λ i. e .before .before .before .before .before .before .before .before .before .before .before .before .before .slice-known .given i .fits);
+      powers = e .before .before .before .before .before .before .before .before .before .before .before .before .powers .ensures;
+      syndromes-of = subst (λ r. SyndromesOf r (e .before .before .before .before .before .before .before .before .before .before .syndromes .result)) (t .pre .1) (e .before .before .before .before .before .before .before .before .before .before .syndromes .ensures);
+      locator = e .before .before .before .before .before .before .before .before .before .locator .ensures;
+      locator-size = e .before .before .before .before .before .before .before .before .before .locator .ok .1 .0 .1;
+      evaluated = e .before .before .before .before .before .before .before .evaluate .ensures;
+      evaluated-size = e .before .before .before .before .before .before .before .evaluate .ok .1 .0 .1;
+      roots = e .before .before .before .before .find-roots .ensures;
+      product = e .before .root-product .ensures;
+      product-size = e .before .root-product .ok .1 .0 .1;
+      errors = e .error-values .ensures;
+      errors-size = e .error-values .ok .1 .0 .1;
     }
 
 powers-requires : tie.Need-powers-requires
