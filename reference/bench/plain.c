@@ -1,0 +1,368 @@
+/* A plain-C peer of the same job, as one would write it straightforwardly:
+ * table-driven outer code (decoder by Euclid's algorithm), byte-wise interleaver
+ * with ring pointers, bit-serial inner coder. EN 300 421, clauses 4.4.1 to 4.4.3. */
+#include "plain.h"
+
+#include <string.h>
+
+enum { PACKET = 188, BLOCK = 204, CHECK = 16, T = 8, GROUP = 8, BRANCHES = 12, DEPTH = 17 };
+
+/* Tables, filled before main. */
+static uint8_t exp_table[512], log_table[256];
+static uint8_t feedback_table[256][CHECK]; /* multiples of g */
+static uint8_t root_table[CHECK][256];     /* products with the roots */
+static uint8_t prbs[GROUP * PACKET];       /* masks of a group, 0 at the sync bytes */
+static uint8_t xy_table[128];              /* 2 X + Y of seven bits, newest on top */
+
+static uint8_t mul(uint8_t a, uint8_t b)
+{
+    return a && b ? exp_table[log_table[a] + log_table[b]] : 0;
+}
+
+__attribute__((constructor)) static void fill_tables(void)
+{
+    unsigned value = 1;
+    for (int i = 0; i < 255; i++) {
+        exp_table[i] = exp_table[i + 255] = (uint8_t)value;
+        log_table[value] = (uint8_t)i;
+        value <<= 1;
+        if (value > 255)
+            value ^= 0x11d;
+    }
+    uint8_t g[CHECK + 1] = {1};
+    for (int i = 0; i < CHECK; i++)
+        for (int k = i + 1; k > 0; k--)
+            g[k] ^= mul(g[k - 1], exp_table[i]);
+    for (int a = 0; a < 256; a++)
+        for (int k = 0; k < CHECK; k++) {
+            feedback_table[a][k] = mul((uint8_t)a, g[k + 1]);
+            root_table[k][a] = mul((uint8_t)a, exp_table[k]);
+        }
+    /* Stage 1 is the top one of fifteen bits. */
+    unsigned stages = 0x4a80;
+    for (int n = 1; n < GROUP * PACKET; n++) {
+        uint8_t byte = 0;
+        for (int k = 0; k < 8; k++) {
+            unsigned bit = (stages ^ stages >> 1) & 1;
+            stages = stages >> 1 | bit << 14;
+            byte = (uint8_t)(byte << 1 | bit);
+        }
+        prbs[n] = n % PACKET ? byte : 0;
+    }
+    for (int w = 0; w < 128; w++)
+        xy_table[w] = (uint8_t)(__builtin_parity((unsigned)w & 0171) << 1 | __builtin_parity((unsigned)w & 0133));
+}
+
+static void mask(unsigned place, uint8_t first, const uint8_t *packet, uint8_t *room)
+{
+    const uint8_t *m = prbs + PACKET * place;
+    room[0] = first;
+    for (int n = 1; n < PACKET; n++)
+        room[n] = packet[n] ^ m[n];
+}
+
+uint8_t PLAIN(randomize)(uint8_t place, const uint8_t *packet, size_t packet_len, uint8_t *room, size_t room_len)
+{
+    if (place >= GROUP)
+        return 5;
+    if (packet_len != PACKET)
+        return 1;
+    if (packet[0] != 0x47)
+        return 2;
+    if (room_len < PACKET)
+        return 4;
+    mask(place, place ? 0x47 : 0xb8, packet, room);
+    return 0;
+}
+
+uint8_t PLAIN(derandomize)(uint8_t place, const uint8_t *packet, size_t packet_len, uint8_t *room, size_t room_len)
+{
+    if (place >= GROUP)
+        return 5;
+    if (packet_len != PACKET)
+        return 1;
+    if (room_len < PACKET)
+        return 4;
+    mask(place, 0x47, packet, room);
+    return 0;
+}
+
+static void check_bytes(const uint8_t *data, uint8_t *rest)
+{
+    memset(rest, 0, CHECK);
+    for (int n = 0; n < PACKET; n++) {
+        const uint8_t *f = feedback_table[data[n] ^ rest[0]];
+        for (int k = 0; k < CHECK - 1; k++)
+            rest[k] = rest[k + 1] ^ f[k];
+        rest[CHECK - 1] = f[CHECK - 1];
+    }
+}
+
+uint8_t PLAIN(rs_encode)(const uint8_t *data, size_t data_len, uint8_t *room, size_t room_len)
+{
+    if (data_len != PACKET)
+        return 1;
+    if (room_len < BLOCK)
+        return 4;
+    uint8_t rest[CHECK];
+    check_bytes(data, rest);
+    memcpy(room, data, PACKET);
+    memcpy(room + PACKET, rest, CHECK);
+    return 0;
+}
+
+static int degree(const uint8_t *p, int top)
+{
+    while (top >= 0 && p[top] == 0)
+        top--;
+    return top;
+}
+
+static uint8_t value_at(const uint8_t *p, int top, uint8_t x)
+{
+    uint8_t sum = 0;
+    for (int i = top; i >= 0; i--)
+        sum = mul(sum, x) ^ p[i];
+    return sum;
+}
+
+/* Bytes changed, or -1 and the block as it was. */
+static int repair(uint8_t *block)
+{
+    uint8_t s[CHECK] = {0}, any = 0;
+    for (int n = 0; n < BLOCK; n++)
+        for (int i = 0; i < CHECK; i++)
+            s[i] = root_table[i][s[i]] ^ block[n];
+    for (int i = 0; i < CHECK; i++)
+        any |= s[i];
+    if (!any)
+        return 0;
+
+    /* Euclid: x^16 and the syndromes, until the rest is of degree below 8. */
+    uint8_t r0[CHECK + 1] = {0}, r1[CHECK + 1] = {0}, t0[CHECK + 1] = {0}, t1[CHECK + 1] = {1};
+    r0[CHECK] = 1;
+    memcpy(r1, s, CHECK);
+    int d0 = CHECK, d1 = degree(r1, CHECK - 1);
+    while (d1 >= T) {
+        uint8_t lead = exp_table[255 - log_table[r1[d1]]];
+        while (d0 >= d1) {
+            uint8_t q = mul(r0[d0], lead);
+            int up = d0 - d1;
+            for (int i = 0; i <= d1; i++)
+                r0[i + up] ^= mul(q, r1[i]);
+            for (int i = 0; i + up <= CHECK; i++)
+                t0[i + up] ^= mul(q, t1[i]);
+            d0 = degree(r0, d0);
+        }
+        uint8_t keep[CHECK + 1];
+        memcpy(keep, r0, sizeof keep), memcpy(r0, r1, sizeof keep), memcpy(r1, keep, sizeof keep);
+        memcpy(keep, t0, sizeof keep), memcpy(t0, t1, sizeof keep), memcpy(t1, keep, sizeof keep);
+        int d = d0;
+        d0 = d1, d1 = d;
+    }
+    int errors = degree(t1, CHECK);
+    if (errors > T || t1[0] == 0 || d1 >= errors)
+        return -1;
+
+    /* As many roots among the 204 places as the locator's degree: then its
+     * partial fractions give the syndromes back, and the result is a codeword. */
+    int place[T], found = 0;
+    uint8_t term[T + 1];
+    for (int i = 0; i <= errors; i++)
+        term[i] = t1[i] ? log_table[t1[i]] : 0;
+    for (int e = 0; e < BLOCK && found < errors; e++) {
+        uint8_t sum = 0;
+        for (int i = 0; i <= errors; i++) {
+            if (!t1[i])
+                continue;
+            sum ^= exp_table[term[i]];
+            int next = term[i] - i; /* one power of the inverse further */
+            term[i] = (uint8_t)(next < 0 ? next + 255 : next);
+        }
+        if (sum == 0)
+            place[found++] = e;
+    }
+    if (found != errors)
+        return -1;
+    int changed = 0;
+    for (int k = 0; k < found; k++) {
+        uint8_t inverse = exp_table[255 - place[k]], slope = 0;
+        for (int i = 1; i <= errors; i += 2)
+            slope ^= mul(t1[i], exp_table[(255 - place[k]) * (i - 1) % 255]);
+        uint8_t top = mul(value_at(r1, d1, inverse), exp_table[place[k]]);
+        uint8_t change = mul(top, exp_table[255 - log_table[slope]]);
+        block[BLOCK - 1 - place[k]] ^= change;
+        changed += change != 0;
+    }
+    return changed;
+}
+
+uint8_t PLAIN(rs_decode)(uint8_t *block, size_t block_len, uint8_t *count, size_t count_len)
+{
+    if (block_len != BLOCK)
+        return 3;
+    if (count_len < 1)
+        return 4;
+    int changed = repair(block);
+    if (changed < 0)
+        return 8;
+    count[0] = (uint8_t)changed;
+    return 0;
+}
+
+/* One ring for each branch. */
+struct branches {
+    uint8_t cell[BRANCHES][DEPTH * (BRANCHES - 1)];
+    int at[BRANCHES];
+};
+
+static void pass(struct branches *b, int reversed, const uint8_t *in, uint8_t *out)
+{
+    int j = 0;
+    for (int n = 0; n < BLOCK; n++) {
+        int cells = DEPTH * (reversed ? BRANCHES - 1 - j : j);
+        if (cells == 0) {
+            out[n] = in[n];
+        } else {
+            int at = b->at[j];
+            uint8_t byte = in[n];
+            out[n] = b->cell[j][at];
+            b->cell[j][at] = byte;
+            b->at[j] = at + 1 == cells ? 0 : at + 1;
+        }
+        if (++j == BRANCHES)
+            j = 0;
+    }
+}
+
+/* Length of the pattern, and 2 (X sent) + (Y sent) for each bit of it. */
+static const struct {
+    int length;
+    uint8_t sent[7];
+} punctured[5] = {
+    {1, {3}},
+    {2, {3, 1}},
+    {3, {3, 1, 2}},
+    {5, {3, 1, 2, 1, 2}},
+    {7, {3, 1, 1, 1, 2, 1, 2}},
+};
+
+struct inner {
+    int rate, at, held; /* held: -1 none */
+    unsigned memory;
+};
+
+static size_t inner_code(struct inner *c, const uint8_t *bytes, int count, uint8_t *room)
+{
+    size_t written = 0;
+    for (int n = 0; n < count; n++)
+        for (int k = 7; k >= 0; k--) {
+            unsigned window = c->memory | (bytes[n] >> k & 1u) << 6;
+            unsigned xy = xy_table[window], sent = punctured[c->rate].sent[c->at];
+            c->memory = window >> 1;
+            if (++c->at == punctured[c->rate].length)
+                c->at = 0;
+            if (sent & 2) {
+                if (c->held < 0)
+                    c->held = (int)(xy >> 1);
+                else
+                    room[written++] = (uint8_t)(2 * c->held + (int)(xy >> 1)), c->held = -1;
+            }
+            if (sent & 1) {
+                if (c->held < 0)
+                    c->held = (int)(xy & 1);
+                else
+                    room[written++] = (uint8_t)(2 * c->held + (int)(xy & 1)), c->held = -1;
+            }
+        }
+    return written;
+}
+
+/* Symbols of so many bits from a fresh coder. */
+static uint64_t symbols_of(int rate, uint64_t bits)
+{
+    static const int bits_in[5] = {1, 2, 3, 5, 7}, bits_out[5] = {2, 3, 4, 6, 8};
+    uint64_t out = bits / (uint64_t)bits_in[rate] * (uint64_t)bits_out[rate];
+    for (uint64_t i = 0; i < bits % (uint64_t)bits_in[rate]; i++)
+        out += punctured[rate].sent[i] == 3 ? 2 : 1;
+    return out / 2;
+}
+
+uint64_t PLAIN(send_run)(uint8_t rate, const uint8_t *packets, size_t packets_len, uint8_t *room, size_t room_len,
+                         uint8_t *answer, size_t answer_len)
+{
+    if (answer_len < 1)
+        return 0;
+    answer[0] = 0;
+    if (rate > 4)
+        return answer[0] = 6, 0;
+    if (packets_len % PACKET)
+        return answer[0] = 1, 0;
+    size_t count = packets_len / PACKET;
+    for (size_t p = 0; p < count; p++)
+        if (packets[PACKET * p] != 0x47)
+            return answer[0] = 2, 0;
+    if (room_len < symbols_of(rate, 8ull * BLOCK * count))
+        return answer[0] = 4, 0;
+    struct branches branches;
+    memset(&branches, 0, sizeof branches);
+    struct inner inner = {rate, 0, -1, 0};
+    uint64_t written = 0;
+    for (size_t p = 0; p < count; p++) {
+        uint8_t block[BLOCK], out[BLOCK];
+        mask(p % GROUP, p % GROUP ? 0x47 : 0xb8, packets + PACKET * p, block);
+        check_bytes(block, block + PACKET);
+        pass(&branches, 0, block, out);
+        written += inner_code(&inner, out, BLOCK, room + written);
+    }
+    return written;
+}
+
+uint64_t PLAIN(receive_run)(const uint8_t *blocks, size_t blocks_len, uint8_t *room, size_t room_len,
+                            uint8_t *counts, size_t counts_len)
+{
+    size_t count = blocks_len / BLOCK;
+    if (counts_len < 56 || room_len < PACKET * count)
+        return 0;
+    enum { TAKEN, FILLING, DELIVERED, LOST, WAITING, OUTOFSTEP, CHANGED };
+    uint64_t tally[7] = {0}, written = 0;
+    struct branches branches;
+    memset(&branches, 0, sizeof branches);
+    int place = -1;
+    for (size_t b = 0; b < count; b++) {
+        uint8_t block[BLOCK];
+        pass(&branches, 1, blocks + BLOCK * b, block);
+        tally[TAKEN]++;
+        if (b < 11) {
+            tally[FILLING]++;
+            continue;
+        }
+        int changed = repair(block);
+        if (changed < 0) {
+            tally[LOST]++;
+            if (place >= 0)
+                place = (place + 1) % GROUP;
+            continue;
+        }
+        tally[CHANGED] += (uint64_t)changed;
+        if (place < 0) {
+            if (block[0] != 0xb8) {
+                tally[WAITING]++;
+                continue;
+            }
+            place = 0;
+        } else if (block[0] != (place ? 0x47 : 0xb8)) {
+            tally[OUTOFSTEP]++;
+            place = -1;
+            continue;
+        }
+        mask((unsigned)place, 0x47, block, room + written);
+        written += PACKET;
+        tally[DELIVERED]++;
+        place = (place + 1) % GROUP;
+    }
+    for (int i = 0; i < 7; i++)
+        for (int k = 0; k < 8; k++)
+            counts[8 * i + k] = (uint8_t)(tally[i] >> 8 * k);
+    return written;
+}

@@ -1,0 +1,26 @@
+/* The plain-C peer: the same functions as ../../include/dvbs.h, with the prefix
+ * plain_. */
+#ifndef PLAIN_H
+#define PLAIN_H
+
+#include <stddef.h>
+#include <stdint.h>
+
+/* Built with -DPLAIN_AS_LIBRARY they take the library's own names, so that this
+ * file can stand in for the library where the tools themselves are tried. */
+#ifdef PLAIN_AS_LIBRARY
+#define PLAIN(name) dvbs_##name
+#else
+#define PLAIN(name) plain_##name
+#endif
+
+uint8_t PLAIN(randomize)(uint8_t place, const uint8_t *packet, size_t packet_len, uint8_t *room, size_t room_len);
+uint8_t PLAIN(derandomize)(uint8_t place, const uint8_t *packet, size_t packet_len, uint8_t *room, size_t room_len);
+uint8_t PLAIN(rs_encode)(const uint8_t *data, size_t data_len, uint8_t *room, size_t room_len);
+uint8_t PLAIN(rs_decode)(uint8_t *block, size_t block_len, uint8_t *count, size_t count_len);
+uint64_t PLAIN(send_run)(uint8_t rate, const uint8_t *packets, size_t packets_len, uint8_t *room, size_t room_len,
+                         uint8_t *answer, size_t answer_len);
+uint64_t PLAIN(receive_run)(const uint8_t *blocks, size_t blocks_len, uint8_t *room, size_t room_len,
+                            uint8_t *counts, size_t counts_len);
+
+#endif

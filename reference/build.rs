@@ -1,0 +1,17 @@
+//! Links the project's static library `libexports.a` from the folder named by
+//! the environment variable EXPORTS_DIR. Without it (or with the feature
+//! `self`) nothing is linked, and the tests of the reference still run.
+
+fn main() {
+    println!("cargo:rerun-if-env-changed=EXPORTS_DIR");
+    let own = std::env::var_os("CARGO_FEATURE_SELF").is_some();
+    match std::env::var("EXPORTS_DIR") {
+        Ok(folder) if !own && !folder.is_empty() => {
+            println!("cargo:rerun-if-changed={folder}/libexports.a");
+            println!("cargo:rustc-link-search=native={folder}");
+            println!("cargo:rustc-link-lib=static=exports");
+            println!("cargo:rustc-cfg=exports_linked");
+        }
+        _ => {}
+    }
+}

@@ -1,0 +1,57 @@
+#!/bin/sh
+# Compares the library with outside implementations, stage by stage: libfec and
+# GNU Radio (gr-dtv). Installs them from Debian where they are missing; one that
+# cannot be had is said and skipped. Not needed by the tests.
+#
+#   EXPORTS_DIR=folder-of-libexports.a peers/compare.sh
+#
+# EXPORTS_LIBS may name further link arguments that the library needs.
+set -eu
+here=$(cd "$(dirname "$0")" && pwd)
+: "${EXPORTS_DIR:?set EXPORTS_DIR to the folder of libexports.a}"
+[ -f "$EXPORTS_DIR/libexports.a" ] || { echo "no libexports.a in $EXPORTS_DIR" >&2; exit 2; }
+build=$here/build
+mkdir -p "$build"
+cc=${CC:-cc}
+status=0 compared=
+
+install() {
+    command -v apt-get > /dev/null || return 1
+    echo "installing $1"
+    { apt-get install -y --no-install-recommends "$1" || { apt-get update && apt-get install -y --no-install-recommends "$1"; }; } \
+        > "$build/install-$1.log" 2>&1
+}
+
+with_libfec() {
+    $cc -O2 "$here/libfec.c" -o "$build/libfec" -L"$EXPORTS_DIR" -lexports ${EXPORTS_LIBS:-} -lfec 2> "$build/libfec.log"
+}
+[ -f /usr/include/fec.h ] || install libfec-dev || true
+if with_libfec; then
+    "$build/libfec" || status=1
+    compared="$compared libfec"
+else
+    echo "libfec: not there (Debian: libfec-dev), skipped; see $build/libfec.log"
+fi
+
+with_gnuradio() {
+    for python in python3 /usr/bin/python3; do
+        if "$python" -c 'from gnuradio import dtv' 2> /dev/null; then
+            return 0
+        fi
+    done
+    return 1
+}
+if with_gnuradio || { install gnuradio && with_gnuradio; }; then
+    $cc -O2 "$here/stages.c" -o "$build/stages" -L"$EXPORTS_DIR" -lexports ${EXPORTS_LIBS:-}
+    # GNU Radio's remarks on its own buffers go to a log.
+    "$python" "$here/gnuradio_chain.py" "$build/stages" > "$build/gnuradio.out" 2> "$build/gnuradio.log" || status=1
+    grep -v '^buffer_double_mapped' "$build/gnuradio.out" || { tail -5 "$build/gnuradio.log"; status=1; }
+    compared="$compared GNU-Radio"
+else
+    echo "GNU Radio: not there (Debian: gnuradio), skipped"
+fi
+
+if [ -z "$compared" ]; then echo "peers: none there, nothing compared"
+elif [ $status = 0 ]; then echo "peers:$compared: no difference"
+else echo "peers:$compared: DIFFERENT"; fi
+exit $status

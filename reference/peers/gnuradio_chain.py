@@ -1,0 +1,92 @@
+"""The library, stage by stage, against GNU Radio's gr-dtv, whose DVB-T energy
+dispersal, outer code, outer interleaver and inner code are those of
+EN 300 421. Argument: the program built from stages.c."""
+
+import subprocess
+import sys
+
+import numpy as np
+from gnuradio import blocks, dtv, gr
+
+STAGES = sys.argv[1]
+PACKETS = 960
+RATES = ["1/2", "2/3", "3/4", "5/6", "7/8"]
+CODES = [dtv.C1_2, dtv.C2_3, dtv.C3_4, dtv.C5_6, dtv.C7_8]
+OUTER = (2, 8, 0x11D, 255, 239, 8, 51, 8)
+different = 0
+
+
+def library(data, *stage):
+    done = subprocess.run([STAGES, *stage], input=data.tobytes(), stdout=subprocess.PIPE, check=True)
+    return np.frombuffer(done.stdout, dtype=np.uint8)
+
+
+def peer(block, data, vector_in=1, vector_out=1):
+    top = gr.top_block()
+    source = blocks.vector_source_b(data.tolist(), False, vector_in)
+    sink = blocks.vector_sink_b(vector_out)
+    top.connect(source, block, sink)
+    top.run()
+    return np.array(sink.data(), dtype=np.uint8)
+
+
+def compare(what, ours, theirs, unit, name, atleast=0, remark=""):
+    """Compares as far as both go; a peer keeps its last items back."""
+    global different
+    n = min(len(ours), len(theirs)) // unit
+    a, b = ours[: n * unit].reshape(n, unit), theirs[: n * unit].reshape(n, unit)
+    wrong = int(np.any(a != b, axis=1).sum())
+    if n < atleast or n == 0:
+        wrong += 1
+        remark += " (too few came)"
+    different += wrong
+    print(f"GNU Radio, {what}: {n} {name} compared, {wrong} different{remark}", flush=True)
+
+
+random = np.random.default_rng(300421)
+packets = random.integers(0, 256, PACKETS * 188, dtype=np.uint8)
+packets[::188] = 0x47
+tail = np.concatenate([packets[: 8 * 188]] * 2)  # pushes out what the peers keep back
+
+randomized = library(packets, "randomize")
+coded = library(randomized, "rs_encode")
+interleaved = library(packets, "interleaved")
+
+theirs = peer(dtv.dvbt_energy_dispersal(1), np.concatenate([packets, tail]), 1, 1504)
+compare("energy dispersal", randomized, theirs, 188, "packets", PACKETS)
+theirs = peer(dtv.dvbt_reed_solomon_enc(*OUTER), randomized, 1504, 1632)
+compare("outer coder", coded, theirs, 204, "blocks", PACKETS)
+theirs = peer(dtv.dvbt_convolutional_interleaver(136, 12, 17), coded, 1632, 1)
+compare("interleaver (ours: sent at 1/2, inner code undone)", interleaved, theirs, 204, "blocks", PACKETS)
+stream = theirs
+for rate in range(5):
+    ours = library(packets, "send", str(rate))
+    padded = np.concatenate([stream, np.zeros(20000, np.uint8)])
+    theirs = peer(dtv.dvbt_inner_coder(1, 1512, dtv.MOD_QPSK, dtv.NH, CODES[rate]), padded, 1, 1512)
+    compare(f"whole chain to the inner coder at {RATES[rate]}", ours, theirs, 1, "symbols", len(ours))
+
+# And back.
+ours = library(stream, "receive")
+compare("its stream through our receiver, against the packets", ours, packets[: len(ours)], 188, "packets", PACKETS - 11)
+theirs = peer(dtv.dvbt_convolutional_deinterleaver(136, 12, 17), interleaved, 1, 1632)[11 * 204 :]
+compare("our stream through its de-interleaver", coded, theirs, 204, "blocks", PACKETS - 30)
+harmed = coded.copy().reshape(PACKETS, 204)
+for n in range(PACKETS):
+    places = random.choice(204, n % 9, replace=False)
+    harmed[n, places] ^= random.integers(1, 256, n % 9, dtype=np.uint8)
+harmed = harmed.reshape(-1)
+ours = library(harmed, "rs_decode")
+theirs = peer(dtv.dvbt_reed_solomon_dec(*OUTER), harmed, 1632, 1504)
+data = ours[: PACKETS * 204].reshape(PACKETS, 204)[:, :188].reshape(-1)
+compare("decoder, 0 to 8 errors", data, theirs, 188, "blocks", PACKETS)
+wrong = int((ours[PACKETS * 204 :] != np.arange(PACKETS) % 9).sum())
+different += wrong
+print(f"  counts against the errors put in: {PACKETS} compared, {wrong} different")
+theirs = peer(dtv.dvbt_energy_descramble(8), np.concatenate([randomized, randomized]), 1504, 1)
+compare("our packets through its descrambler", packets, theirs, 188, "packets", PACKETS)
+for rate in range(5):
+    longer = library(np.concatenate([packets] + [tail] * 3), "send", str(rate))
+    theirs = peer(dtv.dvbt_viterbi_decoder(dtv.MOD_QPSK, dtv.NH, CODES[rate], 768), longer, 1, 1)
+    compare(f"our symbols at {RATES[rate]} through its Viterbi decoder", interleaved, theirs, 1, "bytes", PACKETS * 204)
+
+sys.exit(different != 0)

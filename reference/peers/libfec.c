@@ -1,0 +1,139 @@
+/* The library's outer code against libfec, init_rs_char(8, 0x11d, 0, 1, 16, 51). */
+#include "../../include/dvbs.h"
+
+#include <fec.h>
+#include <stdio.h>
+#include <string.h>
+
+static uint64_t state = 0x300421;
+static uint32_t next(uint32_t below)
+{
+    state ^= state << 13, state ^= state >> 7, state ^= state << 17;
+    return (uint32_t)((state >> 32) * below >> 32);
+}
+
+static void codeword(void *fec, uint8_t *block)
+{
+    for (int n = 0; n < 188; n++)
+        block[n] = (uint8_t)next(256);
+    encode_rs_char(fec, block, block + 188);
+}
+
+static void harm(uint8_t *block, int errors)
+{
+    uint8_t hit[204] = {0};
+    while (errors > 0) {
+        uint32_t n = next(204);
+        if (!hit[n]) {
+            hit[n] = 1;
+            block[n] ^= (uint8_t)(1 + next(255));
+            errors--;
+        }
+    }
+}
+
+static int is_codeword(void *fec, const uint8_t *block)
+{
+    uint8_t check[16], copy[188];
+    memcpy(copy, block, 188);
+    encode_rs_char(fec, copy, check);
+    return !memcmp(check, block + 188, 16);
+}
+
+/* Times x, modulo g: g's coefficients below x^16 come from coding a last byte. */
+static void times_x(const uint8_t *g, uint8_t *rest)
+{
+    uint8_t top = rest[0];
+    for (int k = 0; k < 16; k++) {
+        unsigned product = 0, a = g[k];
+        for (int i = 0; i < 8; i++) {
+            if (top >> i & 1)
+                product ^= a;
+            a <<= 1;
+            if (a & 0x100)
+                a ^= 0x11d;
+        }
+        rest[k] = (uint8_t)((k < 15 ? rest[k + 1] : 0) ^ product);
+    }
+}
+
+int main(void)
+{
+    void *fec = init_rs_char(8, 0x11d, 0, 1, 16, 51);
+    long different = 0, bad = 0;
+
+    for (int i = 0; i < 50000; i++) {
+        uint8_t a[204], b[204];
+        codeword(fec, a);
+        bad += dvbs_rs_encode(a, 188, b, 204) != 0 || memcmp(a, b, 204) != 0;
+    }
+    printf("libfec, encode: 50000 compared, %ld different\n", bad);
+    different += bad;
+
+    bad = 0;
+    for (int i = 0; i < 90000; i++) {
+        uint8_t a[204], b[204], count = 255;
+        codeword(fec, a);
+        harm(a, i % 9);
+        memcpy(b, a, 204);
+        int want = decode_rs_char(fec, a, NULL, 0);
+        uint8_t answer = dvbs_rs_decode(b, 204, &count, 1);
+        bad += answer != 0 || want != count || memcmp(a, b, 204) != 0;
+    }
+    printf("libfec, decode, 0 to 8 errors (answer, count, block): 90000 compared, %ld different\n", bad);
+    different += bad;
+
+    /* Beyond eight errors, random blocks, and blocks with a hidden error among
+     * the 51 bytes never sent. Debian's libfec gives up (-2) where it would place
+     * an error among those 51. A version that reports success there, and leaves a
+     * block that is no codeword, is counted apart. The library must answer 8. */
+    static const char *const kinds[] = {"9 to 20 errors", "random blocks", "a hidden error among the 51 bytes never sent"};
+    uint8_t g[204] = {0}, power[51][16];
+    g[187] = 1;
+    encode_rs_char(fec, g, g + 188);
+    uint8_t rest[16];
+    memcpy(rest, g + 188, 16); /* x^16 */
+    for (int e = 17; e < 255; e++) {
+        times_x(g + 188, rest);
+        if (e >= 204)
+            memcpy(power[e - 204], rest, 16);
+    }
+    for (int kind = 0; kind < 3; kind++) {
+        long explained = 0, agreed = 0;
+        bad = 0;
+        for (int i = 0; i < 40000; i++) {
+            uint8_t a[204], b[204], before[204], count = 255;
+            codeword(fec, a);
+            if (kind == 0)
+                harm(a, 9 + i % 12);
+            if (kind == 1)
+                for (int n = 0; n < 204; n++)
+                    a[n] = (uint8_t)next(256);
+            if (kind == 2) {
+                for (int k = 0; k < 16; k++)
+                    a[188 + k] ^= power[i % 51][k];
+                harm(a, (int)next(8));
+            }
+            memcpy(b, a, 204);
+            memcpy(before, a, 204);
+            int want = decode_rs_char(fec, a, NULL, 0);
+            uint8_t answer = dvbs_rs_decode(b, 204, &count, 1);
+            int untouched = answer == 8 && count == 255 && !memcmp(b, before, 204);
+            if (want >= 0 && is_codeword(fec, a) && answer == 0 && want == count && !memcmp(a, b, 204))
+                agreed++;
+            else if (want < 0 && untouched)
+                agreed++;
+            else if (want >= 0 && !is_codeword(fec, a) && untouched)
+                explained++;
+            else
+                bad++;
+        }
+        printf("libfec, decode, %s: 40000 compared, %ld the same, %ld different\n", kinds[kind], agreed, bad);
+        if (explained)
+            printf("  and %ld where libfec reports success but its block is no codeword of 204 bytes\n"
+                   "  (an error placed among the bytes never sent); the library answers 8 there\n", explained);
+        different += bad;
+    }
+    free_rs_char(fec);
+    return different != 0;
+}

@@ -1,0 +1,24 @@
+//! The answer numbers of document 01.
+
+#[derive(Clone, Copy, Debug, PartialEq, Eq)]
+#[repr(u8)]
+pub enum Answer {
+    Done = 0,
+    PacketLength = 1,
+    SyncByte = 2,
+    BlockLength = 3,
+    ShortRoom = 4,
+    StateRange = 5,
+    UnknownRate = 6,
+    Full = 7,
+    NoCodeword = 8,
+    Filling = 9,
+    Waiting = 10,
+    OutOfStep = 11,
+}
+
+impl Answer {
+    pub fn number(self) -> u8 {
+        self as u8
+    }
+}

@@ -1,0 +1,642 @@
+//! Compares the library, function by function, with the reference: answers,
+//! every byte of every lent buffer, on seeded, repeatable inputs.
+//!
+//! `compare` runs all; `compare KIND` one kind; `compare KIND CASE` one case.
+
+use reference::exports::{expected, library, COUNTS_LENGTH};
+use reference::interleaver::Branches;
+use reference::reed_solomon::{check_bytes, encode};
+use reference::sender::{interleaved_stream, Sender};
+use reference::xorshift::Xorshift;
+use reference::{BLOCK_LENGTH, INVERTED_SYNC, PACKET_LENGTH, SYNC};
+
+const BASE_SEED: u64 = 0x300_421;
+
+/// Keeps the score, and says what differs.
+struct Score {
+    only_kind: Option<String>,
+    only_case: Option<u64>,
+    kind: &'static str,
+    case: u64,
+    seed: u64,
+    passed: u64,
+    failed: u64,
+    passed_all: u64,
+    failed_all: u64,
+}
+
+impl Score {
+    /// Runs the cases of a kind and prints its line.
+    fn kind(&mut self, kind: &'static str, cases: u64, mut run: impl FnMut(&mut Score, &mut Xorshift, u64)) {
+        if self.only_kind.as_deref().is_some_and(|only| only != kind) {
+            return;
+        }
+        self.kind = kind;
+        self.passed = 0;
+        self.failed = 0;
+        for case in 0..cases {
+            if self.only_case.is_some_and(|only| only != case) {
+                continue;
+            }
+            self.case = case;
+            // The name of the kind is part of the seed.
+            let name = kind.bytes().fold(BASE_SEED, |sum, b| sum.wrapping_mul(257) ^ b as u64);
+            self.seed = name.wrapping_mul(1 << 24).wrapping_add(case);
+            let mut r = Xorshift::new(self.seed);
+            run(self, &mut r, case);
+        }
+        println!("{kind}: {} compared, {} different", self.passed + self.failed, self.failed);
+        self.passed_all += self.passed;
+        self.failed_all += self.failed;
+    }
+
+    fn same(&mut self, inputs: &str, want: &[(&str, &[u8])], got: &[(&str, &[u8])]) {
+        if want == got {
+            self.passed += 1;
+            return;
+        }
+        self.failed += 1;
+        if self.failed > 5 {
+            return;
+        }
+        println!("DIFFERENT {} case {} (seed {:#x}): {inputs}", self.kind, self.case, self.seed);
+        for ((name, w), (_, g)) in want.iter().zip(got) {
+            if w != g {
+                let at = w.iter().zip(*g).position(|(a, b)| a != b).unwrap_or(0);
+                let part = |b: &[u8]| hex(&b[at..b.len().min(at + 16)]);
+                println!("  {name} from byte {at}: reference {}, library {}", part(w), part(g));
+            } else if w.len() <= 8 {
+                println!("  {name}: both {}", hex(w));
+            }
+        }
+    }
+}
+
+fn hex(bytes: &[u8]) -> String {
+    bytes.iter().map(|b| format!("{b:02x}")).collect::<Vec<_>>().join(" ")
+}
+
+// One comparison of each function. Rooms start with the same bytes on both
+// sides and are compared whole, so a byte written beyond the answer shows.
+
+fn randomize(s: &mut Score, place: u8, packet: &[u8], room: Vec<u8>) -> u8 {
+    let (mut a, mut b) = (room.clone(), room);
+    let want = expected::randomize(place, packet, &mut a);
+    let got = library::randomize(place, packet, &mut b);
+    let inputs = format!("place {place}, packet of {}, room of {}", packet.len(), a.len());
+    s.same(&inputs, &[("answer", &[want]), ("room", &a)], &[("answer", &[got]), ("room", &b)]);
+    want
+}
+
+fn derandomize(s: &mut Score, place: u8, packet: &[u8], room: Vec<u8>) -> u8 {
+    let (mut a, mut b) = (room.clone(), room);
+    let want = expected::derandomize(place, packet, &mut a);
+    let got = library::derandomize(place, packet, &mut b);
+    let inputs = format!("place {place}, packet of {}, room of {}", packet.len(), a.len());
+    s.same(&inputs, &[("answer", &[want]), ("room", &a)], &[("answer", &[got]), ("room", &b)]);
+    want
+}
+
+fn rs_encode(s: &mut Score, data: &[u8], room: Vec<u8>) {
+    let (mut a, mut b) = (room.clone(), room);
+    let want = expected::rs_encode(data, &mut a);
+    let got = library::rs_encode(data, &mut b);
+    let inputs = format!("data of {}, room of {}", data.len(), a.len());
+    s.same(&inputs, &[("answer", &[want]), ("room", &a)], &[("answer", &[got]), ("room", &b)]);
+}
+
+fn rs_decode(s: &mut Score, block: &[u8], count: Vec<u8>) -> (u8, u8) {
+    let (mut a, mut b) = (block.to_vec(), block.to_vec());
+    let (mut m, mut n) = (count.clone(), count);
+    let want = expected::rs_decode(&mut a, &mut m);
+    let got = library::rs_decode(&mut b, &mut n);
+    let inputs = if s.only_case.is_some() {
+        format!("block {}, count of {}", hex(block), m.len())
+    } else {
+        format!("block of {}, count of {}", block.len(), m.len())
+    };
+    s.same(
+        &inputs,
+        &[("answer", &[want]), ("count", &m), ("block", &a)],
+        &[("answer", &[got]), ("count", &n), ("block", &b)],
+    );
+    (want, m.first().copied().unwrap_or(0))
+}
+
+fn send_run(s: &mut Score, rate: u8, packets: &[u8], room: Vec<u8>, answer: Vec<u8>) -> (u8, u64) {
+    let (mut a, mut b) = (room.clone(), room);
+    let (mut m, mut n) = (answer.clone(), answer);
+    let want = expected::send_run(rate, packets, &mut a, &mut m);
+    let got = library::send_run(rate, packets, &mut b, &mut n);
+    let inputs = format!("rate {rate}, packets of {}, room of {}, answer of {}", packets.len(), a.len(), m.len());
+    s.same(
+        &inputs,
+        &[("symbols", &want.to_le_bytes()), ("answer", &m), ("room", &a)],
+        &[("symbols", &got.to_le_bytes()), ("answer", &n), ("room", &b)],
+    );
+    (m.first().copied().unwrap_or(0), want)
+}
+
+fn receive_run(s: &mut Score, blocks: &[u8], room: Vec<u8>, counts: Vec<u8>) -> (Vec<u8>, [u64; 7]) {
+    let (mut a, mut b) = (room.clone(), room);
+    let (mut m, mut n) = (counts.clone(), counts);
+    let want = expected::receive_run(blocks, &mut a, &mut m);
+    let got = library::receive_run(blocks, &mut b, &mut n);
+    let inputs = format!("blocks of {}, room of {}, counts of {}", blocks.len(), a.len(), m.len());
+    s.same(
+        &inputs,
+        &[("bytes", &want.to_le_bytes()), ("counts", &m), ("room", &a)],
+        &[("bytes", &got.to_le_bytes()), ("counts", &n), ("room", &b)],
+    );
+    let mut seven = [0; 7];
+    if m.len() >= COUNTS_LENGTH {
+        for (count, bytes) in seven.iter_mut().zip(m.chunks_exact(8)) {
+            *count = u64::from_le_bytes(bytes.try_into().unwrap());
+        }
+    }
+    a.truncate(want as usize);
+    (a, seven)
+}
+
+// Inputs.
+
+fn packets(r: &mut Xorshift, count: usize) -> Vec<u8> {
+    let mut p = r.bytes(PACKET_LENGTH * count);
+    p.iter_mut().step_by(PACKET_LENGTH).for_each(|byte| *byte = SYNC);
+    p
+}
+
+fn codeword(r: &mut Xorshift) -> Vec<u8> {
+    let data = match r.below(8) {
+        0 => vec![0; PACKET_LENGTH],
+        1 => vec![0xFF; PACKET_LENGTH],
+        2 => {
+            let mut sparse = vec![0; PACKET_LENGTH];
+            sparse[r.below(PACKET_LENGTH)] = r.byte();
+            sparse
+        }
+        _ => r.bytes(PACKET_LENGTH),
+    };
+    let mut block = vec![0; BLOCK_LENGTH];
+    encode(&data, &mut block);
+    block
+}
+
+/// Changes `count` different bytes among those from `low` to below `high`.
+fn harm(r: &mut Xorshift, block: &mut [u8], count: usize, low: usize, high: usize) {
+    for n in r.places(count, high - low) {
+        block[low + n] ^= 1 + r.below(255) as u8;
+    }
+}
+
+/// Coefficients, x^203 first, of x^exponent modulo g, in the sixteen check places.
+fn remainder_of_power(exponent: usize) -> Vec<u8> {
+    let mut data = vec![0; exponent - 15];
+    data[0] = 1;
+    let mut block = vec![0; BLOCK_LENGTH];
+    block[PACKET_LENGTH..].copy_from_slice(&check_bytes(&data));
+    block
+}
+
+fn times(a: u8, by: u8) -> u8 {
+    reference::reed_solomon::multiply(a, by)
+}
+
+/// A count before the call that no answer gives.
+fn count_before(r: &mut Xorshift) -> Vec<u8> {
+    let length = if r.below(4) == 0 { 1 + r.below(20) } else { 1 };
+    vec![0xA5; length]
+}
+
+fn room_of(r: &mut Xorshift, need: usize) -> Vec<u8> {
+    let more = if r.below(2) == 0 { 0 } else { 1 + r.below(300) };
+    r.bytes(need + more)
+}
+
+fn stage_kinds(s: &mut Score) {
+    s.kind("randomize", 20_000, |s, r, case| {
+        let packet = packets(r, 1);
+        let room = room_of(r, 188);
+        assert_eq!(randomize(s, case as u8 % 8, &packet, room), 0);
+    });
+    s.kind("derandomize", 20_000, |s, r, case| {
+        let mut packet = packets(r, 1);
+        packet[0] = [SYNC, INVERTED_SYNC, r.byte(), r.byte()][r.below(4)];
+        let room = room_of(r, 188);
+        assert_eq!(derandomize(s, case as u8 % 8, &packet, room), 0);
+    });
+    s.kind("randomize and derandomize: refusals", 256, |s, r, case| {
+        // Every place, every first byte, and short room, alone and together.
+        let place = case as u8;
+        for length in [0, 1, 187, 188, 189, 204, 376] {
+            for room in [0, 1, 187, 188, 189] {
+                let mut packet = r.bytes(length);
+                for first in [SYNC, INVERTED_SYNC, 0x46, case as u8] {
+                    if length > 0 {
+                        packet[0] = first;
+                    }
+                    for p in [place, case as u8 % 8] {
+                        randomize(s, p, &packet, r.bytes(room));
+                        derandomize(s, p, &packet, r.bytes(room));
+                    }
+                }
+            }
+        }
+    });
+    s.kind("rs_encode", 40_000, |s, r, case| {
+        let mut data = if case % 4 == 0 { vec![0; 188] } else { r.bytes(188) };
+        if case % 4 == 0 {
+            // Each place with each of several values, alone.
+            data[case as usize / 4 % 188] = r.byte();
+        }
+        let room = room_of(r, 204);
+        rs_encode(s, &data, room);
+    });
+    s.kind("rs_encode: refusals", 410, |s, r, case| {
+        for room in [0, 1, 187, 188, 203, 204, 205] {
+            let data = r.bytes(case as usize);
+            rs_encode(s, &data, r.bytes(room));
+        }
+        rs_encode(s, &[7; 188], r.bytes(case as usize));
+    });
+}
+
+fn decode_kinds(s: &mut Score) {
+    let mut seen = [0u64; 10];
+    s.kind("rs_decode: 0 to 20 errors anywhere", 126_000, |s, r, case| {
+        let mut block = codeword(r);
+        harm(r, &mut block, case as usize % 21, 0, 204);
+        let before = count_before(r);
+        let (answer, count) = rs_decode(s, &block, before);
+        if case % 21 <= 8 {
+            assert_eq!((answer, count as u64), (0, case % 21));
+        }
+        seen[if answer == 0 { count as usize } else { 9 }] += 1;
+    });
+    if seen != [0; 10] {
+        println!("  count 0 to 8, then no codeword: {seen:?}");
+    }
+    s.kind("rs_decode: errors crowded into the check bytes", 51_000, |s, r, case| {
+        let mut block = codeword(r);
+        harm(r, &mut block, case as usize % 17, 188, 204);
+        if case % 3 == 0 {
+            let more = r.below(4);
+            harm(r, &mut block, more, 0, 188);
+        }
+        let before = count_before(r);
+        rs_decode(s, &block, before);
+    });
+    s.kind("rs_decode: bursts", 40_000, |s, r, case| {
+        let mut block = codeword(r);
+        let length = 1 + case as usize % 20;
+        let low = r.below(205 - length);
+        for byte in &mut block[low..low + length] {
+            *byte = match case % 3 {
+                0 => 0,
+                1 => !*byte,
+                _ => r.byte(),
+            };
+        }
+        let before = count_before(r);
+        rs_decode(s, &block, before);
+    });
+    s.kind("rs_decode: random blocks", 20_000, |s, r, _| {
+        let block = r.bytes(204);
+        let before = count_before(r);
+        rs_decode(s, &block, before);
+    });
+    let mut pulled = 0u64;
+    s.kind("rs_decode: between two codewords", 30_000, |s, r, case| {
+        // a + c g x^k is 17 bytes from a: part of the way, 8 from one of them,
+        // 8 or more from the other, with a few bytes more harmed.
+        let a = codeword(r);
+        let mut other = a.clone();
+        let mut word = vec![0; 188];
+        let at = r.below(188);
+        word[at] = 1 + r.below(255) as u8;
+        let low_degree: Vec<u8> = reference::reed_solomon::generator().to_vec();
+        for (k, g) in low_degree.iter().enumerate() {
+            other[at + k] ^= times(*g, word[at]);
+        }
+        let differ: Vec<usize> = (0..204).filter(|&n| a[n] != other[n]).collect();
+        assert_eq!(differ.len(), 17);
+        let taken = case as usize % 18;
+        let mut block = a.clone();
+        for i in r.places(taken, 17) {
+            block[differ[i]] = other[differ[i]];
+        }
+        if case % 4 == 3 {
+            let more = r.below(3);
+            harm(r, &mut block, more, 0, 204);
+        }
+        let before = count_before(r);
+        let (answer, _) = rs_decode(s, &block, before);
+        if answer == 0 && taken >= 9 {
+            pulled += 1;
+        }
+    });
+    if pulled > 0 {
+        println!("  drawn to the other codeword: {pulled}");
+    }
+    s.kind("rs_decode: all ways to clear eight of the 17 bytes", 24_310, |s, _, case| {
+        let mut block = vec![0; 204];
+        block[187] = 1;
+        block[188..].copy_from_slice(&reference::reed_solomon::generator()[1..]);
+        let whole = block.clone();
+        // The case-th set of eight of seventeen, in order.
+        let (mut left, mut rank) = (8u64, case);
+        for n in 0..17u64 {
+            let without = choose(16 - n, left);
+            if rank >= without {
+                rank -= without;
+                left -= 1;
+                block[187 + n as usize] = 0;
+            }
+        }
+        assert_eq!(left, 0);
+        assert_eq!(rs_decode(s, &block, vec![0xA5]), (0, 8));
+        // The other nine cleared: eight from the zero block.
+        let rest: Vec<u8> = block.iter().zip(&whole).map(|(b, w)| b ^ w).collect();
+        assert_eq!(rs_decode(s, &rest, vec![0xA5]), (0, 8));
+    });
+    let mut refused = 0u64;
+    s.kind("rs_decode: errors among the 51 bytes never sent", 30_000, |s, r, case| {
+        // A codeword of RS(255,239) whose first 51 bytes are not all zero, cut
+        // to 204 bytes: 1 to 8 of its places are hidden, others are harmed.
+        let hidden = 1 + case as usize / 51 % 8;
+        let mut block = if case < 51 || r.below(4) == 0 { vec![0; 204] } else { codeword(r) };
+        let mut first = true;
+        for k in r.places(hidden, 51) {
+            let k = if first && hidden == 1 { case as usize % 51 } else { k };
+            first = false;
+            let value = if case < 51 { 1 } else { 1 + r.below(255) as u8 };
+            for (b, c) in block.iter_mut().zip(remainder_of_power(204 + k)) {
+                *b ^= times(c, value);
+            }
+        }
+        let seen = if case < 2_000 { 0 } else { r.below(10 - hidden) };
+        harm(r, &mut block, seen, 0, 204);
+        let before = count_before(r);
+        refused += (rs_decode(s, &block, before).0 == 8) as u64;
+    });
+    if refused > 0 {
+        println!("  no codeword: {refused}");
+    }
+    s.kind("rs_decode: refusals", 410, |s, r, case| {
+        for count in [0, 1, 2] {
+            let block = r.bytes(case as usize);
+            rs_decode(s, &block, vec![0xA5; count]);
+        }
+        let block = codeword(r);
+        rs_decode(s, &block, vec![0xA5; case as usize % 3]);
+    });
+}
+
+fn choose(n: u64, k: u64) -> u64 {
+    (0..k).fold(1, |c, i| c * n.saturating_sub(i) / (i + 1))
+}
+
+fn symbols_of(rate: u8, count: usize) -> usize {
+    Sender::fresh(rate).ok().map_or(0, |sender| sender.symbols_due(count))
+}
+
+fn send_kinds(s: &mut Score) {
+    for rate in 0..5u8 {
+        let kind = ["send_run at 1/2", "send_run at 2/3", "send_run at 3/4", "send_run at 5/6", "send_run at 7/8"][rate as usize];
+        let mut sent = 0;
+        s.kind(kind, 60, |s, r, case| {
+            // 0 to 49 packets one by one, then longer lists.
+            let count = if case < 50 { case as usize } else { 50 + r.below(150) };
+            let p = packets(r, count);
+            let need = symbols_of(rate, count);
+            let room = room_of(r, need);
+            let (answer, symbols) = send_run(s, rate, &p, room, vec![0xA5; 1 + case as usize % 3]);
+            assert_eq!((answer, symbols as usize), (0, need));
+            sent += count;
+            if need > 0 {
+                send_run(s, rate, &p, r.bytes(need - 1), vec![0xA5]);
+            }
+        });
+        if sent > 0 {
+            println!("  packets: {sent}");
+        }
+    }
+    s.kind("send_run: refusals", 256, |s, r, case| {
+        // Every rate with each of the other refusals, alone and together.
+        let count = 1 + case as usize % 10;
+        for rate in [case as u8, case as u8 % 5] {
+            let need = symbols_of(rate % 5, count);
+            let good = packets(r, count);
+            let mut wrong = good.clone();
+            wrong[188 * r.below(count)] = [0x46, INVERTED_SYNC, 0x00, case as u8][r.below(4)];
+            let short = &good[..188 * count - 1 - r.below(187)];
+            let mut longer = good.clone();
+            let more = 1 + r.below(187);
+            longer.extend(r.bytes(more));
+            let mut both = wrong.clone();
+            both.push(SYNC);
+            for list in [&good[..], &wrong, short, &longer, &both, &[]] {
+                for room in [need + 5, need, need - 1, r.below(need), 0] {
+                    for answer in [0, 1, 2] {
+                        send_run(s, rate, list, r.bytes(room), vec![0xA5; answer]);
+                    }
+                }
+            }
+        }
+    });
+}
+
+/// Codewords through the sender's delays; sync bytes as given.
+fn stream_of(blocks: &[Vec<u8>]) -> Vec<u8> {
+    let mut branches = Branches::interleaver();
+    let mut stream = Vec::new();
+    for block in blocks {
+        let mut out = [0; BLOCK_LENGTH];
+        branches.pass(block, &mut out);
+        stream.extend(out);
+    }
+    stream
+}
+
+fn receive_kinds(s: &mut Score) {
+    let mut total = [0u64; 7];
+    let mut add = |seven: [u64; 7]| total.iter_mut().zip(seven).for_each(|(t, c)| *t += c);
+    let room_for = |r: &mut Xorshift, stream: &[u8]| room_of(r, stream.len() / 204 * 188);
+
+    s.kind("receive_run: unharmed", 80, |s, r, case| {
+        let count = if case < 60 { case as usize } else { 60 + r.below(200) };
+        let p = packets(r, count);
+        let mut stream = interleaved_stream(&p);
+        let rest = r.below(204);
+        stream.extend(r.bytes(rest));
+        let room = room_for(r, &stream);
+        let (got, seven) = receive_run(s, &stream, room, vec![0xA5; 56 + case as usize % 3]);
+        assert_eq!(got, p[..188 * count.saturating_sub(11)]);
+        add(seven);
+    });
+    s.kind("receive_run: rest of 0 to 203 bytes", 204, |s, r, case| {
+        let p = packets(r, 14);
+        let mut stream = interleaved_stream(&p);
+        stream.truncate(13 * 204 + case as usize);
+        let room = room_for(r, &stream);
+        add(receive_run(s, &stream, room, vec![0xA5; 56]).1);
+        // And no whole block at all.
+        let room = room_of(r, 0);
+        add(receive_run(s, &stream[..case as usize], room, vec![0xA5; 56]).1);
+    });
+    s.kind("receive_run: harmed bytes", 160, |s, r, case| {
+        let count = 20 + r.below(120);
+        let p = packets(r, count);
+        let mut stream = interleaved_stream(&p);
+        // One byte in 15 to one byte in 400, and bursts.
+        let one_in = 15 + r.below(25) * (case as usize % 17);
+        for byte in stream.iter_mut() {
+            if r.below(one_in) == 0 {
+                *byte = r.byte();
+            }
+        }
+        for _ in 0..case % 5 {
+            let length = 1 + r.below(1500);
+            let low = r.below(stream.len());
+            let high = (low + length).min(stream.len());
+            stream[low..high].iter_mut().for_each(|byte| *byte = r.byte());
+        }
+        let room = room_for(r, &stream);
+        add(receive_run(s, &stream, room, vec![0xA5; 56]).1);
+    });
+    s.kind("receive_run: from inside a group", 120, |s, r, case| {
+        let count = 24 + r.below(60);
+        let p = packets(r, count);
+        let stream = interleaved_stream(&p);
+        let from = case as usize % 24;
+        let room = room_for(r, &stream[204 * from..]);
+        add(receive_run(s, &stream[204 * from..], room, vec![0xA5; 56]).1);
+    });
+    s.kind("receive_run: blocks dropped, doubled or strange", 160, |s, r, case| {
+        // Cut before the delays, so that the blocks stay codewords and the
+        // place goes wrong; or after them, so that they are lost as well.
+        let count = 40 + r.below(160);
+        let p = packets(r, count);
+        let mut place = 0;
+        let mut blocks = Vec::new();
+        for packet in p.chunks_exact(188) {
+            let mut data = [0; 188];
+            reference::randomizer::randomize(place, packet, &mut data);
+            place = (place + 1) % 8;
+            if r.below(25) == 0 {
+                data[0] = [SYNC, INVERTED_SYNC, 0, r.byte()][r.below(4)];
+            }
+            let mut block = vec![0; 204];
+            encode(&data, &mut block);
+            let errors = [0, 0, 0, 1, 4, 8, 9, 12][r.below(8)];
+            harm(r, &mut block, errors, 0, 204);
+            match r.below(30) {
+                0 => {}
+                1 => blocks.extend([block.clone(), block]),
+                2 => blocks.push(r.bytes(204)),
+                _ => blocks.push(block),
+            }
+        }
+        let mut stream = stream_of(&blocks);
+        if case % 4 == 3 {
+            let at = 204 * r.below(stream.len() / 204);
+            stream.drain(at..at + 204);
+        }
+        let room = room_for(r, &stream);
+        add(receive_run(s, &stream, room, vec![0xA5; 56]).1);
+    });
+    s.kind("receive_run: sync bytes at random", 200, |s, r, _| {
+        // Every packet begins B8 or 47 or neither, some blocks beyond repair:
+        // walks through all moves of the place.
+        let count = 20 + r.below(120);
+        let mut due = 0;
+        let blocks: Vec<Vec<u8>> = (0..count)
+            .map(|_| {
+                let mut data = r.bytes(188);
+                let right = if due == 0 { INVERTED_SYNC } else { SYNC };
+                data[0] = [right, right, right, right, right, right, right, SYNC, INVERTED_SYNC, 0x48][r.below(10)];
+                due = if data[0] == INVERTED_SYNC { 1 } else { (due + 1) % 8 };
+                let mut block = vec![0; 204];
+                encode(&data, &mut block);
+                let errors = [0, 3, 8, 14][r.below(4)];
+                harm(r, &mut block, errors, 0, 204);
+                block
+            })
+            .collect();
+        let stream = stream_of(&blocks);
+        let room = room_for(r, &stream);
+        add(receive_run(s, &stream, room, vec![0xA5; 56]).1);
+    });
+    s.kind("receive_run: anything", 200, |s, r, case| {
+        let length = r.below(8000);
+        let stream = match case % 4 {
+            0 => vec![0; length],
+            1 => vec![INVERTED_SYNC; length],
+            2 => vec![r.byte(); length],
+            _ => r.bytes(length),
+        };
+        let room = room_for(r, &stream);
+        add(receive_run(s, &stream, room, vec![0xA5; 56]).1);
+    });
+    s.kind("receive_run: long recordings", 8, |s, r, case| {
+        let p = packets(r, 1500);
+        let mut stream = interleaved_stream(&p);
+        if case > 0 {
+            for _ in 0..stream.len() / 40 {
+                let n = r.below(stream.len());
+                stream[n] = r.byte();
+            }
+        }
+        let rest = r.below(204);
+        stream.extend(r.bytes(rest));
+        let room = room_for(r, &stream);
+        add(receive_run(s, &stream, room, vec![0xA5; 56]).1);
+    });
+    s.kind("receive_run: refusals", 60, |s, r, case| {
+        let count = case as usize % 30;
+        let p = packets(r, count);
+        let stream = interleaved_stream(&p);
+        for counts in [0, 1, 55, 56, 57] {
+            receive_run(s, &stream, r.bytes(188 * count), vec![0xA5; counts]);
+            if count > 0 {
+                receive_run(s, &stream, r.bytes(188 * count - 1), vec![0xA5; counts]);
+            }
+            receive_run(s, &stream, vec![], vec![0xA5; counts]);
+        }
+    });
+    if total != [0; 7] {
+        println!("  taken, filling, delivered, lost, waiting, outofstep, changed: {total:?}");
+        if s.only_kind.is_none() {
+            // Every branch of the receiver was visited many times.
+            assert!(total.iter().all(|&count| count >= 500), "{total:?}");
+        }
+    }
+}
+
+fn main() {
+    let own = cfg!(feature = "self");
+    if !own && !cfg!(exports_linked) {
+        eprintln!("compare: no library linked; set EXPORTS_DIR to the folder of libexports.a and build again");
+        eprintln!("(or build with --features self to try the harness on the reference itself)");
+        std::process::exit(2);
+    }
+    let mut arguments = std::env::args().skip(1);
+    let mut s = Score {
+        only_kind: arguments.next(),
+        only_case: arguments.next().map(|case| case.parse().expect("a case number")),
+        kind: "",
+        case: 0,
+        seed: 0,
+        passed: 0,
+        failed: 0,
+        passed_all: 0,
+        failed_all: 0,
+    };
+    println!("the reference against {}", library::NAME);
+    stage_kinds(&mut s);
+    decode_kinds(&mut s);
+    send_kinds(&mut s);
+    receive_kinds(&mut s);
+    println!("comparisons: {} passed, {} failed", s.passed_all, s.failed_all);
+    std::process::exit((s.failed_all > 0) as i32);
+}

@@ -1,0 +1,218 @@
+//! The library's C functions: declarations, safe wrappers, and in `expected`
+//! what the reference says each of them does. Everything that is a matter of
+//! the C functions' edges rather than of the standard is in this file.
+
+/// What a run does where one of its calls would be refused.
+#[derive(Clone, Copy, PartialEq, Eq)]
+pub enum RunRefusal {
+    /// The whole run is tested first; a refused run writes nothing.
+    Whole,
+    /// The run ends before the first refused call; what came before stands.
+    StopsThere,
+}
+
+/// `dvbs_send_run`: a rest that is no packet, a wrong sync byte, short room.
+pub const SEND_RUN: RunRefusal = RunRefusal::Whole;
+/// `dvbs_receive_run`: room shorter than 188 bytes for every whole block
+/// (`Whole`: returns 0, counts as before), or used up on the way (`StopsThere`).
+pub const RECEIVE_RUN: RunRefusal = RunRefusal::Whole;
+
+/// Seven counts of eight bytes.
+pub const COUNTS_LENGTH: usize = 56;
+
+/// What the reference gives for the same calls.
+pub mod expected {
+    use super::*;
+    use crate::answer::Answer;
+    use crate::receiver::Receiver;
+    use crate::sender::Sender;
+    use crate::{randomizer, reed_solomon, BLOCK_LENGTH, PACKET_LENGTH, SYNC};
+
+    pub fn randomize(place: u8, packet: &[u8], room: &mut [u8]) -> u8 {
+        randomizer::randomize(place, packet, room).number()
+    }
+
+    pub fn derandomize(place: u8, packet: &[u8], room: &mut [u8]) -> u8 {
+        randomizer::derandomize(place, packet, room).number()
+    }
+
+    pub fn rs_encode(data: &[u8], room: &mut [u8]) -> u8 {
+        reed_solomon::encode(data, room).number()
+    }
+
+    /// A block that is not 204 bytes is 3, then a count shorter than 1 is 4.
+    /// The count is written only where the answer is 0.
+    pub fn rs_decode(block: &mut [u8], count: &mut [u8]) -> u8 {
+        if block.len() != BLOCK_LENGTH {
+            return Answer::BlockLength.number();
+        }
+        if count.is_empty() {
+            return Answer::ShortRoom.number();
+        }
+        let (answer, changed) = reed_solomon::decode(block);
+        if answer == Answer::Done {
+            count[0] = changed as u8;
+        }
+        answer.number()
+    }
+
+    pub fn send_run(rate: u8, packets: &[u8], room: &mut [u8], answer: &mut [u8]) -> u64 {
+        if answer.is_empty() {
+            return 0;
+        }
+        let mut sender = match Sender::fresh(rate) {
+            Ok(sender) => sender,
+            Err(refusal) => {
+                answer[0] = refusal.number();
+                return 0;
+            }
+        };
+        if SEND_RUN == RunRefusal::Whole {
+            let whole = packets.len() / PACKET_LENGTH;
+            let refusal = if packets.len() % PACKET_LENGTH != 0 {
+                Some(Answer::PacketLength)
+            } else if packets.chunks_exact(PACKET_LENGTH).any(|p| p[0] != SYNC) {
+                Some(Answer::SyncByte)
+            } else if room.len() < sender.symbols_due(whole) {
+                Some(Answer::ShortRoom)
+            } else {
+                None
+            };
+            if let Some(refusal) = refusal {
+                answer[0] = refusal.number();
+                return 0;
+            }
+        }
+        let mut written = 0;
+        for packet in packets.chunks(PACKET_LENGTH) {
+            let (given, symbols) = sender.send(packet, &mut room[written..]);
+            written += symbols;
+            if given != Answer::Done {
+                answer[0] = given.number();
+                return written as u64;
+            }
+        }
+        answer[0] = Answer::Done.number();
+        written as u64
+    }
+
+    /// A rest of the recording shorter than a block is left alone.
+    pub fn receive_run(blocks: &[u8], room: &mut [u8], counts: &mut [u8]) -> u64 {
+        if counts.len() < COUNTS_LENGTH {
+            return 0;
+        }
+        let whole = blocks.len() / BLOCK_LENGTH;
+        if RECEIVE_RUN == RunRefusal::Whole && room.len() < PACKET_LENGTH * whole {
+            return 0;
+        }
+        let mut receiver = Receiver::fresh();
+        let mut written = 0;
+        for block in blocks.chunks_exact(BLOCK_LENGTH) {
+            match receiver.receive(block, &mut room[written..]) {
+                Answer::Done => written += PACKET_LENGTH,
+                Answer::ShortRoom | Answer::Full => break,
+                _ => {}
+            }
+        }
+        for (bytes, count) in counts.chunks_exact_mut(8).zip(receiver.counts().in_order()) {
+            bytes.copy_from_slice(&count.to_le_bytes());
+        }
+        written as u64
+    }
+}
+
+/// The linked library.
+#[cfg(exports_linked)]
+pub mod library {
+    mod c {
+        extern "C" {
+            pub fn dvbs_randomize(
+                place: u8,
+                packet: *const u8,
+                packet_len: usize,
+                room: *mut u8,
+                room_len: usize,
+            ) -> u8;
+            pub fn dvbs_derandomize(
+                place: u8,
+                packet: *const u8,
+                packet_len: usize,
+                room: *mut u8,
+                room_len: usize,
+            ) -> u8;
+            pub fn dvbs_rs_encode(data: *const u8, data_len: usize, room: *mut u8, room_len: usize) -> u8;
+            pub fn dvbs_rs_decode(block: *mut u8, block_len: usize, count: *mut u8, count_len: usize) -> u8;
+            pub fn dvbs_send_run(
+                rate: u8,
+                packets: *const u8,
+                packets_len: usize,
+                room: *mut u8,
+                room_len: usize,
+                answer: *mut u8,
+                answer_len: usize,
+            ) -> u64;
+            pub fn dvbs_receive_run(
+                blocks: *const u8,
+                blocks_len: usize,
+                room: *mut u8,
+                room_len: usize,
+                counts: *mut u8,
+                counts_len: usize,
+            ) -> u64;
+        }
+    }
+
+    pub const NAME: &str = "the library";
+
+    // Each pointer comes from a slice and is passed with that slice's length.
+
+    pub fn randomize(place: u8, packet: &[u8], room: &mut [u8]) -> u8 {
+        unsafe { c::dvbs_randomize(place, packet.as_ptr(), packet.len(), room.as_mut_ptr(), room.len()) }
+    }
+
+    pub fn derandomize(place: u8, packet: &[u8], room: &mut [u8]) -> u8 {
+        unsafe { c::dvbs_derandomize(place, packet.as_ptr(), packet.len(), room.as_mut_ptr(), room.len()) }
+    }
+
+    pub fn rs_encode(data: &[u8], room: &mut [u8]) -> u8 {
+        unsafe { c::dvbs_rs_encode(data.as_ptr(), data.len(), room.as_mut_ptr(), room.len()) }
+    }
+
+    pub fn rs_decode(block: &mut [u8], count: &mut [u8]) -> u8 {
+        unsafe { c::dvbs_rs_decode(block.as_mut_ptr(), block.len(), count.as_mut_ptr(), count.len()) }
+    }
+
+    pub fn send_run(rate: u8, packets: &[u8], room: &mut [u8], answer: &mut [u8]) -> u64 {
+        unsafe {
+            c::dvbs_send_run(
+                rate,
+                packets.as_ptr(),
+                packets.len(),
+                room.as_mut_ptr(),
+                room.len(),
+                answer.as_mut_ptr(),
+                answer.len(),
+            )
+        }
+    }
+
+    pub fn receive_run(blocks: &[u8], room: &mut [u8], counts: &mut [u8]) -> u64 {
+        unsafe {
+            c::dvbs_receive_run(
+                blocks.as_ptr(),
+                blocks.len(),
+                room.as_mut_ptr(),
+                room.len(),
+                counts.as_mut_ptr(),
+                counts.len(),
+            )
+        }
+    }
+}
+
+/// Without the library, the reference in its place.
+#[cfg(not(exports_linked))]
+pub mod library {
+    pub const NAME: &str = "the reference itself";
+    pub use super::expected::*;
+}

@@ -1,0 +1,159 @@
+//! Inner coding (clause 4.4.3): the rate 1/2 convolutional code, K = 7, bit by
+//! bit, punctured by the rows P of table 2.
+
+use crate::answer::Answer;
+
+pub const RATES: u8 = 5;
+
+/// G1 (X) and G2 (Y); the top one of the seven bits is the newest.
+const G1: u8 = 0o171;
+const G2: u8 = 0o133;
+
+/// The rows P of table 2 (X, Y), 1: transmitted, for 1/2, 2/3, 3/4, 5/6, 7/8.
+const PUNCTURING: [(&str, &str); RATES as usize] = [
+    ("1", "1"),
+    ("10", "11"),
+    ("101", "110"),
+    ("10101", "11010"),
+    ("1000101", "1111010"),
+];
+
+pub struct InnerCoder {
+    rate: usize,
+    /// The last six bits, newest counting 32.
+    memory: u8,
+    /// Bits since the fresh coder.
+    taken: usize,
+    /// An I whose Q has not come.
+    held: Option<u8>,
+}
+
+impl InnerCoder {
+    pub fn fresh(rate: u8) -> Result<Self, Answer> {
+        if rate >= RATES {
+            return Err(Answer::UnknownRate);
+        }
+        Ok(InnerCoder { rate: rate as usize, memory: 0, taken: 0, held: None })
+    }
+
+    /// X and Y of one bit.
+    fn mother(&mut self, bit: u8) -> (u8, u8) {
+        let window = bit << 6 | self.memory;
+        self.memory = window >> 1;
+        let parity = |taps: u8| (window & taps).count_ones() as u8 & 1;
+        (parity(G1), parity(G2))
+    }
+
+    /// The transmitted bits go alternately to I and Q, X of a bit before its Y.
+    fn transmit(&mut self, bit: u8, symbols: &mut Vec<u8>) {
+        match self.held.take() {
+            None => self.held = Some(bit),
+            Some(i) => symbols.push(2 * i + bit),
+        }
+    }
+
+    fn step(&mut self, bit: u8, symbols: &mut Vec<u8>) {
+        let (x, y) = self.mother(bit);
+        let (keep_x, keep_y) = PUNCTURING[self.rate];
+        let place = self.taken % keep_x.len();
+        self.taken += 1;
+        if keep_x.as_bytes()[place] == b'1' {
+            self.transmit(x, symbols);
+        }
+        if keep_y.as_bytes()[place] == b'1' {
+            self.transmit(y, symbols);
+        }
+    }
+
+    /// Symbols 2 I + Q of the bytes, top bit first.
+    pub fn code(&mut self, bytes: &[u8]) -> Vec<u8> {
+        let mut symbols = Vec::with_capacity(8 * bytes.len());
+        for &byte in bytes {
+            for k in (0..8).rev() {
+                self.step(byte >> k & 1, &mut symbols);
+            }
+        }
+        symbols
+    }
+
+    /// How many symbols the next `bits` bits give.
+    pub fn symbols_due(&self, bits: usize) -> usize {
+        let (keep_x, keep_y) = PUNCTURING[self.rate];
+        let kept = |place: usize| {
+            (keep_x.as_bytes()[place] == b'1') as usize + (keep_y.as_bytes()[place] == b'1') as usize
+        };
+        let length = keep_x.len();
+        let whole: usize = (0..length).map(kept).sum();
+        let rest: usize = (0..bits % length).map(|i| kept((self.taken + i) % length)).sum();
+        (self.held.is_some() as usize + bits / length * whole + rest) / 2
+    }
+}
+
+#[cfg(test)]
+mod tests {
+    use super::*;
+    use crate::xorshift::Xorshift;
+
+    #[test]
+    fn one_bit_into_fresh_memory() {
+        let want: [&[u8]; 5] = [
+            &[3, 2, 3, 3, 0, 1, 3, 0],
+            &[3, 1, 3, 0, 3, 2],
+            &[3, 1, 3, 0, 3],
+            &[3, 1, 2, 1, 2],
+            &[3, 1, 2, 3, 0],
+        ];
+        for rate in 0..5 {
+            let mut coder = InnerCoder::fresh(rate).ok().unwrap();
+            assert_eq!(coder.code(&[0x80]), want[rate as usize]);
+            if rate == 2 {
+                assert_eq!(coder.held, Some(0));
+            }
+        }
+        assert_eq!(InnerCoder::fresh(5).err(), Some(Answer::UnknownRate));
+    }
+
+    /// The rows I and Q of table 2, as (is Y, index of the bit).
+    #[test]
+    fn the_rows_i_and_q_of_the_table_follow_from_p() {
+        let rows: [(usize, &str, &str); 5] = [
+            (1, "X1", "Y1"),
+            (4, "X1 Y2 Y3", "Y1 X3 Y4"),
+            (3, "X1 Y2", "Y1 X3"),
+            (5, "X1 Y2 Y4", "Y1 X3 X5"),
+            (7, "X1 Y2 Y4 Y6", "Y1 Y3 X5 X7"),
+        ];
+        let mut r = Xorshift::new(5);
+        for rate in 0..5u8 {
+            let (length, i_row, q_row) = rows[rate as usize];
+            let bytes = r.bytes(length * 40);
+            let mut mother = InnerCoder::fresh(0).ok().unwrap();
+            let pairs = mother.code(&bytes);
+            let pick = |name: &str, base: usize| {
+                let symbol = pairs[base + name[1..].parse::<usize>().unwrap() - 1];
+                if name.starts_with('X') { symbol >> 1 } else { symbol & 1 }
+            };
+            let mut want = Vec::new();
+            for base in (0..pairs.len()).step_by(length) {
+                for (i, q) in i_row.split(' ').zip(q_row.split(' ')) {
+                    want.push(2 * pick(i, base) + pick(q, base));
+                }
+            }
+            assert_eq!(InnerCoder::fresh(rate).ok().unwrap().code(&bytes), want);
+        }
+    }
+
+    #[test]
+    fn symbols_of_a_block() {
+        let mut r = Xorshift::new(6);
+        let allowed: [&[usize]; 5] = [&[1632], &[1224], &[1088], &[979, 980], &[932, 933]];
+        for rate in 0..5 {
+            let mut coder = InnerCoder::fresh(rate).ok().unwrap();
+            for _ in 0..40 {
+                let due = coder.symbols_due(1632);
+                assert_eq!(coder.code(&r.bytes(204)).len(), due);
+                assert!(allowed[rate as usize].contains(&due));
+            }
+        }
+    }
+}

@@ -1,0 +1,24 @@
+//! An independent second coder and decoder for the DVB-S chain, written from
+//! EN 300 421 (as ITU-R BO.1211, annex 1) and the project's document 01. It shares
+//! no code with the project and favours the shapes of the standard's figures
+//! (shift registers, queues, bit by bit) over speed.
+
+pub mod answer;
+pub mod exports;
+pub mod inner_code;
+pub mod interleaver;
+pub mod randomizer;
+pub mod receiver;
+pub mod reed_solomon;
+pub mod sender;
+pub mod xorshift;
+
+/// Length of a transport packet (4.4.1).
+pub const PACKET_LENGTH: usize = 188;
+/// Length of an error protected packet (4.4.2).
+pub const BLOCK_LENGTH: usize = 204;
+/// Packets from one loading of the randomizer to the next (4.4.1).
+pub const GROUP_LENGTH: usize = 8;
+/// MPEG-2 sync byte, and the same inverted (4.4.1).
+pub const SYNC: u8 = 0x47;
+pub const INVERTED_SYNC: u8 = 0xB8;

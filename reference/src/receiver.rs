@@ -1,0 +1,180 @@
+//! The block receiver of document 01: delays, repair, group place, derandomizing,
+//! and the counts of a pass.
+
+use crate::answer::Answer;
+use crate::interleaver::Branches;
+use crate::{randomizer, reed_solomon, BLOCK_LENGTH, GROUP_LENGTH, INVERTED_SYNC, PACKET_LENGTH, SYNC};
+
+/// Blocks until every byte of the first one has left the delays.
+pub const FILLING: u64 = 11;
+pub const MOST_BLOCKS: u64 = 4_294_967_295;
+
+#[derive(Clone, Copy, Debug, Default, PartialEq, Eq)]
+pub struct Counts {
+    pub taken: u64,
+    pub filling: u64,
+    pub delivered: u64,
+    pub lost: u64,
+    pub waiting: u64,
+    pub outofstep: u64,
+    pub changed: u64,
+}
+
+impl Counts {
+    pub fn in_order(&self) -> [u64; 7] {
+        [self.taken, self.filling, self.delivered, self.lost, self.waiting, self.outofstep, self.changed]
+    }
+}
+
+pub struct Receiver {
+    branches: Branches,
+    place: Option<usize>,
+    counts: Counts,
+}
+
+impl Receiver {
+    pub fn fresh() -> Self {
+        Receiver { branches: Branches::deinterleaver(), place: None, counts: Counts::default() }
+    }
+
+    pub fn counts(&self) -> Counts {
+        self.counts
+    }
+
+    /// One block; a packet is in the room where the answer is Done.
+    pub fn receive(&mut self, block: &[u8], room: &mut [u8]) -> Answer {
+        if block.len() != BLOCK_LENGTH {
+            return Answer::BlockLength;
+        }
+        if room.len() < PACKET_LENGTH {
+            return Answer::ShortRoom;
+        }
+        if self.counts.taken == MOST_BLOCKS {
+            return Answer::Full;
+        }
+        let answer = self.take(block, room);
+        self.counts.taken += 1;
+        match answer {
+            Answer::Done => self.counts.delivered += 1,
+            Answer::NoCodeword => self.counts.lost += 1,
+            Answer::Filling => self.counts.filling += 1,
+            Answer::Waiting => self.counts.waiting += 1,
+            Answer::OutOfStep => self.counts.outofstep += 1,
+            other => unreachable!("{other:?}"),
+        }
+        answer
+    }
+
+    fn take(&mut self, block: &[u8], room: &mut [u8]) -> Answer {
+        let mut ordered = [0; BLOCK_LENGTH];
+        self.branches.pass(block, &mut ordered);
+        if self.counts.taken < FILLING {
+            return Answer::Filling;
+        }
+        let (answer, changed) = reed_solomon::decode(&mut ordered);
+        if answer == Answer::NoCodeword {
+            self.place = self.place.map(|place| (place + 1) % GROUP_LENGTH);
+            return Answer::NoCodeword;
+        }
+        // Accepted, whatever becomes of it: its changes count.
+        self.counts.changed += changed as u64;
+        let first = ordered[0];
+        let place = match self.place {
+            None if first == INVERTED_SYNC => 0,
+            None => return Answer::Waiting,
+            Some(place) if first == if place == 0 { INVERTED_SYNC } else { SYNC } => place,
+            Some(_) => {
+                self.place = None;
+                return Answer::OutOfStep;
+            }
+        };
+        self.place = Some((place + 1) % GROUP_LENGTH);
+        randomizer::derandomize(place as u8, &ordered[..PACKET_LENGTH], room)
+    }
+}
+
+#[cfg(test)]
+mod tests {
+    use super::*;
+    use crate::sender::interleaved_stream;
+    use crate::xorshift::Xorshift;
+
+    fn run(stream: &[u8]) -> (Vec<Answer>, Vec<u8>, Counts) {
+        let mut receiver = Receiver::fresh();
+        let (mut answers, mut packets) = (Vec::new(), Vec::new());
+        for block in stream.chunks_exact(204) {
+            let mut room = [0; 188];
+            let answer = receiver.receive(block, &mut room);
+            if answer == Answer::Done {
+                packets.extend(room);
+            }
+            answers.push(answer);
+        }
+        (answers, packets, receiver.counts())
+    }
+
+    fn packets(r: &mut Xorshift, count: usize) -> Vec<u8> {
+        let mut p = r.bytes(188 * count);
+        p.iter_mut().step_by(188).for_each(|byte| *byte = SYNC);
+        p
+    }
+
+    #[test]
+    fn zeros_are_filling_and_then_waiting() {
+        let (answers, _, counts) = run(&[0; 2752]);
+        assert_eq!(answers.len(), 13);
+        assert_eq!(counts.in_order(), [13, 11, 0, 0, 2, 0, 0]);
+    }
+
+    #[test]
+    fn an_unharmed_stream_gives_all_but_eleven() {
+        let mut r = Xorshift::new(7);
+        let sent = packets(&mut r, 50);
+        let (answers, got, counts) = run(&interleaved_stream(&sent));
+        assert_eq!(answers[..11], [Answer::Filling; 11]);
+        assert_eq!(got, sent[..39 * 188]);
+        assert_eq!(counts.in_order(), [50, 11, 39, 0, 0, 0, 0]);
+    }
+
+    #[test]
+    fn a_start_inside_a_group_waits_for_b8() {
+        let mut r = Xorshift::new(8);
+        let sent = packets(&mut r, 60);
+        let stream = interleaved_stream(&sent);
+        // From block 3 on: the first whole packet is 3, the next group starts at 8.
+        let (answers, got, _) = run(&stream[3 * 204..]);
+        assert_eq!(answers[11..16], [Answer::Waiting; 5]);
+        assert_eq!(got, sent[8 * 188..49 * 188]);
+    }
+
+    #[test]
+    fn a_group_start_before_its_time_is_out_of_step_and_forgotten() {
+        // Codewords by hand, through the sender's delays: B8, 47, B8, 47, B8.
+        let mut stream = Vec::new();
+        let mut branches = Branches::interleaver();
+        for n in 0..16 {
+            let mut data = [0; 188];
+            data[0] = if n < 5 && n % 2 == 0 { 0xB8 } else { 0x47 };
+            let (mut coded, mut block) = ([0; 204], [0; 204]);
+            reed_solomon::encode(&data, &mut coded);
+            branches.pass(&coded, &mut block);
+            stream.extend(block);
+        }
+        let (answers, _, _) = run(&stream);
+        assert_eq!(
+            answers[11..],
+            [Answer::Done, Answer::Done, Answer::OutOfStep, Answer::Waiting, Answer::Done]
+        );
+    }
+
+    #[test]
+    fn refusals_count_nowhere() {
+        let mut receiver = Receiver::fresh();
+        assert_eq!(receiver.receive(&[0; 203], &mut [0; 0]), Answer::BlockLength);
+        assert_eq!(receiver.receive(&[0; 204], &mut [0; 187]), Answer::ShortRoom);
+        assert_eq!(receiver.counts(), Counts::default());
+        receiver.counts.taken = MOST_BLOCKS;
+        assert_eq!(receiver.receive(&[0; 204], &mut [0; 188]), Answer::Full);
+        assert_eq!(receiver.counts.taken, MOST_BLOCKS);
+    }
+}

@@ -1,0 +1,345 @@
+//! Outer coding, RS(204,188,T=8) (clause 4.4.2). Field arithmetic by
+//! logarithms; decoding by Berlekamp-Massey, Chien search over the 204 places
+//! that are sent, and Forney's formula, with the result verified.
+
+use crate::answer::Answer;
+use crate::{BLOCK_LENGTH, PACKET_LENGTH};
+
+pub const CHECK_LENGTH: usize = 16;
+pub const CORRECTABLE: usize = 8;
+
+/// Field generator polynomial x^8 + x^4 + x^3 + x^2 + 1.
+const FIELD_POLYNOMIAL: u16 = 0x11D;
+
+/// Powers and logarithms of lambda = 02 hex.
+struct Field {
+    exp: [u8; 510],
+    log: [u8; 256],
+}
+
+const fn field() -> Field {
+    let mut f = Field { exp: [0; 510], log: [0; 256] };
+    let mut value: u16 = 1;
+    let mut power = 0;
+    while power < 255 {
+        f.exp[power] = value as u8;
+        f.exp[power + 255] = value as u8;
+        f.log[value as usize] = power as u8;
+        value <<= 1;
+        if value & 0x100 != 0 {
+            value ^= FIELD_POLYNOMIAL;
+        }
+        power += 1;
+    }
+    f
+}
+
+static FIELD: Field = field();
+
+pub fn multiply(a: u8, b: u8) -> u8 {
+    if a == 0 || b == 0 {
+        return 0;
+    }
+    FIELD.exp[FIELD.log[a as usize] as usize + FIELD.log[b as usize] as usize]
+}
+
+fn divide(a: u8, b: u8) -> u8 {
+    assert!(b != 0);
+    if a == 0 {
+        return 0;
+    }
+    FIELD.exp[FIELD.log[a as usize] as usize + 255 - FIELD.log[b as usize] as usize]
+}
+
+/// lambda to the power `n`.
+fn power(n: usize) -> u8 {
+    FIELD.exp[n % 255]
+}
+
+/// Code generator polynomial (x + lambda^0) .. (x + lambda^15), x^16 first.
+pub fn generator() -> [u8; CHECK_LENGTH + 1] {
+    let mut g = [0; CHECK_LENGTH + 1];
+    g[0] = 1;
+    for i in 0..CHECK_LENGTH {
+        let root = power(i);
+        for k in (1..=i + 1).rev() {
+            g[k] ^= multiply(g[k - 1], root);
+        }
+    }
+    g
+}
+
+/// The remainder of a polynomial (highest coefficient first) times x^16 by g.
+pub fn check_bytes(data: &[u8]) -> [u8; CHECK_LENGTH] {
+    let g = generator();
+    let mut rest = [0; CHECK_LENGTH];
+    for &byte in data {
+        let feedback = byte ^ rest[0];
+        for k in 0..CHECK_LENGTH {
+            let next = if k + 1 < CHECK_LENGTH { rest[k + 1] } else { 0 };
+            rest[k] = next ^ multiply(feedback, g[k + 1]);
+        }
+    }
+    rest
+}
+
+/// The data bytes, then the sixteen that make the block a codeword.
+pub fn encode(data: &[u8], room: &mut [u8]) -> Answer {
+    if data.len() != PACKET_LENGTH {
+        return Answer::PacketLength;
+    }
+    if room.len() < BLOCK_LENGTH {
+        return Answer::ShortRoom;
+    }
+    room[..PACKET_LENGTH].copy_from_slice(data);
+    room[PACKET_LENGTH..BLOCK_LENGTH].copy_from_slice(&check_bytes(data));
+    Answer::Done
+}
+
+/// The block's values at lambda^0 .. lambda^15.
+fn syndromes(block: &[u8]) -> [u8; CHECK_LENGTH] {
+    let mut s = [0; CHECK_LENGTH];
+    for (i, value) in s.iter_mut().enumerate() {
+        *value = block.iter().fold(0, |sum, &byte| multiply(sum, power(i)) ^ byte);
+    }
+    s
+}
+
+/// g divides the block exactly when every root of g is a root of it.
+pub fn is_codeword(block: &[u8]) -> bool {
+    syndromes(block) == [0; CHECK_LENGTH]
+}
+
+/// Shortest linear feedback register of the syndromes, lowest coefficient
+/// first, and its length.
+fn berlekamp_massey(s: &[u8; CHECK_LENGTH]) -> ([u8; CHECK_LENGTH + 1], usize) {
+    let mut locator = [0; CHECK_LENGTH + 1];
+    let mut before = [0; CHECK_LENGTH + 1];
+    locator[0] = 1;
+    before[0] = 1;
+    let mut length = 0;
+    let mut gap = 1;
+    let mut before_discrepancy = 1;
+    for n in 0..CHECK_LENGTH {
+        let mut discrepancy = s[n];
+        for i in 1..=length {
+            discrepancy ^= multiply(locator[i], s[n - i]);
+        }
+        if discrepancy == 0 {
+            gap += 1;
+            continue;
+        }
+        let kept = locator;
+        let factor = divide(discrepancy, before_discrepancy);
+        for i in gap..=CHECK_LENGTH {
+            locator[i] ^= multiply(factor, before[i - gap]);
+        }
+        if 2 * length <= n {
+            length = n + 1 - length;
+            before = kept;
+            before_discrepancy = discrepancy;
+            gap = 1;
+        } else {
+            gap += 1;
+        }
+    }
+    (locator, length)
+}
+
+/// Value of a polynomial, lowest coefficient first.
+fn evaluate(polynomial: &[u8], at: u8) -> u8 {
+    polynomial.iter().rev().fold(0, |sum, &c| multiply(sum, at) ^ c)
+}
+
+/// The codeword within eight bytes of the block and how many bytes it differs
+/// in, or none.
+pub fn nearest_codeword(block: &[u8]) -> Option<([u8; BLOCK_LENGTH], usize)> {
+    let mut repaired = [0; BLOCK_LENGTH];
+    repaired.copy_from_slice(block);
+    let s = syndromes(block);
+    if s == [0; CHECK_LENGTH] {
+        return Some((repaired, 0));
+    }
+    let (locator, length) = berlekamp_massey(&s);
+    if length > CORRECTABLE {
+        return None;
+    }
+    // Evaluator: syndromes times locator, modulo x^16.
+    let mut evaluator = [0; CHECK_LENGTH];
+    for i in 0..CHECK_LENGTH {
+        for k in 0..=i {
+            evaluator[i] ^= multiply(locator[k], s[i - k]);
+        }
+    }
+    // Formal derivative of the locator: odd coefficients, moved down by one.
+    let mut derivative = [0; CHECK_LENGTH];
+    for i in (1..=CHECK_LENGTH).step_by(2) {
+        derivative[i - 1] = locator[i];
+    }
+    // Only the 204 places that are sent; byte n is the coefficient of x^(203-n).
+    for n in 0..BLOCK_LENGTH {
+        let exponent = BLOCK_LENGTH - 1 - n;
+        let inverse = power(255 - exponent);
+        if evaluate(&locator, inverse) != 0 {
+            continue;
+        }
+        let slope = evaluate(&derivative, inverse);
+        if slope == 0 {
+            return None;
+        }
+        let quotient = divide(evaluate(&evaluator, inverse), slope);
+        repaired[n] ^= multiply(power(exponent), quotient);
+    }
+    // Nothing above is trusted: the result must be a codeword within eight bytes.
+    let changed = (0..BLOCK_LENGTH).filter(|&n| repaired[n] != block[n]).count();
+    if changed <= CORRECTABLE && is_codeword(&repaired) {
+        Some((repaired, changed))
+    } else {
+        None
+    }
+}
+
+/// Repairs a block in place. The count is given where the answer is Done.
+pub fn decode(block: &mut [u8]) -> (Answer, usize) {
+    if block.len() != BLOCK_LENGTH {
+        return (Answer::BlockLength, 0);
+    }
+    match nearest_codeword(block) {
+        Some((codeword, changed)) => {
+            block.copy_from_slice(&codeword);
+            (Answer::Done, changed)
+        }
+        None => (Answer::NoCodeword, 0),
+    }
+}
+
+#[cfg(test)]
+mod tests {
+    use super::*;
+    use crate::xorshift::Xorshift;
+
+    /// Field product without tables, to check them.
+    fn slow_multiply(a: u8, b: u8) -> u8 {
+        let mut product: u16 = 0;
+        for i in 0..8 {
+            if b >> i & 1 == 1 {
+                product ^= (a as u16) << i;
+            }
+        }
+        for i in (8..16).rev() {
+            if product >> i & 1 == 1 {
+                product ^= FIELD_POLYNOMIAL << (i - 8);
+            }
+        }
+        product as u8
+    }
+
+    #[test]
+    fn the_tables_hold_the_field() {
+        assert_eq!(multiply(0x80, 0x02), 0x1D);
+        for a in 0..=255 {
+            for b in 0..=255 {
+                assert_eq!(multiply(a, b), slow_multiply(a, b));
+                if b != 0 {
+                    assert_eq!(divide(slow_multiply(a, b), b), a);
+                }
+            }
+        }
+    }
+
+    const COEFFICIENTS: [u8; 16] = [
+        0x3B, 0x0D, 0x68, 0xBD, 0x44, 0xD1, 0x1E, 0x08, 0xA3, 0x41, 0x29, 0xE5, 0x62, 0x32, 0x24, 0x3B,
+    ];
+
+    #[test]
+    fn the_generator_polynomial_is_the_published_one() {
+        assert_eq!(generator()[0], 1);
+        assert_eq!(generator()[1..], COEFFICIENTS);
+        let mut data = [0; 188];
+        assert_eq!(check_bytes(&data), [0; 16]);
+        data[187] = 1;
+        assert_eq!(check_bytes(&data), COEFFICIENTS);
+    }
+
+    #[test]
+    fn division_and_roots_agree() {
+        let mut r = Xorshift::new(1);
+        for _ in 0..2000 {
+            let mut block = [0; 204];
+            encode(&r.bytes(188), &mut block);
+            assert!(is_codeword(&block));
+            assert_eq!(check_bytes(&block), [0; 16]);
+            let n = r.below(204);
+            block[n] ^= 1 + r.below(255) as u8;
+            assert!(!is_codeword(&block));
+        }
+        let mut last = [0; 204];
+        last[187] = 1;
+        last[188..].copy_from_slice(&COEFFICIENTS);
+        assert!(is_codeword(&last));
+        last[203] = 0;
+        assert!(!is_codeword(&last));
+    }
+
+    #[test]
+    fn up_to_eight_errors_come_back() {
+        let mut r = Xorshift::new(2);
+        for case in 0..9000 {
+            let errors = case % 9;
+            let mut sent = [0; 204];
+            encode(&r.bytes(188), &mut sent);
+            let mut block = sent;
+            for n in r.places(errors, 204) {
+                block[n] ^= 1 + r.below(255) as u8;
+            }
+            assert_eq!(decode(&mut block), (Answer::Done, errors));
+            assert_eq!(block, sent);
+        }
+    }
+
+    #[test]
+    fn eight_bytes_of_the_shortest_codeword_cleared() {
+        let mut word = [0; 204];
+        word[187] = 1;
+        word[188..].copy_from_slice(&COEFFICIENTS);
+        let mut r = Xorshift::new(3);
+        for _ in 0..2000 {
+            let mut block = word;
+            for n in r.places(8, 17) {
+                block[187 + n] = 0;
+            }
+            assert_eq!(decode(&mut block), (Answer::Done, 8));
+            assert_eq!(block, word);
+            // One more cleared is eight from zero.
+            let mut block = word;
+            for n in r.places(9, 17) {
+                block[187 + n] = 0;
+            }
+            assert_eq!(decode(&mut block), (Answer::Done, 8));
+            assert_eq!(block, [0; 204]);
+        }
+    }
+
+    #[test]
+    fn an_error_among_the_51_bytes_never_sent_is_refused() {
+        for k in 0..51 {
+            // x^(204+k) modulo g: 1 followed by 188 + k zeros, times x^16.
+            let mut data = vec![0; 189 + k];
+            data[0] = 1;
+            let mut block = [0; 204];
+            block[188..].copy_from_slice(&check_bytes(&data));
+            let before = block;
+            assert_eq!(decode(&mut block).0, Answer::NoCodeword);
+            assert_eq!(block, before);
+        }
+    }
+
+    #[test]
+    fn lengths() {
+        assert_eq!(decode(&mut [0; 203]).0, Answer::BlockLength);
+        assert_eq!(decode(&mut [0; 205]).0, Answer::BlockLength);
+        assert_eq!(encode(&[0; 187], &mut [0; 204]), Answer::PacketLength);
+        assert_eq!(encode(&[0; 189], &mut [0; 204]), Answer::PacketLength);
+        assert_eq!(encode(&[0; 188], &mut [0; 203]), Answer::ShortRoom);
+    }
+}

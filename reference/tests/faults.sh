@@ -1,0 +1,68 @@
+#!/bin/sh
+# Does the comparison find faults? Builds the plain-C peer in the library's place,
+# right and then with one fault after another, and runs the comparison on each:
+# the right one must pass, every faulty one must be found.
+set -eu
+here=$(cd "$(dirname "$0")/.." && pwd)
+work=$(mktemp -d)
+trap 'rm -rf "$work"' EXIT
+mkdir "$work/lib"
+missed=0 found=0
+
+build() {
+    cc -std=gnu11 -O2 -w -DPLAIN_AS_LIBRARY -I"$here/bench" -c "$work/plain.c" -o "$work/plain.o"
+    rm -f "$work/lib/libexports.a"
+    ar rcs "$work/lib/libexports.a" "$work/plain.o"
+    (cd "$here" && EXPORTS_DIR=$work/lib CARGO_TARGET_DIR=$work/target cargo build -q --release --offline --bin compare)
+}
+
+# fault NAME KIND OLD NEW: the text OLD, which must be there, becomes NEW.
+fault() {
+    name=$1 kind=$2 old=$3 new=$4
+    OLD=$old NEW=$new awk 'BEGIN { old = ENVIRON["OLD"]; new = ENVIRON["NEW"] }
+        { at = index($0, old); if (at && !done) { $0 = substr($0, 1, at - 1) new substr($0, at + length(old)); done = 1 } print }
+        END { exit !done }' "$here/bench/plain.c" > "$work/plain.c" || { echo "no such text: $old"; exit 2; }
+    build
+    if timeout 100 "$work/target/release/compare" "$kind" > "$work/out" 2>&1; then
+        echo "MISSED: $name"; missed=$((missed + 1))
+    else
+        echo "found: $name ($(grep -m1 -o 'case [0-9]*' "$work/out" || echo stopped))"; found=$((found + 1))
+    fi
+}
+
+cp "$here/bench/plain.c" "$work/plain.c"
+build
+"$work/target/release/compare" | tail -1 | grep -q ' 0 failed$' || { echo "the right one does not pass"; exit 1; }
+echo "the right one passes"
+
+any="rs_decode: 0 to 20 errors anywhere"
+hidden="rs_decode: errors among the 51 bytes never sent"
+odd="receive_run: blocks dropped, doubled or strange"
+walk="receive_run: sync bytes at random"
+fault "generator stops at the sync bytes" "randomize" "prbs[n] = n % PACKET ? byte : 0;" "prbs[n] = byte; if (n % PACKET == 0) prbs[n] = 0, n++, prbs[n] = byte;"
+fault "generator restarts at every packet" "randomize" "prbs + PACKET * place" "prbs"
+fault "derandomizing refuses a strange first byte" "derandomize" "    mask(place, 0x47, packet, room);" "    if (packet[0] != 0x47 && packet[0] != 0xb8) return 2; mask(place, 0x47, packet, room);"
+fault "short room tested before the sync byte" "randomize and derandomize: refusals" "    if (packet[0] != 0x47)" "    if (room_len < PACKET) return 4; if (packet[0] != 0x47)"
+fault "one byte of room too many written" "rs_encode" "    memcpy(room, data, PACKET);" "    if (room_len > BLOCK) room[BLOCK] = 0; memcpy(room, data, PACKET);"
+fault "repair as a code of 255 bytes" "$hidden" "for (int e = 0; e < BLOCK && found < errors; e++)" "for (int e = 0; e < 255 && found < errors; e++)"
+fault "seven errors only" "$any" "errors > T ||" "errors > T - 1 ||"
+fault "roots not counted" "$any" "if (found != errors)" "if (0)"
+fault "count from the locator, lost block counted" "$any" "return 8;" "return count[0] = 9, 8;"
+fault "count not written on a clean block" "$any" "    count[0] = (uint8_t)changed;" "    if (changed) count[0] = (uint8_t)changed;"
+fault "count tested before the block" "rs_decode: refusals" "    if (block_len != BLOCK)" "    if (count_len < 1) return 4; if (block_len != BLOCK)"
+fault "puncturing starts anew at every block, 5/6" "send_run at 5/6" "        written += inner_code(" "        inner.at = 0; written += inner_code("
+fault "puncturing starts anew at every block, 7/8" "send_run at 7/8" "        written += inner_code(" "        inner.at = 0; written += inner_code("
+fault "memory cleared at every block" "send_run at 1/2" "        written += inner_code(" "        inner.memory = 0; written += inner_code("
+fault "delays the wrong way round, sending" "send_run at 3/4" "pass(&branches, 0, block, out)" "pass(&branches, 1, block, out)"
+fault "delays the wrong way round, receiving" "receive_run: unharmed" "pass(&branches, 1, blocks" "pass(&branches, 0, blocks"
+fault "X and Y in the wrong order" "send_run at 2/3" "0171) << 1" "0133) << 1"
+fault "only the first packet's sync byte tested" "send_run: refusals" "for (size_t p = 0; p < count; p++)" "for (size_t p = 0; p < count && p < 1; p++)"
+fault "place stands still at a lost block" "$odd" "place = (place + 1) % GROUP;" "place = place;"
+fault "B8 out of step starts a group" "$walk" "            place = -1;" "            place = block[0] == 0xb8 ? 1 : -1;"
+fault "place kept when out of step" "$walk" "            place = -1;" "            place = (place + 1) % GROUP;"
+fault "changes of waiting blocks not counted" "$walk" "tally[CHANGED] += (uint64_t)changed;" "if (place >= 0) tally[CHANGED] += (uint64_t)changed;"
+fault "changes of out-of-step blocks not counted" "$walk" "            tally[OUTOFSTEP]++;" "            tally[OUTOFSTEP]++, tally[CHANGED] -= (uint64_t)changed;"
+fault "ten blocks of filling" "receive_run: unharmed" "if (b < 11)" "if (b < 10)"
+fault "counts of 55 bytes taken" "receive_run: refusals" "counts_len < 56 ||" "counts_len < 55 ||"
+echo "faults: $found found, $missed missed"
+[ $missed = 0 ]

@@ -1,0 +1,84 @@
+//! The stages against the outputs of an outside coder (GNU Radio 3.10,
+//! gr-dtv): 40 packets, five groups.
+
+use reference::answer::Answer;
+use reference::interleaver::Branches;
+use reference::receiver::Receiver;
+use reference::sender::{interleaved_stream, Sender};
+use reference::{randomizer, reed_solomon};
+
+static PACKETS: &[u8] = include_bytes!("data/packets.ts");
+static RANDOMIZED: &[u8] = include_bytes!("data/randomized.bin");
+static CODED: &[u8] = include_bytes!("data/coded.bin");
+static INTERLEAVED: &[u8] = include_bytes!("data/interleaved.bin");
+static SYMBOLS: [&[u8]; 5] = [
+    include_bytes!("data/symbols_rate0.bin"),
+    include_bytes!("data/symbols_rate1.bin"),
+    include_bytes!("data/symbols_rate2.bin"),
+    include_bytes!("data/symbols_rate3.bin"),
+    include_bytes!("data/symbols_rate4.bin"),
+];
+
+#[test]
+fn randomizer_both_ways() {
+    for (n, packet) in PACKETS.chunks_exact(188).enumerate() {
+        let want = &RANDOMIZED[188 * n..188 * (n + 1)];
+        let mut room = [0; 188];
+        assert_eq!(randomizer::randomize(n as u8 % 8, packet, &mut room), Answer::Done);
+        assert_eq!(room, want);
+        assert_eq!(randomizer::derandomize(n as u8 % 8, want, &mut room), Answer::Done);
+        assert_eq!(room, packet);
+    }
+}
+
+#[test]
+fn outer_code() {
+    for (n, data) in RANDOMIZED.chunks_exact(188).enumerate() {
+        let mut room = [0; 204];
+        assert_eq!(reed_solomon::encode(data, &mut room), Answer::Done);
+        assert_eq!(room, CODED[204 * n..204 * (n + 1)]);
+        assert_eq!(reed_solomon::decode(&mut room), (Answer::Done, 0));
+    }
+}
+
+#[test]
+fn interleaver() {
+    let mut branches = Branches::interleaver();
+    for (n, block) in CODED.chunks_exact(204).enumerate() {
+        let mut room = [0; 204];
+        assert_eq!(branches.pass(block, &mut room), Answer::Done);
+        assert_eq!(room, INTERLEAVED[204 * n..204 * (n + 1)]);
+    }
+    assert_eq!(interleaved_stream(PACKETS), INTERLEAVED);
+}
+
+#[test]
+fn sender_at_every_rate() {
+    for rate in 0..5 {
+        let mut sender = Sender::fresh(rate).ok().unwrap();
+        assert_eq!(sender.symbols_due(40), SYMBOLS[rate as usize].len());
+        let mut symbols: Vec<u8> = Vec::new();
+        for packet in PACKETS.chunks_exact(188) {
+            let mut room = [9; 2000];
+            let (answer, written) = sender.send(packet, &mut room);
+            assert_eq!(answer, Answer::Done);
+            assert!(room[written..].iter().all(|&byte| byte == 9));
+            symbols.extend(&room[..written]);
+        }
+        assert_eq!(symbols, SYMBOLS[rate as usize]);
+    }
+}
+
+#[test]
+fn receiver() {
+    let mut receiver = Receiver::fresh();
+    let mut packets: Vec<u8> = Vec::new();
+    for block in INTERLEAVED.chunks_exact(204) {
+        let mut room = [0; 188];
+        if receiver.receive(block, &mut room) == Answer::Done {
+            packets.extend(room);
+        }
+    }
+    assert_eq!(packets, PACKETS[..29 * 188]);
+    assert_eq!(receiver.counts().in_order(), [40, 11, 29, 0, 0, 0, 0]);
+}
