@@ -42,13 +42,14 @@ pub fn inverse(a: u8) -> u8
 }
 
 // Sixteen bytes, each times f: one loop without a branch, which becomes vector code.
+// f is the factor whose multiples are made, and the lanes give the bits: the other way round the compiler would branch on the bits of f.
 pub fn scale(a: [u8; 16], f: u8) -> [u8; 16]
     ensures { λ r. ⌜ r ≡ scaled f a ⌝ }
 {
     let mut r = [0u8; 16];
     let mut j: usize = 0;
     while j < 16 {
-        r[j] = mul(a[j], f);
+        r[j] = mul(f, a[j]);
         j += 1;
     }
     r

@@ -62,7 +62,7 @@ fn generator_times(f: u8) -> [u8; 16]
     let mut r = [0u8; 16];
     let mut j: usize = 0;
     while j < 16 {
-        r[j] = galois::mul(g[j], f);
+        r[j] = galois::mul(f, g[j]);
         j += 1;
     }
     r
