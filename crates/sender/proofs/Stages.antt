@@ -2,20 +2,20 @@
 -- Assumes nothing.
 use mathlib.Core.Path.{_≡_, refl, ap, sym, _∙_}
 use mathlib.Core.Bool.{Bool, true, false}
-use mathlib.Core.List.{List, [], _++_, append-nil}
-use Prim.Native.Nat.{ℕ, _+_, _≤_}
+use mathlib.Core.List.{List, _++_, append-nil}
+use Prim.Native.Nat.{ℕ, _≤_}
 use native.Mathlib.Omega.{arith}
-use borrow.Author.Tests.{eq-eqb, le-ltb, ltb-false, lt-ltb}
+use borrow.Author.Tests.{eq-eqb, le-ltb, ltb-false}
 use lib.Dec.{ltb, eqb}
 use lib.ListN.{length, getD, drop, length-append, drop-of-length-le}
 use Rattle.common.specs.Choice.{pick}
 use Rattle.common.proofs.Choice.{both-true, false-true}
 use Rattle.randomizer.specs.Packet.{randomized, randomizeRoom}
 use Rattle.randomizer.proofs.Laws.{length-randomized, randomize-done}
-use Rattle.reed_solomon.specs.Encode.{checkBytes, encoded, encodeRoom}
+use Rattle.reed_solomon.specs.Encode.{checkBytes, encodeRoom}
 use Rattle.reed_solomon.proofs.LongDivision.{check-remainder}
 use Rattle.interleaver.specs.Branch as branch
-use Rattle.interleaver.specs.Block.{blockOut, after, passBranches, passRoom}
+use Rattle.interleaver.specs.Block.{after, passBranches, passRoom}
 use Rattle.interleaver.specs.declared.Side.the-variants.{Sending}
 use Rattle.interleaver.specs.declared.Branches.{Branches}
 use Rattle.interleaver.proofs.Blocks.{length-out}

@@ -3,7 +3,7 @@
 use mathlib.Core.Path.{_≡_}
 use mathlib.Core.Bool.{Bool, true, false}
 use mathlib.Core.List.{List, [], _∷_, _++_}
-use Prim.Native.Nat.{ℕ, _/_, _%_}
+use Prim.Native.Nat.{ℕ, _/_, _%_, _≤_, _<_}
 use lib.Dec.{ltb, eqb}
 use lib.ListN.{length, getD, drop}
 use Rattle.common.specs.Choice.{pick}
@@ -23,6 +23,13 @@ synced (p ∷ ps) = pick (eqb (getD p 0 0) 0x47) (synced ps) false
 -- the symbols of the standard for them
 abbrev pub runSymbols : ℕ → List ℕ → List ℕ
 runSymbols rate bytes = onAir (modeOf rate) (packetsOf bytes)
+
+-- what the tests tell: all of them can be sent
+pub record Sendable (rate : ℕ) (bytes room : List ℕ) : Type 0 where
+  pub known : rate < 5
+  pub whole : length bytes % 188 ≡ 0
+  pub sync : synced (packetsOf bytes) ≡ true
+  pub fits : length (runSymbols rate bytes) ≤ length room
 
 -- The number of the answer. A constructor's answer comes first: 6 for another rate. Then, as for one packet, 1 where the bytes make no whole
 -- packets, 2 where a packet has another sync byte, 4 where the room is too short for all the symbols.

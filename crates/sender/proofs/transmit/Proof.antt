@@ -1,8 +1,7 @@
 -- `sender::transmit` meets its contract.
 -- Assumes nothing.
-use mathlib.Core.Path.{_≡_, refl, ap, sym, _∙_}
-use mathlib.Core.List.{List}
-use Prim.Native.Nat.{ℕ, _+_, _%_}
+use mathlib.Core.Path.{refl}
+use Prim.Native.Nat.{_+_, _%_}
 use native.Mathlib.Omega.{arith}
 use lib.ListN.{replicate}
 use Rattle.sender.specs.Send.{senderAfter}
@@ -10,12 +9,6 @@ use Rattle.sender.proofs.Stages.{in-range, randomizing, coding, interle
 use borrow.Author.Needs.{needs}
 use Rattle.sender.proofs.transmit.Statement.{statement}
 use Rattle.sender.proofs.transmit.Tie as tie
-use Rattle.sender.proofs.transmit.Reads as reads
-use Rattle.sender.proofs.transmit.Lts as lts
-use Rattle.inner_code.proofs.InnerCoder.encode.Reads as InnerCoder-encode-reads
-use Rattle.interleaver.proofs.Interleaver.interleave.Reads as interleave-reads
-use Rattle.randomizer.proofs.randomize.Reads as randomize-reads
-use Rattle.reed_solomon.proofs.encode.Reads as encode-reads
 
 slice-aggregate-randomize : tie.Need-slice-aggregate-randomize
 slice-aggregate-randomize c = search needs

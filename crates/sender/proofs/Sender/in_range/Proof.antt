@@ -1,14 +1,10 @@
 -- `sender::Sender::in_range` meets its contract.
 -- Assumes nothing.
-use mathlib.Core.Path.{_≡_, refl, sym, _∙_}
+use mathlib.Core.Path.{sym, _∙_}
 use borrow.Author.Tests.{lt-ltb, le-ltb, not-true, not-false}
 use borrow.Author.Needs.{needs}
 use Rattle.sender.proofs.Sender.in_range.Statement.{statement}
 use Rattle.sender.proofs.Sender.in_range.Tie as tie
-use Rattle.sender.proofs.Sender.in_range.Reads as reads
-use Rattle.sender.proofs.Sender.in_range.Lts as lts
-use Rattle.inner_code.proofs.InnerCoder.in_range.Reads as InnerCoder-in-range-reads
-use Rattle.interleaver.proofs.Interleaver.in_range.Reads as Interleaver-in-range-reads
 
 returns : tie.Need-returns
 returns c = simp (lt-ltb _ _ (c .if1 .taken))

@@ -1,14 +1,9 @@
 -- `sender::Sender::new` meets its contract.
 -- Assumes nothing.
-use mathlib.Core.Path.{_≡_, refl, sym, _∙_}
 use Rattle.sender.specs.Send.{freshSender}
 use borrow.Author.Needs.{needs}
 use Rattle.sender.proofs.Sender.new.Statement.{statement}
 use Rattle.sender.proofs.Sender.new.Tie as tie
-use Rattle.sender.proofs.Sender.new.Reads as reads
-use Rattle.sender.proofs.Sender.new.Lts as lts
-use Rattle.inner_code.proofs.InnerCoder.new.Reads as InnerCoder-new-reads
-use Rattle.interleaver.proofs.Interleaver.new.Reads as Interleaver-new-reads
 
 new-requires : tie.Need-new-requires
 new-requires c κs = search needs

@@ -8,11 +8,6 @@ use Rattle.sender.proofs.Stages.{refused, answered}
 use borrow.Author.Needs.{needs}
 use Rattle.sender.proofs.Sender.send.Statement.{statement}
 use Rattle.sender.proofs.Sender.send.Tie as tie
-use Rattle.sender.proofs.Sender.send.Reads as reads
-use Rattle.sender.proofs.Sender.send.Lts as lts
-use Rattle.inner_code.proofs.InnerCoder.symbol_count.Reads as symbol-count-reads
-use Rattle.sender.proofs.Sender.in_range.Reads as in-range-reads
-use Rattle.sender.proofs.transmit.Reads as transmit-reads
 
 in-range-requires : tie.Need-in-range-requires
 in-range-requires c κs = search needs
