@@ -1,0 +1,160 @@
+-- How many symbols packets give: in all, and in each call.
+-- Assumes nothing.
+use mathlib.Core.Path.{_≡_, refl, ap, ap₂, sym, _∙_}
+use mathlib.Core.List.{List, [], _∷_, map, flatten}
+use Prim.Native.Nat.{ℕ, zero, suc, _+_, _-_, _*_, _/_, _%_, _≤_, _<_}
+use native.Mathlib.Nat.{mul-zero, mul-suc, add-comm, add-zero, zero-add, add-assoc, suc-add, mod-add-mod, mod-eq-of-lt, mod-lt}
+use native.Mathlib.Omega.{arith}
+use lib.ListN.{length, length-append, length-map}
+use Rattle.common.specs.Lists.{All, Length}
+use Rattle.randomizer.specs.Stream.{dispersed, inPackets, randomizedStream}
+use Rattle.reed_solomon.specs.Encode.{encoded}
+use Rattle.interleaver.specs.Stream.{interleaved}
+use Rattle.interleaver.specs.declared.Side.the-variants.{Sending}
+use Rattle.interleaver.proofs.Streams.{length-delayed, delayed-lengths}
+use Rattle.inner_code.specs.Mode.{modeOf, completed}
+use Rattle.inner_code.specs.Stream.{bitsOf}
+use Rattle.inner_code.specs.Step.{patternLength, nextPlace, coderStep, coderAfter, symbolsIn}
+use Rattle.inner_code.specs.Serial.{none, placeAfter}
+use Rattle.inner_code.specs.Encode.{freshCoder, blockCoder, symbolCount}
+use Rattle.inner_code.specs.declared.InnerCoder.{InnerCoder}
+use Rattle.inner_code.proofs.Bits.{bits-bits, length-bits}
+use Rattle.inner_code.proofs.Coder.{range-test, fresh-in-range, coder-in-range, length-symbols}
+use Rattle.inner_code.proofs.Steps.{some-bits, next-lt}
+use Rattle.inner_code.proofs.Stream.{symbols-fresh}
+use Rattle.sender.specs.Standard.{interleavedBlocks, onAir}
+use Rattle.sender.specs.Calls.{senderOf}
+use Rattle.sender.specs.Run.{packetsOf, runSymbols}
+
+-- ---- in all
+
+length-flatten : (n : ℕ) (xs : List (List ℕ)) → All (Length n) xs → length (flatten xs) ≡ n * length xs
+unfolding flatten
+length-flatten n [] g = sym (mul-zero n)
+length-flatten n (x ∷ xs) g = length-append x (flatten xs) ∙ ap₂ (λ (a b : ℕ). a + b) (g .0) (length-flatten n xs (g .1)) ∙ times-suc n (length xs)
+  where
+    times-suc : (n k : ℕ) → n + n * k ≡ n * suc k
+    times-suc n k = add-comm n (n * k) ∙ sym (mul-suc n k)
+
+length-packets : (n : ℕ) (bytes : List ℕ) → length (inPackets n bytes) ≡ n
+unfolding inPackets
+length-packets zero bytes = refl
+length-packets (suc n) bytes = ap suc (length-packets n _)
+
+-- as many blocks as packets, of 204 bytes each
+length-blocks : (packets : List (List ℕ)) → length (flatten (interleavedBlocks packets)) ≡ 204 * length packets
+unfolding interleavedBlocks randomizedStream
+length-blocks packets =
+    let coded = map encoded (randomizedStream packets) in
+    length-flatten 204 (interleaved coded) (delayed-lengths Sending coded)
+    ∙ ap (λ (k : ℕ). 204 * k)
+    (length-delayed Sending coded ∙ length-map (randomizedStream packets) encoded ∙ length-packets (length packets) (dispersed 0 (flatten packets)))
+
+block-bits : (packets : List (List ℕ)) → length (bitsOf (flatten (interleavedBlocks packets))) ≡ 1632 * length packets
+block-bits packets = let e = length-blocks packets in length-bits (flatten (interleavedBlocks packets)) ∙ omega arith
+
+pub length-on-air : (rate : ℕ) → rate < 5 → (packets : List (List ℕ)) → length (onAir (modeOf rate) packets) ≡ symbolsIn rate 0 (1632 * length packets)
+unfolding onAir
+length-on-air rate h packets =
+    let bytes = flatten (interleavedBlocks packets) in
+    ap length (sym (symbols-fresh rate h (bits-bits bytes)))
+    ∙ length-symbols (freshCoder rate) (fresh-in-range rate h) (bits-bits bytes)
+    ∙ ap (symbolsIn rate 0) (block-bits packets)
+
+-- the symbols of a buffer of packets
+pub length-run : (rate : ℕ) → rate < 5 → (bytes : List ℕ) → length (runSymbols rate bytes) ≡ symbolsIn rate 0 (1632 * (length bytes / 188))
+unfolding packetsOf
+length-run rate h bytes =
+    length-on-air rate h (packetsOf bytes) ∙ ap (λ (n : ℕ). symbolsIn rate 0 (1632 * n)) (length-packets (length bytes / 188) bytes)
+
+-- ---- in parts
+
+pub symbols-in-append : (r p j k : ℕ) → symbolsIn r p (j + k) ≡ symbolsIn r p j + symbolsIn r (placeAfter r p j) k
+unfolding symbolsIn placeAfter
+symbols-in-append r p zero k = ap (symbolsIn r p) (zero-add k) ∙ sym (zero-add _)
+symbols-in-append r p (suc j) k =
+    ap (symbolsIn r p) (suc-add j k)
+    ∙ ap (λ (m : ℕ). length (completed (modeOf r) (p + 1)) + m) (symbols-in-append r (nextPlace r p) j k)
+    ∙ sym (add-assoc (length (completed (modeOf r) (p + 1))) (symbolsIn r (nextPlace r p) j) (symbolsIn r (placeAfter r (nextPlace r p) j) k))
+
+-- the pattern goes round
+pub place-after : (r p k : ℕ) → p < patternLength r → placeAfter r p k ≡ (p + k) % patternLength r
+unfolding placeAfter
+place-after r p zero h = sym (ap (λ (n : ℕ). n % patternLength r) (add-zero p) ∙ mod-eq-of-lt h)
+place-after r p (suc k) h =
+    let e : p + 1 + k ≡ p + suc k = omega arith in
+    place-after r (nextPlace r p) k (next-lt r p h) ∙ mod-add-mod (p + 1) (patternLength r) k ∙ ap (λ (n : ℕ). n % patternLength r) e
+
+-- ---- in each call
+
+coder-rate : (c : InnerCoder) (bits : List ℕ) → coderAfter c bits .rate ≡ c .rate
+unfolding coderAfter
+coder-rate c [] = refl
+coder-rate c (b ∷ bs) = coder-rate (coderStep c b) bs
+
+coder-place : (c : InnerCoder) (bits : List ℕ) → coderAfter c bits .place ≡ placeAfter (c .rate) (c .place) (length bits)
+unfolding coderAfter placeAfter
+coder-place c [] = refl
+coder-place c (b ∷ bs) = coder-place (coderStep c b) bs
+
+-- the call after some packets sends the symbols that the next 1,632 bits complete, from the place in the pattern where the packets left it
+pub call-count : (rate : ℕ) → rate < 5 → (packets : List (List ℕ))
+    → symbolCount (senderOf rate packets .coder) ≡ symbolsIn rate (1632 * length packets % patternLength rate) 1632
+unfolding senderOf
+call-count rate h packets =
+    let bytes = flatten (interleavedBlocks packets) in
+    let c = blockCoder (freshCoder rate) bytes in
+    simp (range-test c (coder-in-range (freshCoder rate) (fresh-in-range rate h) (bits-bits bytes)))
+    (ap₂ (λ (r p : ℕ). symbolsIn r p 1632) (coder-rate (freshCoder rate) (bitsOf bytes))
+    (coder-place (freshCoder rate) (bitsOf bytes)
+    ∙ place-after rate 0 (length (bitsOf bytes)) (some-bits rate h)
+    ∙ ap (λ (n : ℕ). n % patternLength rate) (zero-add _ ∙ block-bits packets)))
+
+-- ---- a loop that takes from a room what each packet needs
+
+-- k of n packets have been counted, from room, and left is what they leave
+pub record Counting (rate n room : ℕ) (place left k : ℕ) : Type 0 where
+  pub within : k ≤ n
+  pub in-pattern : place < patternLength rate
+  pub balance : symbolsIn rate 0 (1632 * n) + left ≡ room + symbolsIn rate place (1632 * (n - k))
+
+pub counting-start : (rate n room : ℕ) → rate < 5 → Counting rate n room 0 room 0
+counting-start rate n room h = record { within = omega arith; in-pattern = some-bits rate h; balance = ap (λ (m : ℕ). symbolsIn rate 0 (1632 * m) + room) (sym none) ∙ add-comm _ _ }
+  where
+    none : n - 0 ≡ n
+    none = omega arith
+
+module _ {rate n room place left k : ℕ} (c : Counting rate n room place left k) where
+  pub counting-end : n ≤ k → symbolsIn rate 0 (1632 * n) ≤ room
+  unfolding symbolsIn
+  counting-end h =
+      let e : 1632 * (n - k) ≡ 0 = omega (arith, c .within) in
+      omega (arith, c .balance, ap (symbolsIn rate place) e)
+
+  module _ (h : k < n) where
+    -- one packet, and those after it
+    split : symbolsIn rate place (1632 * (n - k)) ≡ symbolsIn rate place 1632 + symbolsIn rate ((place + 1632) % patternLength rate) (1632 * (n - (k + 1)))
+    split =
+        let e : 1632 * (n - k) ≡ 1632 + 1632 * (n - (k + 1)) = omega arith in
+        ap (symbolsIn rate place) e
+        ∙ symbols-in-append rate place 1632 (1632 * (n - (k + 1)))
+        ∙ ap (λ (p : ℕ). symbolsIn rate place 1632 + symbolsIn rate p (1632 * (n - (k + 1)))) (place-after rate place 1632 (c .in-pattern))
+
+    pub counting-short : left < symbolsIn rate place 1632 → room < symbolsIn rate 0 (1632 * n)
+    counting-short l = omega (arith, c .balance, split)
+
+    pub counting-more : {length needed : ℕ} → length ≡ patternLength rate → needed ≡ symbolsIn rate place 1632 → needed ≤ left
+        → Counting rate n room ((place + 1632) % length) (left - needed) (k + 1)
+    counting-more {length} {needed} e f l =
+        let p : (place + 1632) % patternLength rate ≡ (place + 1632) % length = ap (λ (m : ℕ). (place + 1632) % m) (sym e) in
+        record {
+          within = omega arith;
+          in-pattern = rw (← p) (mod-lt (place + 1632) (omega (arith, c .in-pattern)));
+          balance = rw (← p) (omega (arith, c .balance, split, f));
+        }
+
+-- the need of one packet, by a coder at that place
+pub needed-is : (rate place : ℕ) → rate < 5 → place < patternLength rate
+    → symbolCount (record { rate = rate; memory = 0; place = place; held = 0 }) ≡ symbolsIn rate place 1632
+needed-is rate place h p =
+    simp (range-test (record { rate = rate; memory = 0; place = place; held = 0 }) (record { rate = h; memory = omega arith; place = p; held = omega arith }))

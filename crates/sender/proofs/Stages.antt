@@ -1,0 +1,128 @@
+-- One packet through the four stages: what each call of a stage leaves is the next part of the definition.
+-- Assumes nothing.
+use mathlib.Core.Path.{_≡_, refl, ap, sym, _∙_}
+use mathlib.Core.Bool.{Bool, true, false}
+use mathlib.Core.List.{List, _++_, append-nil}
+use Prim.Native.Nat.{ℕ, _≤_}
+use native.Mathlib.Omega.{arith}
+use borrow.Author.Tests.{eq-eqb, le-ltb, ltb-false}
+use lib.Dec.{ltb, eqb}
+use lib.ListN.{length, getD, drop, length-append, drop-of-length-le}
+use Rattle.common.specs.Choice.{pick}
+use Rattle.common.proofs.Choice.{both-true, false-true}
+use Rattle.randomizer.specs.Packet.{randomized, randomizeRoom}
+use Rattle.randomizer.proofs.Laws.{length-randomized, randomize-done}
+use Rattle.reed_solomon.specs.Encode.{checkBytes, encodeRoom}
+use Rattle.reed_solomon.proofs.LongDivision.{check-remainder}
+use Rattle.interleaver.specs.Branch as branch
+use Rattle.interleaver.specs.Block.{after, passBranches, passRoom}
+use Rattle.interleaver.specs.declared.Side.the-variants.{Sending}
+use Rattle.interleaver.specs.declared.Branches.{Branches}
+use Rattle.interleaver.proofs.Blocks.{length-out}
+use Rattle.inner_code.specs.Step as coder
+use Rattle.inner_code.specs.Encode as inner
+use Rattle.inner_code.specs.declared.InnerCoder.{InnerCoder}
+use Rattle.inner_code.proofs.Coder as range
+use Rattle.sender.specs.Send.{inRange, codedPacket, sentBlock, sentSymbols, senderAfter, sendNumber, Sends}
+use Rattle.sender.specs.declared.Sender.{Sender}
+
+-- what the test of the ranges tells
+pub record InRange (s : Sender) : Type 0 where
+  pub place : s .place ≤ 7
+  pub branches : branch.inRange Sending (s .interleaver .branches) ≡ true
+  pub coder : coder.inRange (s .coder) ≡ true
+
+pub in-range : (s : Sender) → inRange s ≡ true → InRange s
+in-range s e = by (ltb 7 (s .place)) refl e
+  where
+    by : (t : Bool) → ltb 7 (s .place) ≡ t
+        → pick t false (pick (branch.inRange Sending (s .interleaver .branches)) (coder.inRange (s .coder)) false) ≡ true → InRange s
+    by true f e = false-true e
+    by false f e = let b = both-true _ _ e in record { place = ltb-false _ _ f; branches = b .0; coder = b .1 }
+
+pub range-test : (s : Sender) → InRange s → inRange s ≡ true
+range-test s g = simp (le-ltb _ _ (g .place), g .branches, g .coder)
+
+-- ---- what a call promises, by the number of its answer
+
+module _ (s : Sender) (packet room : List ℕ) where
+  pub refused : (n : ℕ) → sendNumber s packet room ≡ n → eqb n 0 ≡ false → Sends s packet room n 0 s room
+  refused n e f =
+      let t : eqb (sendNumber s packet room) 0 ≡ false = ap (λ (k : ℕ). eqb k 0) e ∙ f in
+      record {
+        answered = sym e;
+        counted = ap (λ (b : Bool). pick b (inner.symbolCount (s .coder)) 0) (sym t);
+        sender = ap (λ (b : Bool). pick b (senderAfter s packet) s) (sym t);
+        written = ap (λ (b : Bool). pick b (sentSymbols s packet ++ drop (inner.symbolCount (s .coder)) room) room) (sym t);
+      }
+
+  pub answered : sendNumber s packet room ≡ 0 → {number count : ℕ} {next : Sender} {left : List ℕ}
+      → number ≡ 0 → count ≡ inner.symbolCount (s .coder) → next ≡ senderAfter s packet
+      → left ≡ sentSymbols s packet ++ drop (inner.symbolCount (s .coder)) room → Sends s packet room number count next left
+  answered e n k t l = record {
+    answered = n ∙ sym e;
+    counted = k ∙ ap (λ (k : ℕ). pick (eqb k 0) (inner.symbolCount (s .coder)) 0) (sym e);
+    sender = t ∙ ap (λ (k : ℕ). pick (eqb k 0) (senderAfter s packet) s) (sym e);
+    written = l ∙ ap (λ (k : ℕ). pick (eqb k 0) (sentSymbols s packet ++ drop (inner.symbolCount (s .coder)) room) room) (sym e);
+  }
+
+-- ---- the stages
+
+-- a buffer that is written whole
+filled : (a d : List ℕ) (n : ℕ) → length d ≡ n → a ++ drop n d ≡ a
+filled a d n e = ap (λ (l : List ℕ). a ++ l) (drop-of-length-le d {i = n} (omega arith)) ∙ append-nil a
+
+module _ (s : Sender) (packet : List ℕ) (g : InRange s) (p : length packet ≡ 188) where
+  pub length-coded : length (codedPacket s packet) ≡ 204
+  length-coded =
+      let m = randomized (s .place) packet in
+      length-append m (checkBytes m) ∙ omega (arith, check-remainder m .size, length-randomized (s .place) packet (g .place) p)
+
+  pub randomizing : (d r : List ℕ) → length d ≡ 188 → getD packet 0 0 ≡ 0x47 → r ≡ randomizeRoom (s .place) packet d → r ≡ randomized (s .place) packet
+  randomizing d r n y e =
+      e ∙ randomize-done (s .place) packet (g .place) p d (omega arith) y .1 ∙ filled (randomized (s .place) packet) d 188 n
+
+  pub coding : (d r m : List ℕ) → length d ≡ 204 → m ≡ randomized (s .place) packet → r ≡ encodeRoom m d → r ≡ codedPacket s packet
+  coding d r m n f e =
+      e ∙ ap (λ (l : List ℕ). encodeRoom l d) f
+      ∙ simp (eq-eqb _ _ (length-randomized (s .place) packet (g .place) p), le-ltb (length d) 204 (omega arith)) (filled (codedPacket s packet) d 204 n)
+
+  pub interleaving : (d r m : List ℕ) (b : Branches) → length d ≡ 204 → m ≡ codedPacket s packet
+      → b ≡ passBranches Sending (s .interleaver .branches) m d → r ≡ passRoom Sending (s .interleaver .branches) m d
+      → (b ≡ after Sending (s .interleaver .branches) (codedPacket s packet)) × (r ≡ sentBlock s packet)
+  unfolding sentBlock
+  interleaving d r m b n f e h = (
+    e ∙ ap (λ (l : List ℕ). passBranches Sending (s .interleaver .branches) l d) f
+        ∙ simp (g .branches, eq-eqb _ _ length-coded, le-ltb (length d) 204 (omega arith)),
+    h ∙ ap (λ (l : List ℕ). passRoom Sending (s .interleaver .branches) l d) f
+        ∙ simp (g .branches, eq-eqb _ _ length-coded, le-ltb (length d) 204 (omega arith)) (filled _ d 204 n),
+  )
+
+  pub length-block : length (sentBlock s packet) ≡ 204
+  unfolding sentBlock
+  length-block = length-out Sending (s .interleaver .branches) (codedPacket s packet)
+
+  size : length (sentSymbols s packet) ≡ coder.symbolsIn (s .coder .rate) (s .coder .place) 1632
+  unfolding sentSymbols
+  size = range.length-block (s .coder) (sentBlock s packet) (range.in-range (s .coder) (g .coder)) length-block
+
+  pub symbol-count : length (sentSymbols s packet) ≡ inner.symbolCount (s .coder)
+  symbol-count = size ∙ sym (simp (g .coder))
+
+  pub modulating : (room r m : List ℕ) (number count : ℕ) (c : InnerCoder) → inner.symbolCount (s .coder) ≤ length room → m ≡ sentBlock s packet
+      → number ≡ inner.encodeNumber (s .coder) m room → count ≡ inner.encodeCount (s .coder) m room
+      → c ≡ inner.encodeCoder (s .coder) m room → r ≡ inner.encodeRoom (s .coder) m room
+      → (number ≡ 0) × (count ≡ inner.symbolCount (s .coder)) × (c ≡ inner.blockCoder (s .coder) (sentBlock s packet))
+      × (r ≡ sentSymbols s packet ++ drop (inner.symbolCount (s .coder)) room)
+  unfolding sentSymbols
+  modulating room r m number count c h f en ec es er =
+      let k : length (inner.blockSymbols (s .coder) (sentBlock s packet)) ≤ length room = rw symbol-count h in
+      let done : inner.encodeNumber (s .coder) (sentBlock s packet) room ≡ 0 = simp (g .coder, eq-eqb _ _ length-block, le-ltb _ _ k) in (
+        en ∙ ap (λ (l : List ℕ). inner.encodeNumber (s .coder) l room) f ∙ done,
+        ec ∙ ap (λ (l : List ℕ). inner.encodeCount (s .coder) l room) f
+            ∙ simp (g .coder, eq-eqb _ _ length-block, le-ltb _ _ k) size,
+        es ∙ ap (λ (l : List ℕ). inner.encodeCoder (s .coder) l room) f ∙ simp (g .coder, eq-eqb _ _ length-block, le-ltb _ _ k),
+        er ∙ ap (λ (l : List ℕ). inner.encodeRoom (s .coder) l room) f
+            ∙ simp (g .coder, eq-eqb _ _ length-block, le-ltb _ _ k)
+            (ap (λ (n : ℕ). sentSymbols s packet ++ drop n room) size),
+      )

@@ -1,0 +1,41 @@
+-- A list of packets sent call after call: the symbols of each call, the sender after them, and what a history of calls is.
+-- Assumes nothing.
+use mathlib.Core.List.{List, [], _∷_, _++_, map, flatten}
+use Prim.Native.Nat.{ℕ, _%_, _≤_}
+use lib.ListN.{length, take}
+use Rattle.randomizer.specs.Stream.{randomizedStream}
+use Rattle.reed_solomon.specs.Encode.{encoded}
+use Rattle.interleaver.specs.Block.{fresh}
+use Rattle.interleaver.specs.Stream.{runAfter}
+use Rattle.interleaver.specs.declared.Side.the-variants.{Sending}
+use Rattle.inner_code.specs.Encode.{freshCoder, blockCoder, symbolCount}
+use Rattle.sender.specs.Standard.{interleavedBlocks}
+use Rattle.sender.specs.Send.{sentSymbols, senderAfter, Sends}
+use Rattle.sender.specs.declared.Sender.{Sender}
+
+-- the symbols of each call
+unfoldable pub callsSymbols : Sender → List (List ℕ) → List (List ℕ)
+callsSymbols s [] = []
+callsSymbols s (p ∷ ps) = sentSymbols s p ∷ callsSymbols (senderAfter s p) ps
+
+-- the sender after them
+unfoldable pub callsSender : Sender → List (List ℕ) → Sender
+callsSender s [] = s
+callsSender s (p ∷ ps) = callsSender (senderAfter s p) ps
+
+-- The sender that has sent these packets since it was fresh, each stage by itself: how many packets of a group are behind, what the branches
+-- hold of the coded blocks, and the inner coder after all the bytes of the interleaved blocks.
+unfoldable pub senderOf : ℕ → List (List ℕ) → Sender
+senderOf rate packets = record {
+  place = length packets % 8;
+  interleaver = record { branches = runAfter Sending fresh (map encoded (randomizedStream packets)) };
+  coder = blockCoder (freshCoder rate) (flatten (interleavedBlocks packets));
+}
+
+-- a history: each packet is sent by a call that keeps its promise and is lent room enough, with the sender that the call before handed back;
+-- the symbols are those that the calls wrote
+pub data Calls : Sender → List (List ℕ) → List ℕ → Sender → Type 0 where
+  none : {s : Sender} → Calls s [] [] s
+  call : {s next last : Sender} {packet : List ℕ} {packets : List (List ℕ)} {symbols : List ℕ} (room left : List ℕ) (number count : ℕ)
+      → symbolCount (s .coder) ≤ length room → Sends s packet room number count next left → Calls next packets symbols last
+      → Calls s (packet ∷ packets) (take count left ++ symbols) last

@@ -1,0 +1,4 @@
+pub mod Standard
+pub mod Send
+pub mod Calls
+pub mod Run

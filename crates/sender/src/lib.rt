@@ -1,0 +1,197 @@
+// The sending chain: randomizing, outer code, interleaving and inner code, packet by packet. EN 300 421, 4.4 and 4.5.
+ghost use mathlib.Core.Path.{_≡_};
+ghost use mathlib.Core.Bool.{true};
+ghost use mathlib.Core.List.{_++_};
+ghost use Prim.Native.Nat.{_+_, _%_, _<_, _≤_};
+ghost use lib.ListN.{length, getD, drop};
+ghost use Rattle.answer.specs.Number.{numberOf};
+ghost use Rattle.inner_code.specs.Encode.{symbolCount};
+ghost use Rattle.sender.specs.Run.{Runs};
+ghost use Rattle.sender.specs.Send.{freshSender, newNumber, inRange, sentSymbols, senderAfter, Sends};
+use answer::Answer;
+use inner_code::InnerCoder;
+use interleaver::Interleaver;
+
+mod packets;
+
+use packets::is_short;
+use packets::is_synced;
+use packets::send_packets;
+
+// The state between two packets. Each stage keeps its own numbers, so nothing is held twice: the rate is the inner coder's,
+// and the place of the next packet in its group of eight is the sender's, since randomizing takes it with each packet.
+pub struct Sender {
+    pub place: u8,
+    pub interleaver: Interleaver,
+    pub coder: InnerCoder,
+}
+
+// A fresh sender. The answer stands beside the state, since an enum cannot hold a state with arrays.
+// Where the answer is 6 the sender holds the rate that was wanted, so it is out of range, and every call refuses it with 5.
+pub struct Created {
+    pub answer: Answer,
+    pub sender: Sender,
+}
+
+// An answer, how many symbols were written, and the sender after it.
+pub struct Sent {
+    pub answer: Answer,
+    pub count: usize,
+    pub sender: Sender,
+}
+
+// An answer, and how many symbols were written.
+pub struct Run {
+    pub answer: Answer,
+    pub count: usize,
+}
+
+impl Sender {
+    // The bytes of a transport packet.
+    pub const PACKET_LENGTH: usize = 188;
+
+    // The bytes of a coded block.
+    pub const BLOCK_LENGTH: usize = 204;
+
+    // The packets of a group.
+    pub const GROUP_LENGTH: u8 = 8;
+
+    pub fn new(rate: u8) -> Created
+        ensures { λ r. ⌜ (numberOf (r .answer) ≡ newNumber rate) × (r .sender ≡ freshSender rate) ⌝ }
+    {
+        let created = InnerCoder::new(rate);
+        let answer = created.answer;
+        let coder = created.coder;
+        let interleaver = Interleaver::new();
+        Created {
+            answer,
+            sender: Sender {
+                place: 0,
+                interleaver,
+                coder,
+            },
+        }
+    }
+
+    // Whether each number is in its range.
+    pub fn in_range(self) -> bool
+        ensures { λ r. ⌜ r ≡ inRange self ⌝ }
+    {
+        let place = self.place;
+        if place > 7 {
+            return false;
+        }
+        let interleaver = self.interleaver;
+        if !interleaver.in_range() {
+            return false;
+        }
+        let coder = self.coder;
+        coder.in_range()
+    }
+
+    // Sends a packet: writes its symbols.
+    pub fn send(self, packet: &[u8], room: &mut [u8]) -> Sent
+        ensures { λ r. ⌜ Sends self (now (packet .entry)) (now (room .entry)) (numberOf (r .answer)) (r .count) (r .sender) (now (room .exit)) ⌝ }
+    {
+        if !self.in_range() {
+            return Sent {
+                answer: Answer::StateRange,
+                count: 0,
+                sender: self,
+            };
+        }
+        if packet.len() != Sender::PACKET_LENGTH {
+            return Sent {
+                answer: Answer::PacketLength,
+                count: 0,
+                sender: self,
+            };
+        }
+        if packet[0] != 0x47 {
+            return Sent {
+                answer: Answer::SyncByte,
+                count: 0,
+                sender: self,
+            };
+        }
+        let coder = self.coder;
+        if room.len() < coder.symbol_count() {
+            return Sent {
+                answer: Answer::RoomLength,
+                count: 0,
+                sender: self,
+            };
+        }
+        transmit(self, packet, room)
+    }
+}
+
+// Sends a packet with a sender that is in range and room enough.
+fn transmit(sender: Sender, packet: &[u8], room: &mut [u8]) -> Sent
+    requires { ⌜ (inRange sender ≡ true) × (length (now packet) ≡ 188) × (getD (now packet) 0 0 ≡ 0x47) × (symbolCount (sender .coder) ≤ length (now room)) ⌝ }
+    ensures { λ r. ⌜
+        (numberOf (r .answer) ≡ 0)
+        × (r .count ≡ symbolCount (sender .coder))
+        × (r .sender ≡ senderAfter sender (now (packet .entry)))
+        × (now (room .exit) ≡ sentSymbols sender (now (packet .entry)) ++ drop (symbolCount (sender .coder)) (now (room .entry))) ⌝ }
+{
+    let place = sender.place;
+    let interleaver = sender.interleaver;
+    let coder = sender.coder;
+    let mut randomized = [0u8; Sender::PACKET_LENGTH];
+    randomizer::randomize(place, packet, &mut randomized);
+    let mut coded = [0u8; Sender::BLOCK_LENGTH];
+    reed_solomon::encode(&randomized, &mut coded);
+    let mut block = [0u8; Sender::BLOCK_LENGTH];
+    let interleaved = interleaver.interleave(&coded, &mut block);
+    let interleaver = interleaved.interleaver;
+    let encoded = coder.encode(&block, room);
+    let answer = encoded.answer;
+    let coder = encoded.coder;
+    let count = encoded.count;
+    Sent {
+        answer,
+        count,
+        sender: Sender {
+            place: (place + 1) % Sender::GROUP_LENGTH,
+            interleaver,
+            coder,
+        },
+    }
+}
+
+// Sends a whole list of packets with a fresh sender: writes the symbols that EN 300 421 gives for them.
+// Nothing is written unless all of them can be sent.
+pub fn send_run(rate: u8, packets: &[u8], room: &mut [u8]) -> Run
+    ensures { λ r. ⌜ Runs rate (now (packets .entry)) (now (room .entry)) (numberOf (r .answer)) (r .count) (now (room .exit)) ⌝ }
+{
+    if rate >= 5 {
+        return Run {
+            answer: Answer::UnknownRate,
+            count: 0,
+        };
+    }
+    if packets.len() % Sender::PACKET_LENGTH != 0 {
+        return Run {
+            answer: Answer::PacketLength,
+            count: 0,
+        };
+    }
+    if !is_synced(packets) {
+        return Run {
+            answer: Answer::SyncByte,
+            count: 0,
+        };
+    }
+    if is_short(rate, packets.len() / Sender::PACKET_LENGTH, room.len()) {
+        return Run {
+            answer: Answer::RoomLength,
+            count: 0,
+        };
+    }
+    let count = send_packets(rate, packets, room);
+    Run {
+        answer: Answer::Done,
+        count,
+    }
+}
