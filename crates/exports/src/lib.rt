@@ -4,6 +4,7 @@ ghost use mathlib.Core.Path.{_≡_};
 ghost use Rattle.randomizer.specs.Packet.{randomizeNumber, randomizeRoom, derandomizeNumber, derandomizeRoom};
 ghost use Rattle.reed_solomon.specs.Encode.{encodeNumber, encodeRoom};
 ghost use Rattle.exports.specs.Decode.{DecodeExported};
+ghost use Rattle.exports.specs.SendRun.{sendRunCount, sendRunRoom, sendRunAnswer};
 use reed_solomon::Decoded;
 
 // Randomizes a packet at a place of its group: the number of the answer.
@@ -59,4 +60,21 @@ pub extern "C" fn dvbs_rs_decode(block: &mut [u8], count: &mut [u8]) -> u8
         Decoded::Uncorrectable => 8,
         Decoded::BlockLength => 3,
     }
+}
+
+// Sends a whole list of packets with a fresh sender: the number of symbols written. The first byte of answer has the number of the answer.
+#[no_mangle]
+pub extern "C" fn dvbs_send_run(rate: u8, packets: &[u8], room: &mut [u8], answer: &mut [u8]) -> u64
+    ensures { λ r. ⌜
+        (r ≡ sendRunCount rate (now (packets .entry)) (now (room .entry)) (now (answer .entry)))
+        × (now (room .exit) ≡ sendRunRoom rate (now (packets .entry)) (now (room .entry)) (now (answer .entry)))
+        × (now (answer .exit) ≡ sendRunAnswer rate (now (packets .entry)) (now (room .entry)) (now (answer .entry))) ⌝ }
+{
+    if answer.len() < 1 {
+        return 0;
+    }
+    let run = sender::send_run(rate, packets, room);
+    let number = run.answer;
+    answer[0] = number.number();
+    run.count as u64
 }

@@ -1,0 +1,20 @@
+-- What the exported run of a fresh sender gives. Where no byte is lent for the answer's number, nothing is sent and nothing is written.
+-- Assumes nothing.
+use mathlib.Core.List.{List}
+use Prim.Native.Nat.{ℕ}
+use lib.Dec.{ltb}
+use lib.ListN.{length, set}
+use Rattle.common.specs.Choice.{pick}
+use Rattle.sender.specs.Run.{runNumber, runCount, runRoom}
+
+-- the number of symbols written
+abbrev pub sendRunCount : ℕ → List ℕ → List ℕ → List ℕ → ℕ
+sendRunCount rate packets room answer = pick (ltb (length answer) 1) 0 (runCount rate packets room)
+
+-- the room after it
+abbrev pub sendRunRoom : ℕ → List ℕ → List ℕ → List ℕ → List ℕ
+sendRunRoom rate packets room answer = pick (ltb (length answer) 1) room (runRoom rate packets room)
+
+-- the lent bytes after it: the answer's number is in the first
+abbrev pub sendRunAnswer : ℕ → List ℕ → List ℕ → List ℕ → List ℕ
+sendRunAnswer rate packets room answer = pick (ltb (length answer) 1) answer (set answer 0 (runNumber rate packets room))
