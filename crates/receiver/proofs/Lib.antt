@@ -1,0 +1,3 @@
+pub mod Synchronization
+pub mod Ranges
+pub mod Calls
