@@ -6,7 +6,7 @@ use Prim.Native.Nat.{ℕ, _+_, _*_, _≤_, _<_, min}
 use native.Mathlib.Omega.{arith}
 use borrow.Author.Tests.{leb-true, eqb-true, le-leb, lt-leb, eq-eqb, ne-eqb}
 use Rattle.common.proofs.Choice.{both-true}
-use Rattle.receiver.specs.Counts.{middleFive, acceptedBlocks, countsInRange, Room}
+use Rattle.receiver.specs.Counts.{middleFive, acceptedBlocks, countsInRange, one, counted, Room}
 use Rattle.receiver.specs.declared.counts.Counts.{Counts}
 
 -- the four ranges, each by itself
@@ -40,3 +40,30 @@ module _ (n : Counts) where
       let m = r .middle in
       let b = r .bytes in
       record { taken = l; middle = m; bytes = omega arith; few = h }
+
+-- ---- a block more
+
+-- while filling
+pub filling-range : (n : Counts) → CountsRange n → n .taken < 11 → CountsRange (counted n 9 0)
+filling-range n r h =
+    let m = r .middle in
+    let f = r .filled in
+    let b = r .bytes in
+    record { most = omega arith; middle = omega arith; filled = omega arith; bytes = omega arith }
+
+-- a block that was lost
+pub lost-range : (n : Counts) → CountsRange n → 11 ≤ n .taken → n .taken < 4294967295 → CountsRange (counted n 8 0)
+lost-range n r h l =
+    let m = r .middle in
+    let f = r .filled in
+    let b = r .bytes in
+    record { most = omega arith; middle = omega arith; filled = omega arith; bytes = omega arith }
+
+-- a block that was accepted: in one of these counts, and at most eight bytes more
+pub accepted-range : (n : Counts) (number changed : ℕ) → CountsRange n → 11 ≤ n .taken → n .taken < 4294967295 → changed ≤ 8
+    → one 9 number ≡ 0 → one 8 number ≡ 0 → one 0 number + one 10 number + one 11 number ≡ 1 → CountsRange (counted n number changed)
+accepted-range n number changed r h l w x y z =
+    let m = r .middle in
+    let f = r .filled in
+    let b = r .bytes in
+    record { most = omega arith; middle = omega arith; filled = omega arith; bytes = omega arith }
