@@ -1,0 +1,7 @@
+// Writes the packets of the received bytes on standard input to standard output, and their pass report to standard error.
+use libc::STDERR_FILENO;
+use libc::STDIN_FILENO;
+
+fn main() {
+    pass::write_report(STDERR_FILENO, pass::receive_file(STDIN_FILENO, true));
+}

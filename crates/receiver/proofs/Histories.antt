@@ -1,0 +1,143 @@
+-- The counts of a state are those of the history of calls, and each block taken is in exactly one of the middle five.
+-- Assumes nothing.
+use mathlib.Core.Path.{_≡_, refl, sym, ap, _∙_}
+use mathlib.Core.Bool.{Bool}
+use mathlib.Core.List.{List, [], _∷_}
+use mathlib.Core.Logic.{_⊎_, inl, inr}
+use Prim.Native.Nat.{ℕ, _+_, _*_, _≤_, _<_}
+use native.Mathlib.Nat.{add-zero, zero-add, add-assoc, zero-mul}
+use native.Mathlib.Omega.{arith}
+use borrow.Author.Tests.{ne-eqb, lt-ltb}
+use lib.Dec.{eqb}
+use Rattle.common.specs.Choice.{pick}
+use Rattle.reed_solomon.specs.Code.{differ}
+use Rattle.receiver.specs.Counts.{zeroCounts, one, outcomeNumber, counted}
+use Rattle.receiver.specs.Receive.{freshReceiver, delayedBlock, changedIn, stepOf, stateAfter, refusal, Ready}
+use Rattle.receiver.specs.Run.{Call, answerOf, after, afterCalls, Event, history, answered, takenBy, takenIn, acceptedBy, changedOver, countsOf}
+use Rattle.receiver.specs.declared.counts.Counts.{Counts}
+use Rattle.receiver.specs.declared.group.Outcome.{Outcome}
+use Rattle.receiver.specs.declared.group.Outcome.the-variants.{Filling, Delivered, Lost, Waiting, OutOfStep}
+use Rattle.receiver.specs.declared.Receiver.{Receiver}
+use Rattle.receiver.proofs.Calls.{ready-number, ready-state}
+use Rattle.receiver.proofs.Reached.{Refused, ready-or-refused, refused-state}
+
+-- the counts with an event more
+abbrev pub with-event : Counts → Event → Counts
+with-event n e = record {
+  taken = n .taken + takenBy (e .number);
+  filling = n .filling + one 9 (e .number);
+  delivered = n .delivered + one 0 (e .number);
+  lost = n .lost + one 8 (e .number);
+  waiting = n .waiting + one 10 (e .number);
+  outofstep = n .outofstep + one 11 (e .number);
+  changed = n .changed + acceptedBy (e .number) * e .differing;
+}
+
+-- what is told of a call
+abbrev eventOf : Receiver → Call → Event
+eventOf s c = record { number = answerOf s c; differing = differ (delayedBlock s (c .block)) (c .left) }
+
+-- ---- one call
+
+taken-outcome : (o : Outcome) → takenBy (outcomeNumber o) ≡ 1
+taken-outcome Filling = refl
+taken-outcome (Delivered p) = refl
+taken-outcome Lost = refl
+taken-outcome Waiting = refl
+taken-outcome OutOfStep = refl
+
+changed-outcome : (o : Outcome) (came left : List ℕ) → changedIn o came left ≡ acceptedBy (outcomeNumber o) * differ came left
+changed-outcome Filling came left = omega arith
+changed-outcome (Delivered p) came left = omega arith
+changed-outcome Lost came left = omega arith
+changed-outcome Waiting came left = omega arith
+changed-outcome OutOfStep came left = omega arith
+
+-- a block taken is in exactly one of the middle five
+pub exactly-one : (o : Outcome)
+    → one 9 (outcomeNumber o) + one 0 (outcomeNumber o) + one 8 (outcomeNumber o) + one 10 (outcomeNumber o) + one 11 (outcomeNumber o) ≡ 1
+exactly-one Filling = refl
+exactly-one (Delivered p) = refl
+exactly-one Lost = refl
+exactly-one Waiting = refl
+exactly-one OutOfStep = refl
+
+-- a refused call counts nowhere
+refused-event : (n : Counts) (k d : ℕ) → 0 < k → k < 8 → with-event n (record { number = k; differing = d }) ≡ n
+refused-event n k d h l =
+    simp (
+      ne-eqb k 0 (λ e. omega arith),
+      ne-eqb k 8 (λ e. omega arith),
+      ne-eqb k 9 (λ e. omega arith),
+      ne-eqb k 10 (λ e. omega arith),
+      ne-eqb k 11 (λ e. omega arith),
+      lt-ltb k 8 l,
+      zero-mul,
+      add-zero,
+    )
+
+taken-event : (n : Counts) (o : Outcome) (came left : List ℕ)
+    → counted n (outcomeNumber o) (changedIn o came left) ≡ with-event n (record { number = outcomeNumber o; differing = differ came left })
+taken-event n o came left =
+    ap (λ (c : ℕ). counted n (outcomeNumber o) c) (changed-outcome o came left)
+    ∙ ap (λ (t : ℕ). record {
+      taken = n .taken + t;
+      filling = n .filling + one 9 (outcomeNumber o);
+      delivered = n .delivered + one 0 (outcomeNumber o);
+      lost = n .lost + one 8 (outcomeNumber o);
+      waiting = n .waiting + one 10 (outcomeNumber o);
+      outofstep = n .outofstep + one 11 (outcomeNumber o);
+      changed = n .changed + acceptedBy (outcomeNumber o) * differ came left;
+    }) (sym (taken-outcome o))
+
+pub call-counts : (s : Receiver) (c : Call) → after s c .counts ≡ with-event (s .counts) (eventOf s c)
+unfolding stateAfter
+call-counts s c = by (ready-or-refused s (c .block) (c .room))
+  where
+    unpicked : (k : ℕ) → 0 < k → (o : ℕ) → pick (eqb k 0) o k ≡ k
+    unpicked k h o = simp (ne-eqb k 0 (λ e. omega arith))
+
+    by : Ready s (c .block) (c .room) ⊎ Refused s (c .block) (c .room) → after s c .counts ≡ with-event (s .counts) (eventOf s c)
+    by (inl y) =
+        ap (λ (r : Receiver). r .counts) (ready-state s (c .block) (c .room) y (c .left) (c .decoded))
+        ∙ taken-event (s .counts) (stepOf s (c .left) (c .decoded) .outcome) (delayedBlock s (c .block)) (c .left)
+        ∙ ap (λ (k : ℕ). with-event (s .counts) (record { number = k; differing = differ (delayedBlock s (c .block)) (c .left) }))
+        (sym (ready-number s (c .block) (c .room) y (c .left) (c .decoded)))
+    by (inr f) =
+        ap (λ (r : Receiver). r .counts) (refused-state s (c .block) (c .room) (c .left) (c .decoded) f)
+        ∙ sym
+        (ap (λ (k : ℕ). with-event (s .counts) (record { number = k; differing = differ (delayedBlock s (c .block)) (c .left) }))
+        (unpicked (refusal s (c .block) (c .room)) (f .some) (outcomeNumber (stepOf s (c .left) (c .decoded) .outcome)))
+        ∙ refused-event (s .counts) (refusal s (c .block) (c .room)) (differ (delayedBlock s (c .block)) (c .left)) (f .some) (f .few))
+
+-- ---- a list of calls
+
+-- the counts with the events of a history more
+abbrev pub with-history : Counts → List Event → Counts
+with-history n es = record {
+  taken = n .taken + takenIn es;
+  filling = n .filling + answered 9 es;
+  delivered = n .delivered + answered 0 es;
+  lost = n .lost + answered 8 es;
+  waiting = n .waiting + answered 10 es;
+  outofstep = n .outofstep + answered 11 es;
+  changed = n .changed + changedOver es;
+}
+
+event-history : (n : Counts) (e : Event) (es : List Event) → with-history (with-event n e) es ≡ with-history n (e ∷ es)
+event-history n e es = simp add-assoc
+
+none-history : (n : Counts) → n ≡ with-history n []
+none-history n = simp add-zero
+
+pub calls-counts : (s : Receiver) (cs : List Call) → afterCalls s cs .counts ≡ with-history (s .counts) (history s cs)
+calls-counts s [] = none-history (s .counts)
+calls-counts s (c ∷ cs) =
+    calls-counts (after s c) cs
+    ∙ ap (λ (n : Counts). with-history n (history (after s c) cs)) (call-counts s c)
+    ∙ event-history (s .counts) (eventOf s c) (history (after s c) cs)
+
+-- the counts of a state reached from the fresh one are those of its history, for every list of calls
+pub history-counts : (cs : List Call) → afterCalls freshReceiver cs .counts ≡ countsOf (history freshReceiver cs)
+unfolding freshReceiver
+history-counts cs = calls-counts freshReceiver cs ∙ simp zero-add

@@ -1,0 +1,135 @@
+-- Every state reached from the fresh one is within its ranges.
+-- Assumes nothing.
+use mathlib.Core.Path.{_≡_, refl, sym, subst, _∙_}
+use mathlib.Core.Bool.{Bool, true, false}
+use mathlib.Core.List.{List, [], _∷_}
+use mathlib.Core.Logic.{_⊎_, inl, inr}
+use Prim.Native.Nat.{ℕ, _≤_, _<_}
+use native.Mathlib.Decide.{decLt, ℕ-discrete}
+use native.Mathlib.Omega.{arith}
+use borrow.Author.Tests.{eq-eqb, ne-eqb, lt-ltb, le-ltb}
+use lib.Dec.{eqb}
+use lib.ListN.{length, getD}
+use Rattle.common.specs.Choice.{pick}
+use Rattle.reed_solomon.specs.Code.{differ}
+use Rattle.reed_solomon.specs.Decode.{Decodes}
+use Rattle.reed_solomon.specs.declared.Decoded.{Decoded}
+use Rattle.reed_solomon.specs.declared.Decoded.the-variants.{Corrected, Uncorrectable, BlockLength}
+use Rattle.interleaver.specs.declared.Side.the-variants.{Receiving}
+use Rattle.interleaver.proofs.Blocks.{Good, good-after}
+use Rattle.interleaver.proofs.Whole.{good-fresh}
+use Rattle.receiver.specs.Group.{placeInRange, groupStep}
+use Rattle.receiver.specs.Counts.{outcomeNumber, counted}
+use Rattle.receiver.specs.Receive.{freshReceiver, inRange, delayedBlock, repairOf, changedIn, stepOf, stateAfter, refusal, Ready, receiveState}
+use Rattle.receiver.specs.Run.{Call, after, Calls, afterCalls}
+use Rattle.receiver.specs.declared.Receiver.{Receiver}
+use Rattle.receiver.proofs.Synchronization.{accepted-step, sync-in-range}
+use Rattle.receiver.proofs.Ranges.{CountsRange, counts-range, counts-in-range, filling-range, lost-range, accepted-range}
+use Rattle.receiver.proofs.Calls.{state-in-range, ready-state}
+
+-- what every reached state has
+pub record Sound (s : Receiver) : Type 0 where
+  pub branches : Good Receiving (s .deinterleaver .branches)
+  pub place : placeInRange (s .sync .place) ≡ true
+  pub counts : CountsRange (s .counts)
+
+pub sound-range : (s : Receiver) → Sound s → inRange s ≡ true
+sound-range s g = state-in-range s (record { branches = g .branches .range; place = g .place; counts = counts-in-range (s .counts) (g .counts) })
+
+pub sound-fresh : Sound freshReceiver
+unfolding freshReceiver
+sound-fresh = record {
+  branches = good-fresh Receiving;
+  place = refl;
+  counts = record { most = omega arith; middle = refl; filled = refl; bytes = omega arith };
+}
+
+-- ---- a call is refused, or none of its tests refuses it
+
+pub record Refused (s : Receiver) (block room : List ℕ) : Type 0 where
+  pub some : 0 < refusal s block room
+  pub few : refusal s block room < 8
+
+pub ready-or-refused : (s : Receiver) (block room : List ℕ) → Ready s block room ⊎ Refused s block room
+ready-or-refused s block room = range (inRange s) refl
+  where
+    range : (t : Bool) → inRange s ≡ t → Ready s block room ⊎ Refused s block room
+    range false e = inr (record { some = simp e (omega arith); few = simp e (omega arith) })
+    range true e = size (ℕ-discrete (length block) 204)
+      where
+        more : length block ≡ 204 → 188 ≤ length room → Dec (s .counts .taken < 4294967295) → Ready s block room ⊎ Refused s block room
+        more n l (yes h) = inl (record { range = e; size = n; enough = l; more = h })
+        more n l (no h) =
+            let k : 4294967295 ≤ s .counts .taken = omega arith in
+            inr (record {
+              some = simp (e, eq-eqb _ _ n, le-ltb _ _ l, le-ltb _ _ k) (omega arith);
+              few = simp (e, eq-eqb _ _ n, le-ltb _ _ l, le-ltb _ _ k) (omega arith);
+            })
+
+        enough : length block ≡ 204 → Dec (length room < 188) → Ready s block room ⊎ Refused s block room
+        enough n (yes h) =
+            inr (record { some = simp (e, eq-eqb _ _ n, lt-ltb _ _ h) (omega arith); few = simp (e, eq-eqb _ _ n, lt-ltb _ _ h) (omega arith) })
+        enough n (no h) = more n (omega arith) (decLt (s .counts .taken) 4294967295)
+
+        size : Dec (length block ≡ 204) → Ready s block room ⊎ Refused s block room
+        size (yes n) = enough n (decLt (length room) 188)
+        size (no n) = inr (record { some = simp (e, ne-eqb _ _ n) (omega arith); few = simp (e, ne-eqb _ _ n) (omega arith) })
+
+pub refused-state : (s : Receiver) (block room left : List ℕ) (decoded : Decoded) → Refused s block room → receiveState s block room left decoded ≡ s
+refused-state s block room left decoded f = unpicked (refusal s block room) (f .some)
+  where
+    unpicked : (n : ℕ) → 0 < n → pick (eqb n 0) (stateAfter s block left decoded) s ≡ s
+    unpicked n h = simp (ne-eqb n 0 (λ e. omega arith))
+
+-- ---- a block taken keeps a state sound
+
+module _ (s : Receiver) (block left : List ℕ) (decoded : Decoded) (g : Sound s) (l : s .counts .taken < 4294967295)
+    (d : Decodes (delayedBlock s block) left decoded) where
+  counts-after : 11 ≤ s .counts .taken → (decoded : Decoded) → Decodes (delayedBlock s block) left decoded
+      → CountsRange (counted (s .counts) (outcomeNumber (groupStep (s .sync) (repairOf decoded (getD left 0 0)) .outcome))
+      (changedIn (groupStep (s .sync) (repairOf decoded (getD left 0 0)) .outcome) (delayedBlock s block) left))
+  counts-after h (Corrected count) d =
+      let w : differ (delayedBlock s block) left ≤ 8 = omega (arith, d .1 .counted, d .1 .within) in
+      accepted-step
+      (λ x. CountsRange (counted (s .counts) (outcomeNumber (x .outcome)) (changedIn (x .outcome) (delayedBlock s block) left)))
+      (s .sync .place) (getD left 0 0)
+      (λ p e m. accepted-range (s .counts) 0 (differ (delayedBlock s block) left) (g .counts) h l w refl refl refl)
+      (accepted-range (s .counts) 10 (differ (delayedBlock s block) left) (g .counts) h l w refl refl refl)
+      (accepted-range (s .counts) 11 (differ (delayedBlock s block) left) (g .counts) h l w refl refl refl)
+      (g .place)
+  counts-after h Uncorrectable d = lost-range (s .counts) (g .counts) h l
+  counts-after h BlockLength d = lost-range (s .counts) (g .counts) h l
+
+  pub sound-after : Sound (stateAfter s block left decoded)
+  unfolding stateAfter
+  sound-after = by (decLt (s .counts .taken) 11)
+    where
+      by : Dec (s .counts .taken < 11) → Sound (stateAfter s block left decoded)
+      by (yes h) = record {
+        branches = good-after Receiving (s .deinterleaver .branches) block (g .branches);
+        place = simp (lt-ltb _ _ h) (g .place);
+        counts = simp (lt-ltb _ _ h) (filling-range (s .counts) (g .counts) h);
+      }
+      by (no h) =
+          let k : 11 ≤ s .counts .taken = omega arith in
+          record {
+            branches = good-after Receiving (s .deinterleaver .branches) block (g .branches);
+            place = simp (le-ltb _ _ k) (sync-in-range (s .sync) (repairOf decoded (getD left 0 0)) (g .place));
+            counts = simp (le-ltb _ _ k) (counts-after k decoded d);
+          }
+
+pub sound-call : (s : Receiver) (c : Call) → Sound s → Decodes (delayedBlock s (c .block)) (c .left) (c .decoded) → Sound (after s c)
+sound-call s c g d = by (ready-or-refused s (c .block) (c .room))
+  where
+    by : Ready s (c .block) (c .room) ⊎ Refused s (c .block) (c .room) → Sound (after s c)
+    by (inl y) =
+        subst Sound (sym (ready-state s (c .block) (c .room) y (c .left) (c .decoded))) (sound-after s (c .block) (c .left) (c .decoded) g (y .more) d)
+    by (inr f) = subst Sound (sym (refused-state s (c .block) (c .room) (c .left) (c .decoded) f)) g
+
+sound-calls : (s : Receiver) (cs : List Call) → Sound s → Calls s cs → Sound (afterCalls s cs)
+sound-calls s [] g d = g
+sound-calls s (c ∷ cs) g d = sound-calls (after s c) cs (sound-call s c g (d .0)) (d .1)
+
+-- the theorem
+pub reached-in-range : (cs : List Call) → Calls freshReceiver cs → inRange (afterCalls freshReceiver cs) ≡ true
+reached-in-range cs d = sound-range (afterCalls freshReceiver cs) (sound-calls freshReceiver cs sound-fresh d)

@@ -1,0 +1,35 @@
+-- `receiver::Receiver::new` meets its contract.
+-- Assumes nothing.
+use mathlib.Core.Path.{_≡_, refl, sym, ap, _∙_, subst}
+use native.Mathlib.Omega.{arith}
+use borrow.Author.Tests.{eq-eqb, ne-eqb, lt-ltb, le-ltb, not-true, not-false}
+use Rattle.interleaver.specs.Block.{fresh}
+use Rattle.interleaver.specs.declared.Branches.{Branches}
+use Rattle.receiver.specs.Receive.{freshReceiver}
+use Rattle.receiver.specs.declared.group.Place.{Place}
+use Rattle.receiver.specs.declared.group.Place.the-variants.{NotKnown}
+use Rattle.receiver.specs.declared.counts.Counts.{Counts}
+use borrow.Author.Needs.{needs}
+use Rattle.receiver.proofs.Receiver.new.Statement.{statement}
+use Rattle.receiver.proofs.Receiver.new.Tie as tie
+
+new-requires : tie.Need-new-requires
+new-requires c κs = search needs
+
+new-requires-2 : tie.Need-new-requires-2
+new-requires-2 c κs = search needs
+
+new-requires-3 : tie.Need-new-requires-3
+new-requires-3 c κs = search needs
+
+returns : tie.Need-returns
+unfolding freshReceiver
+returns c =
+    ap (λ (d : Branches). record { deinterleaver = record { branches = d }; sync = c .before .new2 .result; counts = c .new3 .result })
+    (c .before .before .new .ensures)
+    ∙ ap (λ (p : Place). record { deinterleaver = record { branches = fresh }; sync = record { place = p }; counts = c .new3 .result })
+    (c .before .new2 .ensures)
+    ∙ ap (λ (n : Counts). record { deinterleaver = record { branches = fresh }; sync = record { place = NotKnown }; counts = n }) (c .new3 .ensures)
+
+pub new-spec : {M : Type 1} → statement M
+new-spec = tie.close (tie.spec new-requires new-requires-2 new-requires-3 returns)

@@ -1,0 +1,16 @@
+-- `receiver::group::found` meets its contract.
+-- Assumes nothing.
+use mathlib.Core.Path.{_≡_, refl, sym, ap, _∙_}
+use native.Mathlib.Omega.{arith}
+use borrow.Author.Tests.{eq-eqb, ne-eqb, lt-ltb, le-ltb, not-true, not-false}
+use Rattle.receiver.proofs.group.found.Statement.{statement}
+use Rattle.receiver.proofs.group.found.Tie as tie
+
+returns : tie.Need-returns
+returns c = simp (eq-eqb _ _ (c .if1 .taken))
+
+returns-2 : tie.Need-returns-2
+returns-2 c = simp (ne-eqb _ _ (c .if1 .left))
+
+pub found-spec : {M : Type 1} → statement M
+found-spec = tie.close (tie.spec returns returns-2)

@@ -1,0 +1,132 @@
+-- `receiver::take_block` meets its contract.
+-- Assumes nothing.
+use mathlib.Core.Path.{_≡_, refl, sym, ap, _∙_, subst}
+use native.Mathlib.Omega.{arith}
+use borrow.Author.Tests.{eq-eqb, ne-eqb, lt-ltb, le-ltb, not-true, not-false}
+use Prim.Native.Nat.{ℕ, _≤_}
+use mathlib.Core.List.{List}
+use lib.ListN.{replicate}
+use Rattle.reed_solomon.specs.Decode.{Decodes}
+use Rattle.interleaver.specs.declared.Side.the-variants.{Receiving}
+use Rattle.interleaver.proofs.Blocks.{length-out}
+use Rattle.receiver.specs.Group.{groupStep}
+use Rattle.receiver.specs.Counts.{outcomeNumber, counted}
+use Rattle.receiver.specs.Receive.{delayedBlock, PlaceOf}
+use Rattle.receiver.specs.declared.group.GroupStep.{GroupStep}
+use Rattle.receiver.proofs.Synchronization.{outcome-place}
+use Rattle.receiver.proofs.Calls.{state-range, filling-call, repairing-call, deinterleaves, room-for, few-changed, left-length}
+use borrow.Author.Needs.{needs}
+use Rattle.receiver.proofs.take_block.Statement.{statement}
+use Rattle.receiver.proofs.take_block.Tie as tie
+
+slice-aggregate-deinterleave : tie.Need-slice-aggregate-deinterleave
+slice-aggregate-deinterleave c = search needs
+
+deinterleave-requires : tie.Need-deinterleave-requires
+deinterleave-requires c κs = search needs
+
+count-requires : tie.Need-count-requires
+count-requires c κs =
+    let s = c .before .before .before .before .before .before .before .before .before .before in
+    room-for (s .args .receiver) (s .args .block .now) (s .args .room .now) (s .pre) 0 (omega arith)
+
+returns : tie.Need-returns
+returns c =
+    let s = c .before .before .before .before .before .before .before .before .before .before .before in
+    let a = s .args in
+    let d = c .before .before .before .before .deinterleave in
+    let i = deinterleaves (a .receiver) (a .block .now) (a .room .now) (s .pre) (replicate 204 0) refl in
+    filling-call (a .receiver) (a .block .now) (a .room .now) (s .pre) (c .before .if1 .taken) _ (d .result .deinterleaver) (c .count .result) _
+    refl (d .ensures .1 ∙ i .0) (c .count .ensures) refl
+
+slice-aggregate-decode : tie.Need-slice-aggregate-decode
+slice-aggregate-decode c = search needs
+
+decode-requires : tie.Need-decode-requires
+decode-requires c κs = search needs
+
+array-read-repair-of : tie.Need-array-read-repair-of
+array-read-repair-of c = search needs
+
+repair-of-requires : tie.Need-repair-of-requires
+repair-of-requires c κs = search needs
+
+step-requires : tie.Need-step-requires
+step-requires c κs = search needs
+
+changed-bytes-requires : tie.Need-changed-bytes-requires
+changed-bytes-requires c κs = search needs
+
+cast-count : tie.Need-cast-count
+cast-count c = search needs
+
+-- what the block that the branches give decodes to
+decodes : (c : tie.After-decode)
+    → let a = c .before .before .before .before .before .before .before .before .before .before .before .before .args in
+    Decodes (delayedBlock (a .receiver) (a .block .now)) (c .decode .last .0) (c .decode .result)
+decodes c =
+    let s = c .before .before .before .before .before .before .before .before .before .before .before .before in
+    let a = s .args in
+    let d = c .before .before .before .before .before .deinterleave in
+    subst (λ (l : List ℕ). Decodes l (c .decode .last .0) (c .decode .result))
+    (d .ensures .2 ∙ deinterleaves (a .receiver) (a .block .now) (a .room .now) (s .pre) (replicate 204 0) refl .1) (c .decode .ensures)
+
+count-requires-2 : tie.Need-count-requires-2
+count-requires-2 c κs =
+    let s = c .before .before .before .before .before .before .before .before .before .before .before .before .before .before .before .before .before in
+    let e = c .before .before .before .before .before in
+    room-for (s .args .receiver) (s .args .block .now) (s .args .room .now) (s .pre) _
+    (subst (λ (n : ℕ). n ≤ 8) (sym (c .changed-bytes .ensures)) (few-changed (delayedBlock (s .args .receiver) (s .args .block .now)) (e .decode .last .0) (e .decode .result) (decodes e)))
+
+slice-aggregate-deliver : tie.Need-slice-aggregate-deliver
+slice-aggregate-deliver c = search needs
+
+deliver-requires : tie.Need-deliver-requires
+deliver-requires c κs =
+    let s = c .before .before .before .before .before .before .before .before .before .before .before .before .before .before .before .before .before .before .before .before in
+    let a = s .args in
+    let e = c .before .before .before .before .before in
+    let d = c .before .before .before .before .before .before .before .before in (
+      subst (λ (g : GroupStep). PlaceOf (g .outcome)) (sym (e .step .ensures))
+          (outcome-place (a .receiver .sync) (e .before .repair-of .result) (state-range (a .receiver) (s .pre .range) .place)),
+      left-length (delayedBlock (a .receiver) (a .block .now)) (d .decode .last .0) (d .decode .result) (decodes d) (length-out Receiving (a .receiver .deinterleaver .branches) (a .block .now)),
+      s .pre .enough,
+    )
+
+same-length : tie.Need-same-length
+same-length c = search needs
+
+returns-2 : tie.Need-returns-2
+returns-2 c =
+    let s = c .before .before .before .before .before .before .before .before .before .before .before .before .before .before .before .before .before .before .before .before .before .before .before in
+    let a = s .args in
+    let d = c .before .before .before .before .before .before .before .before .before .before .before .before .before .before .before .before .deinterleave in
+    let e = c .before .before .before .before .before .before .before .before .before .before .before in
+    let k = c .before .before .before .before .before .before .before .before .step in
+    let v = c .before .before .deliver .ensures in
+    let i = deinterleaves (a .receiver) (a .block .now) (a .room .now) (s .pre) (replicate 204 0) refl in
+    repairing-call (a .receiver) (a .block .now) (a .room .now) (s .pre) (c .before .before .before .before .before .before .before .before .before .before .before .before .before .if1 .left) (e .decode .last .0) (e .decode .result) (decodes e)
+    (k .result) (k .ensures ∙ ap (groupStep (a .receiver .sync)) (c .before .before .before .before .before .before .before .before .before .repair-of .ensures)) _ (d .result .deinterleaver) (c .before .before .before .before .before .count2 .result) _
+    (v .0) (d .ensures .1 ∙ i .0)
+    (c .before .before .before .before .before .count2 .ensures ∙ ap (counted (a .receiver .counts) (outcomeNumber (k .result .outcome))) (c .before .before .before .before .before .before .changed-bytes .ensures)) (v .1)
+
+pub take-block-spec : {M : Type 1} → statement M
+take-block-spec =
+    tie.close
+    (tie.spec
+    slice-aggregate-deinterleave
+    deinterleave-requires
+    count-requires
+    returns
+    slice-aggregate-decode
+    decode-requires
+    array-read-repair-of
+    repair-of-requires
+    step-requires
+    changed-bytes-requires
+    cast-count
+    count-requires-2
+    slice-aggregate-deliver
+    deliver-requires
+    same-length
+    returns-2)

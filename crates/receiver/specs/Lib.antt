@@ -1,0 +1,4 @@
+pub mod Group
+pub mod Counts
+pub mod Receive
+pub mod Run

@@ -1,0 +1,141 @@
+-- What one call of the receiver does: document 01, "Receiver".
+-- Assumes nothing.
+use mathlib.Core.Path.{_≡_}
+use mathlib.Core.Bool.{Bool, true, false}
+use mathlib.Core.List.{List, _++_}
+use Prim.Native.Nat.{ℕ, _≤_, _<_}
+use Prim.{Unit}
+use lib.Dec.{ltb, eqb}
+use lib.ListN.{length, getD, take, drop}
+use Rattle.common.specs.Choice.{pick}
+use Rattle.answer.specs.Number.{numberOf}
+use Rattle.reed_solomon.specs.Code.{differ}
+use Rattle.reed_solomon.specs.Decode.{Decodes}
+use Rattle.reed_solomon.specs.declared.Decoded.{Decoded}
+use Rattle.reed_solomon.specs.declared.Decoded.the-variants.{Corrected, Uncorrectable, BlockLength}
+use Rattle.randomizer.specs.Packet.{derandomized}
+use Rattle.interleaver.specs.Block.{fresh, blockOut, after}
+use Rattle.interleaver.specs.Branch as branch
+use Rattle.interleaver.specs.declared.Side.the-variants.{Receiving}
+use Rattle.receiver.specs.Group.{placeInRange, groupStep}
+use Rattle.receiver.specs.Counts.{zeroCounts, countsInRange, outcomeNumber, counted}
+use Rattle.receiver.specs.declared.group.Place.the-variants.{NotKnown}
+use Rattle.receiver.specs.declared.group.Repair.{Repair}
+use Rattle.receiver.specs.declared.group.Repair.the-variants as repair
+use Rattle.receiver.specs.declared.group.Outcome.{Outcome}
+use Rattle.receiver.specs.declared.group.Outcome.the-variants.{Filling, Delivered, Lost, Waiting, OutOfStep}
+use Rattle.receiver.specs.declared.group.GroupStep.{GroupStep}
+use Rattle.receiver.specs.declared.Receiver.{Receiver}
+use Rattle.receiver.specs.declared.Received.{Received}
+
+-- all cells and counts 0, the place not known
+unfoldable pub freshReceiver : Receiver
+unfolding fresh
+freshReceiver = record {
+  deinterleaver = record { branches = fresh };
+  sync = record { place = NotKnown };
+  counts = zeroCounts;
+}
+
+-- what document 01 asks of the numbers of a state
+unfoldable pub inRange : Receiver → Bool
+unfolding countsInRange
+inRange s =
+    pick (branch.inRange Receiving (s .deinterleaver .branches))
+    (pick (placeInRange (s .sync .place)) (countsInRange (s .counts)) false)
+    false
+
+-- the block that the delay branches give for one that comes
+abbrev pub delayedBlock : Receiver → List ℕ → List ℕ
+delayedBlock s block = blockOut Receiving (s .deinterleaver .branches) block
+
+-- what the repair made of a block: a codeword, by its first byte, or none
+abbrev pub repairOf : Decoded → ℕ → Repair
+repairOf (Corrected count) first = repair.Accepted first
+repairOf Uncorrectable first = repair.Lost
+repairOf BlockLength first = repair.Lost
+
+-- the number of bytes that decoding says it changed
+abbrev pub changedBytes : Decoded → ℕ
+changedBytes (Corrected count) = count
+changedBytes Uncorrectable = 0
+changedBytes BlockLength = 0
+
+-- What a block comes to, and the place after it. While filling, nothing is repaired and the place is untouched.
+-- Decoding the delayed block left these bytes and this answer.
+abbrev pub stepOf : Receiver → List ℕ → Decoded → GroupStep
+stepOf s left decoded =
+    pick (ltb (s .counts .taken) 11) (record { outcome = Filling; sync = s .sync })
+    (groupStep (s .sync) (repairOf decoded (getD left 0 0)))
+
+-- the bytes changed in a block, by what it comes to: between the block that came and the codeword left, where it was accepted
+abbrev pub changedIn : Outcome → List ℕ → List ℕ → ℕ
+changedIn Filling came left = 0
+changedIn Lost came left = 0
+changedIn (Delivered place) came left = differ came left
+changedIn Waiting came left = differ came left
+changedIn OutOfStep came left = differ came left
+
+-- the state after a block taken
+unfoldable pub stateAfter : Receiver → List ℕ → List ℕ → Decoded → Receiver
+stateAfter s block left decoded =
+    record {
+      deinterleaver = record { branches = after Receiving (s .deinterleaver .branches) block };
+      sync = stepOf s left decoded .sync;
+      counts =
+          counted (s .counts) (outcomeNumber (stepOf s left decoded .outcome))
+          (changedIn (stepOf s left decoded .outcome) (delayedBlock s block) left);
+    }
+
+-- the room after a block taken: a packet given is written to its front
+abbrev pub roomAfter : Outcome → List ℕ → List ℕ → List ℕ
+roomAfter Filling left room = room
+roomAfter (Delivered place) left room = derandomized place (take 188 left) ++ drop 188 room
+roomAfter Lost left room = room
+roomAfter Waiting left room = room
+roomAfter OutOfStep left room = room
+
+-- a packet given has a place of a group
+abbrev pub PlaceOf : Outcome → Type 0
+PlaceOf Filling = Unit {0}
+PlaceOf (Delivered place) = place ≤ 7
+PlaceOf Lost = Unit {0}
+PlaceOf Waiting = Unit {0}
+PlaceOf OutOfStep = Unit {0}
+
+-- the tests before the work, in the order of document 01; 0 where none refuses
+abbrev pub refusal : Receiver → List ℕ → List ℕ → ℕ
+refusal s block room =
+    pick (inRange s)
+    (pick (eqb (length block) 204)
+    (pick (ltb (length room) 188) 4 (pick (ltb (s .counts .taken) 4294967295) 0 7))
+    3)
+    5
+
+-- a call that no test refuses
+pub record Ready (s : Receiver) (block room : List ℕ) : Type 0 where
+  pub range : inRange s ≡ true
+  pub size : length block ≡ 204
+  pub enough : 188 ≤ length room
+  pub more : s .counts .taken < 4294967295
+
+-- the number of the answer, the state and the room after a call
+abbrev pub receiveNumber : Receiver → List ℕ → List ℕ → List ℕ → Decoded → ℕ
+receiveNumber s block room left decoded =
+    pick (eqb (refusal s block room) 0) (outcomeNumber (stepOf s left decoded .outcome)) (refusal s block room)
+
+abbrev pub receiveState : Receiver → List ℕ → List ℕ → List ℕ → Decoded → Receiver
+receiveState s block room left decoded = pick (eqb (refusal s block room) 0) (stateAfter s block left decoded) s
+
+abbrev pub receiveRoom : Receiver → List ℕ → List ℕ → List ℕ → Decoded → List ℕ
+receiveRoom s block room left decoded = pick (eqb (refusal s block room) 0) (roomAfter (stepOf s left decoded .outcome) left room) room
+
+-- The block that the branches give decodes to an outcome, and the call is this function of it.
+-- Decoding is total and unique, so the call is decided.
+pub record Receives (s : Receiver) (block room : List ℕ) (r : Received) (exit : List ℕ) : Type 0 where
+  pub left : List ℕ
+  pub decoded : Decoded
+  pub decodes : Decodes (delayedBlock s block) left decoded
+  pub number : numberOf (r .answer) ≡ receiveNumber s block room left decoded
+  pub state : r .receiver ≡ receiveState s block room left decoded
+  pub written : exit ≡ receiveRoom s block room left decoded

@@ -1,0 +1,91 @@
+-- Calls one after another, and the counts as document 01 defines them, from the history of calls.
+-- Assumes nothing.
+use mathlib.Core.List.{List, [], _∷_, _++_}
+use Prim.Native.Nat.{ℕ, _+_, _*_}
+use Prim.{Unit}
+use lib.Dec.{ltb, eqb}
+use lib.ListN.{take}
+use Rattle.common.specs.Choice.{pick}
+use Rattle.reed_solomon.specs.Code.{differ}
+use Rattle.reed_solomon.specs.Decode.{Decodes}
+use Rattle.reed_solomon.specs.declared.Decoded.{Decoded}
+use Rattle.receiver.specs.Counts.{one}
+use Rattle.receiver.specs.Receive.{delayedBlock, receiveNumber, receiveState, receiveRoom}
+use Rattle.receiver.specs.declared.counts.Counts.{Counts}
+use Rattle.receiver.specs.declared.Receiver.{Receiver}
+
+-- a call: the block and the room lent, and what decoding the block that the branches give leaves and answers
+pub record Call : Type 0 where
+  pub block : List ℕ
+  pub room : List ℕ
+  pub left : List ℕ
+  pub decoded : Decoded
+
+-- the answer's number, the state and the room after a call
+abbrev pub answerOf : Receiver → Call → ℕ
+answerOf s c = receiveNumber s (c .block) (c .room) (c .left) (c .decoded)
+
+abbrev pub after : Receiver → Call → Receiver
+after s c = receiveState s (c .block) (c .room) (c .left) (c .decoded)
+
+abbrev pub roomOf : Receiver → Call → List ℕ
+roomOf s c = receiveRoom s (c .block) (c .room) (c .left) (c .decoded)
+
+-- each call of the list has what its block decodes to
+abbrev pub Calls : Receiver → List Call → Type 0
+Calls s [] = Unit {0}
+Calls s (c ∷ cs) = Decodes (delayedBlock s (c .block)) (c .left) (c .decoded) × Calls (after s c) cs
+
+-- the state after the calls
+abbrev pub afterCalls : Receiver → List Call → Receiver
+afterCalls s [] = s
+afterCalls s (c ∷ cs) = afterCalls (after s c) cs
+
+-- what is told of a call: its answer's number, and in how many bytes the block left differs from the one that came out of the branches
+pub record Event : Type 0 where
+  pub number : ℕ
+  pub differing : ℕ
+
+abbrev pub history : Receiver → List Call → List Event
+history s [] = []
+history s (c ∷ cs) = record { number = answerOf s c; differing = differ (delayedBlock s (c .block)) (c .left) } ∷ history (after s c) cs
+
+-- the packets given, one for each call answered 0
+abbrev pub packetsGiven : Receiver → List Call → List (List ℕ)
+packetsGiven s [] = []
+packetsGiven s (c ∷ cs) = pick (eqb (answerOf s c) 0) (take 188 (roomOf s c) ∷ []) [] ++ packetsGiven (after s c) cs
+
+-- ---- the counts of a history
+
+-- how many calls were answered with the number k
+abbrev pub answered : ℕ → List Event → ℕ
+answered k [] = 0
+answered k (e ∷ es) = one k (e .number) + answered k es
+
+-- 1 for a block that was taken, and 0 for a call that was refused: answers 1 to 7
+abbrev pub takenBy : ℕ → ℕ
+takenBy number = pick (eqb number 0) 1 (pick (ltb number 8) 0 1)
+
+abbrev pub takenIn : List Event → ℕ
+takenIn [] = 0
+takenIn (e ∷ es) = takenBy (e .number) + takenIn es
+
+-- 1 for an accepted block: answers 0, 10 and 11
+abbrev pub acceptedBy : ℕ → ℕ
+acceptedBy number = one 0 number + one 10 number + one 11 number
+
+-- the differing bytes over all accepted blocks
+abbrev pub changedOver : List Event → ℕ
+changedOver [] = 0
+changedOver (e ∷ es) = acceptedBy (e .number) * e .differing + changedOver es
+
+abbrev pub countsOf : List Event → Counts
+countsOf es = record {
+  taken = takenIn es;
+  filling = answered 9 es;
+  delivered = answered 0 es;
+  lost = answered 8 es;
+  waiting = answered 10 es;
+  outofstep = answered 11 es;
+  changed = changedOver es;
+}

@@ -1,0 +1,90 @@
+// The text of a pass report.
+ghost use mathlib.Core.Path.{_≡_};
+ghost use mathlib.Core.List.{_++_};
+ghost use Prim.Native.Nat.{_+_, _≤_};
+ghost use lib.ListN.{length, take, drop};
+ghost use Rattle.answer.specs.Number.{numberOf};
+ghost use Rattle.report.specs.Text.{decimal, lineText, Appended, reportText, reportNumber, reportLength, reportRoom};
+use answer::Answer;
+use receiver::counts::Counts;
+
+// An answer, and how many bytes were written.
+pub struct Written {
+    pub answer: Answer,
+    pub length: usize,
+}
+
+// Copies the bytes to a place of the room.
+fn put(bytes: &[u8], at: usize, room: &mut [u8])
+    requires { ⌜ at + length (now bytes) ≤ length (now room) ⌝ }
+    ensures { λ _. ⌜ now (room .exit) ≡ take at (now (room .entry)) ++ now (bytes .entry) ++ drop (at + length (now (bytes .entry))) (now (room .entry)) ⌝ }
+{
+    let mut i: usize = 0;
+    while i < bytes.len() {
+        room[at + i] = bytes[i];
+        i += 1;
+    }
+}
+
+// Writes a number at a place of the room. Gives the place after it.
+fn put_decimal(value: u64, at: usize, room: &mut [u8]) -> usize
+    requires { ⌜ at + 20 ≤ length (now room) ⌝ }
+    ensures { λ r. ⌜ Appended (decimal value) (now (room .entry)) (now (room .exit)) at r (at + 20) ⌝ }
+{
+    let mut digits = [0u8; 20];
+    let n = io::decimal(value, &mut digits);
+    put(&digits[..n], at, room);
+    at + n
+}
+
+// Writes a line at a place of the room. Gives the place after it.
+fn put_line(key: &[u8], value: u64, at: usize, room: &mut [u8]) -> usize
+    requires { ⌜ at + length (now key) + 22 ≤ length (now room) ⌝ }
+    ensures { λ r. ⌜
+        Appended (lineText (now (key .entry)) value) (now (room .entry)) (now (room .exit)) at r (at + length (now (key .entry)) + 22) ⌝ }
+{
+    put(key, at, room);
+    let equals = at + key.len();
+    room[equals] = b'=';
+    let end = put_decimal(value, equals + 1, room);
+    room[end] = b'\n';
+    end + 1
+}
+
+// Writes the report into a text of 256 bytes, which is more than any report has. Gives its length.
+fn compose(counts: Counts, rest: u64, text: &mut [u8]) -> usize
+    requires { ⌜ length (now text) ≡ 256 ⌝ }
+    ensures { λ r. ⌜ Appended (reportText counts rest) (now (text .entry)) (now (text .exit)) 0 r 256 ⌝ }
+{
+    let at = put_line(b"form", 1, 0, text);
+    let at = put_line(b"taken", counts.taken, at, text);
+    let at = put_line(b"filling", counts.filling, at, text);
+    let at = put_line(b"delivered", counts.delivered, at, text);
+    let at = put_line(b"lost", counts.lost, at, text);
+    let at = put_line(b"waiting", counts.waiting, at, text);
+    let at = put_line(b"outofstep", counts.outofstep, at, text);
+    let at = put_line(b"changed", counts.changed, at, text);
+    put_line(b"rest", rest, at, text)
+}
+
+// Writes the report of a pass: its counts, and the bytes after its last whole block.
+pub fn write_report(counts: Counts, rest: u64, room: &mut [u8]) -> Written
+    ensures { λ r. ⌜
+        (numberOf (r .answer) ≡ reportNumber counts rest (now (room .entry)))
+        × (r .length ≡ reportLength counts rest (now (room .entry)))
+        × (now (room .exit) ≡ reportRoom counts rest (now (room .entry))) ⌝ }
+{
+    let mut text = [0u8; 256];
+    let n = compose(counts, rest, &mut text);
+    if room.len() < n {
+        return Written {
+            answer: Answer::RoomLength,
+            length: 0,
+        };
+    }
+    put(&text[..n], 0, room);
+    Written {
+        answer: Answer::Done,
+        length: n,
+    }
+}
