@@ -66,6 +66,20 @@ module _ (s : Sender) (packet room : List ℕ) where
     written = l ∙ ap (λ (k : ℕ). pick (eqb k 0) (sentSymbols s packet ++ drop (inner.symbolCount (s .coder)) room) room) (sym e);
   }
 
+-- a call writes no more than the room
+fits : (a b c d : Bool) (count n k : ℕ) → count ≡ pick (eqb (pick a (pick b (pick c (pick d 4 0) 2) 1) 5) 0) n 0 → (d ≡ false → n ≤ k) → count ≤ k
+fits false b c d count n k e f = omega arith
+fits true false c d count n k e f = omega arith
+fits true true false d count n k e f = omega arith
+fits true true true true count n k e f = omega arith
+fits true true true false count n k e f = let l = f refl in omega arith
+
+pub count-fits : {s : Sender} {packet room : List ℕ} {number count : ℕ} {next : Sender} {left : List ℕ} → Sends s packet room number count next left
+    → count ≤ length room
+count-fits {s} {packet} {room} {number} {count} m =
+    fits (inRange s) (eqb (length packet) 188) (eqb (getD packet 0 0) 0x47) (ltb (length room) (inner.symbolCount (s .coder))) count
+    (inner.symbolCount (s .coder)) (length room) (m .counted) (λ t. ltb-false _ _ t)
+
 -- ---- the stages
 
 -- a buffer that is written whole

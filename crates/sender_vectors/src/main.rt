@@ -1,0 +1,205 @@
+// Compares the sender with the symbols that GNU Radio (gr-dtv) made of the same 40 packets, call after call and as one run, and shows both sides
+// of each refusal.
+use libc::STDOUT_FILENO;
+use sender::Sender;
+
+// The sender after a packet, and whether its symbols were the next ones of the file.
+struct Compared {
+    sender: Sender,
+    same: bool,
+}
+
+// Whether the next bytes of a file are those of the slice.
+fn same_as_file(wanted: i32, symbols: &[u8], expected: &mut [u8]) -> bool {
+    io::read_full(wanted, expected) == symbols.len() && check::same(symbols, expected)
+}
+
+// The first so many of the room.
+fn same_symbols(wanted: i32, room: &[u8], expected: &mut [u8], count: usize) -> bool {
+    if count > room.len() {
+        return false;
+    }
+    if count > expected.len() {
+        return false;
+    }
+    same_as_file(wanted, &room[..count], &mut expected[..count])
+}
+
+fn compare_packet(sender: Sender, input: i32, wanted: i32) -> Compared {
+    let mut packet = [0u8; 188];
+    let mut room = [0u8; 1632];
+    let mut expected = [0u8; 1632];
+    let got = io::read_full(input, &mut packet);
+    let sent = sender.send(&packet, &mut room);
+    let count = sent.count;
+    let answer = sent.answer;
+    let next = sent.sender;
+    if got != 188 || answer.number() != 0 {
+        return Compared {
+            sender: next,
+            same: false,
+        };
+    }
+    let same = same_symbols(wanted, &room, &mut expected, count);
+    Compared { sender: next, same }
+}
+
+// Forty packets, and then the end of both files.
+fn compare_calls(rate: u8, input: i32, wanted: i32) -> bool {
+    let created = Sender::new(rate);
+    let mut sender = created.sender;
+    let mut same = true;
+    let mut k: usize = 0;
+    while k < 40 {
+        let compared = compare_packet(sender, input, wanted);
+        sender = compared.sender;
+        if !compared.same {
+            same = false;
+        }
+        k += 1;
+    }
+    same && at_end(input) && at_end(wanted)
+}
+
+// The same packets as one run.
+fn compare_run(rate: u8, input: i32, wanted: i32) -> bool {
+    let mut packets = [0u8; 7520];
+    let mut room = [0u8; 65280];
+    let mut expected = [0u8; 65280];
+    let got = io::read_full(input, &mut packets);
+    let run = sender::send_run(rate, &packets, &mut room);
+    let count = run.count;
+    let answer = run.answer;
+    if got != 7520 || answer.number() != 0 {
+        return false;
+    }
+    same_symbols(wanted, &room, &mut expected, count) && at_end(input) && at_end(wanted)
+}
+
+fn at_end(fd: i32) -> bool {
+    let mut more = [0u8; 1];
+    io::read_full(fd, &mut more) == 0
+}
+
+fn print_same(same: bool) {
+    if same {
+        io::write_all(STDOUT_FILENO, b" same");
+    } else {
+        io::write_all(STDOUT_FILENO, b" differs");
+    }
+}
+
+fn compare(rate: u8, name: &[u8]) {
+    let input = os::open_read(b"packets.ts");
+    let wanted = os::open_read(name);
+    let input_again = os::open_read(b"packets.ts");
+    let wanted_again = os::open_read(name);
+    if input < 0 || wanted < 0 || input_again < 0 || wanted_again < 0 {
+        os::fail(name);
+        return;
+    }
+    io::write_all(STDOUT_FILENO, name);
+    print_same(compare_calls(rate, input, wanted));
+    print_same(compare_run(rate, input_again, wanted_again));
+    io::write_all(STDOUT_FILENO, b"\n");
+    libc::close(input);
+    libc::close(wanted);
+    libc::close(input_again);
+    libc::close(wanted_again);
+}
+
+fn print_line(name: &[u8], n: u64) {
+    io::write_all(STDOUT_FILENO, name);
+    io::print_decimal(STDOUT_FILENO, n);
+    io::write_all(STDOUT_FILENO, b"\n");
+}
+
+// The answer to a fresh sender at a rate.
+fn answer_new(name: &[u8], rate: u8) {
+    let created = Sender::new(rate);
+    let answer = created.answer;
+    print_line(name, answer.number() as u64);
+}
+
+// The answer to a packet and a room.
+fn answer_send(name: &[u8], rate: u8, packet: &[u8], room: &mut [u8]) {
+    let created = Sender::new(rate);
+    let sender = created.sender;
+    let sent = sender.send(packet, room);
+    let answer = sent.answer;
+    print_line(name, answer.number() as u64);
+}
+
+// The answer of a run to a list of packets and a room.
+fn answer_run(name: &[u8], rate: u8, packets: &[u8], room: &mut [u8]) {
+    let run = sender::send_run(rate, packets, room);
+    let answer = run.answer;
+    print_line(name, answer.number() as u64);
+}
+
+// A packet of so many of the bytes, and a room of so many bytes.
+fn send_part(name: &[u8], rate: u8, bytes: &[u8], length: usize, room_length: usize) {
+    let mut room = [0u8; 1632];
+    if length > bytes.len() {
+        return;
+    }
+    if room_length > 1632 {
+        return;
+    }
+    answer_send(name, rate, &bytes[..length], &mut room[..room_length]);
+}
+
+// The same for a run.
+fn run_part(name: &[u8], rate: u8, bytes: &[u8], length: usize, room_length: usize) {
+    let mut room = [0u8; 3264];
+    if length > bytes.len() {
+        return;
+    }
+    if room_length > 3264 {
+        return;
+    }
+    answer_run(name, rate, &bytes[..length], &mut room[..room_length]);
+}
+
+fn main() {
+    compare(0, b"symbols_rate0.bin");
+    compare(1, b"symbols_rate1.bin");
+    compare(2, b"symbols_rate2.bin");
+    compare(3, b"symbols_rate3.bin");
+    compare(4, b"symbols_rate4.bin");
+    let mut packets = [0u8; 376];
+    send_part(b"packet that begins 00: ", 0, &packets, 188, 1632);
+    packets[0] = 0x47;
+    answer_new(b"fresh sender at rate 4: ", 4);
+    answer_new(b"fresh sender at rate 5: ", 5);
+    send_part(b"sender of rate 5: ", 5, &packets, 188, 1632);
+    send_part(b"packet of 187 bytes: ", 0, &packets, 187, 1632);
+    send_part(b"packet of 188 bytes: ", 0, &packets, 188, 1632);
+    send_part(b"packet of 189 bytes: ", 0, &packets, 189, 1632);
+    send_part(b"rate 0, room of 1631: ", 0, &packets, 188, 1631);
+    run_part(b"run at rate 5: ", 5, &packets, 376, 3264);
+    run_part(b"run of 375 bytes: ", 0, &packets, 375, 3264);
+    run_part(
+        b"run whose second packet begins 00: ",
+        0,
+        &packets,
+        376,
+        3264,
+    );
+    packets[188] = 0x47;
+    run_part(
+        b"run of two packets, room of 3263: ",
+        0,
+        &packets,
+        376,
+        3263,
+    );
+    run_part(
+        b"run of two packets, room of 3264: ",
+        0,
+        &packets,
+        376,
+        3264,
+    );
+    run_part(b"run of no packets, no room: ", 4, &packets, 0, 0);
+}

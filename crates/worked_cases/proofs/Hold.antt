@@ -1,0 +1,39 @@
+-- Every row of the table holds, by computation; and the damaged block is no codeword.
+-- Assumes nothing.
+use mathlib.Core.Path.{_≡_, refl, ap, _∙_}
+use mathlib.Core.List.{List, [], _++_, map, zipWith, reverse}
+use Prim.Native.Nat.{ℕ}
+use native.Mathlib.Omega.{arith}
+use lib.ListN.{getD}
+use Rattle.common.specs.Lists.{listOf}
+use Rattle.common.proofs.Entries.{bytes-of, every-byte}
+use Rattle.algebra.specs.Polynomial.{power, plus, scale, product}
+use Rattle.galois.specs.Field256.{timesX, rounds, mul}
+use Rattle.randomizer.specs.Prbs.{loaded, output, stepped, steps, bits, sequence, generator, enabled, masks}
+use Rattle.randomizer.specs.Packet.{randomized}
+use Rattle.reed_solomon.specs.Code as code
+use Rattle.reed_solomon.specs.Encode.{generatorTail, divided, remainderFrom, checkBytes, encoded}
+use Rattle.reed_solomon.specs.Steps.{residueOf}
+use Rattle.reed_solomon.proofs.LongDivision.{encoded-only}
+use Rattle.interleaver.specs.Branch.{baseOf, queue}
+use Rattle.interleaver.specs.Column.{column}
+use Rattle.interleaver.specs.Block.{fresh, leaving, blockOut}
+use Rattle.inner_code.specs.Mode.{modes, modeOf}
+use Rattle.inner_code.specs.Stream.{bitsOf, symbolsAfter, symbols}
+use Rattle.inner_code.specs.Step.{patternLength, punctured, heldAfter, symbolsOf, coderAfter}
+use Rattle.worked_cases.specs.Table.{Case, unit, coefficients, damaged, cases}
+
+pub cases-hold : map (λ (c : Case). c .given) cases ≡ map (λ (c : Case). c .wanted) cases
+unfolding listOf power plus scale product timesX rounds mul loaded output stepped steps bits sequence generator enabled masks randomized zipWith code.factors code.generator generatorTail divided remainderFrom checkBytes residueOf baseOf queue column fresh leaving blockOut modes modeOf bitsOf symbolsAfter symbols patternLength punctured heldAfter symbolsOf coderAfter
+cases-hold = refl
+
+-- the check bytes of the message, as the table has them
+unit-coded : checkBytes unit ≡ coefficients
+unit-coded = ap (λ (l : List (List ℕ)). getD l 5 []) cases-hold
+
+-- The damaged block begins with the message, and the only codeword that does ends in 3B.
+pub damaged-no-codeword : code.Codeword damaged → ⊥
+damaged-no-codeword c =
+    let e : damaged ≡ encoded unit = encoded-only unit refl (bytes-of unit (every-byte unit tt)) damaged c refl in
+    let f : _≡_ {A = ℕ} 0x00 0x3B = ap (λ (l : List ℕ). getD l 203 0) e ∙ ap (λ (l : List ℕ). getD (unit ++ l) 203 0) unit-coded in
+    omega arith
