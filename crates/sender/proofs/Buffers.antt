@@ -13,11 +13,11 @@ use Rattle.common.specs.Lists.{All, Length}
 use Rattle.randomizer.specs.Stream.{inPackets}
 use Rattle.sender.specs.Run.{packetsOf, synced}
 
-packets-none : (l : List ℕ) → length l ≡ 0 → packetsOf l ≡ []
+pub packets-none : (l : List ℕ) → length l ≡ 0 → packetsOf l ≡ []
 unfolding packetsOf inPackets
 packets-none l e = ap (λ (n : ℕ). inPackets (n / 188) l) e
 
-packets-more : (l : List ℕ) → 188 ≤ length l → packetsOf l ≡ take 188 l ∷ packetsOf (drop 188 l)
+pub packets-more : (l : List ℕ) → 188 ≤ length l → packetsOf l ≡ take 188 l ∷ packetsOf (drop 188 l)
 unfolding packetsOf inPackets
 packets-more l h =
     let d = length-drop 188 l in

@@ -1,12 +1,15 @@
 -- How many symbols packets give: in all, and in each call.
 -- Assumes nothing.
 use mathlib.Core.Path.{_≡_, refl, ap, ap₂, sym, _∙_}
+use mathlib.Core.Bool.{Bool}
 use mathlib.Core.List.{List, [], _∷_, map, flatten}
 use Prim.Native.Nat.{ℕ, zero, suc, _+_, _-_, _*_, _/_, _%_, _≤_, _<_}
 use native.Mathlib.Nat.{mul-zero, mul-suc, add-comm, add-zero, zero-add, add-assoc, suc-add, mod-add-mod, mod-eq-of-lt, mod-lt}
 use native.Mathlib.Omega.{arith}
-use lib.ListN.{length, length-append, length-map}
+use lib.Dec.{T, leb, leb→le}
+use lib.ListN.{length, getD, length-append, length-map}
 use Rattle.common.specs.Lists.{All, Length}
+use Rattle.common.proofs.Computed.{both, both-left, both-right}
 use Rattle.randomizer.specs.Stream.{dispersed, inPackets, randomizedStream}
 use Rattle.reed_solomon.specs.Encode.{encoded}
 use Rattle.interleaver.specs.Stream.{interleaved}
@@ -15,20 +18,21 @@ use Rattle.interleaver.proofs.Streams.{length-delayed, delayed-lengths}
 use Rattle.inner_code.specs.Mode.{modeOf, completed}
 use Rattle.inner_code.specs.Stream.{bitsOf}
 use Rattle.inner_code.specs.Step.{patternLength, nextPlace, coderStep, coderAfter, symbolsIn}
-use Rattle.inner_code.specs.Serial.{none, placeAfter}
+use Rattle.inner_code.specs.Serial.{placeAfter}
 use Rattle.inner_code.specs.Encode.{freshCoder, blockCoder, symbolCount}
 use Rattle.inner_code.specs.declared.InnerCoder.{InnerCoder}
 use Rattle.inner_code.proofs.Bits.{bits-bits, length-bits}
 use Rattle.inner_code.proofs.Coder.{range-test, fresh-in-range, coder-in-range, length-symbols}
+use Rattle.inner_code.proofs.Places.{tested-at}
 use Rattle.inner_code.proofs.Steps.{some-bits, next-lt}
 use Rattle.inner_code.proofs.Stream.{symbols-fresh}
 use Rattle.sender.specs.Standard.{interleavedBlocks, onAir}
-use Rattle.sender.specs.Calls.{senderOf}
+use Rattle.sender.specs.Calls.{senderOf, fewest, most}
 use Rattle.sender.specs.Run.{packetsOf, runSymbols}
 
 -- ---- in all
 
-length-flatten : (n : ℕ) (xs : List (List ℕ)) → All (Length n) xs → length (flatten xs) ≡ n * length xs
+pub length-flatten : (n : ℕ) (xs : List (List ℕ)) → All (Length n) xs → length (flatten xs) ≡ n * length xs
 unfolding flatten
 length-flatten n [] g = sym (mul-zero n)
 length-flatten n (x ∷ xs) g = length-append x (flatten xs) ∙ ap₂ (λ (a b : ℕ). a + b) (g .0) (length-flatten n xs (g .1)) ∙ times-suc n (length xs)
@@ -109,6 +113,26 @@ call-count rate h packets =
     (coder-place (freshCoder rate) (bitsOf bytes)
     ∙ place-after rate 0 (length (bitsOf bytes)) (some-bits rate h)
     ∙ ap (λ (n : ℕ). n % patternLength rate) (zero-add _ ∙ block-bits packets)))
+
+-- at every place of a pattern the number is one of document 01's
+within : ℕ → ℕ → Bool
+within r p = both (leb (getD fewest r 0) (symbolsIn r p 1632)) (leb (symbolsIn r p 1632) (getD most r 0))
+
+counts-within : (r p : ℕ) → r < 5 → p < patternLength r → T (within r p)
+unfolding within symbolsIn patternLength modeOf
+counts-within r p h k = tested-at within tt r p h k
+
+-- so each call sends as many symbols as document 01 says
+pub call-bounds : (rate : ℕ) → rate < 5 → (packets : List (List ℕ))
+    → (getD fewest rate 0 ≤ symbolCount (senderOf rate packets .coder)) × (symbolCount (senderOf rate packets .coder) ≤ getD most rate 0)
+unfolding within
+call-bounds rate h packets =
+    let p = 1632 * length packets % patternLength rate in
+    let t = counts-within rate p h (mod-lt (1632 * length packets) (some-bits rate h)) in
+    rw (call-count rate h packets) (
+      leb→le _ _ (both-left (leb (getD fewest rate 0) (symbolsIn rate p 1632)) (leb (symbolsIn rate p 1632) (getD most rate 0)) t),
+      leb→le _ _ (both-right (leb (getD fewest rate 0) (symbolsIn rate p 1632)) (leb (symbolsIn rate p 1632) (getD most rate 0)) t),
+    )
 
 -- ---- a loop that takes from a room what each packet needs
 

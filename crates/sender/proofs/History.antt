@@ -3,15 +3,16 @@
 use mathlib.Core.Path.{_≡_, refl, ap, ap₂, sym, subst, _∙_}
 use mathlib.Core.List.{List, [], _∷_, _++_, flatten, append-assoc}
 use Prim.Native.Nat.{ℕ, _≤_, _<_}
+use native.Mathlib.Nat.{le-refl}
 use borrow.Author.Tests.{eq-eqb, le-ltb}
-use lib.ListN.{length, getD, take, drop}
+use lib.ListN.{length, getD, take, drop, replicate, length-replicate}
 use lib.Seq.{take-at}
 use Rattle.common.specs.Lists.{All, Length}
 use Rattle.common.proofs.Lists.{All-map}
 use Rattle.inner_code.specs.Mode.{modeOf}
 use Rattle.inner_code.specs.Encode.{symbolCount}
 use Rattle.sender.specs.Standard.{Packet, onAir}
-use Rattle.sender.specs.Send.{freshSender, sentSymbols, senderAfter, sendNumber, sendCount, sendSender, sendRoom}
+use Rattle.sender.specs.Send.{freshSender, sentSymbols, senderAfter, sendNumber, sendCount, sendSender, sendRoom, Sends}
 use Rattle.sender.specs.Calls.{callsSymbols, callsSender, senderOf, Calls, none, call}
 use Rattle.sender.specs.declared.Sender.{Sender}
 use Rattle.sender.proofs.Stages.{range-test, symbol-count}
@@ -54,6 +55,34 @@ told {s} {last} g ps (call {next = next} {packet = p} {packets = rest} {symbols 
           (r .symbols ∙ ap (λ (x : Sender). flatten (callsSymbols x rest)) e);
       sender = r .sender ∙ ap (λ (x : Sender). callsSender x rest) e;
     }
+
+-- there is such a history for every list of packets
+pub history : (s : Sender) (packets : List (List ℕ)) → Ready s → All Packet packets → Calls s packets (flatten (callsSymbols s packets)) (callsSender s packets)
+unfolding callsSymbols callsSender flatten
+history s [] g ps = none
+history s (p ∷ rest) g ps = go (history (senderAfter s p) rest (ready-after s p g) (ps .1))
+  where
+    n : ℕ
+    n = symbolCount (s .coder)
+
+    room : List ℕ
+    room = replicate n 0
+
+    long : n ≤ length room
+    long = rw (length-replicate {A = ℕ} n 0) (le-refl n)
+
+    a : Answered s p room
+    a = packet-sent s p room g (ps .0 .size) (ps .0 .sync) long
+
+    sent : Sends s p room 0 n (senderAfter s p) (sentSymbols s p ++ drop n room)
+    sent = record { answered = sym (a .number); counted = sym (a .count); sender = sym (a .sender); written = sym (a .written) }
+
+    go : Calls (senderAfter s p) rest (flatten (callsSymbols (senderAfter s p) rest)) (callsSender (senderAfter s p) rest)
+        → Calls s (p ∷ rest) (sentSymbols s p ++ flatten (callsSymbols (senderAfter s p) rest)) (callsSender (senderAfter s p) rest)
+    go c =
+        subst (λ (l : List ℕ). Calls s (p ∷ rest) (l ++ flatten (callsSymbols (senderAfter s p) rest)) (callsSender (senderAfter s p) rest))
+        (take-at (sentSymbols s p) (drop n room) n (symbol-count s p (ready-range s g) (ps .0 .size)))
+        (call room (sentSymbols s p ++ drop n room) 0 n long sent c)
 
 -- ---- one list of packets after another
 

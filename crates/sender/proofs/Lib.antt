@@ -6,3 +6,5 @@ pub mod Counts
 pub mod Buffers
 pub mod Progress
 pub mod Outcome
+pub mod Distinct
+pub mod Idle

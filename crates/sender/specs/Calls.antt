@@ -32,6 +32,13 @@ senderOf rate packets = record {
   coder = blockCoder (freshCoder rate) (flatten (interleavedBlocks packets));
 }
 
+-- document 01, "Inner code": how many symbols a call sends at each rate, at least and at most
+abbrev pub fewest : List ℕ
+fewest = 1632 ∷ 1224 ∷ 1088 ∷ 979 ∷ 932 ∷ []
+
+abbrev pub most : List ℕ
+most = 1632 ∷ 1224 ∷ 1088 ∷ 980 ∷ 933 ∷ []
+
 -- a history: each packet is sent by a call that keeps its promise and is lent room enough, with the sender that the call before handed back;
 -- the symbols are those that the calls wrote
 pub data Calls : Sender → List (List ℕ) → List ℕ → Sender → Type 0 where

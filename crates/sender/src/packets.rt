@@ -14,12 +14,12 @@ pub fn is_synced(packets: &[u8]) -> bool
     requires { ⌜ length (now packets) % 188 ≡ 0 ⌝ }
     ensures { λ r. ⌜ r ≡ synced (packetsOf (now (packets .entry))) ⌝ }
 {
-    let mut at: usize = 0;
-    while at < packets.len() {
-        if packets[at] != 0x47 {
+    let mut start: usize = 0;
+    while start < packets.len() {
+        if packets[start] != 0x47 {
             return false;
         }
-        at += 188;
+        start += 188;
     }
     true
 }

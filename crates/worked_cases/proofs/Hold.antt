@@ -1,7 +1,7 @@
 -- Every row of the table holds, by computation; and the damaged block is no codeword.
 -- Assumes nothing.
 use mathlib.Core.Path.{_≡_, refl, ap, _∙_}
-use mathlib.Core.List.{List, [], _++_, map, zipWith, reverse}
+use mathlib.Core.List.{List, [], _++_, map, zipWith}
 use Prim.Native.Nat.{ℕ}
 use native.Mathlib.Omega.{arith}
 use lib.ListN.{getD}

@@ -10,10 +10,10 @@ use Rattle.sender.proofs.packets.is_synced.Statement.{statement}
 use Rattle.sender.proofs.packets.is_synced.Tie as tie
 
 abbrev Inv-loop : tie.InvT-loop
-Inv-loop packets at₀ at = Scanning packets at
+Inv-loop packets start₀ start = Scanning packets start
 
 abbrev μ-loop : tie.MeasureT-loop
-μ-loop packets at₀ at = length packets - at
+μ-loop packets start₀ start = length packets - start
 
 loop-holds : tie.Need-loop-holds Inv-loop μ-loop
 loop-holds c = scanning-start (c .args .packets .now) (c .pre)
@@ -26,8 +26,8 @@ returns c =
     let l = c .before .before in
     sym (scanning-bad (l .before .loop .inv) (l .loop-test .taken) (c .if1 .taken))
 
-add-at : tie.Need-add-at Inv-loop μ-loop
-add-at c =
+add-start : tie.Need-add-start Inv-loop μ-loop
+add-start c =
     let l = c .before .before in
     omega (arith, scanning-left (l .before .loop .inv) (l .loop-test .taken))
 
@@ -53,7 +53,7 @@ is-synced-spec =
     loop-holds
     shared-slice-read-if1
     returns
-    add-at
+    add-start
     loop-less
     loop-again
     returns-2)
