@@ -3,3 +3,4 @@ pub mod Ranges
 pub mod Calls
 pub mod Reached
 pub mod Histories
+pub mod Reception
