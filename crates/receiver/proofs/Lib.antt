@@ -3,3 +3,5 @@ pub mod Ranges
 pub mod Calls
 pub mod Reached
 pub mod Histories
+pub mod Reception
+pub mod Idle
