@@ -5,3 +5,4 @@ pub mod Reached
 pub mod Histories
 pub mod Reception
 pub mod Idle
+pub mod Recordings

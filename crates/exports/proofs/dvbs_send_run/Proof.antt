@@ -32,10 +32,11 @@ returns-2 c =
     let b = c .before .before .before in
     let test = le-ltb _ _ (b .before .before .if1 .left) in
     let run = b .send-run .ensures in
-    let lent = b .before .before .before .before .before .before .args .answer .now in
-    (run .counted ∙ sym (simp (test)),
-    run .written ∙ sym (simp (test)),
-    ap (set lent 0) (c .number .ensures ∙ run .answered) ∙ sym (simp (test)))
+    let lent = b .before .before .before .before .before .before .args .answer .now in (
+      run .counted ∙ sym (simp (test)),
+      run .written ∙ sym (simp (test)),
+      ap (set lent 0) (c .number .ensures ∙ run .answered) ∙ sym (simp (test)),
+    )
 
 pub dvbs-send-run-spec : {M : Type 1} → statement M
 dvbs-send-run-spec =
