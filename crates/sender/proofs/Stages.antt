@@ -87,7 +87,7 @@ filled : (a d : List ℕ) (n : ℕ) → length d ≡ n → a ++ drop n d ≡ a
 filled a d n e = ap (λ (l : List ℕ). a ++ l) (drop-of-length-le d {i = n} (omega arith)) ∙ append-nil a
 
 module _ (s : Sender) (packet : List ℕ) (g : InRange s) (p : length packet ≡ 188) where
-  pub length-coded : length (codedPacket s packet) ≡ 204
+  length-coded : length (codedPacket s packet) ≡ 204
   length-coded =
       let m = randomized (s .place) packet in
       length-append m (checkBytes m) ∙ omega (arith, check-remainder m .size, length-randomized (s .place) packet (g .place) p)
@@ -112,7 +112,7 @@ module _ (s : Sender) (packet : List ℕ) (g : InRange s) (p : length packet ≡
         ∙ simp (g .branches, eq-eqb _ _ length-coded, le-ltb (length d) 204 (omega arith)) (filled _ d 204 n),
   )
 
-  pub length-block : length (sentBlock s packet) ≡ 204
+  length-block : length (sentBlock s packet) ≡ 204
   unfolding sentBlock
   length-block = length-out Sending (s .interleaver .branches) (codedPacket s packet)
 

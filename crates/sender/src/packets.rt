@@ -9,6 +9,9 @@ ghost use Rattle.sender.specs.Run.{packetsOf, synced, runSymbols, Sendab
 use crate::Sender;
 use inner_code::InnerCoder;
 
+// The bits of a coded block.
+const BLOCK_BITS: u16 = 1632;
+
 // Whether each packet begins with the sync byte.
 pub fn is_synced(packets: &[u8]) -> bool
     requires { ⌜ length (now packets) % 188 ≡ 0 ⌝ }
@@ -19,7 +22,7 @@ pub fn is_synced(packets: &[u8]) -> bool
         if packets[start] != 0x47 {
             return false;
         }
-        start += 188;
+        start += Sender::PACKET_LENGTH;
     }
     true
 }
@@ -46,7 +49,7 @@ pub fn is_short(rate: u8, packets: usize, room: usize) -> bool
             return true;
         }
         left -= needed;
-        place = ((place as u16 + 1632) % length) as u8;
+        place = ((place as u16 + BLOCK_BITS) % length) as u8;
         k += 1;
     }
     false
@@ -64,7 +67,7 @@ pub fn send_packets(rate: u8, packets: &[u8], room: &mut [u8]) -> usize
     let mut at: usize = 0;
     let mut count: usize = 0;
     while at < packets.len() {
-        let end = at + 188;
+        let end = at + Sender::PACKET_LENGTH;
         let sent = sender.send(&packets[at..end], &mut room[count..]);
         sender = sent.sender;
         count += sent.count;
