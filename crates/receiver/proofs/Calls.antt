@@ -27,7 +27,6 @@ use Rattle.receiver.specs.Receive.{inRange, delayedBlock, repairOf, chan
 use Rattle.receiver.specs.declared.counts.Counts.{Counts}
 use Rattle.receiver.specs.declared.group.GroupStep.{GroupStep}
 use Rattle.receiver.specs.declared.Receiver.{Receiver}
-use Rattle.receiver.specs.declared.Received.{Received}
 use Rattle.receiver.proofs.Ranges.{counts-range, counts-room}
 use Rattle.receiver.proofs.Synchronization.{changed-accepted}
 
