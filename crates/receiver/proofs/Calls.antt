@@ -27,7 +27,6 @@ use Rattle.receiver.specs.Receive.{inRange, delayedBlock, repairOf, chan
 use Rattle.receiver.specs.declared.counts.Counts.{Counts}
 use Rattle.receiver.specs.declared.group.GroupStep.{GroupStep}
 use Rattle.receiver.specs.declared.Receiver.{Receiver}
-use Rattle.receiver.specs.declared.Received.{Received}
 use Rattle.receiver.proofs.Ranges.{counts-range, counts-room}
 use Rattle.receiver.proofs.Synchronization.{changed-accepted}
 
@@ -51,9 +50,6 @@ state-in-range s r = simp (r .branches, r .place, r .counts)
 -- ---- a call that no test refuses
 
 module _ (s : Receiver) (block room : List ℕ) (y : Ready s block room) where
-  pub not-refused : refusal s block room ≡ 0
-  not-refused = simp (y .range, eq-eqb _ _ (y .size), le-ltb _ _ (y .enough), lt-ltb _ _ (y .more))
-
   module _ (left : List ℕ) (decoded : Decoded) where
     pub ready-number : receiveNumber s block room left decoded ≡ outcomeNumber (stepOf s left decoded .outcome)
     ready-number = simp (y .range, eq-eqb _ _ (y .size), le-ltb _ _ (y .enough), lt-ltb _ _ (y .more))

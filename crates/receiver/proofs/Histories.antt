@@ -1,17 +1,16 @@
 -- The counts of a state are those of the history of calls, and each block taken is in exactly one of the middle five.
 -- Assumes nothing.
 use mathlib.Core.Path.{_≡_, refl, sym, ap, _∙_}
-use mathlib.Core.Bool.{Bool}
 use mathlib.Core.List.{List, [], _∷_}
 use mathlib.Core.Logic.{_⊎_, inl, inr}
-use Prim.Native.Nat.{ℕ, _+_, _*_, _≤_, _<_}
+use Prim.Native.Nat.{ℕ, _+_, _*_, _<_}
 use native.Mathlib.Nat.{add-zero, zero-add, add-assoc, zero-mul}
 use native.Mathlib.Omega.{arith}
 use borrow.Author.Tests.{ne-eqb, lt-ltb}
 use lib.Dec.{eqb}
 use Rattle.common.specs.Choice.{pick}
 use Rattle.reed_solomon.specs.Code.{differ}
-use Rattle.receiver.specs.Counts.{zeroCounts, one, outcomeNumber, counted}
+use Rattle.receiver.specs.Counts.{one, outcomeNumber, counted}
 use Rattle.receiver.specs.Receive.{freshReceiver, delayedBlock, changedIn, stepOf, stateAfter, refusal, Ready}
 use Rattle.receiver.specs.Run.{Call, answerOf, after, afterCalls, Event, history, answered, takenBy, takenIn, acceptedBy, changedOver, countsOf}
 use Rattle.receiver.specs.declared.counts.Counts.{Counts}

@@ -5,7 +5,7 @@ use mathlib.Core.List.{List}
 use Prim.Native.Nat.{ℕ, _+_, _≤_, _<_}
 use native.Mathlib.Omega.{arith}
 use borrow.Author.Tests.{le-ltb}
-use lib.ListN.{getD, replicate}
+use lib.ListN.{replicate}
 use Rattle.answer.specs.Number.{numberOf}
 use Rattle.reed_solomon.specs.Code.{Codeword, differ}
 use Rattle.reed_solomon.specs.declared.Decoded.the-variants.{Corrected}
@@ -13,7 +13,6 @@ use Rattle.reed_solomon.proofs.Laws.{Same, decodes-near}
 use Rattle.interleaver.specs.declared.Side.the-variants.{Receiving}
 use Rattle.interleaver.proofs.Blocks.{length-out}
 use Rattle.receiver.specs.Receive.{freshReceiver, delayedBlock, changedBytes, changedIn, stepOf, stateAfter, Ready, Receives}
-use Rattle.receiver.specs.declared.group.GroupStep.{GroupStep}
 use Rattle.receiver.specs.declared.Receiver.{Receiver}
 use Rattle.receiver.specs.declared.Received.{Received}
 use Rattle.receiver.proofs.Calls.{ready-number, ready-state, changed-is}

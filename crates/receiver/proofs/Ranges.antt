@@ -1,10 +1,10 @@
 -- The ranges of the counts, and that a block more keeps them.
 -- Assumes nothing.
-use mathlib.Core.Path.{_≡_, refl}
+use mathlib.Core.Path.{_≡_}
 use mathlib.Core.Bool.{true, false}
 use Prim.Native.Nat.{ℕ, _+_, _*_, _≤_, _<_, min}
 use native.Mathlib.Omega.{arith}
-use borrow.Author.Tests.{leb-true, eqb-true, le-leb, lt-leb, eq-eqb, ne-eqb}
+use borrow.Author.Tests.{leb-true, eqb-true, le-leb, eq-eqb, ne-eqb}
 use Rattle.common.proofs.Choice.{both-true}
 use Rattle.receiver.specs.Counts.{middleFive, acceptedBlocks, countsInRange, one, counted, Room}
 use Rattle.receiver.specs.declared.counts.Counts.{Counts}

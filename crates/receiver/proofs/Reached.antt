@@ -1,6 +1,6 @@
 -- Every state reached from the fresh one is within its ranges.
 -- Assumes nothing.
-use mathlib.Core.Path.{_≡_, refl, sym, subst, _∙_}
+use mathlib.Core.Path.{_≡_, refl, sym, subst}
 use mathlib.Core.Bool.{Bool, true, false}
 use mathlib.Core.List.{List, [], _∷_}
 use mathlib.Core.Logic.{_⊎_, inl, inr}
@@ -20,11 +20,11 @@ use Rattle.interleaver.proofs.Blocks.{Good, good-after}
 use Rattle.interleaver.proofs.Whole.{good-fresh}
 use Rattle.receiver.specs.Group.{placeInRange, groupStep}
 use Rattle.receiver.specs.Counts.{outcomeNumber, counted}
-use Rattle.receiver.specs.Receive.{freshReceiver, inRange, delayedBlock, repairOf, changedIn, stepOf, stateAfter, refusal, Ready, receiveState}
+use Rattle.receiver.specs.Receive.{freshReceiver, inRange, delayedBlock, repairOf, changedIn, stateAfter, refusal, Ready, receiveState}
 use Rattle.receiver.specs.Run.{Call, after, Calls, afterCalls}
 use Rattle.receiver.specs.declared.Receiver.{Receiver}
 use Rattle.receiver.proofs.Synchronization.{accepted-step, sync-in-range}
-use Rattle.receiver.proofs.Ranges.{CountsRange, counts-range, counts-in-range, filling-range, lost-range, accepted-range}
+use Rattle.receiver.proofs.Ranges.{CountsRange, counts-in-range, filling-range, lost-range, accepted-range}
 use Rattle.receiver.proofs.Calls.{state-in-range, ready-state}
 
 -- what every reached state has

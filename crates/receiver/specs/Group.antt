@@ -10,7 +10,7 @@ use Rattle.receiver.specs.declared.group.Place.the-variants.{NotKnown, K
 use Rattle.receiver.specs.declared.group.Repair.{Repair}
 use Rattle.receiver.specs.declared.group.Repair.the-variants as repair
 use Rattle.receiver.specs.declared.group.Outcome.{Outcome}
-use Rattle.receiver.specs.declared.group.Outcome.the-variants.{Filling, Delivered, Lost, Waiting, OutOfStep}
+use Rattle.receiver.specs.declared.group.Outcome.the-variants.{Delivered, Lost, Waiting, OutOfStep}
 use Rattle.receiver.specs.declared.group.GroupSync.{GroupSync}
 use Rattle.receiver.specs.declared.group.GroupStep.{GroupStep}
 

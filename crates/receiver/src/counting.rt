@@ -1,6 +1,6 @@
 // One block more in the counts.
 ghost use mathlib.Core.Path.{_≡_};
-ghost use Prim.Native.Nat.{_+_, _<_};
+ghost use Prim.Native.Nat.{_+_};
 ghost use Rattle.receiver.specs.Counts.{Room, outcomeNumber, counted};
 use crate::counts::Counts;
 use crate::group::Outcome;

@@ -1,9 +1,7 @@
 // The receiving chain: interleaved blocks in, transport packets out. EN 300 421, 4.4, taken backwards.
 ghost use mathlib.Core.Path.{_≡_};
-ghost use mathlib.Core.Bool.{Bool, true};
-ghost use Prim.Native.Nat.{ℕ, _*_, _/_, _≤_, _<_};
+ghost use Prim.Native.Nat.{_≤_, _<_};
 ghost use lib.ListN.{length};
-ghost use Rattle.reed_solomon.specs.Decode.{Decodes};
 ghost use Rattle.answer.specs.Number.{numberOf};
 ghost use Rattle.receiver.specs.Counts.{outcomeNumber};
 ghost use Rattle.receiver.specs.Receive.{freshReceiver, inRange, repairOf, changedBytes, roomAfter, PlaceOf, Ready, Receives};

@@ -1,7 +1,6 @@
 -- `pass::receive_all` is safe and ends: each piece leaves fewer blocks to read.
 -- Assumes nothing.
 use mathlib.Core.Path.{_≡_}
-use native.Mathlib.Omega.{arith}
 use lib.ListN.{length}
 use borrow.Author.Needs.{needs}
 use Rattle.pass.proofs.receive_all.Statement.{statement}

@@ -1,14 +1,9 @@
 -- `report::compose` meets its contract.
 -- Assumes nothing.
-use mathlib.Core.Path.{_≡_, refl, sym, ap, _∙_, subst}
-use mathlib.Core.List.{List, [], _∷_, _++_, append-assoc, append-nil}
-use Prim.Native.Nat.{ℕ, _+_, _≤_}
+use mathlib.Core.List.{append-assoc, append-nil}
 use native.Mathlib.Omega.{arith}
-use borrow.Author.Tests.{lt-ltb, le-ltb}
-use lib.ListN.{length, take, drop, length-set}
-use Rattle.report.specs.Text.{Appended, lineText, reportText, formKey, takenKey, fillingKey, deliveredKey, lostKey, waitingKey, outofstepKey, changedKey, restKey}
+use Rattle.report.specs.Text.{Appended, lineText, reportText, takenKey, fillingKey, deliveredKey, lostKey, waitingKey, outofstepKey, changedKey, restKey}
 use Rattle.report.proofs.Lines.{joined-appended, restated}
-use Rattle.report.proofs.Decimals.{fewest-decimal}
 use borrow.Author.Needs.{needs}
 use Rattle.report.proofs.compose.Statement.{statement}
 use Rattle.report.proofs.compose.Tie as tie

@@ -1,13 +1,12 @@
 -- `report::put_decimal` meets its contract.
 -- Assumes nothing.
-use mathlib.Core.Path.{_≡_, refl, sym, ap, _∙_, subst}
-use mathlib.Core.List.{List, [], _∷_, _++_, append-assoc}
+use mathlib.Core.Path.{_≡_, ap, _∙_}
+use mathlib.Core.List.{List, _++_}
 use Prim.Native.Nat.{ℕ, _+_, _≤_}
 use native.Mathlib.Omega.{arith}
-use borrow.Author.Tests.{lt-ltb, le-ltb}
-use lib.ListN.{length, take, drop, length-set}
-use Rattle.report.specs.Text.{Appended, decimal, lineText, reportText}
-use Rattle.report.proofs.Lines.{put-appended, byte-appended, joined-appended}
+use lib.ListN.{length, take, drop}
+use Rattle.report.specs.Text.{decimal}
+use Rattle.report.proofs.Lines.{put-appended}
 use Rattle.report.proofs.Decimals.{fewest-decimal, fewest-small}
 use borrow.Author.Needs.{needs}
 use Rattle.report.proofs.put_decimal.Statement.{statement}

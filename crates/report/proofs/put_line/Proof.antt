@@ -1,14 +1,12 @@
 -- `report::put_line` meets its contract.
 -- Assumes nothing.
-use mathlib.Core.Path.{_≡_, refl, sym, ap, _∙_, subst}
-use mathlib.Core.List.{List, [], _∷_, _++_, append-assoc}
+use mathlib.Core.Path.{_≡_, sym, _∙_, subst}
+use mathlib.Core.List.{[], _∷_, _++_}
 use Prim.Native.Nat.{ℕ, _+_, _≤_, _<_}
 use native.Mathlib.Omega.{arith}
-use borrow.Author.Tests.{lt-ltb, le-ltb}
-use lib.ListN.{length, take, drop, set, length-set}
-use Rattle.report.specs.Text.{Appended, decimal, lineText, reportText}
+use lib.ListN.{length, set, length-set}
+use Rattle.report.specs.Text.{Appended, decimal, lineText}
 use Rattle.report.proofs.Lines.{put-appended, byte-appended, joined-appended}
-use Rattle.report.proofs.Decimals.{fewest-decimal}
 use borrow.Author.Needs.{needs}
 use Rattle.report.proofs.put_line.Statement.{statement}
 use Rattle.report.proofs.put_line.Tie as tie

@@ -1,16 +1,14 @@
 -- `report::write_report` meets its contract.
 -- Assumes nothing.
-use mathlib.Core.Path.{_≡_, refl, sym, ap, _∙_, subst}
-use mathlib.Core.List.{List, [], _∷_, _++_, append-assoc}
+use mathlib.Core.Path.{_≡_, refl, sym, ap, _∙_}
+use mathlib.Core.List.{List, _++_}
 use Prim.Native.Nat.{ℕ, _+_, _≤_}
 use native.Mathlib.Nat.{zero-add}
 use lib.Seq.{length-take-le}
 use native.Mathlib.Omega.{arith}
 use borrow.Author.Tests.{lt-ltb, le-ltb}
-use lib.ListN.{length, take, drop, length-set}
-use Rattle.report.specs.Text.{Appended, decimal, lineText, reportText}
-use Rattle.report.proofs.Lines.{put-appended, byte-appended, joined-appended}
-use Rattle.report.proofs.Decimals.{fewest-decimal}
+use lib.ListN.{length, take, drop}
+use Rattle.report.specs.Text.{reportText}
 use borrow.Author.Needs.{needs}
 use Rattle.report.proofs.write_report.Statement.{statement}
 use Rattle.report.proofs.write_report.Tie as tie

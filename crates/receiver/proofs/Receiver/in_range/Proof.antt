@@ -1,8 +1,7 @@
 -- `receiver::Receiver::in_range` meets its contract.
 -- Assumes nothing.
-use mathlib.Core.Path.{_≡_, refl, sym, ap, _∙_, subst}
-use native.Mathlib.Omega.{arith}
-use borrow.Author.Tests.{eq-eqb, ne-eqb, lt-ltb, le-ltb, not-true, not-false}
+use mathlib.Core.Path.{sym, _∙_}
+use borrow.Author.Tests.{not-true, not-false}
 use Rattle.receiver.specs.Receive.{inRange}
 use borrow.Author.Needs.{needs}
 use Rattle.receiver.proofs.Receiver.in_range.Statement.{statement}

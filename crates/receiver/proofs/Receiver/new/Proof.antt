@@ -1,8 +1,6 @@
 -- `receiver::Receiver::new` meets its contract.
 -- Assumes nothing.
-use mathlib.Core.Path.{_≡_, refl, sym, ap, _∙_, subst}
-use native.Mathlib.Omega.{arith}
-use borrow.Author.Tests.{eq-eqb, ne-eqb, lt-ltb, le-ltb, not-true, not-false}
+use mathlib.Core.Path.{ap, _∙_}
 use Rattle.interleaver.specs.Block.{fresh}
 use Rattle.interleaver.specs.declared.Branches.{Branches}
 use Rattle.receiver.specs.Receive.{freshReceiver}

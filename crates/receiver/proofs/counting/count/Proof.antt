@@ -1,9 +1,6 @@
 -- `receiver::counting::count` meets its contract.
 -- Assumes nothing.
-use mathlib.Core.Path.{_≡_, refl, sym, ap, _∙_}
 use native.Mathlib.Nat.{add-zero}
-use native.Mathlib.Omega.{arith}
-use borrow.Author.Tests.{eq-eqb, ne-eqb, lt-ltb, le-ltb, not-true, not-false}
 use borrow.Author.Needs.{needs}
 use Rattle.receiver.proofs.counting.count.Statement.{statement}
 use Rattle.receiver.proofs.counting.count.Tie as tie

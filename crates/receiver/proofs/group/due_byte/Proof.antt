@@ -1,8 +1,6 @@
 -- `receiver::group::due_byte` meets its contract.
 -- Assumes nothing.
-use mathlib.Core.Path.{_≡_, refl, sym, ap, _∙_}
-use native.Mathlib.Omega.{arith}
-use borrow.Author.Tests.{eq-eqb, ne-eqb, lt-ltb, le-ltb, not-true, not-false}
+use borrow.Author.Tests.{eq-eqb, ne-eqb}
 use Rattle.receiver.proofs.group.due_byte.Statement.{statement}
 use Rattle.receiver.proofs.group.due_byte.Tie as tie
 

@@ -1,8 +1,6 @@
 -- `receiver::group::place_after` meets its contract.
 -- Assumes nothing.
-use mathlib.Core.Path.{_≡_, refl, sym, ap, _∙_}
-use native.Mathlib.Omega.{arith}
-use borrow.Author.Tests.{eq-eqb, ne-eqb, lt-ltb, le-ltb, not-true, not-false}
+use borrow.Author.Tests.{lt-ltb, le-ltb}
 use borrow.Author.Needs.{needs}
 use Rattle.receiver.proofs.group.place_after.Statement.{statement}
 use Rattle.receiver.proofs.group.place_after.Tie as tie

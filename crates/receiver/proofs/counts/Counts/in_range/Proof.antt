@@ -1,9 +1,9 @@
 -- `receiver::counts::Counts::in_range` meets its contract.
 -- Assumes nothing.
-use mathlib.Core.Path.{_≡_, refl, sym, ap, _∙_}
+use mathlib.Core.Path.{sym, _∙_}
 use Prim.Native.Nat.{_≤_}
 use native.Mathlib.Omega.{arith}
-use borrow.Author.Tests.{eq-eqb, ne-eqb, lt-ltb, le-ltb, not-true, not-false}
+use borrow.Author.Tests.{eq-eqb, ne-eqb}
 use Rattle.receiver.specs.Counts.{countsInRange}
 use borrow.Author.Tests.{le-leb, lt-leb}
 use Rattle.receiver.proofs.Ranges.{sum-fails}

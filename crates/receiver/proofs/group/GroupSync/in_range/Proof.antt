@@ -1,8 +1,5 @@
 -- `receiver::group::GroupSync::in_range` meets its contract.
 -- Assumes nothing.
-use mathlib.Core.Path.{_≡_, refl, sym, ap, _∙_}
-use native.Mathlib.Omega.{arith}
-use borrow.Author.Tests.{eq-eqb, ne-eqb, lt-ltb, le-ltb, not-true, not-false}
 use borrow.Author.Needs.{needs}
 use Rattle.receiver.proofs.group.GroupSync.in_range.Statement.{statement}
 use Rattle.receiver.proofs.group.GroupSync.in_range.Tie as tie

@@ -1,11 +1,9 @@
 -- `receiver::group::GroupSync::step` meets its contract.
 -- Assumes nothing.
-use mathlib.Core.Path.{_≡_, refl, sym, ap, _∙_}
+use mathlib.Core.Path.{ap}
 use Rattle.receiver.specs.Group.{step}
 use Rattle.receiver.specs.declared.group.Place.{Place}
 use Rattle.receiver.specs.declared.group.Outcome.the-variants.{Lost}
-use native.Mathlib.Omega.{arith}
-use borrow.Author.Tests.{eq-eqb, ne-eqb, lt-ltb, le-ltb, not-true, not-false}
 use borrow.Author.Needs.{needs}
 use Rattle.receiver.proofs.group.GroupSync.step.Statement.{statement}
 use Rattle.receiver.proofs.group.GroupSync.step.Tie as tie
