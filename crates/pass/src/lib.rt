@@ -22,12 +22,6 @@ struct Piece {
     failed: bool,
 }
 
-// The receiver after the blocks of a piece, and how many bytes of packets were written.
-struct Batch {
-    receiver: Receiver,
-    written: usize,
-}
-
 // The receiver after a piece, how many bytes came, and whether a read or a write failed.
 struct Step {
     receiver: Receiver,
@@ -64,34 +58,6 @@ fn fill(fd: i32, buffer: &mut [u8], want: usize) -> Piece
     }
 }
 
-// Takes the whole blocks of the first bytes, at most 320 of them. The packets go to the room, one after another.
-fn receive_blocks(receiver: Receiver, blocks: &[u8], bytes: usize, packets: &mut [u8]) -> Batch
-    requires { ⌜ (bytes ≤ 65280) × (bytes ≤ length (now blocks)) × (60160 ≤ length (now packets)) ⌝ }
-    ensures { λ r. ⌜ r .written ≤ length (now (packets .exit)) ⌝ }
-{
-    let count = bytes / 204;
-    let mut state = receiver;
-    let mut at: usize = 0;
-    let mut k: usize = 0;
-    while k < count {
-        let start = 204 * k;
-        let end = start + 204;
-        let next = at + 188;
-        let received = state.receive(&blocks[start..end], &mut packets[at..next]);
-        let after = received.receiver;
-        let answer = received.answer;
-        state = after;
-        if answer.number() == 0 {
-            at = next;
-        }
-        k += 1;
-    }
-    Batch {
-        receiver: state,
-        written: at,
-    }
-}
-
 // The smaller of a number of blocks and 320.
 fn piece_blocks(left: u64) -> u64
     ensures { λ r. ⌜ r ≡ min left 320 ⌝ }
@@ -121,9 +87,17 @@ fn receive_piece(
             failed: true,
         };
     }
-    let batch = receive_blocks(receiver, buffer, n, packets);
-    let next = batch.receiver;
-    let written = batch.written;
+    let recorded = receiver.receive_recording(&buffer[..n], packets);
+    let answer = recorded.answer;
+    let next = recorded.receiver;
+    let written = recorded.count;
+    if answer.number() != 0 {
+        return Step {
+            receiver: next,
+            length: n,
+            failed: true,
+        };
+    }
     if wanted {
         if !io::write_all(STDOUT_FILENO, &packets[..written]) {
             return Step {
