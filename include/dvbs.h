@@ -42,8 +42,8 @@ uint64_t dvbs_send_run(uint8_t rate, const uint8_t *packets, size_t packets_len,
 /* What a fresh receiver gives for the recording's whole blocks. Returns the
  * bytes of packets written. counts: taken, filling, delivered, lost, waiting,
  * outofstep, changed, eight bytes each, lowest first. Lend 188 bytes of room
- * for each whole block. counts shorter than 56: returns 0, writes nothing.
- * Not in the library yet: a program that calls it does not link. */
+ * for each whole block. counts shorter than 56, room too short for that, or more
+ * than 4,294,967,295 blocks: returns 0, writes nothing. */
 uint64_t dvbs_receive_run(const uint8_t *blocks, size_t blocks_len,
                           uint8_t *room, size_t room_len,
                           uint8_t *counts, size_t counts_len);

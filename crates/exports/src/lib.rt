@@ -5,6 +5,11 @@ ghost use Rattle.randomizer.specs.Packet.{randomizeNumber, randomizeRoom, deran
 ghost use Rattle.reed_solomon.specs.Encode.{encodeNumber, encodeRoom};
 ghost use Rattle.exports.specs.Decode.{DecodeExported};
 ghost use Rattle.exports.specs.SendRun.{sendRunCount, sendRunRoom, sendRunAnswer};
+ghost use Rattle.exports.specs.ReceiveRun.{ReceiveRunExported};
+
+mod counts;
+
+use counts::put_counts;
 use reed_solomon::Decoded;
 
 // Randomizes a packet at a place of its group: the number of the answer.
@@ -77,4 +82,24 @@ pub extern "C" fn dvbs_send_run(rate: u8, packets: &[u8], room: &mut [u8], answe
     let number = run.answer;
     answer[0] = number.number();
     run.count as u64
+}
+
+// Takes the whole blocks of a recording with a fresh receiver: the number of bytes of packets written. The counts go to lent bytes.
+#[no_mangle]
+pub extern "C" fn dvbs_receive_run(blocks: &[u8], room: &mut [u8], counts: &mut [u8]) -> u64
+    ensures { λ r. ⌜
+        ReceiveRunExported (now (blocks .entry)) (now (room .entry)) (now (room .exit)) (now (counts .entry)) (now (counts .exit)) r ⌝ }
+{
+    if counts.len() < 56 {
+        return 0;
+    }
+    let recorded = receiver::receive_run(blocks, room);
+    let answer = recorded.answer;
+    if answer.number() != 0 {
+        return 0;
+    }
+    let last = recorded.receiver;
+    let held = last.counts;
+    put_counts(held, counts);
+    recorded.count as u64
 }

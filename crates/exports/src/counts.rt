@@ -1,0 +1,41 @@
+// The counts of a receiver as bytes.
+ghost use mathlib.Core.Path.{_≡_};
+ghost use mathlib.Core.List.{_++_};
+ghost use Prim.Native.Nat.{_≤_};
+ghost use lib.ListN.{length, drop};
+ghost use Rattle.exports.specs.ReceiveRun.{byteAt, countBytes};
+use receiver::counts::Counts;
+
+// Byte k of a number, the lowest being byte 0.
+fn byte_at(n: u64, k: usize) -> u8
+    ensures { λ r. ⌜ r ≡ byteAt k n ⌝ }
+{
+    let mut left = n;
+    let mut j: usize = 0;
+    while j < k {
+        left = left / 256;
+        j += 1;
+    }
+    (left % 256) as u8
+}
+
+// Writes the seven counts, each in eight bytes.
+pub fn put_counts(counts: Counts, room: &mut [u8])
+    requires { ⌜ 56 ≤ length (now room) ⌝ }
+    ensures { λ _. ⌜ now (room .exit) ≡ countBytes counts ++ drop 56 (now (room .entry)) ⌝ }
+{
+    let numbers = [
+        counts.taken,
+        counts.filling,
+        counts.delivered,
+        counts.lost,
+        counts.waiting,
+        counts.outofstep,
+        counts.changed,
+    ];
+    let mut i: usize = 0;
+    while i < 56 {
+        room[i] = byte_at(numbers[i / 8], i % 8);
+        i += 1;
+    }
+}
