@@ -1,15 +1,11 @@
 -- `dvbs_rs_decode` meets its contract.
 -- Assumes nothing.
-use mathlib.Core.Path.{_≡_, refl, sym, ap, _∙_, subst}
-use native.Mathlib.Omega.{arith}
+use mathlib.Core.Path.{refl, sym, ap}
 use Rattle.reed_solomon.specs.Decode.{decodedNumber}
 use Rattle.exports.specs.Decode.{countAfter, block-length, no-room, answered}
 use borrow.Author.Needs.{needs}
 use Rattle.exports.proofs.dvbs_rs_decode.Statement.{statement}
 use Rattle.exports.proofs.dvbs_rs_decode.Tie as tie
-use Rattle.exports.proofs.dvbs_rs_decode.Reads as reads
-use Rattle.exports.proofs.dvbs_rs_decode.Lts as lts
-use Rattle.reed_solomon.proofs.decode.Reads as decode-reads
 
 returns : tie.Need-returns
 returns c = block-length (c .if1 .taken) (record { numbered = refl; block-kept = refl; count-kept = refl })
