@@ -28,14 +28,14 @@ struct Score {
 impl Score {
     /// Runs the cases of a kind and prints its line.
     fn kind(&mut self, kind: &'static str, cases: u64, mut run: impl FnMut(&mut Score, &mut Xorshift, u64)) {
-        if self.only_kind.as_deref().is_some_and(|only| only != kind) {
+        if self.only_kind.as_deref().map_or(false, |only| only != kind) {
             return;
         }
         self.kind = kind;
         self.passed = 0;
         self.failed = 0;
         for case in 0..cases {
-            if self.only_case.is_some_and(|only| only != case) {
+            if self.only_case.map_or(false, |only| only != case) {
                 continue;
             }
             self.case = case;
