@@ -29,5 +29,5 @@ pub data ReceiveRunExported (blocks room exit counts after : List ℕ) (r : ℕ)
   no-room : length counts < 56 → r ≡ 0 → exit ≡ room → after ≡ counts → ReceiveRunExported blocks room exit counts after r
   refused : 56 ≤ length counts → 0 < recordingNumber freshReceiver blocks room → r ≡ 0 → exit ≡ room → after ≡ counts
       → ReceiveRunExported blocks room exit counts after r
-  taken : 56 ≤ length counts → (last : Receiver) → Takes freshReceiver blocks room r last exit → after ≡ countBytes (last .counts) ++ drop 56 counts
+  taken : 56 ≤ length counts → recordingNumber freshReceiver blocks room ≡ 0 → (last : Receiver) → Takes freshReceiver blocks room r last exit → after ≡ countBytes (last .counts) ++ drop 56 counts
       → ReceiveRunExported blocks room exit counts after r

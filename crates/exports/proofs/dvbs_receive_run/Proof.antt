@@ -19,9 +19,9 @@ run-refused (recording.refused e h c l x) n = (omega (arith, e, h), x)
 run-refused (recording.taken h e t) n = absurd (n e)
 
 run-taken : {s last : Receiver} {bytes room exit : List ℕ} {number count : ℕ} → ReceivesRecording s bytes room number count last exit → number ≡ 0
-    → Takes s bytes room count last exit
+    → (recordingNumber s bytes room ≡ 0) × Takes s bytes room count last exit
 run-taken (recording.refused e h c l x) n = absurd (omega (arith, h, n))
-run-taken (recording.taken h e t) n = t
+run-taken (recording.taken h e t) n = (h, t)
 
 returns : tie.Need-returns
 returns c = no-room (c .if1 .taken) refl refl refl
@@ -55,8 +55,8 @@ returns-3 c =
     let p = c .before .before in
     let e = p .before .before .before .before in
     let r = e .before .before .before .before in
-    taken (r .before .before .if1 .left) (r .receive-run .result .receiver)
-    (run-taken (r .receive-run .ensures) (sym (e .before .number .ensures) ∙ e .if2 .left)) (p .put-counts .ensures)
+    let t = run-taken (r .receive-run .ensures) (sym (e .before .number .ensures) ∙ e .if2 .left) in
+    taken (r .before .before .if1 .left) (t .0) (r .receive-run .result .receiver) (t .1) (p .put-counts .ensures)
 
 pub dvbs-receive-run-spec : {M : Type 1} → statement M
 dvbs-receive-run-spec =
