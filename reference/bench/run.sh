@@ -4,11 +4,7 @@
 # EXPORTS_LIBS may name further link arguments that the library needs.
 set -eu
 here=$(cd "$(dirname "$0")" && pwd)
-: "${EXPORTS_DIR:?set EXPORTS_DIR to the folder of libexports.a}"
-[ -f "$EXPORTS_DIR/libexports.a" ] || { echo "no libexports.a in $EXPORTS_DIR" >&2; exit 2; }
-build=$here/build
-mkdir -p "$build"
-cc=${CC:-cc}
+. "$here/../library.sh"
 
 peers= flags=
 if printf '#include <stddef.h>\n#include <fec.h>\nint main(void){return init_rs_char(8,0x11d,0,1,16,51)==NULL;}\n' \

@@ -8,11 +8,7 @@
 # EXPORTS_LIBS may name further link arguments that the library needs.
 set -eu
 here=$(cd "$(dirname "$0")" && pwd)
-: "${EXPORTS_DIR:?set EXPORTS_DIR to the folder of libexports.a}"
-[ -f "$EXPORTS_DIR/libexports.a" ] || { echo "no libexports.a in $EXPORTS_DIR" >&2; exit 2; }
-build=$here/build
-mkdir -p "$build"
-cc=${CC:-cc}
+. "$here/../library.sh"
 status=0 compared=
 
 install() {

@@ -2,21 +2,6 @@
 //! what the reference says each of them does. Everything that is a matter of
 //! the C functions' edges rather than of the standard is in this file.
 
-/// What a run does where one of its calls would be refused.
-#[derive(Clone, Copy, PartialEq, Eq)]
-pub enum RunRefusal {
-    /// The whole run is tested first; a refused run writes nothing.
-    Whole,
-    /// The run ends before the first refused call; what came before stands.
-    StopsThere,
-}
-
-/// `dvbs_send_run`: a rest that is no packet, a wrong sync byte, short room.
-pub const SEND_RUN: RunRefusal = RunRefusal::Whole;
-/// `dvbs_receive_run`: room shorter than 188 bytes for every whole block
-/// (`Whole`: returns 0, counts as before), or used up on the way (`StopsThere`).
-pub const RECEIVE_RUN: RunRefusal = RunRefusal::Whole;
-
 /// Seven counts of eight bytes.
 pub const COUNTS_LENGTH: usize = 56;
 
@@ -56,6 +41,7 @@ pub mod expected {
         answer.number()
     }
 
+    /// The whole run is tested first; a refused run writes nothing.
     pub fn send_run(rate: u8, packets: &[u8], room: &mut [u8], answer: &mut [u8]) -> u64 {
         if answer.is_empty() {
             return 0;
@@ -67,51 +53,43 @@ pub mod expected {
                 return 0;
             }
         };
-        if SEND_RUN == RunRefusal::Whole {
-            let whole = packets.len() / PACKET_LENGTH;
-            let refusal = if packets.len() % PACKET_LENGTH != 0 {
-                Some(Answer::PacketLength)
-            } else if packets.chunks_exact(PACKET_LENGTH).any(|p| p[0] != SYNC) {
-                Some(Answer::SyncByte)
-            } else if room.len() < sender.symbols_due(whole) {
-                Some(Answer::ShortRoom)
-            } else {
-                None
-            };
-            if let Some(refusal) = refusal {
-                answer[0] = refusal.number();
-                return 0;
-            }
+        let whole = packets.len() / PACKET_LENGTH;
+        let refusal = if packets.len() % PACKET_LENGTH != 0 {
+            Some(Answer::PacketLength)
+        } else if packets.chunks_exact(PACKET_LENGTH).any(|p| p[0] != SYNC) {
+            Some(Answer::SyncByte)
+        } else if room.len() < sender.symbols_due(whole) {
+            Some(Answer::ShortRoom)
+        } else {
+            None
+        };
+        if let Some(refusal) = refusal {
+            answer[0] = refusal.number();
+            return 0;
         }
         let mut written = 0;
         for packet in packets.chunks(PACKET_LENGTH) {
-            let (given, symbols) = sender.send(packet, &mut room[written..]);
-            written += symbols;
-            if given != Answer::Done {
-                answer[0] = given.number();
-                return written as u64;
-            }
+            written += sender.send(packet, &mut room[written..]).1;
         }
         answer[0] = Answer::Done.number();
         written as u64
     }
 
-    /// A rest of the recording shorter than a block is left alone.
+    /// A rest of the recording shorter than a block is left alone. Where the
+    /// room has not 188 bytes for each whole block, nothing is written.
     pub fn receive_run(blocks: &[u8], room: &mut [u8], counts: &mut [u8]) -> u64 {
         if counts.len() < COUNTS_LENGTH {
             return 0;
         }
         let whole = blocks.len() / BLOCK_LENGTH;
-        if RECEIVE_RUN == RunRefusal::Whole && room.len() < PACKET_LENGTH * whole {
+        if room.len() < PACKET_LENGTH * whole {
             return 0;
         }
         let mut receiver = Receiver::fresh();
         let mut written = 0;
         for block in blocks.chunks_exact(BLOCK_LENGTH) {
-            match receiver.receive(block, &mut room[written..]) {
-                Answer::Done => written += PACKET_LENGTH,
-                Answer::ShortRoom | Answer::Full => break,
-                _ => {}
+            if receiver.receive(block, &mut room[written..]) == Answer::Done {
+                written += PACKET_LENGTH;
             }
         }
         for (bytes, count) in counts.chunks_exact_mut(8).zip(receiver.counts().in_order()) {
