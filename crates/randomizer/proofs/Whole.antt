@@ -9,10 +9,14 @@ use lib.Bits.{bitXor}
 use lib.ListN.{length, getD, take, drop}
 use lib.Seq.{drop-cons, take-at, drop-at}
 use Rattle.common.specs.Lists.{All, Length}
+use Rattle.common.proofs.Lists.{All-map}
 use Rattle.randomizer.specs.Prbs.{masks}
 use Rattle.randomizer.specs.Packet.{randomized}
-use Rattle.randomizer.specs.Stream.{maskAt, dispersed, inPackets, randomizedStream, randomizedFrom}
+use Rattle.randomizer.specs.Stream.{Packet, maskAt, dispersed, inPackets, randomizedStream, randomizedFrom}
 use Rattle.randomizer.proofs.Laws.{length-masks, length-randomized}
+
+pub packet-lengths : (packets : List (List ℕ)) → All Packet packets → All (Length 188) packets
+packet-lengths packets g = All-map Packet (Length 188) (λ p a. a .size) packets g
 
 dispersed-append : (xs ys : List ℕ) (n : ℕ) → dispersed n (xs ++ ys) ≡ dispersed n xs ++ dispersed (n + length xs) ys
 unfolding dispersed

@@ -1,11 +1,19 @@
 -- Energy dispersal of a whole transport stream: EN 300 421, 4.4.1.
 -- Assumes nothing.
+use mathlib.Core.Path.{_≡_}
 use mathlib.Core.List.{List, [], _∷_, flatten}
 use Prim.Native.Nat.{ℕ, zero, suc, _+_, _%_}
 use lib.Bits.{bitXor}
 use lib.ListN.{length, getD, take, drop}
+use Rattle.common.specs.Lists.{Length, Bytes}
 use Rattle.randomizer.specs.Prbs.{masks}
 use Rattle.randomizer.specs.Packet.{randomized}
+
+-- a transport packet: 188 bytes that begin with the sync byte 47 hex
+pub record Packet (packet : List ℕ) : Type 0 where
+  pub size : Length 188 packet
+  pub bytes : Bytes packet
+  pub sync : getD packet 0 0 ≡ 0x47
 
 -- What byte n of a stream is xored with, byte 0 being the first of a group.
 -- It is the same for every group of 1,504 bytes, since the register is loaded anew for each.

@@ -15,8 +15,7 @@ use lib.ListN.{length, getD, take, drop, replicate, List·getD-append}
 use lib.Seq.{take-at}
 use Rattle.common.specs.Choice.{pick}
 use Rattle.common.specs.Lists.{All, Length, Bytes}
-use Rattle.common.proofs.Entries.{bytes-of}
-use Rattle.common.proofs.Lists.{All-map}
+use Rattle.common.proofs.Entries.{bytes-of, bytes-entries}
 use Rattle.reed_solomon.specs.Encode.{encoded, checkBytes}
 use Rattle.reed_solomon.specs.Decode.{Decodes}
 use Rattle.reed_solomon.specs.declared.Decoded.{Decoded}
@@ -24,8 +23,8 @@ use Rattle.reed_solomon.specs.declared.Decoded.the-variants.{Corrected}
 use Rattle.reed_solomon.proofs.LongDivision.{encoded-codeword, encoded-length}
 use Rattle.reed_solomon.proofs.Laws.{Same, decodes-codeword}
 use Rattle.randomizer.specs.Packet.{randomized, derandomized}
-use Rattle.randomizer.specs.Stream.{randomizedFrom, randomizedStream}
-use Rattle.randomizer.proofs.Whole.{randomized-stream}
+use Rattle.randomizer.specs.Stream.{Packet, randomizedFrom, randomizedStream}
+use Rattle.randomizer.proofs.Whole.{packet-lengths, randomized-stream}
 use Rattle.randomizer.proofs.Laws.{length-randomized, first-byte, bytes-randomized, back}
 use Rattle.interleaver.specs.Block as block
 use Rattle.interleaver.specs.Block.{fresh}
@@ -37,7 +36,7 @@ use Rattle.interleaver.specs.declared.Branches.{Branches}
 use Rattle.receiver.specs.Group.{dueByte, placeAfter, acceptedStep, groupStep, step}
 use Rattle.receiver.specs.Counts.{outcomeNumber}
 use Rattle.receiver.specs.Receive.{freshReceiver, delayedBlock, repairOf, stepOf, stateAfter, roomAfter, Ready}
-use Rattle.receiver.specs.Run.{Call, answerOf, after, roomOf, Calls, packetsGiven, blocksOf, answers, Roomy, Packet}
+use Rattle.receiver.specs.Run.{Call, answerOf, after, roomOf, Calls, packetsGiven, blocksOf, answers, Roomy}
 use Rattle.receiver.specs.declared.group.Place.{Place}
 use Rattle.receiver.specs.declared.group.Place.the-variants.{NotKnown, Known}
 use Rattle.receiver.specs.declared.group.Outcome.the-variants.{Filling, Delivered}
@@ -80,7 +79,7 @@ module _ (n : ℕ) (p : List ℕ) (w : Packet p) where
   sent-length = length-randomized (n % 8) p small (w .size)
 
   sent-bytes : Bytes sent
-  sent-bytes = bytes-of (randomized (n % 8) p) (bytes-randomized (n % 8) p small (w .size) (w .bytes))
+  sent-bytes = bytes-of (randomized (n % 8) p) (bytes-randomized (n % 8) p small (w .size) (bytes-entries p (w .bytes)))
 
   -- the coded packet begins with the sync byte that is due, and gives the packet back
   coded-first : getD (encoded sent) 0 0 ≡ dueByte (n % 8)
@@ -241,7 +240,7 @@ stream-received packets ws l cs b rs ds =
     whole : blocksOf cs ≡ interleaved coded
     whole =
         b ∙ ap (λ (ps : List (List ℕ)). interleaved (map encoded ps))
-        (sym (randomized-stream packets (All-map Packet (Length 188) (λ p w. w .size) packets ws)))
+        (sym (randomized-stream packets (packet-lengths packets ws)))
 
     count : length cs ≡ length packets
     count = sym (blocks-count cs) ∙ ap length whole ∙ length-delayed Sending coded ∙ coded-count 0 packets

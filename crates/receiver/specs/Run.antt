@@ -1,13 +1,11 @@
 -- Calls one after another, and the counts as document 01 defines them, from the history of calls.
 -- Assumes nothing.
-use mathlib.Core.Path.{_≡_}
 use mathlib.Core.List.{List, [], _∷_, _++_}
 use Prim.Native.Nat.{ℕ, _+_, _*_, _≤_}
 use Prim.{Unit}
 use lib.Dec.{ltb, eqb}
-use lib.ListN.{length, getD, take}
+use lib.ListN.{length, take}
 use Rattle.common.specs.Choice.{pick}
-use Rattle.common.specs.Lists.{ByteEntries}
 use Rattle.reed_solomon.specs.Code.{differ}
 use Rattle.reed_solomon.specs.Decode.{Decodes}
 use Rattle.reed_solomon.specs.declared.Decoded.{Decoded}
@@ -107,9 +105,3 @@ answers s (c ∷ cs) = answerOf s c ∷ answers (after s c) cs
 -- a room long enough
 abbrev pub Roomy : Call → Type 0
 Roomy c = 188 ≤ length (c .room)
-
--- a transport packet: 188 bytes, the first 47 hex
-pub record Packet (p : List ℕ) : Type 0 where
-  pub size : length p ≡ 188
-  pub bytes : ByteEntries p
-  pub sync : getD p 0 0 ≡ 0x47

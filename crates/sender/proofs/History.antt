@@ -8,10 +8,11 @@ use borrow.Author.Tests.{eq-eqb, le-ltb}
 use lib.ListN.{length, getD, take, drop, replicate, length-replicate}
 use lib.Seq.{take-at}
 use Rattle.common.specs.Lists.{All, Length}
-use Rattle.common.proofs.Lists.{All-map}
 use Rattle.inner_code.specs.Mode.{modeOf}
 use Rattle.inner_code.specs.Encode.{symbolCount}
-use Rattle.sender.specs.Standard.{Packet, onAir}
+use Rattle.randomizer.proofs.Whole.{packet-lengths}
+use Rattle.randomizer.specs.Stream.{Packet}
+use Rattle.sender.specs.Standard.{onAir}
 use Rattle.sender.specs.Send.{freshSender, sentSymbols, senderAfter, sendNumber, sendCount, sendSender, sendRoom, Sends}
 use Rattle.sender.specs.Calls.{callsSymbols, callsSender, senderOf, Calls, none, call}
 use Rattle.sender.specs.declared.Sender.{Sender}
@@ -109,26 +110,23 @@ ready-calls s (p ∷ ps) g = ready-calls (senderAfter s p) ps (ready-after s p g
 
 -- ---- demand 2, of the sending side
 
-whole : (packets : List (List ℕ)) → All Packet packets → All (Length 188) packets
-whole packets g = All-map Packet (Length 188) (λ p a. a .size) packets g
-
 -- Whatever packets a fresh sender is given, call after call, the symbols are the standard's, and the
 -- sender left is the one that has sent them.
 pub sent-on-air : (rate : ℕ) → rate < 5 → {packets : List (List ℕ)} {symbols : List ℕ} {last : Sender} → All Packet packets
     → Calls (freshSender rate) packets symbols last → (symbols ≡ onAir (modeOf rate) packets) × (last ≡ senderOf rate packets)
 sent-on-air rate h {packets} g c =
     let t = told (ready-fresh rate h) g c in
-    (t .symbols ∙ calls-on-air rate h packets (whole packets g), t .sender ∙ calls-sender rate h packets (whole packets g))
+    (t .symbols ∙ calls-on-air rate h packets (packet-lengths packets g), t .sender ∙ calls-sender rate h packets (packet-lengths packets g))
 
 -- a sender that has sent packets since it was fresh goes on where they end
 pub sent-further : (rate : ℕ) → rate < 5 → (sent : List (List ℕ)) {packets : List (List ℕ)} {symbols : List ℕ} {last : Sender} → All Packet sent → All Packet packets
     → Calls (senderOf rate sent) packets symbols last
     → (onAir (modeOf rate) sent ++ symbols ≡ onAir (modeOf rate) (sent ++ packets)) × (last ≡ senderOf rate (sent ++ packets))
 sent-further rate h sent {packets} f g c =
-    let e = calls-sender rate h sent (whole sent f) in
+    let e = calls-sender rate h sent (packet-lengths sent f) in
     let t = told (subst Ready e (ready-calls (freshSender rate) sent (ready-fresh rate h))) g c in
-    let l = all-append (Length 188) sent packets (whole sent f) (whole packets g) in (
-      ap₂ (λ (a b : List ℕ). a ++ b) (sym (calls-on-air rate h sent (whole sent f)))
+    let l = all-append (Length 188) sent packets (packet-lengths sent f) (packet-lengths packets g) in (
+      ap₂ (λ (a b : List ℕ). a ++ b) (sym (calls-on-air rate h sent (packet-lengths sent f)))
           (t .symbols ∙ ap (λ (s : Sender). flatten (callsSymbols s packets)) (sym e))
           ∙ sym (symbols-append (freshSender rate) sent packets)
           ∙ calls-on-air rate h (sent ++ packets) l,

@@ -10,10 +10,11 @@ use borrow.Author.Tests.{eq-eqb, le-ltb}
 use lib.ListN.{length, getD, take, drop, replicate, length-append, length-replicate, getD-replicate, List·getD-append}
 use lib.Seq.{take-at, drop-at, getD-at}
 use Rattle.common.specs.Lists.{All, Bytes, Length}
-use Rattle.common.proofs.Lists.{All-map}
 use Rattle.inner_code.specs.Mode.{modeOf}
 use Rattle.inner_code.specs.Step.{patternLength, symbolsIn}
-use Rattle.sender.specs.Standard.{Packet, onAir}
+use Rattle.randomizer.proofs.Whole.{packet-lengths}
+use Rattle.randomizer.specs.Stream.{Packet}
+use Rattle.sender.specs.Standard.{onAir}
 use Rattle.sender.specs.Run.{packetsOf, synced, runSymbols, runNumber, Runs}
 use Rattle.sender.proofs.Buffers.{packets-none, packets-more}
 use Rattle.sender.proofs.Counts.{length-flatten, length-on-air}
@@ -48,9 +49,6 @@ unfolding synced
 packets-synced [] g = refl
 packets-synced (p ∷ ps) g = let r = packets-synced ps (g .1) in simp (eq-eqb _ _ (g .0 .sync), r)
 
-lengths : (ps : List (List ℕ)) → All Packet ps → All (Length 188) ps
-lengths ps g = All-map Packet (Length 188) (λ p a. a .size) ps g
-
 -- ---- rate 1/2 gives a symbol for each bit
 
 each-bit : (n : ℕ) → symbolsIn 0 0 n ≡ n
@@ -72,7 +70,7 @@ pub record Kept (f : Program) (ps : List (List ℕ)) (room : List ℕ) : Type 0 
 
 kept : (f : Program) → Keeps f → (ps : List (List ℕ)) (room : List ℕ) → All Packet ps → 1632 * length ps ≤ length room → Kept f ps room
 kept f keeps ps room g h =
-    let l = lengths ps g in
+    let l = packet-lengths ps g in
     let e : packetsOf (flatten ps) ≡ ps = packets-flatten ps l in
     let n : length (runSymbols 0 (flatten ps)) ≡ 1632 * length ps = ap (λ (x : List (List ℕ)). length (onAir (modeOf 0) x)) e ∙ half-length ps in
     let w : length (flatten ps) % 188 ≡ 0 = (let m = length-flatten 188 ps l in omega arith) in
@@ -167,7 +165,7 @@ module _ (f : Program) (keeps : Keeps f) (k : ℕ) where
       let e = same (samples k 0) (samples k 1) h0 h1 (samples-front k 0 ∙ sym (samples-front k 1)) (n0 ∙ sym n1) (room-of (k + 1) 0) in
       let d = sym (sampled k 0 0 (omega arith) .written) ∙ e ∙ sampled k 1 0 (omega arith) .written in
       let air : onAir (modeOf 0) (samples k 0) ≡ onAir (modeOf 0) (samples k 1) = sym (front 0) ∙ ap (take (1632 * (k + 1))) d ∙ front 1 in
-      let b = same-bits (samples k 0) (samples k 1) (lengths (samples k 0) h0) (lengths (samples k 1) h1) air k (omega arith) (omega arith) in
+      let b = same-bits (samples k 0) (samples k 1) (packet-lengths (samples k 0) h0) (packet-lengths (samples k 1) h1) air k (omega arith) (omega arith) in
       let z : _≡_ {A = ℕ} 0 1 = sym (last-byte k 0) ∙ b ∙ last-byte k 1 in
       omega arith
     where

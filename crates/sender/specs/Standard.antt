@@ -1,21 +1,12 @@
 -- EN 300 421 as one definition: the symbols on air of a whole list of transport packets.
 -- Assumes nothing.
-use mathlib.Core.Path.{_≡_}
 use mathlib.Core.List.{List, map, flatten}
 use Prim.Native.Nat.{ℕ}
-use lib.ListN.{getD}
-use Rattle.common.specs.Lists.{Bytes, Length}
 use Rattle.randomizer.specs.Stream.{randomizedStream}
 use Rattle.reed_solomon.specs.Encode.{encoded}
 use Rattle.interleaver.specs.Stream.{interleaved}
 use Rattle.inner_code.specs.Mode.{Mode}
 use Rattle.inner_code.specs.Stream.{bitsOf, symbols}
-
--- a transport packet: 188 bytes that begin with the sync byte 47 hex
-pub record Packet (packet : List ℕ) : Type 0 where
-  pub size : Length 188 packet
-  pub bytes : Bytes packet
-  pub sync : getD packet 0 0 ≡ 0x47
 
 -- 4.4.1: transport multiplex adaptation and randomization for energy dispersal, in groups of eight packets from the first one on.
 -- 4.4.2: each randomized packet is coded by RS(204,188), and the blocks go through the convolutional interleaver, whose branches hold zeros at first.
