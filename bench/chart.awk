@@ -17,6 +17,7 @@ NF == 4 && $3 ~ /[0-9]/ {
     for (s = 1; s <= sides; s++)
         if (t[s] != "-") {
             time[n, s] = t[s]
+            there[s] = 1
             if (t[s] > slowest[n])
                 slowest[n] = t[s]
         }
@@ -62,11 +63,12 @@ END {
     text(12, 42, "start", "In each group the slowest side has the longest bar. In brackets: how many times the library's time.")
     text(12, 58, "start", measured)
     x = left
-    for (s = 1; s <= sides; s++) {
-        rectangle(x, 72, 12, bar, colour[s])
-        text(x + 18, 82, "start", side[s])
-        x += 100
-    }
+    for (s = 1; s <= sides; s++)
+        if (there[s]) {
+            rectangle(x, 72, 12, bar, colour[s])
+            text(x + 18, 82, "start", side[s])
+            x += 100
+        }
     y = top
     for (i = 1; i <= n; i++) {
         y += gap
