@@ -10,21 +10,23 @@ use lib.Dec.{T, leb, leb→le}
 use lib.ListN.{length, getD, length-append, length-map}
 use Rattle.common.specs.Lists.{All, Length}
 use Rattle.common.proofs.Computed.{both, both-left, both-right}
-use Rattle.randomizer.specs.Stream.{dispersed, inPackets, randomizedStream}
 use Rattle.reed_solomon.specs.Encode.{encoded}
+use Rattle.randomizer.specs.Stream.{dispersed, inPackets, randomizedStream}
 use Rattle.interleaver.specs.Stream.{interleaved}
 use Rattle.interleaver.specs.declared.Side.the-variants.{Sending}
 use Rattle.interleaver.proofs.Streams.{length-delayed, delayed-lengths}
-use Rattle.inner_code.specs.Mode.{modeOf, completed}
-use Rattle.inner_code.specs.Stream.{bitsOf}
-use Rattle.inner_code.specs.Step.{patternLength, nextPlace, coderStep, coderAfter, symbolsIn}
-use Rattle.inner_code.specs.Serial.{placeAfter}
+use Rattle.convolutional_code.specs.Bits.{bitsOf}
+use Rattle.convolutional_code.proofs.Bits.{bits-bits, length-bits}
+use Rattle.puncturing.specs.Mode.{modeOf, completed}
+use Rattle.puncturing.specs.Step.{patternLength, nextPlace, symbolsIn}
+use Rattle.puncturing.specs.Run.{placeAfter}
+use Rattle.puncturing.proofs.Places.{tested-at}
+use Rattle.puncturing.proofs.BlockCounts.{table, block-symbols}
+use Rattle.puncturing.proofs.Steps.{some-bits, next-lt}
+use Rattle.inner_code.specs.Step.{coderStep, coderAfter}
 use Rattle.inner_code.specs.Encode.{freshCoder, blockCoder, symbolCount}
 use Rattle.inner_code.specs.declared.InnerCoder.{InnerCoder}
-use Rattle.inner_code.proofs.Bits.{bits-bits, length-bits}
 use Rattle.inner_code.proofs.Coder.{range-test, fresh-in-range, coder-in-range, length-symbols}
-use Rattle.inner_code.proofs.Places.{tested-at}
-use Rattle.inner_code.proofs.Steps.{some-bits, next-lt}
 use Rattle.inner_code.proofs.Stream.{symbols-fresh}
 use Rattle.sender.specs.Standard.{interleavedBlocks, onAir}
 use Rattle.sender.specs.Calls.{senderOf, fewest, most}
@@ -116,10 +118,10 @@ call-count rate h packets =
 
 -- at every place of a pattern the number is one of document 01's
 within : ℕ → ℕ → Bool
-within r p = both (leb (getD fewest r 0) (symbolsIn r p 1632)) (leb (symbolsIn r p 1632) (getD most r 0))
+within r p = both (leb (getD fewest r 0) (getD table (r * 7 + p) 0)) (leb (getD table (r * 7 + p) 0) (getD most r 0))
 
 counts-within : (r p : ℕ) → r < 5 → p < patternLength r → T (within r p)
-unfolding within symbolsIn patternLength modeOf
+unfolding within table patternLength modeOf
 counts-within r p h k = tested-at within tt r p h k
 
 -- so each call sends as many symbols as document 01 says
@@ -128,10 +130,12 @@ pub call-bounds : (rate : ℕ) → rate < 5 → (packets : List (List ℕ))
 unfolding within
 call-bounds rate h packets =
     let p = 1632 * length packets % patternLength rate in
-    let t = counts-within rate p h (mod-lt (1632 * length packets) (some-bits rate h)) in
-    rw (call-count rate h packets) (
-      leb→le _ _ (both-left (leb (getD fewest rate 0) (symbolsIn rate p 1632)) (leb (symbolsIn rate p 1632) (getD most rate 0)) t),
-      leb→le _ _ (both-right (leb (getD fewest rate 0) (symbolsIn rate p 1632)) (leb (symbolsIn rate p 1632) (getD most rate 0)) t),
+    let n = getD table (rate * 7 + p) 0 in
+    let in-pattern : p < patternLength rate = mod-lt (1632 * length packets) (some-bits rate h) in
+    let t = counts-within rate p h in-pattern in
+    rw (call-count rate h packets, ← block-symbols rate p h in-pattern) (
+      leb→le _ _ (both-left (leb (getD fewest rate 0) n) (leb n (getD most rate 0)) t),
+      leb→le _ _ (both-right (leb (getD fewest rate 0) n) (leb n (getD most rate 0)) t),
     )
 
 -- ---- a loop that takes from a room what each packet needs

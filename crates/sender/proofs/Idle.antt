@@ -10,10 +10,10 @@ use borrow.Author.Tests.{eq-eqb, le-ltb}
 use lib.ListN.{length, getD, take, drop, replicate, length-append, length-replicate, getD-replicate, List·getD-append}
 use lib.Seq.{take-at, drop-at, getD-at}
 use Rattle.common.specs.Lists.{All, Bytes, Length}
-use Rattle.inner_code.specs.Mode.{modeOf}
-use Rattle.inner_code.specs.Step.{patternLength, symbolsIn}
-use Rattle.randomizer.proofs.Whole.{packet-lengths}
 use Rattle.randomizer.specs.Stream.{Packet}
+use Rattle.randomizer.proofs.Whole.{packet-lengths}
+use Rattle.puncturing.specs.Mode.{modeOf}
+use Rattle.puncturing.specs.Step.{patternLength, symbolsIn}
 use Rattle.sender.specs.Standard.{onAir}
 use Rattle.sender.specs.Run.{packetsOf, synced, runSymbols, runNumber, Runs}
 use Rattle.sender.proofs.Buffers.{packets-none, packets-more}

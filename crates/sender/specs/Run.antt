@@ -8,7 +8,7 @@ use lib.Dec.{ltb, eqb}
 use lib.ListN.{length, getD, drop}
 use Rattle.common.specs.Choice.{pick}
 use Rattle.randomizer.specs.Stream.{inPackets}
-use Rattle.inner_code.specs.Mode.{modeOf}
+use Rattle.puncturing.specs.Mode.{modeOf}
 use Rattle.sender.specs.Standard.{onAir}
 
 -- the packets of a buffer

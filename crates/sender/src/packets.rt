@@ -4,7 +4,7 @@ ghost use mathlib.Core.List.{_++_};
 ghost use Prim.Native.Nat.{_*_, _%_, _<_};
 ghost use lib.Dec.{ltb};
 ghost use lib.ListN.{length, drop};
-ghost use Rattle.inner_code.specs.Step.{symbolsIn};
+ghost use Rattle.puncturing.specs.Step.{symbolsIn};
 ghost use Rattle.sender.specs.Run.{packetsOf, synced, runSymbols, Sendable};
 use crate::Sender;
 use inner_code::InnerCoder;

@@ -6,11 +6,14 @@ use Prim.Native.Nat.{ℕ}
 use native.Mathlib.Nat.{zero-add}
 use borrow.Author.Needs.{needs}
 use lib.ListN.{length, drop}
-use Rattle.inner_code.specs.Stream.{bitsOf, tapsX, tapsY}
-use Rattle.inner_code.specs.Serial.{Bits, offsetsX, offsetsY, sweep, memoryAt, blockMother, sentSymbols, progress, placed}
+use Rattle.common.specs.Lists.{placed}
+use Rattle.convolutional_code.specs.Bits.{bitsOf, Bits}
+use Rattle.convolutional_code.specs.Code.{tapsX, tapsY, blockMother}
+use Rattle.convolutional_code.specs.Sweep.{offsetsX, offsetsY, sweep, memoryAt}
+use Rattle.convolutional_code.proofs.Bits.{bits-append, bits-oldest, bits-bits, bits-mother, block-bits}
+use Rattle.convolutional_code.proofs.Sweep.{block-mother, block-memory}
+use Rattle.puncturing.specs.Run.{sentSymbols, progress}
 use Rattle.inner_code.specs.Encode.{blockSymbols}
-use Rattle.inner_code.proofs.Bits.{bits-append, bits-oldest, bits-bits, bits-mother, block-bits}
-use Rattle.inner_code.proofs.Mother.{block-mother, block-memory}
 use Rattle.inner_code.proofs.Coder.{symbols-serial, coder-serial}
 use Rattle.inner_code.proofs.encode_block.Statement.{statement}
 use Rattle.inner_code.proofs.encode_block.Tie as tie

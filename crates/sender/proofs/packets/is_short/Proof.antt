@@ -8,9 +8,9 @@ use borrow.Author.Tests.{lt-ltb, le-ltb}
 use mathlib.Core.List.{List, [], _∷_}
 use lib.ListN.{getD}
 use Rattle.common.proofs.Computed.{agree-at}
-use Rattle.inner_code.specs.Mode.{modeOf}
-use Rattle.inner_code.specs.Step.{patternLength, symbolsIn}
-use Rattle.inner_code.proofs.Places.{length-le}
+use Rattle.puncturing.specs.Mode.{modeOf}
+use Rattle.puncturing.specs.Step.{patternLength, symbolsIn}
+use Rattle.puncturing.proofs.Places.{length-le}
 use Rattle.sender.proofs.Counts.{Counting, counting-start, counting-end, counting-short, counting-more, needed-is}
 use borrow.Author.Needs.{needs}
 use Rattle.sender.proofs.packets.is_short.Statement.{statement}
