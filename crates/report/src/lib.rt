@@ -6,7 +6,7 @@ ghost use lib.ListN.{length, take, drop};
 ghost use Rattle.answer.specs.Number.{numberOf};
 ghost use Rattle.report.specs.Text.{decimal, lineText, Appended, reportText, reportNumber, reportLength, reportRoom};
 use answer::Answer;
-use receiver::counts::Counts;
+use reception_counts::Counts;
 
 // An answer, and how many bytes were written.
 pub struct Written {
