@@ -17,11 +17,12 @@ use Rattle.reed_solomon.specs.declared.Decoded.{Decoded}
 use Rattle.reed_solomon.specs.declared.Decoded.the-variants.{Corrected, Uncorrectable, BlockLength}
 use Rattle.reed_solomon.proofs.Codewords.{codeword-length}
 use Rattle.reed_solomon.proofs.Laws.{total}
-use Rattle.interleaver.specs.Branch as branch
-use Rattle.interleaver.specs.Block.{after, passBranches, passRoom}
-use Rattle.interleaver.specs.declared.Branches.{Branches}
+use Rattle.delay_branches.specs.Branch as branch
+use Rattle.delay_branches.specs.Block.{after}
+use Rattle.delay_branches.specs.declared.Branches.{Branches}
+use Rattle.delay_branches.specs.declared.Side.the-variants.{Receiving}
+use Rattle.interleaver.specs.Call.{passBranches, passRoom}
 use Rattle.interleaver.specs.declared.Deinterleaver.{Deinterleaver}
-use Rattle.interleaver.specs.declared.Side.the-variants.{Receiving}
 use Rattle.group_sync.specs.Group.{placeInRange, acceptedStep, groupStep}
 use Rattle.group_sync.specs.declared.Place.{Place}
 use Rattle.group_sync.specs.declared.GroupStep.{GroupStep}

@@ -15,8 +15,8 @@ use Rattle.reed_solomon.specs.Code.{differ}
 use Rattle.reed_solomon.specs.Decode.{Decodes}
 use Rattle.reed_solomon.specs.declared.Decoded.{Decoded}
 use Rattle.reed_solomon.specs.declared.Decoded.the-variants.{Corrected, Uncorrectable, BlockLength}
-use Rattle.interleaver.specs.declared.Side.the-variants.{Receiving}
-use Rattle.interleaver.proofs.Blocks.{Good, good-after}
+use Rattle.delay_branches.specs.declared.Side.the-variants.{Receiving}
+use Rattle.delay_branches.proofs.Blocks.{Good, good-after}
 use Rattle.interleaver.proofs.Whole.{good-fresh}
 use Rattle.group_sync.specs.Group.{placeInRange, groupStep}
 use Rattle.group_sync.proofs.Synchronization.{accepted-step, sync-in-range}

@@ -26,11 +26,11 @@ use Rattle.randomizer.specs.Packet.{randomized, derandomized}
 use Rattle.randomizer.specs.Stream.{Packet, randomizedFrom, randomizedStream}
 use Rattle.randomizer.proofs.Whole.{packet-lengths, randomized-stream}
 use Rattle.randomizer.proofs.Laws.{length-randomized, first-byte, bytes-randomized, back}
-use Rattle.interleaver.specs.Block as block
-use Rattle.interleaver.specs.Block.{fresh}
+use Rattle.delay_branches.specs.Block as block
+use Rattle.delay_branches.specs.Block.{fresh}
+use Rattle.delay_branches.specs.declared.Side.the-variants.{Sending, Receiving}
+use Rattle.delay_branches.specs.declared.Branches.{Branches}
 use Rattle.interleaver.specs.Stream.{run, interleaved, zeroBlock, elevenLate}
-use Rattle.interleaver.specs.declared.Side.the-variants.{Sending, Receiving}
-use Rattle.interleaver.specs.declared.Branches.{Branches}
 use Rattle.interleaver.proofs.Whole.{run-delayed}
 use Rattle.interleaver.proofs.Streams.{length-delayed, delayed-lengths, both-sides}
 use Rattle.group_sync.specs.Group.{dueByte, placeAfter, acceptedStep, groupStep, step}

@@ -13,9 +13,9 @@ use Rattle.reed_solomon.specs.Decode.{Decodes}
 use Rattle.reed_solomon.specs.declared.Decoded.{Decoded}
 use Rattle.reed_solomon.specs.declared.Decoded.the-variants.{Corrected, Uncorrectable, BlockLength}
 use Rattle.randomizer.specs.Packet.{derandomized}
-use Rattle.interleaver.specs.Block.{fresh, blockOut, after}
-use Rattle.interleaver.specs.Branch as branch
-use Rattle.interleaver.specs.declared.Side.the-variants.{Receiving}
+use Rattle.delay_branches.specs.Block.{fresh, blockOut, after}
+use Rattle.delay_branches.specs.Branch as branch
+use Rattle.delay_branches.specs.declared.Side.the-variants.{Receiving}
 use Rattle.group_sync.specs.Group.{placeInRange, groupStep}
 use Rattle.group_sync.specs.declared.Place.the-variants.{NotKnown}
 use Rattle.group_sync.specs.declared.Repair.{Repair}

@@ -18,8 +18,8 @@ use Rattle.answer.specs.Number.{numberOf}
 use Rattle.reed_solomon.specs.Decode.{Decodes}
 use Rattle.randomizer.specs.Packet.{randomized, derandomized}
 use Rattle.randomizer.proofs.Laws.{length-randomized}
-use Rattle.interleaver.specs.declared.Side.the-variants.{Receiving}
-use Rattle.interleaver.proofs.Blocks.{length-out}
+use Rattle.delay_branches.specs.declared.Side.the-variants.{Receiving}
+use Rattle.delay_branches.proofs.Blocks.{length-out}
 use Rattle.group_sync.specs.Group.{PlaceOf}
 use Rattle.group_sync.specs.declared.Outcome.{Outcome}
 use Rattle.group_sync.specs.declared.Outcome.the-variants.{Filling, Delivered, Lost, Waiting, OutOfStep}

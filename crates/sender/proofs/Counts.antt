@@ -12,8 +12,8 @@ use Rattle.common.specs.Lists.{All, Length}
 use Rattle.common.proofs.Computed.{both, both-left, both-right}
 use Rattle.reed_solomon.specs.Encode.{encoded}
 use Rattle.randomizer.specs.Stream.{dispersed, inPackets, randomizedStream}
+use Rattle.delay_branches.specs.declared.Side.the-variants.{Sending}
 use Rattle.interleaver.specs.Stream.{interleaved}
-use Rattle.interleaver.specs.declared.Side.the-variants.{Sending}
 use Rattle.interleaver.proofs.Streams.{length-delayed, delayed-lengths}
 use Rattle.convolutional_code.specs.Bits.{bitsOf}
 use Rattle.convolutional_code.proofs.Bits.{bits-bits, length-bits}

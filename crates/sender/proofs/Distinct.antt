@@ -20,8 +20,8 @@ use Rattle.randomizer.specs.Stream.{randomizedStream, randomizedFrom}
 use Rattle.randomizer.proofs.Xors.{getD-xors}
 use Rattle.randomizer.proofs.Laws.{length-masks, length-randomized}
 use Rattle.randomizer.proofs.Whole.{randomized-stream}
+use Rattle.delay_branches.specs.declared.Side.the-variants.{Sending}
 use Rattle.interleaver.specs.Stream.{earlier, interleaved}
-use Rattle.interleaver.specs.declared.Side.the-variants.{Sending}
 use Rattle.interleaver.proofs.Streams.{length-delayed, delayed-at, delayed-lengths}
 use Rattle.convolutional_code.specs.Bits.{bitsOf, Bits, none, more}
 use Rattle.convolutional_code.specs.Code.{tapsX, tapsY, convolved}

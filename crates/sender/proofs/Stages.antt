@@ -14,11 +14,12 @@ use Rattle.reed_solomon.specs.Encode.{checkBytes, encodeRoom}
 use Rattle.reed_solomon.proofs.LongDivision.{check-remainder}
 use Rattle.randomizer.specs.Packet.{randomized, randomizeRoom}
 use Rattle.randomizer.proofs.Laws.{length-randomized, randomize-done}
-use Rattle.interleaver.specs.Branch as branch
-use Rattle.interleaver.specs.Block.{after, passBranches, passRoom}
-use Rattle.interleaver.specs.declared.Side.the-variants.{Sending}
-use Rattle.interleaver.specs.declared.Branches.{Branches}
-use Rattle.interleaver.proofs.Blocks.{length-out}
+use Rattle.delay_branches.specs.Branch as branch
+use Rattle.delay_branches.specs.Block.{after}
+use Rattle.delay_branches.specs.declared.Side.the-variants.{Sending}
+use Rattle.delay_branches.specs.declared.Branches.{Branches}
+use Rattle.delay_branches.proofs.Blocks.{length-out}
+use Rattle.interleaver.specs.Call.{passBranches, passRoom}
 use Rattle.puncturing.specs.Step.{symbolsIn}
 use Rattle.inner_code.specs.Step as coder
 use Rattle.inner_code.specs.Encode as inner

@@ -11,9 +11,9 @@ use Rattle.reed_solomon.specs.Encode.{encoded}
 use Rattle.randomizer.specs.Packet.{randomized}
 use Rattle.randomizer.specs.Stream.{randomizedStream, randomizedFrom}
 use Rattle.randomizer.proofs.Whole.{randomized-stream}
-use Rattle.interleaver.specs.Block.{fresh, blockOut, after}
+use Rattle.delay_branches.specs.Block.{fresh, blockOut, after}
+use Rattle.delay_branches.specs.declared.Side.the-variants.{Sending}
 use Rattle.interleaver.specs.Stream.{interleaved, run, runAfter}
-use Rattle.interleaver.specs.declared.Side.the-variants.{Sending}
 use Rattle.interleaver.proofs.Whole.{run-delayed}
 use Rattle.convolutional_code.specs.Bits.{bitsOf}
 use Rattle.puncturing.specs.Mode.{modeOf}

@@ -15,9 +15,9 @@ use Rattle.reed_solomon.specs.Steps.{residueOf}
 use Rattle.reed_solomon.proofs.LongDivision.{encoded-only}
 use Rattle.randomizer.specs.Prbs.{loaded, output, stepped, steps, bits, sequence, generator, enabled, masks}
 use Rattle.randomizer.specs.Packet.{randomized}
-use Rattle.interleaver.specs.Branch.{baseOf, queue}
-use Rattle.interleaver.specs.Column.{column}
-use Rattle.interleaver.specs.Block.{fresh, leaving, blockOut}
+use Rattle.delay_branches.specs.Branch.{baseOf, queue}
+use Rattle.delay_branches.specs.Column.{column}
+use Rattle.delay_branches.specs.Block.{fresh, leaving, blockOut}
 use Rattle.convolutional_code.specs.Bits.{bitsOf}
 use Rattle.puncturing.specs.Mode.{modes, modeOf}
 use Rattle.puncturing.specs.Step.{patternLength, punctured, heldAfter}

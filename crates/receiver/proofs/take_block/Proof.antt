@@ -6,8 +6,8 @@ use Prim.Native.Nat.{ℕ, _≤_}
 use mathlib.Core.List.{List}
 use lib.ListN.{replicate}
 use Rattle.reed_solomon.specs.Decode.{Decodes}
-use Rattle.interleaver.specs.declared.Side.the-variants.{Receiving}
-use Rattle.interleaver.proofs.Blocks.{length-out}
+use Rattle.delay_branches.specs.declared.Side.the-variants.{Receiving}
+use Rattle.delay_branches.proofs.Blocks.{length-out}
 use Rattle.group_sync.specs.Group.{groupStep, PlaceOf}
 use Rattle.group_sync.specs.declared.GroupStep.{GroupStep}
 use Rattle.group_sync.proofs.Synchronization.{outcome-place}

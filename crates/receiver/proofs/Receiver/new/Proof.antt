@@ -1,8 +1,8 @@
 -- `receiver::Receiver::new` meets its contract.
 -- Assumes nothing.
 use mathlib.Core.Path.{ap, _∙_}
-use Rattle.interleaver.specs.Block.{fresh}
-use Rattle.interleaver.specs.declared.Branches.{Branches}
+use Rattle.delay_branches.specs.Block.{fresh}
+use Rattle.delay_branches.specs.declared.Branches.{Branches}
 use Rattle.group_sync.specs.declared.Place.{Place}
 use Rattle.group_sync.specs.declared.Place.the-variants.{NotKnown}
 use Rattle.reception_counts.specs.declared.Counts.{Counts}

@@ -1,13 +1,13 @@
--- `interleaver::copy_column` meets its contract.
+-- `delay_branches::copy_column` meets its contract.
 -- Assumes nothing.
 use mathlib.Core.Path.{_≡_, _∙_, sym}
 use Prim.Native.Nat.{_-_, _≤_, _<_}
 use native.Mathlib.Omega.{arith}
 use borrow.Author.Needs.{needs}
-use Rattle.interleaver.specs.Column.{column}
-use Rattle.interleaver.proofs.Columns.{Placing, placing-none, placing-more, placing-all, length-column, getD-column}
-use Rattle.interleaver.proofs.copy_column.Statement.{statement}
-use Rattle.interleaver.proofs.copy_column.Tie as tie
+use Rattle.delay_branches.specs.Column.{column}
+use Rattle.delay_branches.proofs.Columns.{Placing, placing-none, placing-more, placing-all, length-column, getD-column}
+use Rattle.delay_branches.proofs.copy_column.Statement.{statement}
+use Rattle.delay_branches.proofs.copy_column.Tie as tie
 
 abbrev Inv-loop : tie.InvT-loop
 Inv-loop j block room₀ k₀ room k = (k ≤ 17) × Placing j (column j block) room₀ room k

@@ -9,7 +9,7 @@ use native.Mathlib.Omega.{arith}
 use lib.ListN.{length, getD, drop, set, length-set}
 use lib.Seq.{drop-cons, drop-length}
 use Rattle.common.proofs.Lists.{length-listOf, getD-listOf}
-use Rattle.interleaver.specs.Column.{column, placed}
+use Rattle.delay_branches.specs.Column.{column, placed}
 
 pub length-column : (j : ℕ) (block : List ℕ) → length (column j block) ≡ 17
 unfolding column

@@ -1,15 +1,15 @@
--- What one call gives: a block of 204 bytes goes in, and one comes out.
+-- A block of 204 bytes goes into the branches, and one comes out.
 -- Assumes nothing.
 use mathlib.Core.List.{List, [], _++_}
 use Prim.Native.Nat.{ℕ, zero, suc, _+_, _-_, _%_, _/_}
 use lib.Dec.{ltb, eqb}
-use lib.ListN.{length, getD, take, drop, replicate}
+use lib.ListN.{getD, take, drop, replicate}
 use Rattle.common.specs.Choice.{pick}
 use Rattle.common.specs.Lists.{listOf}
-use Rattle.interleaver.specs.Branch.{sizeOf, inRange, turned, queue}
-use Rattle.interleaver.specs.Column.{column}
-use Rattle.interleaver.specs.declared.Side.{Side}
-use Rattle.interleaver.specs.declared.Branches.{Branches}
+use Rattle.delay_branches.specs.Branch.{sizeOf, turned, queue}
+use Rattle.delay_branches.specs.Column.{column}
+use Rattle.delay_branches.specs.declared.Side.{Side}
+use Rattle.delay_branches.specs.declared.Branches.{Branches}
 
 -- all cells are 0 at first
 unfoldable pub fresh : Branches
@@ -56,15 +56,3 @@ after side s block = record {
   cells = joined 12 (storedOf side s block);
   positions = listOf 12 (positionOf side s);
 }
-
--- the number of the answer, by the tests in the order of document 01
-abbrev pub passNumber : Side → Branches → List ℕ → List ℕ → ℕ
-passNumber side s block room =
-    pick (inRange side s) (pick (eqb (length block) 204) (pick (ltb (length room) 204) 4 0) 3) 5
-
--- the state and the room after the call
-abbrev pub passBranches : Side → Branches → List ℕ → List ℕ → Branches
-passBranches side s block room = pick (eqb (passNumber side s block room) 0) (after side s block) s
-
-abbrev pub passRoom : Side → Branches → List ℕ → List ℕ → List ℕ
-passRoom side s block room = pick (eqb (passNumber side s block room) 0) (blockOut side s block ++ drop 204 room) room

@@ -1,16 +1,16 @@
--- `interleaver::pass_block` meets its contract.
+-- `delay_branches::pass_block` meets its contract.
 -- Assumes nothing.
 use mathlib.Core.Path.{_≡_, refl, ap, _∙_}
 use Prim.Native.Nat.{ℕ, _+_, _-_, _*_, _≤_, _<_}
 use native.Mathlib.Omega.{arith}
 use borrow.Author.Needs.{needs}
 use lib.ListN.{length, take, drop}
-use Rattle.interleaver.specs.Branch.{delayOf, sizeOf, cellsOf}
-use Rattle.interleaver.proofs.Blocks.{Good, position-bound, enough}
-use Rattle.interleaver.proofs.Cells.{delay-small, cells-fit, length-cells}
-use Rattle.interleaver.proofs.Passing.{Passing, passing-none, passing-length, passing-cells, passing-position, passing-more, passing-all}
-use Rattle.interleaver.proofs.pass_block.Statement.{statement}
-use Rattle.interleaver.proofs.pass_block.Tie as tie
+use Rattle.delay_branches.specs.Branch.{delayOf, sizeOf, cellsOf}
+use Rattle.delay_branches.proofs.Blocks.{Good, position-bound, enough}
+use Rattle.delay_branches.proofs.Cells.{delay-small, cells-fit, length-cells}
+use Rattle.delay_branches.proofs.Passing.{Passing, passing-none, passing-length, passing-cells, passing-position, passing-more, passing-all}
+use Rattle.delay_branches.proofs.pass_block.Statement.{statement}
+use Rattle.delay_branches.proofs.pass_block.Tie as tie
 
 abbrev Inv-loop : tie.InvT-loop
 Inv-loop side block room₀ cells₀ positions₀ base₀ j₀ room cells positions base j = (j ≤ 12) × Passing side (record { cells = cells₀; positions = positions₀ }) block room₀ room cells positions base j

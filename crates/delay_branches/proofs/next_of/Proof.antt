@@ -1,9 +1,9 @@
--- `interleaver::next_of` meets its contract.
+-- `delay_branches::next_of` meets its contract.
 -- Assumes nothing.
 use borrow.Author.Needs.{needs}
 use borrow.Author.Tests.{eq-eqb, ne-eqb}
-use Rattle.interleaver.proofs.next_of.Statement.{statement}
-use Rattle.interleaver.proofs.next_of.Tie as tie
+use Rattle.delay_branches.proofs.next_of.Statement.{statement}
+use Rattle.delay_branches.proofs.next_of.Tie as tie
 
 add-if1 : tie.Need-add-if1
 add-if1 c = search needs

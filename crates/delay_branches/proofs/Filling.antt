@@ -8,7 +8,7 @@ use native.Mathlib.Decide.{ℕ-discrete, decLt}
 use native.Mathlib.Omega.{arith}
 use lib.ListN.{length, getD, drop, set, length-set, length-append, length-drop, List·getD-append}
 use lib.Seq.{getD-set-same, getD-set-other, getD-append-add, getD-drop, ext-getD}
-use Rattle.interleaver.specs.Column.{placed}
+use Rattle.delay_branches.specs.Column.{placed}
 
 -- m bytes of the block are written, those of branch 0 first
 pub record Filled (block d : List ℕ) (r : List ℕ) (m : ℕ) : Type 0 where

@@ -8,11 +8,11 @@ use native.Mathlib.Decide.{ℕ-discrete}
 use native.Mathlib.Omega.{arith}
 use lib.ListN.{length, take, drop, length-append, length-drop}
 use lib.Seq.{drop-append-le, take-append-le, drop-at, take-all, length-take-le}
-use Rattle.interleaver.specs.Branch.{delayOf, sizeOf, baseOf, cellsOf}
-use Rattle.interleaver.specs.Block.{joined}
-use Rattle.interleaver.specs.declared.Side.{Side}
-use Rattle.interleaver.specs.declared.Side.the-variants.{Sending, Receiving}
-use Rattle.interleaver.specs.declared.Branches.{Branches}
+use Rattle.delay_branches.specs.Branch.{delayOf, sizeOf, baseOf, cellsOf}
+use Rattle.delay_branches.specs.Block.{joined}
+use Rattle.delay_branches.specs.declared.Side.{Side}
+use Rattle.delay_branches.specs.declared.Side.the-variants.{Sending, Receiving}
+use Rattle.delay_branches.specs.declared.Branches.{Branches}
 
 -- all of the cells are some branch's
 pub base-end : (side : Side) → baseOf side 12 ≡ 1122

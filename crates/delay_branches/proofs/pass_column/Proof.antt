@@ -1,4 +1,4 @@
--- `interleaver::pass_column` meets its contract.
+-- `delay_branches::pass_column` meets its contract.
 -- Assumes nothing.
 use mathlib.Core.Path.{_∙_, ap, sym}
 use mathlib.Core.List.{List}
@@ -6,13 +6,13 @@ use Prim.Native.Nat.{ℕ}
 use native.Mathlib.Omega.{arith}
 use borrow.Author.Tests.{ne-eqb}
 use lib.ListN.{length}
-use Rattle.interleaver.specs.Column.{column, placed}
-use Rattle.interleaver.specs.Block.{positionAfter}
-use Rattle.interleaver.proofs.Columns.{length-column}
-use Rattle.interleaver.proofs.Rings.{through, advanced-small}
+use Rattle.delay_branches.specs.Column.{column, placed}
+use Rattle.delay_branches.specs.Block.{positionAfter}
+use Rattle.delay_branches.proofs.Columns.{length-column}
+use Rattle.delay_branches.proofs.Rings.{through, advanced-small}
 use borrow.Author.Needs.{needs}
-use Rattle.interleaver.proofs.pass_column.Statement.{statement}
-use Rattle.interleaver.proofs.pass_column.Tie as tie
+use Rattle.delay_branches.proofs.pass_column.Statement.{statement}
+use Rattle.delay_branches.proofs.pass_column.Tie as tie
 
 copy-column-requires : tie.Need-copy-column-requires
 copy-column-requires c κs = search needs

@@ -10,14 +10,14 @@ use lib.ListN.{length, getD, take, drop, set, length-append, length-drop}
 use lib.Seq.{drop-cons, set-at, drop-at, take-at, drop-drop, getD-append-add, getD-drop, drop-length, append-snoc}
 use Rattle.common.specs.Lists.{listOf}
 use Rattle.common.proofs.Lists.{length-listOf}
-use Rattle.interleaver.specs.Branch.{sizeOf, baseOf, cellsOf, turned, queue}
-use Rattle.interleaver.specs.Column.{column, placed}
-use Rattle.interleaver.specs.Block.{leaving, staying, positionAfter, positionOf, storedOf, joined, blockOut, after}
-use Rattle.interleaver.specs.declared.Side.{Side}
-use Rattle.interleaver.specs.declared.Branches.{Branches}
-use Rattle.interleaver.proofs.Cells.{base-end, cells-fit, length-cells, length-joined}
-use Rattle.interleaver.proofs.Filling.{Filled, filled-none, filled-placed, filled-all}
-use Rattle.interleaver.proofs.Blocks.{Good, length-stored, length-leaves, leaves-at, length-out}
+use Rattle.delay_branches.specs.Branch.{sizeOf, baseOf, cellsOf, turned, queue}
+use Rattle.delay_branches.specs.Column.{column, placed}
+use Rattle.delay_branches.specs.Block.{leaving, staying, positionAfter, positionOf, storedOf, joined, blockOut, after}
+use Rattle.delay_branches.specs.declared.Side.{Side}
+use Rattle.delay_branches.specs.declared.Branches.{Branches}
+use Rattle.delay_branches.proofs.Cells.{base-end, cells-fit, length-cells, length-joined}
+use Rattle.delay_branches.proofs.Filling.{Filled, filled-none, filled-placed, filled-all}
+use Rattle.delay_branches.proofs.Blocks.{Good, length-stored, length-leaves, leaves-at, length-out}
 
 -- the branches below j are passed; d was the room
 pub record Passing (side : Side) (s : Branches) (block d : List ℕ) (room cells positions : List ℕ) (base j : ℕ) : Type 0 where

@@ -1,4 +1,4 @@
--- `interleaver::exchange_column` meets its contract.
+-- `delay_branches::exchange_column` meets its contract.
 -- Assumes nothing.
 use mathlib.Core.Path.{_≡_, refl, _∙_, ap, sym}
 use mathlib.Core.List.{_++_}
@@ -7,12 +7,12 @@ use native.Mathlib.Omega.{arith}
 use borrow.Author.Needs.{needs}
 use lib.ListN.{length, take}
 use lib.Seq.{getD-take}
-use Rattle.interleaver.specs.Branch.{turned}
-use Rattle.interleaver.specs.Column.{column}
-use Rattle.interleaver.proofs.Columns.{Placing, placing-none, placing-more, placing-all, length-column, getD-column}
-use Rattle.interleaver.proofs.Rings.{nextOf, length-leaving, Turning, turning-none, turning-out, turning-more, turning-all}
-use Rattle.interleaver.proofs.exchange_column.Statement.{statement}
-use Rattle.interleaver.proofs.exchange_column.Tie as tie
+use Rattle.delay_branches.specs.Branch.{turned}
+use Rattle.delay_branches.specs.Column.{column}
+use Rattle.delay_branches.proofs.Columns.{Placing, placing-none, placing-more, placing-all, length-column, getD-column}
+use Rattle.delay_branches.proofs.Rings.{nextOf, length-leaving, Turning, turning-none, turning-out, turning-more, turning-all}
+use Rattle.delay_branches.proofs.exchange_column.Statement.{statement}
+use Rattle.delay_branches.proofs.exchange_column.Tie as tie
 
 abbrev Inv-loop : tie.InvT-loop
 Inv-loop cells₀ position j block room₀ size p₀ k₀ cells room p k = (k ≤ 17) × (size ≡ length cells₀) × Turning cells₀ position (column j block) cells p k × Placing j (take 17 (turned position cells₀ ++ column j block)) room₀ room k

@@ -6,9 +6,9 @@ use Prim.Native.Nat.{ℕ, zero, suc, _+_, _-_, _*_, max}
 use lib.Dec.{ltb}
 use lib.ListN.{getD, take, drop}
 use Rattle.common.specs.Choice.{pick}
-use Rattle.interleaver.specs.declared.Side.{Side}
-use Rattle.interleaver.specs.declared.Side.the-variants.{Sending, Receiving}
-use Rattle.interleaver.specs.declared.Branches.{Branches}
+use Rattle.delay_branches.specs.declared.Side.{Side}
+use Rattle.delay_branches.specs.declared.Side.the-variants.{Sending, Receiving}
+use Rattle.delay_branches.specs.declared.Branches.{Branches}
 
 -- By how many blocks branch j delays its bytes. The de-interleaver has the branch indexes reversed.
 abbrev pub delayOf : Side → ℕ → ℕ

@@ -13,8 +13,8 @@ use lib.Dec.{ltb}
 use lib.ListN.{getD}
 use Rattle.common.specs.Choice.{pick}
 use Rattle.common.proofs.Choice.{both-true}
-use Rattle.interleaver.specs.Branch.{sizeOf, within}
-use Rattle.interleaver.specs.declared.Side.{Side}
+use Rattle.delay_branches.specs.Branch.{sizeOf, within}
+use Rattle.delay_branches.specs.declared.Side.{Side}
 
 module _ (side : Side) (positions : List ℕ) where
   -- the test at one branch more

@@ -11,8 +11,8 @@ use lib.Dec.{eqb}
 use lib.ListN.{length, getD, take, drop, set, length-set, length-append, length-drop, length-take, take-append-drop, drop-of-length-le}
 use lib.Seq.{drop-cons, take-suc-set, drop-set-lt, set-split, drop-length, append-snoc, length-take-le, take-all, drop-at, take-at, drop-nil, take-nil}
 use Rattle.common.specs.Choice.{pick}
-use Rattle.interleaver.specs.Branch.{turned}
-use Rattle.interleaver.specs.Block.{advanced, positionAfter}
+use Rattle.delay_branches.specs.Branch.{turned}
+use Rattle.delay_branches.specs.Block.{advanced, positionAfter}
 
 -- the cell that is used after cell p
 abbrev pub nextOf : ℕ → ℕ → ℕ

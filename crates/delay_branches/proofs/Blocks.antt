@@ -5,21 +5,20 @@ use mathlib.Core.Bool.{true}
 use mathlib.Core.List.{List, _++_}
 use Prim.Native.Nat.{ℕ, zero, suc, _+_, _-_, _*_, _%_, _/_, _≤_, _<_, max}
 use native.Mathlib.Omega.{arith}
-use borrow.Author.Tests.{eq-eqb, le-ltb}
 use lib.ListN.{length, getD, take, drop, length-append, length-drop, take-append-drop}
 use lib.Seq.{ext-getD}
 use Rattle.common.specs.Lists.{Entries, listOf}
 use Rattle.common.proofs.Entries.{entries-take, entries-drop, entries-append, entries-listOf}
 use Rattle.common.proofs.Lists.{length-listOf, getD-listOf}
-use Rattle.interleaver.specs.Branch.{delayOf, sizeOf, baseOf, inRange, cellsOf, turned, queue}
-use Rattle.interleaver.specs.Column.{column}
-use Rattle.interleaver.specs.Block.{leaving, staying, positionOf, storedOf, joined, blockOut, after, passNumber, passBranches, passRoom}
-use Rattle.interleaver.specs.declared.Side.{Side}
-use Rattle.interleaver.specs.declared.Branches.{Branches}
-use Rattle.interleaver.proofs.Columns.{length-column, getD-column}
-use Rattle.interleaver.proofs.Rings.{length-turned, length-leaving, returned, positionAfter-small}
-use Rattle.interleaver.proofs.Positions.{within-bound, within-all}
-use Rattle.interleaver.proofs.Cells.{base-end, length-cells, length-joined, joined-part}
+use Rattle.delay_branches.specs.Branch.{delayOf, sizeOf, baseOf, inRange, cellsOf, turned, queue}
+use Rattle.delay_branches.specs.Column.{column}
+use Rattle.delay_branches.specs.Block.{leaving, staying, positionOf, storedOf, joined, blockOut, after}
+use Rattle.delay_branches.specs.declared.Side.{Side}
+use Rattle.delay_branches.specs.declared.Branches.{Branches}
+use Rattle.delay_branches.proofs.Columns.{length-column, getD-column}
+use Rattle.delay_branches.proofs.Rings.{length-turned, length-leaving, returned, positionAfter-small}
+use Rattle.delay_branches.proofs.Positions.{within-bound, within-all}
+use Rattle.delay_branches.proofs.Cells.{base-end, length-cells, length-joined, joined-part}
 
 -- what a caller keeps of a state: its arrays are whole, and its positions are in range
 pub record Good (side : Side) (s : Branches) : Type 0 where
@@ -108,14 +107,6 @@ good-after side s block g = record {
       within-all side (listOf 12 (positionOf side s)) 12
       (λ j h. rw (getD-listOf 12 (positionOf side s) 0 j h) (position-small side s g block j h));
 }
-
--- ---- a call on a good state, with a block and room enough, is answered
-
-pub pass-done : (side : Side) (s : Branches) (block room : List ℕ) → Good side s → length block ≡ 204 → 204 ≤ length room
-    → (passNumber side s block room ≡ 0)
-    × (passBranches side s block room ≡ after side s block)
-    × (passRoom side s block room ≡ blockOut side s block ++ drop 204 room)
-pass-done side s block room g n l = simp (g .range, eq-eqb _ _ n, le-ltb _ _ l) (refl, refl, refl)
 
 -- ---- the law of the queues: what was in a branch and what enters it is what leaves it and what is in it then
 

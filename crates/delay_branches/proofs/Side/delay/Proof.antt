@@ -1,11 +1,11 @@
--- `interleaver::Side::delay` meets its contract.
+-- `delay_branches::Side::delay` meets its contract.
 -- Assumes nothing.
 use mathlib.Core.Path.{ap, sym}
 use borrow.Author.Needs.{needs}
-use Rattle.interleaver.specs.Branch.{delayOf}
-use Rattle.interleaver.specs.declared.Side.{Side}
-use Rattle.interleaver.proofs.Side.delay.Statement.{statement}
-use Rattle.interleaver.proofs.Side.delay.Tie as tie
+use Rattle.delay_branches.specs.Branch.{delayOf}
+use Rattle.delay_branches.specs.declared.Side.{Side}
+use Rattle.delay_branches.proofs.Side.delay.Statement.{statement}
+use Rattle.delay_branches.proofs.Side.delay.Tie as tie
 
 enum-told : tie.Need-enum-told
 enum-told c = search needs

@@ -1,15 +1,15 @@
--- `interleaver::positions_within` meets its contract.
+-- `delay_branches::positions_within` meets its contract.
 -- Assumes nothing.
 use mathlib.Core.Path.{_≡_, refl, ap, sym, _∙_}
 use mathlib.Core.Bool.{true}
 use Prim.Native.Nat.{ℕ, _-_, _*_, _≤_, max}
 use native.Mathlib.Omega.{arith}
 use borrow.Author.Needs.{needs}
-use Rattle.interleaver.specs.Branch.{sizeOf, within}
-use Rattle.interleaver.proofs.Cells.{delay-small}
-use Rattle.interleaver.proofs.Positions.{within-more, within-fails}
-use Rattle.interleaver.proofs.positions_within.Statement.{statement}
-use Rattle.interleaver.proofs.positions_within.Tie as tie
+use Rattle.delay_branches.specs.Branch.{sizeOf, within}
+use Rattle.delay_branches.proofs.Cells.{delay-small}
+use Rattle.delay_branches.proofs.Positions.{within-more, within-fails}
+use Rattle.delay_branches.proofs.positions_within.Statement.{statement}
+use Rattle.delay_branches.proofs.positions_within.Tie as tie
 
 abbrev Inv-loop : tie.InvT-loop
 Inv-loop side positions j₀ j = (j ≤ 12) × (within side positions j ≡ true)
