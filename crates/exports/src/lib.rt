@@ -78,7 +78,7 @@ pub extern "C" fn dvbs_send_run(rate: u8, packets: &[u8], room: &mut [u8], answe
     if answer.len() < 1 {
         return 0;
     }
-    let run = sender::send_run(rate, packets, room);
+    let run = transmission::send_run(rate, packets, room);
     let number = run.answer;
     answer[0] = number.number();
     run.count as u64

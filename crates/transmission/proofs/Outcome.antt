@@ -7,7 +7,7 @@ use Prim.Native.Nat.{ℕ}
 use lib.Dec.{eqb}
 use lib.ListN.{length, drop}
 use Rattle.common.specs.Choice.{pick}
-use Rattle.sender.specs.Run.{runSymbols, runNumber, Runs}
+use Rattle.transmission.specs.Run.{runSymbols, runNumber, Runs}
 
 module _ (rate : ℕ) (bytes room : List ℕ) where
   pub run-refused : (n : ℕ) → runNumber rate bytes room ≡ n → eqb n 0 ≡ false → Runs rate bytes room n 0 room

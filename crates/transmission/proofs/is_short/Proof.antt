@@ -1,4 +1,4 @@
--- `sender::packets::is_short` meets its contract.
+-- `transmission::is_short` meets its contract.
 -- Assumes nothing.
 use mathlib.Core.Path.{_≡_, sym, _∙_}
 use Prim.Native.Nat.{ℕ, _+_, _-_, _%_, _<_}
@@ -11,10 +11,10 @@ use Rattle.common.proofs.Computed.{agree-at}
 use Rattle.puncturing.specs.Mode.{modeOf}
 use Rattle.puncturing.specs.Step.{patternLength, symbolsIn}
 use Rattle.puncturing.proofs.Places.{length-le}
-use Rattle.sender.proofs.Counts.{Counting, counting-start, counting-end, counting-short, counting-more, needed-is}
+use Rattle.transmission.proofs.Counting.{Counting, counting-start, counting-end, counting-short, counting-more, needed-is}
 use borrow.Author.Needs.{needs}
-use Rattle.sender.proofs.packets.is_short.Statement.{statement}
-use Rattle.sender.proofs.packets.is_short.Tie as tie
+use Rattle.transmission.proofs.is_short.Statement.{statement}
+use Rattle.transmission.proofs.is_short.Tie as tie
 
 abbrev Inv-loop : tie.InvT-loop
 Inv-loop rate packets room length place₀ left₀ k₀ place left k = Counting rate packets room place left k

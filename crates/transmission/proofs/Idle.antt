@@ -14,11 +14,11 @@ use Rattle.randomizer.specs.Stream.{Packet}
 use Rattle.randomizer.proofs.Whole.{packet-lengths}
 use Rattle.puncturing.specs.Mode.{modeOf}
 use Rattle.puncturing.specs.Step.{patternLength, symbolsIn}
 use Rattle.sender.specs.Standard.{onAir}
-use Rattle.sender.specs.Run.{packetsOf, synced, runSymbols, runNumber, Runs}
-use Rattle.sender.proofs.Buffers.{packets-none, packets-more}
 use Rattle.sender.proofs.Counts.{length-flatten, length-on-air}
 use Rattle.sender.proofs.Distinct.{same-bits}
+use Rattle.transmission.specs.Run.{packetsOf, synced, runSymbols, runNumber, Runs}
+use Rattle.transmission.proofs.Buffers.{packets-none, packets-more}
 
 -- what a program leaves after a run
 pub record Left : Type 0 where

@@ -11,7 +11,7 @@ use lib.ListN.{length, getD, take, drop, length-drop}
 use lib.Seq.{drop-drop, getD-take, getD-drop, length-take-le}
 use Rattle.common.specs.Lists.{All, Length}
 use Rattle.randomizer.specs.Stream.{inPackets}
-use Rattle.sender.specs.Run.{packetsOf, synced}
+use Rattle.transmission.specs.Run.{packetsOf, synced}
 
 pub packets-none : (l : List ℕ) → length l ≡ 0 → packetsOf l ≡ []
 unfolding packetsOf inPackets

@@ -1,13 +1,13 @@
--- `sender::packets::send_packets` meets its contract.
+-- `transmission::send_packets` meets its contract.
 -- Assumes nothing.
 use Prim.Native.Nat.{_-_}
 use native.Mathlib.Omega.{arith}
 use lib.ListN.{length}
-use Rattle.sender.proofs.Buffers.{scanning-left}
-use Rattle.sender.proofs.Progress.{Progress, progress-start, progress-end, progress-length, progress-room, progress-total, progress-more}
+use Rattle.transmission.proofs.Buffers.{scanning-left}
+use Rattle.transmission.proofs.Progress.{Progress, progress-start, progress-end, progress-length, progress-room, progress-total, progress-more}
 use borrow.Author.Needs.{needs}
-use Rattle.sender.proofs.packets.send_packets.Statement.{statement}
-use Rattle.sender.proofs.packets.send_packets.Tie as tie
+use Rattle.transmission.proofs.send_packets.Statement.{statement}
+use Rattle.transmission.proofs.send_packets.Tie as tie
 
 abbrev Inv-loop : tie.InvT-loop
 Inv-loop rate packets room₀ sender₀ at₀ count₀ room sender at count = Progress rate packets room₀ room sender at count

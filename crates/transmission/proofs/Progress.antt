@@ -10,15 +10,15 @@ use lib.ListN.{length, getD, take, drop, length-append, length-drop, drop-of-len
 use lib.Seq.{take-all, take-at, drop-at, drop-drop}
 use Rattle.common.proofs.Choice.{both-true}
 use Rattle.inner_code.specs.Encode.{symbolCount}
 use Rattle.sender.specs.Send.{freshSender, sentSymbols, senderAfter, Sends}
 use Rattle.sender.specs.Calls.{callsSymbols}
-use Rattle.sender.specs.Run.{packetsOf, synced, runSymbols, Sendable}
 use Rattle.sender.specs.declared.Sender.{Sender}
 use Rattle.sender.proofs.Stages.{symbol-count}
 use Rattle.sender.proofs.Ready.{Ready, ready-range, ready-fresh, ready-after}
 use Rattle.sender.proofs.Stream.{calls-on-air}
 use Rattle.sender.proofs.History.{Answered, packet-sent}
-use Rattle.sender.proofs.Buffers.{packet-lengths, Scanning, scanning-start, scanning-end, scanning-packet, scanning-size, scanning-first, scanning-more}
+use Rattle.transmission.specs.Run.{packetsOf, synced, runSymbols, Sendable}
+use Rattle.transmission.proofs.Buffers.{packet-lengths, Scanning, scanning-start, scanning-end, scanning-packet, scanning-size, scanning-first, scanning-more}
 
 -- the symbols in front are in the room, those of the packets from at on are still to be sent, and together they are those of the run
 pub record Progress (rate : ℕ) (bytes room₀ room : List ℕ) (s : Sender) (at count : ℕ) : Type 0 where

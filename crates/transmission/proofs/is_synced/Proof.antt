@@ -1,13 +1,13 @@
--- `sender::packets::is_synced` meets its contract.
+-- `transmission::is_synced` meets its contract.
 -- Assumes nothing.
 use mathlib.Core.Path.{sym}
 use Prim.Native.Nat.{_-_}
 use native.Mathlib.Omega.{arith}
 use lib.ListN.{length}
-use Rattle.sender.proofs.Buffers.{Scanning, scanning-start, scanning-left, scanning-more, scanning-bad, scanning-all}
+use Rattle.transmission.proofs.Buffers.{Scanning, scanning-start, scanning-left, scanning-more, scanning-bad, scanning-all}
 use borrow.Author.Needs.{needs}
-use Rattle.sender.proofs.packets.is_synced.Statement.{statement}
-use Rattle.sender.proofs.packets.is_synced.Tie as tie
+use Rattle.transmission.proofs.is_synced.Statement.{statement}
+use Rattle.transmission.proofs.is_synced.Tie as tie
 
 abbrev Inv-loop : tie.InvT-loop
 Inv-loop packets start₀ start = Scanning packets start

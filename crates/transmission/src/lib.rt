@@ -1,19 +1,27 @@
-// The parts of a run over a whole list of packets: its tests and its loop.
+// A transmission: a whole list of packets, sent with a fresh sender.
 ghost use mathlib.Core.Path.{_≡_};
 ghost use mathlib.Core.List.{_++_};
 ghost use Prim.Native.Nat.{_*_, _%_, _<_};
 ghost use lib.Dec.{ltb};
 ghost use lib.ListN.{length, drop};
+ghost use Rattle.answer.specs.Number.{numberOf};
 ghost use Rattle.puncturing.specs.Step.{symbolsIn};
-ghost use Rattle.sender.specs.Run.{packetsOf, synced, runSymbols, Sendable};
-use crate::Sender;
+ghost use Rattle.transmission.specs.Run.{packetsOf, synced, runSymbols, Sendable, Runs};
+use answer::Answer;
 use inner_code::InnerCoder;
+use sender::Sender;
 
 // The bits of a coded block.
 const BLOCK_BITS: u16 = 1632;
 
+// An answer, and how many symbols were written.
+pub struct Run {
+    pub answer: Answer,
+    pub count: usize,
+}
+
 // Whether each packet begins with the sync byte.
-pub fn is_synced(packets: &[u8]) -> bool
+fn is_synced(packets: &[u8]) -> bool
     requires { ⌜ length (now packets) % 188 ≡ 0 ⌝ }
     ensures { λ r. ⌜ r ≡ synced (packetsOf (now (packets .entry))) ⌝ }
 {
@@ -28,7 +36,7 @@ pub fn is_synced(packets: &[u8]) -> bool
 }
 
 // Whether a room is too short for the symbols of so many packets.
-pub fn is_short(rate: u8, packets: usize, room: usize) -> bool
+fn is_short(rate: u8, packets: usize, room: usize) -> bool
     requires { ⌜ rate < 5 ⌝ }
     ensures { λ r. ⌜ r ≡ ltb room (symbolsIn rate 0 (1632 * packets)) ⌝ }
 {
@@ -56,7 +64,7 @@ pub fn is_short(rate: u8, packets: usize, room: usize) -> bool
 }
 
 // Sends the packets one after the other. Gives the number of symbols.
-pub fn send_packets(rate: u8, packets: &[u8], room: &mut [u8]) -> usize
+fn send_packets(rate: u8, packets: &[u8], room: &mut [u8]) -> usize
     requires { ⌜ Sendable rate (now packets) (now room) ⌝ }
     ensures { λ r. ⌜
         (r ≡ length (runSymbols rate (now (packets .entry))))
@@ -74,4 +82,40 @@ pub fn send_packets(rate: u8, packets: &[u8], room: &mut [u8]) -> usize
         at = end;
     }
     count
+}
+
+// Sends a whole list of packets with a fresh sender: writes the symbols that EN 300 421 gives for them.
+// Nothing is written unless all of them can be sent.
+pub fn send_run(rate: u8, packets: &[u8], room: &mut [u8]) -> Run
+    ensures { λ r. ⌜ Runs rate (now (packets .entry)) (now (room .entry)) (numberOf (r .answer)) (r .count) (now (room .exit)) ⌝ }
+{
+    if rate >= 5 {
+        return Run {
+            answer: Answer::UnknownRate,
+            count: 0,
+        };
+    }
+    if packets.len() % Sender::PACKET_LENGTH != 0 {
+        return Run {
+            answer: Answer::PacketLength,
+            count: 0,
+        };
+    }
+    if !is_synced(packets) {
+        return Run {
+            answer: Answer::SyncByte,
+            count: 0,
+        };
+    }
+    if is_short(rate, packets.len() / Sender::PACKET_LENGTH, room.len()) {
+        return Run {
+            answer: Answer::RoomLength,
+            count: 0,
+        };
+    }
+    let count = send_packets(rate, packets, room);
+    Run {
+        answer: Answer::Done,
+        count,
+    }
 }

@@ -1,16 +1,16 @@
--- `sender::send_run` meets its contract.
+-- `transmission::send_run` meets its contract.
 -- Assumes nothing.
 use mathlib.Core.Path.{_≡_, refl, sym, ap, _∙_}
 use mathlib.Core.Bool.{true}
 use borrow.Author.Tests.{eq-eqb, ne-eqb, lt-ltb, le-ltb, ltb-false, not-true, not-false}
 use lib.Dec.{ltb}
 use lib.ListN.{length}
-use Rattle.sender.specs.Run.{packetsOf, synced, runSymbols}
-use Rattle.sender.proofs.Counts.{length-run}
-use Rattle.sender.proofs.Outcome.{run-refused, run-answered}
+use Rattle.transmission.specs.Run.{packetsOf, synced, runSymbols}
+use Rattle.transmission.proofs.Counting.{length-run}
+use Rattle.transmission.proofs.Outcome.{run-refused, run-answered}
 use borrow.Author.Needs.{needs}
-use Rattle.sender.proofs.send_run.Statement.{statement}
-use Rattle.sender.proofs.send_run.Tie as tie
+use Rattle.transmission.proofs.send_run.Statement.{statement}
+use Rattle.transmission.proofs.send_run.Tie as tie
 
 returns : tie.Need-returns
 returns c =
