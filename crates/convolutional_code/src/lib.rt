@@ -5,7 +5,7 @@ ghost use Prim.Native.Nat.{_+_, _*_, _%_, _≤_, _<_};
 ghost use lib.ListN.{length, drop};
 ghost use Rattle.common.specs.Lists.{placed};
 ghost use Rattle.convolutional_code.specs.Bits.{bitsOf, Bits};
-ghost use Rattle.convolutional_code.specs.Code.{tapsX, tapsY, coded, nextMemory};
+ghost use Rattle.convolutional_code.specs.Code.{tapsX, tapsY, coded, nextMemory, memoryAfter, blockMother};
 ghost use Rattle.convolutional_code.specs.Sweep.{oldest, offsetsX, offsetsY, sweep, memoryAt};
 
 pub fn x_of(memory: u8, bit: u8) -> u8
@@ -58,7 +58,7 @@ fn unpack_byte(b: u8, room: &mut [u8])
 }
 
 // Writes the bits of the memory and of a block.
-pub fn unpack(memory: u8, block: &[u8], history: &mut [u8])
+fn unpack(memory: u8, block: &[u8], history: &mut [u8])
     requires { ⌜ (length (now block) ≡ 204) × (length (now history) ≡ 1638) ⌝ }
     ensures { λ r. ⌜ now (history .exit) ≡ oldest memory ++ bitsOf (now (block .entry)) ⌝ }
 {
@@ -115,7 +115,7 @@ fn convolve(
 }
 
 // Writes X and then Y of each bit but the first six.
-pub fn mother(history: &[u8], coded: &mut [u8])
+fn mother(history: &[u8], coded: &mut [u8])
     requires { ⌜ (Bits (now history)) × (length (now history) ≡ 1638) × (length (now coded) ≡ 3264) ⌝ }
     ensures { λ r. ⌜ now (coded .exit) ≡ sweep offsetsX (now (history .entry)) 0 1632 ++ sweep offsetsY (now (history .entry)) 0 1632 ⌝ }
 {
@@ -132,7 +132,7 @@ fn six_bits(a: u8, b: u8, c: u8, d: u8, e: u8, f: u8) -> u8
 }
 
 // The memory that the last six bits make.
-pub fn memory_of(history: &[u8]) -> u8
+fn memory_of(history: &[u8]) -> u8
     requires { ⌜ (Bits (now history)) × (length (now history) ≡ 1638) ⌝ }
     ensures { λ r. ⌜ r ≡ memoryAt (now (history .entry)) 1632 ⌝ }
 {
@@ -144,4 +144,17 @@ pub fn memory_of(history: &[u8]) -> u8
         history[1636],
         history[1637],
     )
+}
+
+// Writes X and then Y of each bit of a block. Gives the memory after it.
+pub fn code_block(memory: u8, block: &[u8], coded: &mut [u8]) -> u8
+    requires { ⌜ (memory < 64) × (length (now block) ≡ 204) × (length (now coded) ≡ 3264) ⌝ }
+    ensures { λ r. ⌜
+        (r ≡ memoryAfter memory (bitsOf (now (block .entry))))
+        × (now (coded .exit) ≡ blockMother memory (bitsOf (now (block .entry)))) ⌝ }
+{
+    let mut history = [0u8; 1638];
+    unpack(memory, block, &mut history);
+    mother(&history, coded);
+    memory_of(&history)
 }

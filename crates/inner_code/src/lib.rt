@@ -7,10 +7,8 @@ ghost use Rattle.answer.specs.Number.{numberOf};
 ghost use Rattle.inner_code.specs.Step.{InRange, inRange};
 ghost use Rattle.inner_code.specs.Encode.{freshCoder, newNumber, bitValue, stepNumber, stepCoder, stepSymbol, blockSymbols, blockCoder, symbolCount, encodeNumber, encodeCoder, encodeCount, encodeRoom};
 use answer::Answer;
-use convolutional_code::memory_of;
-use convolutional_code::mother;
+use convolutional_code::code_block;
 use convolutional_code::next_memory;
-use convolutional_code::unpack;
 use convolutional_code::x_of;
 use convolutional_code::y_of;
 use puncturing::Symbol;
@@ -190,11 +188,8 @@ fn encode_block(coder: InnerCoder, block: &[u8], room: &mut [u8]) -> Encoded
     let memory = coder.memory;
     let place = coder.place;
     let held = coder.held;
-    let mut history = [0u8; 1638];
-    unpack(memory, block, &mut history);
     let mut coded = [0u8; 3264];
-    mother(&history, &mut coded);
-    let next = memory_of(&history);
+    let next = code_block(memory, block, &mut coded);
     let progress = puncture_block(rate, place, held, &coded, room);
     Encoded {
         answer: Answer::Done,
