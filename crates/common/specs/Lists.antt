@@ -2,8 +2,8 @@
 -- Assumes nothing.
 use mathlib.Core.Path.{_≡_}
 use mathlib.Core.List.{List, [], _∷_, _++_}
-use Prim.Native.Nat.{ℕ, zero, suc, _<_}
-use lib.ListN.{length, getD}
+use Prim.Native.Nat.{ℕ, zero, suc, _+_, _<_}
+use lib.ListN.{length, getD, take, drop}
 
 -- what holds of each member of a list
 abbrev pub All : {A : Type 0} → (A → Type 0) → List A → Type 0
@@ -30,3 +30,7 @@ ByteEntries xs = Entries (λ x. x < 256) xs
 unfoldable pub listOf : {A : Type 0} → ℕ → (ℕ → A) → List A
 listOf zero f = []
 listOf (suc n) f = listOf n f ++ f n ∷ []
+
+-- a room with a list at a place of it, and all else as it was
+abbrev pub placed : List ℕ → ℕ → List ℕ → List ℕ
+placed room at s = take at room ++ s ++ drop (at + length s) room

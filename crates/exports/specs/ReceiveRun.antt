@@ -5,10 +5,10 @@ use mathlib.Core.List.{List, [], _∷_, _++_}
 use Prim.Native.Nat.{ℕ, zero, suc, _/_, _%_, _≤_, _<_}
 use lib.ListN.{length, getD, drop}
 use Rattle.common.specs.Lists.{listOf}
+use Rattle.reception_counts.specs.declared.Counts.{Counts}
 use Rattle.receiver.specs.Receive.{freshReceiver}
-use Rattle.receiver.specs.Recording.{Takes, recordingNumber}
 use Rattle.receiver.specs.declared.Receiver.{Receiver}
-use Rattle.receiver.specs.declared.counts.Counts.{Counts}
+use Rattle.recording.specs.Recording.{Takes, recordingNumber}
 
 -- byte k of a number, the lowest being byte 0
 unfoldable pub byteAt : ℕ → ℕ → ℕ

@@ -5,7 +5,7 @@ use Prim.Native.Nat.{ℕ}
 use lib.Dec.{ltb}
 use lib.ListN.{length, set}
 use Rattle.common.specs.Choice.{pick}
-use Rattle.sender.specs.Run.{runNumber, runCount, runRoom}
+use Rattle.transmission.specs.Run.{runNumber, runCount, runRoom}
 
 -- the number of symbols written
 abbrev pub sendRunCount : ℕ → List ℕ → List ℕ → List ℕ → ℕ

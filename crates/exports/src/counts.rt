@@ -4,7 +4,7 @@ ghost use mathlib.Core.List.{_++_};
 ghost use Prim.Native.Nat.{_≤_};
 ghost use lib.ListN.{length, drop};
 ghost use Rattle.exports.specs.ReceiveRun.{byteAt, countBytes};
-use receiver::counts::Counts;
+use reception_counts::Counts;
 
 // Byte k of a number, the lowest being byte 0.
 fn byte_at(n: u64, k: usize) -> u8

@@ -1,8 +1,8 @@
 // Functions for C and Rust, on numbers and byte slices. A slice is a pointer and a length; slices of one call must not overlap.
 // Their declarations for C are in include/dvbs.h.
 ghost use mathlib.Core.Path.{_≡_};
-ghost use Rattle.randomizer.specs.Packet.{randomizeNumber, randomizeRoom, derandomizeNumber, derandomizeRoom};
 ghost use Rattle.reed_solomon.specs.Encode.{encodeNumber, encodeRoom};
+ghost use Rattle.randomizer.specs.Packet.{randomizeNumber, randomizeRoom, derandomizeNumber, derandomizeRoom};
 ghost use Rattle.exports.specs.Decode.{DecodeExported};
 ghost use Rattle.exports.specs.SendRun.{sendRunCount, sendRunRoom, sendRunAnswer};
 ghost use Rattle.exports.specs.ReceiveRun.{ReceiveRunExported};
@@ -78,7 +78,7 @@ pub extern "C" fn dvbs_send_run(rate: u8, packets: &[u8], room: &mut [u8], answe
     if answer.len() < 1 {
         return 0;
     }
-    let run = sender::send_run(rate, packets, room);
+    let run = transmission::send_run(rate, packets, room);
     let number = run.answer;
     answer[0] = number.number();
     run.count as u64
@@ -93,7 +93,7 @@ pub extern "C" fn dvbs_receive_run(blocks: &[u8], room: &mut [u8], counts: &mut 
     if counts.len() < 56 {
         return 0;
     }
-    let recorded = receiver::receive_run(blocks, room);
+    let recorded = recording::receive_run(blocks, room);
     let answer = recorded.answer;
     if answer.number() != 0 {
         return 0;

@@ -10,13 +10,15 @@ use borrow.Author.Tests.{ltb-true, leb-true, lt-ltb, le-leb}
 use lib.ListN.{length, getD, length-append, List·getD-append}
 use lib.Seq.{getD-append-add}
 use Rattle.common.proofs.Choice.{both-true}
-use Rattle.inner_code.specs.Stream.{bitsOf, tapsX, tapsY}
-use Rattle.inner_code.specs.Step.{nextMemory, coded, nextPlace, inRange, InRange, listOf, punctured, heldAfter, coderStep, symbolStep, symbolsOf, coderAfter, symbolsIn}
-use Rattle.inner_code.specs.Serial.{Bits, none, more, motherOf, memoryAfter, blockMother, sentSymbols, placeAfter, heldBehind}
+use Rattle.convolutional_code.specs.Bits.{bitsOf, Bits, none, more}
+use Rattle.convolutional_code.specs.Code.{tapsX, tapsY, nextMemory, coded, motherOf, memoryAfter, blockMother}
+use Rattle.convolutional_code.proofs.Bits.{bits-bits, bits-split, block-bits, length-mother}
+use Rattle.puncturing.specs.Step.{nextPlace, listOf, punctured, heldAfter, symbolsIn}
+use Rattle.puncturing.specs.Run.{sentSymbols, placeAfter, heldBehind}
+use Rattle.puncturing.proofs.Steps.{some-bits, next-lt, held-in-range, symbol-count}
+use Rattle.inner_code.specs.Step.{inRange, InRange, coderStep, symbolStep, symbolsOf, coderAfter}
 use Rattle.inner_code.specs.Encode.{freshCoder, blockSymbols, blockCoder}
 use Rattle.inner_code.specs.declared.InnerCoder.{InnerCoder}
-use Rattle.inner_code.proofs.Bits.{bits-bits, bits-split, block-bits, length-mother}
-use Rattle.inner_code.proofs.Steps.{some-bits, next-lt, held-in-range, symbol-count}
 
 -- ---- the range
 

@@ -1,12 +1,2 @@
-pub mod Bits
-pub mod Unpacked
-pub mod Mother
-pub mod Places
-pub mod Steps
 pub mod Coder
-pub mod Rooms
-pub mod Run
-pub mod Patterns
-pub mod Rates
-pub mod Parts
 pub mod Stream

@@ -8,16 +8,18 @@ use native.Mathlib.Numerals.{add-one}
 use native.Mathlib.Omega.{arith}
 use lib.ListN.{length, getD}
 use Rattle.common.proofs.Computed as computed
-use Rattle.inner_code.specs.Mode.{CodedBit, modeOf, begun, binary}
-use Rattle.inner_code.specs.Stream.{bitsOf, tapsX, tapsY, convolved, codedBit, sentAt, symbolsAfter, symbols}
-use Rattle.inner_code.specs.Step.{recent, nextMemory, coded, patternLength, nextPlace, listOf, punctured, heldAfter, coderStep, symbolStep, symbolsOf}
-use Rattle.inner_code.specs.Serial.{Bits, none, more}
+use Rattle.convolutional_code.specs.Bits.{bitsOf, Bits, none, more}
+use Rattle.convolutional_code.specs.Code.{tapsX, tapsY, convolved, recent, nextMemory, coded}
+use Rattle.convolutional_code.proofs.Bits.{bits-at, bits-bits}
+use Rattle.puncturing.specs.Mode.{CodedBit, modeOf, begun, binary}
+use Rattle.puncturing.specs.Step.{patternLength, nextPlace, listOf, punctured, heldAfter}
+use Rattle.puncturing.proofs.Steps.{some-bits}
+use Rattle.puncturing.proofs.Places.{end, _&_, Everywhere, everywhere}
+use Rattle.inner_code.specs.Stream.{codedBit, sentAt, symbolsAfter, symbols}
+use Rattle.inner_code.specs.Step.{coderStep, symbolStep, symbolsOf}
 use Rattle.inner_code.specs.Encode.{freshCoder, blockSymbols, blockCoder, callsSymbols}
 use Rattle.inner_code.specs.declared.InnerCoder.{InnerCoder}
-use Rattle.inner_code.proofs.Bits.{bits-at, bits-bits}
 use Rattle.inner_code.proofs.Coder.{block-symbols-append}
-use Rattle.inner_code.proofs.Steps.{some-bits}
-use Rattle.inner_code.proofs.Places.{end, _&_, Everywhere, everywhere}
 
 -- ---- the memory
 

@@ -6,11 +6,12 @@ use Prim.Native.Nat.{ℕ}
 use lib.Dec.{ltb, eqb}
 use lib.ListN.{length, drop}
 use Rattle.common.specs.Choice.{pick}
-use Rattle.inner_code.specs.Stream.{bitsOf}
-use Rattle.inner_code.specs.Step.{inRange, coderStep, symbolStep, symbolsOf, coderAfter, symbolsIn}
+use Rattle.convolutional_code.specs.Bits.{bitsOf}
+use Rattle.puncturing.specs.Step.{symbolsIn}
+use Rattle.puncturing.specs.declared.Symbol.{Symbol}
+use Rattle.puncturing.specs.declared.Symbol.the-variants.{None}
+use Rattle.inner_code.specs.Step.{inRange, coderStep, symbolStep, symbolsOf, coderAfter}
 use Rattle.inner_code.specs.declared.InnerCoder.{InnerCoder}
-use Rattle.inner_code.specs.declared.Symbol.{Symbol}
-use Rattle.inner_code.specs.declared.Symbol.the-variants.{None}
 
 -- a coder at a rate, with memory, place and held bit 0
 abbrev pub freshCoder : ℕ → InnerCoder

@@ -1,5 +1,3 @@
-pub mod Mode
 pub mod Stream
 pub mod Step
-pub mod Serial
 pub mod Encode

@@ -7,18 +7,11 @@ ghost use Rattle.answer.specs.Number.{numberOf};
 ghost use Rattle.inner_code.specs.Step.{InRange, inRange};
 ghost use Rattle.inner_code.specs.Encode.{freshCoder, newNumber, bitValue, stepNumber, stepCoder, stepSymbol, blockSymbols, blockCoder, symbolCount, encodeNumber, encodeCoder, encodeCount, encodeRoom};
 use answer::Answer;
-
-mod convolution;
-mod puncturing;
-mod tables;
-mod whole;
-
-use convolution::memory_of;
-use convolution::mother;
-use convolution::next_memory;
-use convolution::unpack;
-use convolution::x_of;
-use convolution::y_of;
+use convolutional_code::code_block;
+use convolutional_code::next_memory;
+use convolutional_code::x_of;
+use convolutional_code::y_of;
+use puncturing::Symbol;
 use puncturing::block_count;
 use puncturing::held_count;
 use puncturing::pattern_length;
@@ -31,12 +24,6 @@ pub struct InnerCoder {
     pub memory: u8,
     pub place: u8,
     pub held: u8,
-}
-
-// What a bit completes: no symbol yet, or one with this number.
-pub enum Symbol {
-    None,
-    One(u8),
 }
 
 // A fresh coder. As for every constructor of the project the answer stands beside the state, since an enum cannot hold a state with arrays.
@@ -63,7 +50,7 @@ impl InnerCoder {
     pub const BLOCK_LENGTH: usize = 204;
 
     // The bits of each rate's puncturing pattern.
-    pub const PATTERN_LENGTHS: [u8; 5] = tables::LENGTHS;
+    pub const PATTERN_LENGTHS: [u8; 5] = puncturing::PATTERN_LENGTHS;
 
     pub fn new(rate: u8) -> Created
         ensures { λ r. ⌜ (numberOf (r .answer) ≡ newNumber rate) × (r .coder ≡ freshCoder rate) ⌝ }
@@ -201,11 +188,8 @@ fn encode_block(coder: InnerCoder, block: &[u8], room: &mut [u8]) -> Encoded
     let memory = coder.memory;
     let place = coder.place;
     let held = coder.held;
-    let mut history = [0u8; 1638];
-    unpack(memory, block, &mut history);
     let mut coded = [0u8; 3264];
-    mother(&history, &mut coded);
-    let next = memory_of(&history);
+    let next = code_block(memory, block, &mut coded);
     let progress = puncture_block(rate, place, held, &coded, room);
     Encoded {
         answer: Answer::Done,

@@ -1,9 +1,3 @@
-pub mod Columns
-pub mod Rings
-pub mod Positions
-pub mod Cells
-pub mod Filling
-pub mod Blocks
-pub mod Passing
 pub mod Whole
 pub mod Streams
+pub mod Answered

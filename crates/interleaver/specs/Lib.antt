@@ -1,4 +1,2 @@
-pub mod Branch
-pub mod Column
-pub mod Block
+pub mod Call
 pub mod Stream

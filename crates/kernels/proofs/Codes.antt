@@ -8,13 +8,14 @@ use borrow.Author.Tests.{eq-eqb, le-ltb}
 use borrow.Rule.Slice.PartMut.{putMid, midOf}
 use lib.ListN.{length, take, drop, length-append, length-drop}
 use lib.Seq.{length-take-le}
-use Rattle.inner_code.specs.Step.{InRange, listOf, symbolStep, coderStep, symbolsOf}
-use Rattle.inner_code.specs.Stream.{bitsOf}
+use Rattle.puncturing.specs.Step.{listOf}
+use Rattle.inner_code.specs.Step.{InRange, symbolStep, coderStep, symbolsOf}
+use Rattle.convolutional_code.specs.Bits.{bitsOf}
 use Rattle.inner_code.specs.Encode.{freshCoder, blockSymbols, blockCoder, callsSymbols, encodeCoder, encodeCount, encodeRoom}
 use Rattle.inner_code.specs.declared.InnerCoder.{InnerCoder}
-use Rattle.inner_code.specs.declared.Symbol.{Symbol}
-use Rattle.inner_code.specs.declared.Symbol.the-variants.{None, One}
-use Rattle.inner_code.proofs.Bits.{bits-bits, block-bits}
+use Rattle.puncturing.specs.declared.Symbol.{Symbol}
+use Rattle.puncturing.specs.declared.Symbol.the-variants.{None, One}
+use Rattle.convolutional_code.proofs.Bits.{bits-bits, block-bits}
 use Rattle.inner_code.proofs.Coder.{range-test, fresh-in-range, coder-in-range}
 use Rattle.inner_code.proofs.Stream.{calls-stream}
 use Rattle.kernels.specs.Blocks.{wholeBlocks}

@@ -7,11 +7,13 @@ use native.Mathlib.Omega.{arith}
 use borrow.Rule.Slice.PartMut.{putMid, midOf}
 use lib.ListN.{length, take, drop, length-append, length-drop}
 use lib.Seq.{length-take-le}
-use Rattle.interleaver.specs.Block.{fresh, blockOut, after, passBranches, passRoom}
+use Rattle.delay_branches.specs.Block.{fresh, blockOut, after}
+use Rattle.interleaver.specs.Call.{passBranches, passRoom}
 use Rattle.interleaver.specs.Stream.{run}
-use Rattle.interleaver.specs.declared.Side.{Side}
-use Rattle.interleaver.specs.declared.Branches.{Branches}
-use Rattle.interleaver.proofs.Blocks.{Good, length-out, good-after, pass-done}
+use Rattle.delay_branches.specs.declared.Side.{Side}
+use Rattle.delay_branches.specs.declared.Branches.{Branches}
+use Rattle.delay_branches.proofs.Blocks.{Good, length-out, good-after}
+use Rattle.interleaver.proofs.Answered.{pass-done}
 use Rattle.interleaver.proofs.Whole.{good-fresh, run-delayed}
 use Rattle.kernels.specs.Blocks.{wholeBlocks}
 use Rattle.kernels.specs.Delay.{delayedBytes}
@@ -80,12 +82,12 @@ module _ {side : Side} {bytes room₀ room : List ℕ} {s : Branches} {at : ℕ}
       exit-is : exit ≡ out ++ drop (length out) (midOf at (at + 204 - at) room)
       unfolding block out
       exit-is =
-          w ∙ pass-done side s block (midOf at (at + 204 - at) room) (p .good) size (omega (arith, part)) .2
+          w ∙ pass-done side s block (midOf at (at + 204 - at) room) (p .good) size (omega (arith, part)) .1
           ∙ ap (λ (n : ℕ). out ++ drop n (midOf at (at + 204 - at) room)) (sym out-size)
 
       next-is : next ≡ after side s block
       unfolding block
-      next-is = b ∙ pass-done side s block (midOf at (at + 204 - at) room) (p .good) size (omega (arith, part)) .1
+      next-is = b ∙ pass-done side s block (midOf at (at + 204 - at) room) (p .good) size (omega (arith, part)) .0
 
       pub passing-more : Passing side bytes room₀ (putMid at (at + 204 - at) room exit) next (at + 204)
       unfolding block out run flatten

@@ -6,8 +6,9 @@ use Prim.Native.Nat.{ℕ, _/_}
 use lib.Dec.{ltb}
 use lib.ListN.{length, drop}
 use Rattle.common.specs.Choice.{pick}
-use Rattle.inner_code.specs.Mode.{modeOf}
-use Rattle.inner_code.specs.Stream.{bitsOf, symbols}
+use Rattle.puncturing.specs.Mode.{modeOf}
+use Rattle.convolutional_code.specs.Bits.{bitsOf}
+use Rattle.inner_code.specs.Stream.{symbols}
 use Rattle.kernels.specs.Blocks.{wholeBlocks}
 
 -- their symbols

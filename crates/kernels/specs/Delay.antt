@@ -6,7 +6,7 @@ use lib.Dec.{ltb}
 use lib.ListN.{length, drop}
 use Rattle.common.specs.Choice.{pick}
 use Rattle.interleaver.specs.Stream.{delayed}
-use Rattle.interleaver.specs.declared.Side.{Side}
+use Rattle.delay_branches.specs.declared.Side.{Side}
 use Rattle.kernels.specs.Blocks.{wholeBlocks}
 
 -- the blocks that leave, one after the other

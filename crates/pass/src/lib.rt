@@ -5,7 +5,7 @@ ghost use Prim.Native.Nat.{_*_, _≤_, _<_, min};
 ghost use lib.ListN.{length};
 use libc::STDOUT_FILENO;
 use receiver::Receiver;
-use receiver::counts::Counts;
+use reception_counts::Counts;
 
 // What a pass came to.
 pub struct Pass {
@@ -87,7 +87,7 @@ fn receive_piece(
             failed: true,
         };
     }
-    let recorded = receiver.receive_recording(&buffer[..n], packets);
+    let recorded = recording::receive_recording(receiver, &buffer[..n], packets);
     let answer = recorded.answer;
     let next = recorded.receiver;
     let written = recorded.count;

@@ -1,35 +1,103 @@
 -- Laws of a packet that is randomized or derandomized at a place of its group.
 -- Assumes nothing.
 use mathlib.Core.Path.{_≡_, refl, ap, ap₂, _∙_, sym}
+use mathlib.Core.Bool.{Bool, true, false}
 use mathlib.Core.List.{List, [], _∷_, _++_}
-use Prim.Native.Nat.{ℕ, _+_, _*_, _≤_, _<_}
-use native.Mathlib.Nat.{not-suc-le-zero, add-zero}
+use Prim.Native.Nat.{ℕ, zero, suc, _+_, _*_, _%_, _≤_, _<_}
+use native.Mathlib.Nat.{not-suc-le-zero, add-zero, mod-lt}
 use native.Mathlib.Omega.{arith}
-use borrow.Author.Tests.{eq-eqb, le-ltb}
+use borrow.Author.Tests.{eq-eqb, ne-eqb, le-ltb}
 use lib.Bits.{bitXor}
 use lib.Dec.{eqb}
 use lib.ListN.{length, getD, drop, set, length-drop}
 use lib.Seq.{getD-drop}
 use Rattle.common.specs.Choice.{pick}
-use Rattle.common.proofs.Computed.{agree-at}
 use Rattle.common.specs.Lists.{ByteEntries}
-use Rattle.common.proofs.Entries.{every-byte, entries-drop}
-use Rattle.randomizer.specs.Prbs.{masks}
+use Rattle.common.proofs.Entries.{entries-drop}
+use Rattle.randomizer.specs.Prbs.{loaded, output, stepped, steps, bits, sequence, generator, enabled, masks}
 use Rattle.randomizer.specs.Packet.{randomized, derandomized, randomizeNumber, randomizeRoom, derandomizeNumber, derandomizeRoom}
 use Rattle.randomizer.proofs.Xors.{length-out, getD-xors, bytes-xors, xors-undo}
 
+-- ---- the masks
+
+length-enabled : (n : ℕ) (l : List ℕ) → length (enabled n l) ≡ length l
+unfolding enabled
+length-enabled n [] = refl
+length-enabled n (b ∷ bs) = ap suc (length-enabled (n + 1) bs)
+
+length-sequence : (n : ℕ) (register : List ℕ) → length (sequence n register) ≡ n
+unfolding sequence
+length-sequence zero r = refl
+length-sequence (suc n) r = ap suc (length-sequence n (steps 8 r))
+
 pub length-masks : length masks ≡ 1504
-unfolding masks
-length-masks = refl
+unfolding masks generator
+length-masks = ap suc (length-enabled 1 generator ∙ length-sequence 1503 loaded)
+
+output-lt : (register : List ℕ) → output register < 2
+unfolding output
+output-lt r = mod-lt (getD r 13 0 + getD r 14 0) (omega arith)
+
+-- eight bits make a byte
+byte-lt : (register : List ℕ) → bits 8 0 register < 256
+unfolding bits
+byte-lt r =
+    let r1 = stepped r in
+    let r2 = stepped r1 in
+    let r3 = stepped r2 in
+    let r4 = stepped r3 in
+    let r5 = stepped r4 in
+    let r6 = stepped r5 in
+    let r7 = stepped r6 in
+    eight (output r) (output r1) (output r2) (output r3) (output r4) (output r5) (output r6) (output r7) (output-lt r) (output-lt r1) (output-lt r2) (output-lt r3)
+    (output-lt r4) (output-lt r5) (output-lt r6) (output-lt r7)
+  where
+    eight : (a b c d e f g h : ℕ) → a < 2 → b < 2 → c < 2 → d < 2 → e < 2 → f < 2 → g < 2 → h < 2
+        → (((((((0 * 2 + a) * 2 + b) * 2 + c) * 2 + d) * 2 + e) * 2 + f) * 2 + g) * 2 + h < 256
+    eight a b c d e f g h i j k l m n o p = omega arith
+
+bytes-sequence : (n : ℕ) (register : List ℕ) → ByteEntries (sequence n register)
+unfolding sequence
+bytes-sequence zero r i = omega arith
+bytes-sequence (suc n) r zero = byte-lt r
+bytes-sequence (suc n) r (suc i) = bytes-sequence n (steps 8 r) i
+
+bytes-enabled : (n : ℕ) (l : List ℕ) → ByteEntries l → ByteEntries (enabled n l)
+unfolding enabled
+bytes-enabled n [] h i = omega arith
+bytes-enabled n (b ∷ bs) h zero = picked (eqb (n % 188) 0) b (h 0)
+  where
+    picked : (t : Bool) (b : ℕ) → b < 256 → pick t 0 b < 256
+    picked true b h = omega arith
+    picked false b h = h
+bytes-enabled n (b ∷ bs) h (suc i) = bytes-enabled (n + 1) bs (λ k. h (suc k)) i
 
 bytes-masks : ByteEntries masks
-unfolding masks
-bytes-masks = every-byte masks tt
+unfolding masks generator
+bytes-masks zero = omega arith
+bytes-masks (suc i) = bytes-enabled 1 generator (bytes-sequence 1503 loaded) i
+
+-- the sequence is disabled at the sync bytes
+disabled : (n i : ℕ) (l : List ℕ) → (n + i) % 188 ≡ 0 → getD (enabled n l) i 0 ≡ 0
+unfolding enabled
+disabled n i [] e = refl
+disabled n zero (b ∷ bs) e = simp (eq-eqb (n % 188) 0 (ap (λ (m : ℕ). m % 188) (sym (add-zero n)) ∙ e))
+disabled n (suc i) (b ∷ bs) e = disabled (n + 1) i bs (ap (λ (m : ℕ). m % 188) (next n i) ∙ e)
+  where
+    next : (n i : ℕ) → n + 1 + i ≡ n + suc i
+    next n i = omega arith
 
 -- the sync byte: inverted at place 0, as it is elsewhere
-sync : (place : ℕ) → place < 8 → bitXor 0x47 (getD masks (188 * place) 0) ≡ pick (eqb place 0) 0xB8 0x47
+sync : (place : ℕ) → bitXor 0x47 (getD masks (188 * place) 0) ≡ pick (eqb place 0) 0xB8 0x47
 unfolding masks
-sync place h = agree-at (λ p. bitXor 0x47 (getD masks (188 * p) 0)) (λ p. pick (eqb p 0) 0xB8 0x47) 8 tt place h
+sync zero = refl
+sync (suc p) =
+    let e : 188 * suc p ≡ suc (188 * p + 187) = omega arith in
+    ap (λ (k : ℕ). bitXor 0x47 (getD masks k 0)) e
+    ∙ ap (bitXor 0x47) (disabled 1 (188 * p + 187) generator (omega arith))
+    ∙ simp (ne-eqb (suc p) 0 (λ z. omega arith))
+
+-- ---- a packet
 
 module _ (place : ℕ) (packet : List ℕ) (h : place ≤ 7) (n : length packet ≡ 188) where
   fits : 188 * place + length packet ≤ length masks
@@ -48,7 +116,7 @@ module _ (place : ℕ) (packet : List ℕ) (h : place ≤ 7) (n : length packet 
   first-byte e =
       getD-xors packet (drop (188 * place) masks) 0 (omega arith) (let g = enough in omega arith)
       ∙ ap₂ bitXor e (getD-drop (188 * place) masks 0 0 ∙ ap (λ (k : ℕ). getD masks k 0) (add-zero (188 * place)))
-      ∙ sync place (omega arith)
+      ∙ sync place
 
   -- bytes give bytes
   pub bytes-randomized : ByteEntries packet → ByteEntries (randomized place packet)

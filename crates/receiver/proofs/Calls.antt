@@ -11,24 +11,27 @@ use lib.ListN.{length, getD, drop-of-length-le}
 use Rattle.common.proofs.Choice.{both-true}
 use Rattle.answer.specs.Number.{numberOf}
 use Rattle.answer.specs.declared.Answer.{Answer}
+use Rattle.reed_solomon.specs.Code.{differ}
 use Rattle.reed_solomon.specs.Decode.{Decodes}
 use Rattle.reed_solomon.specs.declared.Decoded.{Decoded}
 use Rattle.reed_solomon.specs.declared.Decoded.the-variants.{Corrected, Uncorrectable, BlockLength}
-use Rattle.interleaver.specs.Branch as branch
 use Rattle.reed_solomon.proofs.Codewords.{codeword-length}
 use Rattle.reed_solomon.proofs.Laws.{total}
-use Rattle.interleaver.specs.Block.{after, passBranches, passRoom}
-use Rattle.interleaver.specs.declared.Branches.{Branches}
+use Rattle.delay_branches.specs.Branch as branch
+use Rattle.delay_branches.specs.Block.{after}
+use Rattle.delay_branches.specs.declared.Branches.{Branches}
+use Rattle.delay_branches.specs.declared.Side.the-variants.{Receiving}
+use Rattle.interleaver.specs.Call.{passBranches, passRoom}
 use Rattle.interleaver.specs.declared.Deinterleaver.{Deinterleaver}
-use Rattle.interleaver.specs.declared.Side.the-variants.{Receiving}
-use Rattle.receiver.specs.Group.{placeInRange, groupStep}
-use Rattle.receiver.specs.Counts.{countsInRange, outcomeNumber, counted, Room}
+use Rattle.group_sync.specs.Group.{placeInRange, acceptedStep, groupStep}
+use Rattle.group_sync.specs.declared.Place.{Place}
+use Rattle.group_sync.specs.declared.GroupStep.{GroupStep}
+use Rattle.group_sync.proofs.Synchronization.{accepted-step}
+use Rattle.reception_counts.specs.Counts.{countsInRange, outcomeNumber, counted, Room}
+use Rattle.reception_counts.specs.declared.Counts.{Counts}
+use Rattle.reception_counts.proofs.Ranges.{counts-range, counts-room}
 use Rattle.receiver.specs.Receive.{inRange, delayedBlock, repairOf, changedBytes, changedIn, stepOf, stateAfter, roomAfter, refusal, Ready, receiveNumber, receiveState, receiveRoom, Receives}
-use Rattle.receiver.specs.declared.counts.Counts.{Counts}
-use Rattle.receiver.specs.declared.group.GroupStep.{GroupStep}
 use Rattle.receiver.specs.declared.Receiver.{Receiver}
-use Rattle.receiver.proofs.Ranges.{counts-range, counts-room}
-use Rattle.receiver.proofs.Synchronization.{changed-accepted}
 
 -- the three parts of a state in range
 pub record StateRange (s : Receiver) : Type 0 where
@@ -46,6 +49,12 @@ state-range s e =
 pub state-in-range : (s : Receiver) → StateRange s → inRange s ≡ true
 unfolding inRange
 state-in-range s r = simp (r .branches, r .place, r .counts)
+
+-- the bytes changed in an accepted block are those in which it differs from what came
+pub changed-accepted : (place : Place) (first : ℕ) (came left : List ℕ) → placeInRange place ≡ true
+    → changedIn (acceptedStep place first .outcome) came left ≡ differ came left
+changed-accepted place first came left h =
+    accepted-step (λ g. changedIn (g .outcome) came left ≡ differ came left) place first (λ p e l. refl) refl refl h
 
 -- ---- a call that no test refuses
 

@@ -10,12 +10,12 @@ use borrow.Author.Tests.{ne-eqb, lt-ltb}
 use lib.Dec.{eqb}
 use Rattle.common.specs.Choice.{pick}
 use Rattle.reed_solomon.specs.Code.{differ}
-use Rattle.receiver.specs.Counts.{one, outcomeNumber, counted}
+use Rattle.group_sync.specs.declared.Outcome.{Outcome}
+use Rattle.group_sync.specs.declared.Outcome.the-variants.{Filling, Delivered, Lost, Waiting, OutOfStep}
+use Rattle.reception_counts.specs.Counts.{one, outcomeNumber, counted}
+use Rattle.reception_counts.specs.declared.Counts.{Counts}
 use Rattle.receiver.specs.Receive.{freshReceiver, delayedBlock, changedIn, stepOf, stateAfter, refusal, Ready}
 use Rattle.receiver.specs.Run.{Call, answerOf, after, afterCalls, Event, history, answered, takenBy, takenIn, acceptedBy, changedOver, countsOf}
-use Rattle.receiver.specs.declared.counts.Counts.{Counts}
-use Rattle.receiver.specs.declared.group.Outcome.{Outcome}
-use Rattle.receiver.specs.declared.group.Outcome.the-variants.{Filling, Delivered, Lost, Waiting, OutOfStep}
 use Rattle.receiver.specs.declared.Receiver.{Receiver}
 use Rattle.receiver.proofs.Calls.{ready-number, ready-state}
 use Rattle.receiver.proofs.Reached.{Refused, ready-or-refused, refused-state}

@@ -10,8 +10,8 @@ use Rattle.answer.specs.Number.{numberOf}
 use Rattle.reed_solomon.specs.Code.{Codeword, differ}
 use Rattle.reed_solomon.specs.declared.Decoded.the-variants.{Corrected}
 use Rattle.reed_solomon.proofs.Laws.{Same, decodes-near}
-use Rattle.interleaver.specs.declared.Side.the-variants.{Receiving}
-use Rattle.interleaver.proofs.Blocks.{length-out}
+use Rattle.delay_branches.specs.declared.Side.the-variants.{Receiving}
+use Rattle.delay_branches.proofs.Blocks.{length-out}
 use Rattle.receiver.specs.Receive.{freshReceiver, delayedBlock, changedBytes, changedIn, stepOf, stateAfter, Ready, Receives}
 use Rattle.receiver.specs.declared.Receiver.{Receiver}
 use Rattle.receiver.specs.declared.Received.{Received}

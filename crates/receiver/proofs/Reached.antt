@@ -15,16 +15,16 @@ use Rattle.reed_solomon.specs.Code.{differ}
 use Rattle.reed_solomon.specs.Decode.{Decodes}
 use Rattle.reed_solomon.specs.declared.Decoded.{Decoded}
 use Rattle.reed_solomon.specs.declared.Decoded.the-variants.{Corrected, Uncorrectable, BlockLength}
-use Rattle.interleaver.specs.declared.Side.the-variants.{Receiving}
-use Rattle.interleaver.proofs.Blocks.{Good, good-after}
+use Rattle.delay_branches.specs.declared.Side.the-variants.{Receiving}
+use Rattle.delay_branches.proofs.Blocks.{Good, good-after}
 use Rattle.interleaver.proofs.Whole.{good-fresh}
-use Rattle.receiver.specs.Group.{placeInRange, groupStep}
-use Rattle.receiver.specs.Counts.{outcomeNumber, counted}
+use Rattle.group_sync.specs.Group.{placeInRange, groupStep}
+use Rattle.group_sync.proofs.Synchronization.{accepted-step, sync-in-range}
+use Rattle.reception_counts.specs.Counts.{outcomeNumber, counted}
+use Rattle.reception_counts.proofs.Ranges.{CountsRange, counts-in-range, filling-range, lost-range, accepted-range}
 use Rattle.receiver.specs.Receive.{freshReceiver, inRange, delayedBlock, repairOf, changedIn, stateAfter, refusal, Ready, receiveState}
 use Rattle.receiver.specs.Run.{Call, after, Calls, afterCalls}
 use Rattle.receiver.specs.declared.Receiver.{Receiver}
-use Rattle.receiver.proofs.Synchronization.{accepted-step, sync-in-range}
-use Rattle.receiver.proofs.Ranges.{CountsRange, counts-in-range, filling-range, lost-range, accepted-range}
 use Rattle.receiver.proofs.Calls.{state-in-range, ready-state}
 
 -- what every reached state has

@@ -26,21 +26,21 @@ use Rattle.randomizer.specs.Packet.{randomized, derandomized}
 use Rattle.randomizer.specs.Stream.{Packet, randomizedFrom, randomizedStream}
 use Rattle.randomizer.proofs.Whole.{packet-lengths, randomized-stream}
 use Rattle.randomizer.proofs.Laws.{length-randomized, first-byte, bytes-randomized, back}
-use Rattle.interleaver.specs.Block as block
-use Rattle.interleaver.specs.Block.{fresh}
+use Rattle.delay_branches.specs.Block as block
+use Rattle.delay_branches.specs.Block.{fresh}
+use Rattle.delay_branches.specs.declared.Side.the-variants.{Sending, Receiving}
+use Rattle.delay_branches.specs.declared.Branches.{Branches}
 use Rattle.interleaver.specs.Stream.{run, interleaved, zeroBlock, elevenLate}
 use Rattle.interleaver.proofs.Whole.{run-delayed}
 use Rattle.interleaver.proofs.Streams.{length-delayed, delayed-lengths, both-sides}
-use Rattle.interleaver.specs.declared.Side.the-variants.{Sending, Receiving}
-use Rattle.interleaver.specs.declared.Branches.{Branches}
-use Rattle.receiver.specs.Group.{dueByte, placeAfter, acceptedStep, groupStep, step}
-use Rattle.receiver.specs.Counts.{outcomeNumber}
+use Rattle.group_sync.specs.Group.{dueByte, placeAfter, acceptedStep, groupStep, step}
+use Rattle.group_sync.specs.declared.Place.{Place}
+use Rattle.group_sync.specs.declared.Place.the-variants.{NotKnown, Known}
+use Rattle.group_sync.specs.declared.Outcome.the-variants.{Filling, Delivered}
+use Rattle.group_sync.specs.declared.GroupStep.{GroupStep}
+use Rattle.reception_counts.specs.Counts.{outcomeNumber}
 use Rattle.receiver.specs.Receive.{freshReceiver, delayedBlock, repairOf, stepOf, stateAfter, roomAfter, Ready}
 use Rattle.receiver.specs.Run.{Call, answerOf, after, roomOf, Calls, packetsGiven, blocksOf, answers, Roomy}
-use Rattle.receiver.specs.declared.group.Place.{Place}
-use Rattle.receiver.specs.declared.group.Place.the-variants.{NotKnown, Known}
-use Rattle.receiver.specs.declared.group.Outcome.the-variants.{Filling, Delivered}
-use Rattle.receiver.specs.declared.group.GroupStep.{GroupStep}
 use Rattle.receiver.specs.declared.Receiver.{Receiver}
 use Rattle.receiver.proofs.Calls.{ready-number, ready-state, ready-room}
 use Rattle.receiver.proofs.Reached.{Sound, sound-range, sound-call, sound-fresh}

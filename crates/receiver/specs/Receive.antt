@@ -4,7 +4,6 @@ use mathlib.Core.Path.{_≡_}
 use mathlib.Core.Bool.{Bool, true, false}
 use mathlib.Core.List.{List, _++_}
 use Prim.Native.Nat.{ℕ, _≤_, _<_}
-use Prim.{Unit}
 use lib.Dec.{ltb, eqb}
 use lib.ListN.{length, getD, take, drop}
 use Rattle.common.specs.Choice.{pick}
@@ -14,17 +13,17 @@ use Rattle.reed_solomon.specs.Decode.{Decodes}
 use Rattle.reed_solomon.specs.declared.Decoded.{Decoded}
 use Rattle.reed_solomon.specs.declared.Decoded.the-variants.{Corrected, Uncorrectable, BlockLength}
 use Rattle.randomizer.specs.Packet.{derandomized}
-use Rattle.interleaver.specs.Block.{fresh, blockOut, after}
-use Rattle.interleaver.specs.Branch as branch
-use Rattle.interleaver.specs.declared.Side.the-variants.{Receiving}
-use Rattle.receiver.specs.Group.{placeInRange, groupStep}
-use Rattle.receiver.specs.Counts.{zeroCounts, countsInRange, outcomeNumber, counted}
-use Rattle.receiver.specs.declared.group.Place.the-variants.{NotKnown}
-use Rattle.receiver.specs.declared.group.Repair.{Repair}
-use Rattle.receiver.specs.declared.group.Repair.the-variants as repair
-use Rattle.receiver.specs.declared.group.Outcome.{Outcome}
-use Rattle.receiver.specs.declared.group.Outcome.the-variants.{Filling, Delivered, Lost, Waiting, OutOfStep}
-use Rattle.receiver.specs.declared.group.GroupStep.{GroupStep}
+use Rattle.delay_branches.specs.Block.{fresh, blockOut, after}
+use Rattle.delay_branches.specs.Branch as branch
+use Rattle.delay_branches.specs.declared.Side.the-variants.{Receiving}
+use Rattle.group_sync.specs.Group.{placeInRange, groupStep}
+use Rattle.group_sync.specs.declared.Place.the-variants.{NotKnown}
+use Rattle.group_sync.specs.declared.Repair.{Repair}
+use Rattle.group_sync.specs.declared.Repair.the-variants as repair
+use Rattle.group_sync.specs.declared.Outcome.{Outcome}
+use Rattle.group_sync.specs.declared.Outcome.the-variants.{Filling, Delivered, Lost, Waiting, OutOfStep}
+use Rattle.group_sync.specs.declared.GroupStep.{GroupStep}
+use Rattle.reception_counts.specs.Counts.{zeroCounts, countsInRange, outcomeNumber, counted}
 use Rattle.receiver.specs.declared.Receiver.{Receiver}
 use Rattle.receiver.specs.declared.Received.{Received}
 
@@ -94,14 +93,6 @@ roomAfter (Delivered place) left room = derandomized place (take 188 left) ++ dr
 roomAfter Lost left room = room
 roomAfter Waiting left room = room
 roomAfter OutOfStep left room = room
-
--- a packet given has a place of a group
-abbrev pub PlaceOf : Outcome → Type 0
-PlaceOf Filling = Unit {0}
-PlaceOf (Delivered place) = place ≤ 7
-PlaceOf Lost = Unit {0}
-PlaceOf Waiting = Unit {0}
-PlaceOf OutOfStep = Unit {0}
 
 -- the tests before the work, in the order of document 01; 0 where none refuses
 abbrev pub refusal : Receiver → List ℕ → List ℕ → ℕ

@@ -9,9 +9,9 @@ use Rattle.common.specs.Choice.{pick}
 use Rattle.reed_solomon.specs.Code.{differ}
 use Rattle.reed_solomon.specs.Decode.{Decodes}
 use Rattle.reed_solomon.specs.declared.Decoded.{Decoded}
-use Rattle.receiver.specs.Counts.{one}
+use Rattle.reception_counts.specs.Counts.{one}
+use Rattle.reception_counts.specs.declared.Counts.{Counts}
 use Rattle.receiver.specs.Receive.{delayedBlock, receiveNumber, receiveState, receiveRoom}
-use Rattle.receiver.specs.declared.counts.Counts.{Counts}
 use Rattle.receiver.specs.declared.Receiver.{Receiver}
 
 -- a call: the block and the room lent, and what decoding the block that the branches give leaves and answers

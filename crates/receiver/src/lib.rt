@@ -3,23 +3,16 @@ ghost use mathlib.Core.Path.{_≡_};
 ghost use Prim.Native.Nat.{_≤_, _<_};
 ghost use lib.ListN.{length};
 ghost use Rattle.answer.specs.Number.{numberOf};
-ghost use Rattle.receiver.specs.Counts.{outcomeNumber};
-ghost use Rattle.receiver.specs.Receive.{freshReceiver, inRange, repairOf, changedBytes, roomAfter, PlaceOf, Ready, Receives};
-ghost use Rattle.receiver.specs.Recording.{ReceivesRecording};
-
-mod counting;
-pub mod counts;
-pub mod group;
-mod recording;
-
+ghost use Rattle.group_sync.specs.Group.{PlaceOf};
+ghost use Rattle.reception_counts.specs.Counts.{outcomeNumber};
+ghost use Rattle.receiver.specs.Receive.{freshReceiver, inRange, repairOf, changedBytes, roomAfter, Ready, Receives};
 use answer::Answer;
-use counting::count;
-use counts::Counts;
-use group::GroupSync;
-use group::Outcome;
-use group::Repair;
+use group_sync::GroupSync;
+use group_sync::Outcome;
+use group_sync::Repair;
 use interleaver::Deinterleaver;
-use recording::receive_blocks;
+use reception_counts::Counts;
+use reception_counts::count;
 use reed_solomon::Decoded;
 
 // A receiver: the delay branches, the place in the group, and the counts.
@@ -32,13 +25,6 @@ pub struct Receiver {
 // An answer, and the receiver after it.
 pub struct Received {
     pub answer: Answer,
-    pub receiver: Receiver,
-}
-
-// An answer, how many bytes of packets were written, and the receiver after it.
-pub struct Recorded {
-    pub answer: Answer,
-    pub count: usize,
     pub receiver: Receiver,
 }
 
@@ -195,51 +181,4 @@ impl Receiver {
         }
         take_block(self, block, room)
     }
-
-    // Takes the whole blocks of a recording, and writes their packets one after the other. Bytes after the last whole block are not taken.
-    // Nothing is taken unless there is room for a packet for each of them, and all of them can be counted.
-    pub fn receive_recording(self, bytes: &[u8], room: &mut [u8]) -> Recorded
-        ensures { λ r. ⌜ ReceivesRecording self (now (bytes .entry)) (now (room .entry)) (numberOf (r .answer)) (r .count) (r .receiver) (now (room .exit)) ⌝ }
-    {
-        let counts = self.counts;
-        let taken = counts.taken;
-        if !self.in_range() {
-            return Recorded {
-                answer: Answer::StateRange,
-                count: 0,
-                receiver: self,
-            };
-        }
-        let blocks = bytes.len() / Receiver::BLOCK_LENGTH;
-        if room.len() < Receiver::PACKET_LENGTH * blocks {
-            return Recorded {
-                answer: Answer::RoomLength,
-                count: 0,
-                receiver: self,
-            };
-        }
-        if Counts::MOST - taken < blocks as u64 {
-            return Recorded {
-                answer: Answer::CountsFull,
-                count: 0,
-                receiver: self,
-            };
-        }
-        let batch = receive_blocks(self, bytes, room);
-        let count = batch.count;
-        let receiver = batch.receiver;
-        Recorded {
-            answer: Answer::Done,
-            count,
-            receiver,
-        }
-    }
-}
-
-// A fresh receiver over a whole recording.
-pub fn receive_run(bytes: &[u8], room: &mut [u8]) -> Recorded
-    ensures { λ r. ⌜ ReceivesRecording freshReceiver (now (bytes .entry)) (now (room .entry)) (numberOf (r .answer)) (r .count) (r .receiver) (now (room .exit)) ⌝ }
-{
-    let receiver = Receiver::new();
-    receiver.receive_recording(bytes, room)
 }

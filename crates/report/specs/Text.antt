@@ -6,7 +6,7 @@ use Prim.Native.Nat.{ℕ, zero, suc, _+_, _/_, _%_, _≤_}
 use lib.Dec.{ltb}
 use lib.ListN.{length, take, drop}
 use Rattle.common.specs.Choice.{pick}
-use Rattle.receiver.specs.declared.counts.Counts.{Counts}
+use Rattle.reception_counts.specs.declared.Counts.{Counts}
 
 -- A number in decimal, the most significant digit first, with no leading zeros: a number below ten is its digit, in ASCII,
 -- and any other that of its tenth part and its last digit. So many digits at most.

@@ -3,32 +3,33 @@
 use mathlib.Core.Path.{_≡_, refl, ap, ap₂, sym, _∙_}
 use mathlib.Core.Bool.{Bool}
 use mathlib.Core.List.{List, [], _∷_, map, flatten}
-use Prim.Native.Nat.{ℕ, zero, suc, _+_, _-_, _*_, _/_, _%_, _≤_, _<_}
+use Prim.Native.Nat.{ℕ, zero, suc, _+_, _*_, _%_, _≤_, _<_}
 use native.Mathlib.Nat.{mul-zero, mul-suc, add-comm, add-zero, zero-add, add-assoc, suc-add, mod-add-mod, mod-eq-of-lt, mod-lt}
 use native.Mathlib.Omega.{arith}
 use lib.Dec.{T, leb, leb→le}
 use lib.ListN.{length, getD, length-append, length-map}
 use Rattle.common.specs.Lists.{All, Length}
 use Rattle.common.proofs.Computed.{both, both-left, both-right}
-use Rattle.randomizer.specs.Stream.{dispersed, inPackets, randomizedStream}
 use Rattle.reed_solomon.specs.Encode.{encoded}
+use Rattle.randomizer.specs.Stream.{dispersed, inPackets, randomizedStream}
+use Rattle.delay_branches.specs.declared.Side.the-variants.{Sending}
 use Rattle.interleaver.specs.Stream.{interleaved}
-use Rattle.interleaver.specs.declared.Side.the-variants.{Sending}
 use Rattle.interleaver.proofs.Streams.{length-delayed, delayed-lengths}
-use Rattle.inner_code.specs.Mode.{modeOf, completed}
-use Rattle.inner_code.specs.Stream.{bitsOf}
-use Rattle.inner_code.specs.Step.{patternLength, nextPlace, coderStep, coderAfter, symbolsIn}
-use Rattle.inner_code.specs.Serial.{placeAfter}
+use Rattle.convolutional_code.specs.Bits.{bitsOf}
+use Rattle.convolutional_code.proofs.Bits.{bits-bits, length-bits}
+use Rattle.puncturing.specs.Mode.{modeOf, completed}
+use Rattle.puncturing.specs.Step.{patternLength, nextPlace, symbolsIn}
+use Rattle.puncturing.specs.Run.{placeAfter}
+use Rattle.puncturing.proofs.Places.{tested-at}
+use Rattle.puncturing.proofs.BlockCounts.{table, block-symbols}
+use Rattle.puncturing.proofs.Steps.{some-bits, next-lt}
+use Rattle.inner_code.specs.Step.{coderStep, coderAfter}
 use Rattle.inner_code.specs.Encode.{freshCoder, blockCoder, symbolCount}
 use Rattle.inner_code.specs.declared.InnerCoder.{InnerCoder}
-use Rattle.inner_code.proofs.Bits.{bits-bits, length-bits}
 use Rattle.inner_code.proofs.Coder.{range-test, fresh-in-range, coder-in-range, length-symbols}
-use Rattle.inner_code.proofs.Places.{tested-at}
-use Rattle.inner_code.proofs.Steps.{some-bits, next-lt}
 use Rattle.inner_code.proofs.Stream.{symbols-fresh}
 use Rattle.sender.specs.Standard.{interleavedBlocks, onAir}
 use Rattle.sender.specs.Calls.{senderOf, fewest, most}
-use Rattle.sender.specs.Run.{packetsOf, runSymbols}
 
 -- ---- in all
 
@@ -40,7 +41,7 @@ length-flatten n (x ∷ xs) g = length-append x (flatten xs) ∙ ap₂ (λ (a b 
     times-suc : (n k : ℕ) → n + n * k ≡ n * suc k
     times-suc n k = add-comm n (n * k) ∙ sym (mul-suc n k)
 
-length-packets : (n : ℕ) (bytes : List ℕ) → length (inPackets n bytes) ≡ n
+pub length-packets : (n : ℕ) (bytes : List ℕ) → length (inPackets n bytes) ≡ n
 unfolding inPackets
 length-packets zero bytes = refl
 length-packets (suc n) bytes = ap suc (length-packets n _)
@@ -64,12 +65,6 @@ length-on-air rate h packets =
     ap length (sym (symbols-fresh rate h (bits-bits bytes)))
     ∙ length-symbols (freshCoder rate) (fresh-in-range rate h) (bits-bits bytes)
     ∙ ap (symbolsIn rate 0) (block-bits packets)
-
--- the symbols of a buffer of packets
-pub length-run : (rate : ℕ) → rate < 5 → (bytes : List ℕ) → length (runSymbols rate bytes) ≡ symbolsIn rate 0 (1632 * (length bytes / 188))
-unfolding packetsOf
-length-run rate h bytes =
-    length-on-air rate h (packetsOf bytes) ∙ ap (λ (n : ℕ). symbolsIn rate 0 (1632 * n)) (length-packets (length bytes / 188) bytes)
 
 -- ---- in parts
 
@@ -116,10 +111,10 @@ call-count rate h packets =
 
 -- at every place of a pattern the number is one of document 01's
 within : ℕ → ℕ → Bool
-within r p = both (leb (getD fewest r 0) (symbolsIn r p 1632)) (leb (symbolsIn r p 1632) (getD most r 0))
+within r p = both (leb (getD fewest r 0) (getD table (r * 7 + p) 0)) (leb (getD table (r * 7 + p) 0) (getD most r 0))
 
 counts-within : (r p : ℕ) → r < 5 → p < patternLength r → T (within r p)
-unfolding within symbolsIn patternLength modeOf
+unfolding within table patternLength modeOf
 counts-within r p h k = tested-at within tt r p h k
 
 -- so each call sends as many symbols as document 01 says
@@ -128,57 +123,10 @@ pub call-bounds : (rate : ℕ) → rate < 5 → (packets : List (List ℕ))
 unfolding within
 call-bounds rate h packets =
     let p = 1632 * length packets % patternLength rate in
-    let t = counts-within rate p h (mod-lt (1632 * length packets) (some-bits rate h)) in
-    rw (call-count rate h packets) (
-      leb→le _ _ (both-left (leb (getD fewest rate 0) (symbolsIn rate p 1632)) (leb (symbolsIn rate p 1632) (getD most rate 0)) t),
-      leb→le _ _ (both-right (leb (getD fewest rate 0) (symbolsIn rate p 1632)) (leb (symbolsIn rate p 1632) (getD most rate 0)) t),
+    let n = getD table (rate * 7 + p) 0 in
+    let in-pattern : p < patternLength rate = mod-lt (1632 * length packets) (some-bits rate h) in
+    let t = counts-within rate p h in-pattern in
+    rw (call-count rate h packets, ← block-symbols rate p h in-pattern) (
+      leb→le _ _ (both-left (leb (getD fewest rate 0) n) (leb n (getD most rate 0)) t),
+      leb→le _ _ (both-right (leb (getD fewest rate 0) n) (leb n (getD most rate 0)) t),
     )
-
--- ---- a loop that takes from a room what each packet needs
-
--- k of n packets have been counted, from room, and left is what they leave
-pub record Counting (rate n room : ℕ) (place left k : ℕ) : Type 0 where
-  pub within : k ≤ n
-  pub in-pattern : place < patternLength rate
-  pub balance : symbolsIn rate 0 (1632 * n) + left ≡ room + symbolsIn rate place (1632 * (n - k))
-
-pub counting-start : (rate n room : ℕ) → rate < 5 → Counting rate n room 0 room 0
-counting-start rate n room h = record { within = omega arith; in-pattern = some-bits rate h; balance = ap (λ (m : ℕ). symbolsIn rate 0 (1632 * m) + room) (sym none) ∙ add-comm _ _ }
-  where
-    none : n - 0 ≡ n
-    none = omega arith
-
-module _ {rate n room place left k : ℕ} (c : Counting rate n room place left k) where
-  pub counting-end : n ≤ k → symbolsIn rate 0 (1632 * n) ≤ room
-  unfolding symbolsIn
-  counting-end h =
-      let e : 1632 * (n - k) ≡ 0 = omega (arith, c .within) in
-      omega (arith, c .balance, ap (symbolsIn rate place) e)
-
-  module _ (h : k < n) where
-    -- one packet, and those after it
-    split : symbolsIn rate place (1632 * (n - k)) ≡ symbolsIn rate place 1632 + symbolsIn rate ((place + 1632) % patternLength rate) (1632 * (n - (k + 1)))
-    split =
-        let e : 1632 * (n - k) ≡ 1632 + 1632 * (n - (k + 1)) = omega arith in
-        ap (symbolsIn rate place) e
-        ∙ symbols-in-append rate place 1632 (1632 * (n - (k + 1)))
-        ∙ ap (λ (p : ℕ). symbolsIn rate place 1632 + symbolsIn rate p (1632 * (n - (k + 1)))) (place-after rate place 1632 (c .in-pattern))
-
-    pub counting-short : left < symbolsIn rate place 1632 → room < symbolsIn rate 0 (1632 * n)
-    counting-short l = omega (arith, c .balance, split)
-
-    pub counting-more : {length needed : ℕ} → length ≡ patternLength rate → needed ≡ symbolsIn rate place 1632 → needed ≤ left
-        → Counting rate n room ((place + 1632) % length) (left - needed) (k + 1)
-    counting-more {length} {needed} e f l =
-        let p : (place + 1632) % patternLength rate ≡ (place + 1632) % length = ap (λ (m : ℕ). (place + 1632) % m) (sym e) in
-        record {
-          within = omega arith;
-          in-pattern = rw (← p) (mod-lt (place + 1632) (omega (arith, c .in-pattern)));
-          balance = rw (← p) (omega (arith, c .balance, split, f));
-        }
-
--- the need of one packet, by a coder at that place
-pub needed-is : (rate place : ℕ) → rate < 5 → place < patternLength rate
-    → symbolCount (record { rate = rate; memory = 0; place = place; held = 0 }) ≡ symbolsIn rate place 1632
-needed-is rate place h p =
-    simp (range-test (record { rate = rate; memory = 0; place = place; held = 0 }) (record { rate = h; memory = omega arith; place = p; held = omega arith }))

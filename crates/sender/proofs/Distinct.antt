@@ -13,20 +13,21 @@ use lib.Seq.{getD-append-add}
 use Rattle.common.specs.Lists.{All, Length}
 use Rattle.common.proofs.Lists.{All-at, getD-map-in}
 use Rattle.common.proofs.Xor.{xor-low, xor-undo}
+use Rattle.reed_solomon.specs.Encode.{checkBytes, encoded}
 use Rattle.randomizer.specs.Prbs.{masks}
 use Rattle.randomizer.specs.Packet.{randomized}
 use Rattle.randomizer.specs.Stream.{randomizedStream, randomizedFrom}
 use Rattle.randomizer.proofs.Xors.{getD-xors}
 use Rattle.randomizer.proofs.Laws.{length-masks, length-randomized}
 use Rattle.randomizer.proofs.Whole.{randomized-stream}
-use Rattle.reed_solomon.specs.Encode.{checkBytes, encoded}
+use Rattle.delay_branches.specs.declared.Side.the-variants.{Sending}
 use Rattle.interleaver.specs.Stream.{earlier, interleaved}
-use Rattle.interleaver.specs.declared.Side.the-variants.{Sending}
 use Rattle.interleaver.proofs.Streams.{length-delayed, delayed-at, delayed-lengths}
-use Rattle.inner_code.specs.Mode.{modeOf}
-use Rattle.inner_code.specs.Stream.{bitsOf, tapsX, tapsY, convolved, sentAt, symbolsAfter, symbols}
-use Rattle.inner_code.specs.Serial.{Bits, none, more}
-use Rattle.inner_code.proofs.Bits.{bits-bits}
+use Rattle.convolutional_code.specs.Bits.{bitsOf, Bits, none, more}
+use Rattle.convolutional_code.specs.Code.{tapsX, tapsY, convolved}
+use Rattle.convolutional_code.proofs.Bits.{bits-bits}
+use Rattle.puncturing.specs.Mode.{modeOf}
+use Rattle.inner_code.specs.Stream.{sentAt, symbolsAfter, symbols}
 use Rattle.sender.specs.Standard.{interleavedBlocks, onAir}
 
 -- ---- symbols and bits

@@ -8,10 +8,10 @@ use borrow.Author.Tests.{eq-eqb, le-ltb}
 use lib.ListN.{length, getD, take, drop, replicate, length-replicate}
 use lib.Seq.{take-at}
 use Rattle.common.specs.Lists.{All, Length}
-use Rattle.inner_code.specs.Mode.{modeOf}
-use Rattle.inner_code.specs.Encode.{symbolCount}
-use Rattle.randomizer.proofs.Whole.{packet-lengths}
 use Rattle.randomizer.specs.Stream.{Packet}
+use Rattle.randomizer.proofs.Whole.{packet-lengths}
+use Rattle.puncturing.specs.Mode.{modeOf}
+use Rattle.inner_code.specs.Encode.{symbolCount}
 use Rattle.sender.specs.Standard.{onAir}
 use Rattle.sender.specs.Send.{freshSender, sentSymbols, senderAfter, sendNumber, sendCount, sendSender, sendRoom, Sends}
 use Rattle.sender.specs.Calls.{callsSymbols, callsSender, senderOf, Calls, none, call}

@@ -3,8 +3,4 @@ pub mod Ready
 pub mod Stream
 pub mod History
 pub mod Counts
-pub mod Buffers
-pub mod Progress
-pub mod Outcome
 pub mod Distinct
-pub mod Idle

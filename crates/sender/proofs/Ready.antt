@@ -3,11 +3,11 @@
 use mathlib.Core.List.{List}
 use Prim.Native.Nat.{ℕ, _<_, _≤_}
 use native.Mathlib.Omega.{arith}
-use Rattle.interleaver.specs.declared.Side.the-variants.{Sending}
-use Rattle.interleaver.proofs.Blocks.{Good, good-after}
+use Rattle.delay_branches.specs.declared.Side.the-variants.{Sending}
+use Rattle.delay_branches.proofs.Blocks.{Good, good-after}
 use Rattle.interleaver.proofs.Whole.{good-fresh}
+use Rattle.convolutional_code.proofs.Bits.{bits-bits}
 use Rattle.inner_code.specs.Step as step
-use Rattle.inner_code.proofs.Bits.{bits-bits}
 use Rattle.inner_code.proofs.Coder as range
 use Rattle.sender.specs.Send.{freshSender, codedPacket, sentBlock, senderAfter}
 use Rattle.sender.specs.declared.Sender.{Sender}

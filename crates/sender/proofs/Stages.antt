@@ -10,15 +10,17 @@ use lib.Dec.{ltb, eqb}
 use lib.ListN.{length, getD, drop, length-append, drop-of-length-le}
 use Rattle.common.specs.Choice.{pick}
 use Rattle.common.proofs.Choice.{both-true, false-true}
-use Rattle.randomizer.specs.Packet.{randomized, randomizeRoom}
-use Rattle.randomizer.proofs.Laws.{length-randomized, randomize-done}
 use Rattle.reed_solomon.specs.Encode.{checkBytes, encodeRoom}
 use Rattle.reed_solomon.proofs.LongDivision.{check-remainder}
-use Rattle.interleaver.specs.Branch as branch
-use Rattle.interleaver.specs.Block.{after, passBranches, passRoom}
-use Rattle.interleaver.specs.declared.Side.the-variants.{Sending}
-use Rattle.interleaver.specs.declared.Branches.{Branches}
-use Rattle.interleaver.proofs.Blocks.{length-out}
+use Rattle.randomizer.specs.Packet.{randomized, randomizeRoom}
+use Rattle.randomizer.proofs.Laws.{length-randomized, randomize-done}
+use Rattle.delay_branches.specs.Branch as branch
+use Rattle.delay_branches.specs.Block.{after}
+use Rattle.delay_branches.specs.declared.Side.the-variants.{Sending}
+use Rattle.delay_branches.specs.declared.Branches.{Branches}
+use Rattle.delay_branches.proofs.Blocks.{length-out}
+use Rattle.interleaver.specs.Call.{passBranches, passRoom}
+use Rattle.puncturing.specs.Step.{symbolsIn}
 use Rattle.inner_code.specs.Step as coder
 use Rattle.inner_code.specs.Encode as inner
 use Rattle.inner_code.specs.declared.InnerCoder.{InnerCoder}
@@ -116,7 +118,7 @@ module _ (s : Sender) (packet : List ℕ) (g : InRange s) (p : length packet ≡
   unfolding sentBlock
   length-block = length-out Sending (s .interleaver .branches) (codedPacket s packet)
 
-  size : length (sentSymbols s packet) ≡ coder.symbolsIn (s .coder .rate) (s .coder .place) 1632
+  size : length (sentSymbols s packet) ≡ symbolsIn (s .coder .rate) (s .coder .place) 1632
   unfolding sentSymbols
   size = range.length-block (s .coder) (sentBlock s packet) (range.in-range (s .coder) (g .coder)) length-block
 

@@ -7,16 +7,17 @@ use native.Mathlib.Nat.{zero-add}
 use native.Mathlib.Omega.{arith}
 use lib.ListN.{length}
 use Rattle.common.specs.Lists.{All, Length}
+use Rattle.reed_solomon.specs.Encode.{encoded}
 use Rattle.randomizer.specs.Packet.{randomized}
 use Rattle.randomizer.specs.Stream.{randomizedStream, randomizedFrom}
 use Rattle.randomizer.proofs.Whole.{randomized-stream}
-use Rattle.reed_solomon.specs.Encode.{encoded}
-use Rattle.interleaver.specs.Block.{fresh, blockOut, after}
+use Rattle.delay_branches.specs.Block.{fresh, blockOut, after}
+use Rattle.delay_branches.specs.declared.Side.the-variants.{Sending}
 use Rattle.interleaver.specs.Stream.{interleaved, run, runAfter}
-use Rattle.interleaver.specs.declared.Side.the-variants.{Sending}
 use Rattle.interleaver.proofs.Whole.{run-delayed}
-use Rattle.inner_code.specs.Mode.{modeOf}
-use Rattle.inner_code.specs.Stream.{bitsOf, symbols}
+use Rattle.convolutional_code.specs.Bits.{bitsOf}
+use Rattle.puncturing.specs.Mode.{modeOf}
+use Rattle.inner_code.specs.Stream.{symbols}
 use Rattle.inner_code.specs.Step.{coderAfter}
 use Rattle.inner_code.specs.Encode as inner
 use Rattle.inner_code.proofs.Coder.{block-coder-append}

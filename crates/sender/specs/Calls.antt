@@ -3,11 +3,11 @@
 use mathlib.Core.List.{List, [], _∷_, _++_, map, flatten}
 use Prim.Native.Nat.{ℕ, _%_, _≤_}
 use lib.ListN.{length, take}
-use Rattle.randomizer.specs.Stream.{randomizedStream}
 use Rattle.reed_solomon.specs.Encode.{encoded}
-use Rattle.interleaver.specs.Block.{fresh}
+use Rattle.randomizer.specs.Stream.{randomizedStream}
+use Rattle.delay_branches.specs.Block.{fresh}
+use Rattle.delay_branches.specs.declared.Side.the-variants.{Sending}
 use Rattle.interleaver.specs.Stream.{runAfter}
-use Rattle.interleaver.specs.declared.Side.the-variants.{Sending}
 use Rattle.inner_code.specs.Encode.{freshCoder, blockCoder, symbolCount}
 use Rattle.sender.specs.Standard.{interleavedBlocks}
 use Rattle.sender.specs.Send.{sentSymbols, senderAfter, Sends}

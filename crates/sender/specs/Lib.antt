@@ -1,4 +1,3 @@
 pub mod Standard
 pub mod Send
 pub mod Calls
-pub mod Run

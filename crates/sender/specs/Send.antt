@@ -7,11 +7,11 @@ use Prim.Native.Nat.{ℕ, _+_, _%_}
 use lib.Dec.{ltb, eqb}
 use lib.ListN.{length, getD, drop}
 use Rattle.common.specs.Choice.{pick}
-use Rattle.randomizer.specs.Packet.{randomized}
 use Rattle.reed_solomon.specs.Encode.{encoded}
-use Rattle.interleaver.specs.Branch as branch
-use Rattle.interleaver.specs.Block.{fresh, blockOut, after}
-use Rattle.interleaver.specs.declared.Side.the-variants.{Sending}
+use Rattle.randomizer.specs.Packet.{randomized}
+use Rattle.delay_branches.specs.Branch as branch
+use Rattle.delay_branches.specs.Block.{fresh, blockOut, after}
+use Rattle.delay_branches.specs.declared.Side.the-variants.{Sending}
 use Rattle.inner_code.specs.Step as coder
 use Rattle.inner_code.specs.Encode.{freshCoder, blockSymbols, blockCoder, symbolCount}
 use Rattle.sender.specs.declared.Sender.{Sender}

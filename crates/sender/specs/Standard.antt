@@ -2,11 +2,12 @@
 -- Assumes nothing.
 use mathlib.Core.List.{List, map, flatten}
 use Prim.Native.Nat.{ℕ}
-use Rattle.randomizer.specs.Stream.{randomizedStream}
 use Rattle.reed_solomon.specs.Encode.{encoded}
+use Rattle.randomizer.specs.Stream.{randomizedStream}
 use Rattle.interleaver.specs.Stream.{interleaved}
-use Rattle.inner_code.specs.Mode.{Mode}
-use Rattle.inner_code.specs.Stream.{bitsOf, symbols}
+use Rattle.convolutional_code.specs.Bits.{bitsOf}
+use Rattle.puncturing.specs.Mode.{Mode}
+use Rattle.inner_code.specs.Stream.{symbols}
 
 -- 4.4.1: transport multiplex adaptation and randomization for energy dispersal, in groups of eight packets from the first one on.
 -- 4.4.2: each randomized packet is coded by RS(204,188), and the blocks go through the convolutional interleaver, whose branches hold zeros at first.

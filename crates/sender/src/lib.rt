@@ -6,17 +6,10 @@ ghost use Prim.Native.Nat.{_+_, _%_, _<_, _≤_};
 ghost use lib.ListN.{length, getD, drop};
 ghost use Rattle.answer.specs.Number.{numberOf};
 ghost use Rattle.inner_code.specs.Encode.{symbolCount};
-ghost use Rattle.sender.specs.Run.{Runs};
 ghost use Rattle.sender.specs.Send.{freshSender, newNumber, inRange, sentSymbols, senderAfter, Sends};
 use answer::Answer;
 use inner_code::InnerCoder;
 use interleaver::Interleaver;
-
-mod packets;
-
-use packets::is_short;
-use packets::is_synced;
-use packets::send_packets;
 
 // The state between two packets. Each stage keeps its own numbers, so nothing is held twice: the rate is the inner coder's,
 // and the place of the next packet in its group of eight is the sender's, since randomizing takes it with each packet.
@@ -38,12 +31,6 @@ pub struct Sent {
     pub answer: Answer,
     pub count: usize,
     pub sender: Sender,
-}
-
-// An answer, and how many symbols were written.
-pub struct Run {
-    pub answer: Answer,
-    pub count: usize,
 }
 
 impl Sender {
@@ -157,41 +144,5 @@ fn transmit(sender: Sender, packet: &[u8], room: &mut [u8]) -> Sent
             interleaver,
             coder,
         },
-    }
-}
-
-// Sends a whole list of packets with a fresh sender: writes the symbols that EN 300 421 gives for them.
-// Nothing is written unless all of them can be sent.
-pub fn send_run(rate: u8, packets: &[u8], room: &mut [u8]) -> Run
-    ensures { λ r. ⌜ Runs rate (now (packets .entry)) (now (room .entry)) (numberOf (r .answer)) (r .count) (now (room .exit)) ⌝ }
-{
-    if rate >= 5 {
-        return Run {
-            answer: Answer::UnknownRate,
-            count: 0,
-        };
-    }
-    if packets.len() % Sender::PACKET_LENGTH != 0 {
-        return Run {
-            answer: Answer::PacketLength,
-            count: 0,
-        };
-    }
-    if !is_synced(packets) {
-        return Run {
-            answer: Answer::SyncByte,
-            count: 0,
-        };
-    }
-    if is_short(rate, packets.len() / Sender::PACKET_LENGTH, room.len()) {
-        return Run {
-            answer: Answer::RoomLength,
-            count: 0,
-        };
-    }
-    let count = send_packets(rate, packets, room);
-    Run {
-        answer: Answer::Done,
-        count,
     }
 }

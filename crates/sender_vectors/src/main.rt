@@ -67,7 +67,7 @@ fn compare_run(rate: u8, input: i32, wanted: i32) -> bool {
     let mut room = [0u8; 65280];
     let mut expected = [0u8; 65280];
     let got = io::read_full(input, &mut packets);
-    let run = sender::send_run(rate, &packets, &mut room);
+    let run = transmission::send_run(rate, &packets, &mut room);
     let count = run.count;
     let answer = run.answer;
     if got != 7520 || answer.number() != 0 {
@@ -132,7 +132,7 @@ fn answer_send(name: &[u8], rate: u8, packet: &[u8], room: &mut [u8]) {
 
 // The answer of a run to a list of packets and a room.
 fn answer_run(name: &[u8], rate: u8, packets: &[u8], room: &mut [u8]) {
-    let run = sender::send_run(rate, packets, room);
+    let run = transmission::send_run(rate, packets, room);
     let answer = run.answer;
     print_line(name, answer.number() as u64);
 }

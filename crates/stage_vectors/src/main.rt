@@ -2,7 +2,7 @@
 ghost use mathlib.Core.Path.{_≡_};
 ghost use Prim.Native.Nat.{_<_};
 ghost use lib.ListN.{length};
-use interleaver::Branches;
+use delay_branches::Branches;
 use interleaver::Deinterleaver;
 use interleaver::Interleaver;
 use libc::STDOUT_FILENO;

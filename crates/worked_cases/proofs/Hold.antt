@@ -9,18 +9,20 @@ use Rattle.common.specs.Lists.{listOf}
 use Rattle.common.proofs.Entries.{bytes-of, every-byte}
 use Rattle.algebra.specs.Polynomial.{power, plus, scale, product}
 use Rattle.galois.specs.Field256.{timesX, rounds, mul}
-use Rattle.randomizer.specs.Prbs.{loaded, output, stepped, steps, bits, sequence, generator, enabled, masks}
-use Rattle.randomizer.specs.Packet.{randomized}
 use Rattle.reed_solomon.specs.Code as code
 use Rattle.reed_solomon.specs.Encode.{generatorTail, divided, remainderFrom, checkBytes, encoded}
 use Rattle.reed_solomon.specs.Steps.{residueOf}
 use Rattle.reed_solomon.proofs.LongDivision.{encoded-only}
-use Rattle.interleaver.specs.Branch.{baseOf, queue}
-use Rattle.interleaver.specs.Column.{column}
-use Rattle.interleaver.specs.Block.{fresh, leaving, blockOut}
-use Rattle.inner_code.specs.Mode.{modes, modeOf}
-use Rattle.inner_code.specs.Stream.{bitsOf, symbolsAfter, symbols}
-use Rattle.inner_code.specs.Step.{patternLength, punctured, heldAfter, symbolsOf, coderAfter}
+use Rattle.randomizer.specs.Prbs.{loaded, output, stepped, steps, bits, sequence, generator, enabled, masks}
+use Rattle.randomizer.specs.Packet.{randomized}
+use Rattle.delay_branches.specs.Branch.{baseOf, queue}
+use Rattle.delay_branches.specs.Column.{column}
+use Rattle.delay_branches.specs.Block.{fresh, leaving, blockOut}
+use Rattle.convolutional_code.specs.Bits.{bitsOf}
+use Rattle.puncturing.specs.Mode.{modes, modeOf}
+use Rattle.puncturing.specs.Step.{patternLength, punctured, heldAfter}
+use Rattle.inner_code.specs.Stream.{symbolsAfter, symbols}
+use Rattle.inner_code.specs.Step.{symbolsOf, coderAfter}
 use Rattle.worked_cases.specs.Table.{Case, unit, coefficients, damaged, cases}
 
 pub cases-hold : map (λ (c : Case). c .given) cases ≡ map (λ (c : Case). c .wanted) cases

@@ -7,14 +7,15 @@ use lib.ListN.{take, replicate}
 use Rattle.common.specs.Choice.{pick}
 use Rattle.common.specs.Lists.{listOf}
 use Rattle.galois.specs.Field256.{mul}
-use Rattle.randomizer.specs.Prbs as prbs
-use Rattle.randomizer.specs.Packet.{randomized}
 use Rattle.reed_solomon.specs.Encode.{checkBytes}
 use Rattle.reed_solomon.specs.Steps.{residueOf}
-use Rattle.interleaver.specs.Block.{fresh, blockOut}
-use Rattle.interleaver.specs.declared.Side.the-variants.{Sending}
-use Rattle.inner_code.specs.Mode.{modeOf}
-use Rattle.inner_code.specs.Stream.{bitsOf, symbols}
+use Rattle.randomizer.specs.Prbs as prbs
+use Rattle.randomizer.specs.Packet.{randomized}
+use Rattle.delay_branches.specs.Block.{fresh, blockOut}
+use Rattle.delay_branches.specs.declared.Side.the-variants.{Sending}
+use Rattle.convolutional_code.specs.Bits.{bitsOf}
+use Rattle.puncturing.specs.Mode.{modeOf}
+use Rattle.inner_code.specs.Stream.{symbols}
 use Rattle.inner_code.specs.Encode.{freshCoder, blockCoder}
 
 pub record Case : Type 0 where

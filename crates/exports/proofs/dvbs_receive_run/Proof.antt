@@ -4,9 +4,9 @@ use mathlib.Core.Path.{_≡_, refl, sym, _∙_}
 use mathlib.Core.List.{List}
 use Prim.Native.Nat.{ℕ, _<_}
 use native.Mathlib.Omega.{arith}
-use Rattle.receiver.specs.Recording.{ReceivesRecording, Takes, recordingNumber}
-use Rattle.receiver.specs.Recording as recording
 use Rattle.receiver.specs.declared.Receiver.{Receiver}
+use Rattle.recording.specs.Recording.{ReceivesRecording, Takes, recordingNumber}
+use Rattle.recording.specs.Recording as recording
 use Rattle.exports.specs.ReceiveRun.{no-room, refused, taken}
 use borrow.Author.Needs.{needs}
 use Rattle.exports.proofs.dvbs_receive_run.Statement.{statement}

@@ -6,8 +6,8 @@ use Prim.Native.Nat.{ℕ, _≤_}
 use native.Mathlib.Omega.{arith}
 use lib.ListN.{length, drop, length-append}
 use lib.Seq.{length-take-le}
-use Rattle.receiver.specs.Recording.{ReceivesRecording, refused, taken}
 use Rattle.receiver.specs.declared.Receiver.{Receiver}
+use Rattle.recording.specs.Recording.{ReceivesRecording, refused, taken}
 use borrow.Author.Needs.{needs}
 use Rattle.pass.proofs.receive_piece.Statement.{statement}
 use Rattle.pass.proofs.receive_piece.Tie as tie

@@ -5,7 +5,7 @@ use native.Mathlib.Omega.{arith}
 use lib.ListN.{length, take}
 use lib.Seq.{length-take-le}
 use Rattle.randomizer.proofs.Laws.{derandomize-done}
-use Rattle.receiver.specs.Receive.{PlaceOf}
+use Rattle.group_sync.specs.Group.{PlaceOf}
 use borrow.Author.Needs.{needs}
 use Rattle.receiver.proofs.deliver.Statement.{statement}
 use Rattle.receiver.proofs.deliver.Tie as tie

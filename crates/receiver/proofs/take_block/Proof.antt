@@ -6,13 +6,13 @@ use Prim.Native.Nat.{ℕ, _≤_}
 use mathlib.Core.List.{List}
 use lib.ListN.{replicate}
 use Rattle.reed_solomon.specs.Decode.{Decodes}
-use Rattle.interleaver.specs.declared.Side.the-variants.{Receiving}
-use Rattle.interleaver.proofs.Blocks.{length-out}
-use Rattle.receiver.specs.Group.{groupStep}
-use Rattle.receiver.specs.Counts.{outcomeNumber, counted}
-use Rattle.receiver.specs.Receive.{delayedBlock, PlaceOf}
-use Rattle.receiver.specs.declared.group.GroupStep.{GroupStep}
-use Rattle.receiver.proofs.Synchronization.{outcome-place}
+use Rattle.delay_branches.specs.declared.Side.the-variants.{Receiving}
+use Rattle.delay_branches.proofs.Blocks.{length-out}
+use Rattle.group_sync.specs.Group.{groupStep, PlaceOf}
+use Rattle.group_sync.specs.declared.GroupStep.{GroupStep}
+use Rattle.group_sync.proofs.Synchronization.{outcome-place}
+use Rattle.reception_counts.specs.Counts.{outcomeNumber, counted}
+use Rattle.receiver.specs.Receive.{delayedBlock}
 use Rattle.receiver.proofs.Calls.{state-range, filling-call, repairing-call, deinterleaves, room-for, few-changed, left-length}
 use borrow.Author.Needs.{needs}
 use Rattle.receiver.proofs.take_block.Statement.{statement}

@@ -5,11 +5,11 @@ use mathlib.Core.Bool.{Bool, true, false}
 use Prim.Native.Nat.{_<_}
 use native.Mathlib.Omega.{arith}
 use borrow.Author.Tests.{not-true, not-false}
-use Rattle.inner_code.specs.Stream.{tapsX, tapsY}
-use Rattle.inner_code.specs.Step.{inRange, coded, nextMemory}
-use Rattle.inner_code.specs.Serial.{punctureStep}
+use Rattle.convolutional_code.specs.Code.{tapsX, tapsY, coded, nextMemory}
+use Rattle.puncturing.specs.Run.{punctureStep}
+use Rattle.puncturing.proofs.Steps.{held-le}
+use Rattle.inner_code.specs.Step.{inRange}
 use Rattle.inner_code.specs.Encode.{bitValue}
-use Rattle.inner_code.proofs.Steps.{held-le}
 use Rattle.inner_code.proofs.Coder.{in-range}
 use borrow.Author.Needs.{needs}
 use Rattle.inner_code.proofs.InnerCoder.step.Statement.{statement}

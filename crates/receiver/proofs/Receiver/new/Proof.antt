@@ -1,12 +1,12 @@
 -- `receiver::Receiver::new` meets its contract.
 -- Assumes nothing.
 use mathlib.Core.Path.{ap, _∙_}
-use Rattle.interleaver.specs.Block.{fresh}
-use Rattle.interleaver.specs.declared.Branches.{Branches}
+use Rattle.delay_branches.specs.Block.{fresh}
+use Rattle.delay_branches.specs.declared.Branches.{Branches}
+use Rattle.group_sync.specs.declared.Place.{Place}
+use Rattle.group_sync.specs.declared.Place.the-variants.{NotKnown}
+use Rattle.reception_counts.specs.declared.Counts.{Counts}
 use Rattle.receiver.specs.Receive.{freshReceiver}
-use Rattle.receiver.specs.declared.group.Place.{Place}
-use Rattle.receiver.specs.declared.group.Place.the-variants.{NotKnown}
-use Rattle.receiver.specs.declared.counts.Counts.{Counts}
 use borrow.Author.Needs.{needs}
 use Rattle.receiver.proofs.Receiver.new.Statement.{statement}
 use Rattle.receiver.proofs.Receiver.new.Tie as tie

@@ -1,0 +1,64 @@
+-- Lists of bits, and the bits of bytes.
+-- Assumes nothing.
+use mathlib.Core.Path.{_≡_, refl, ap}
+use mathlib.Core.List.{List, [], _∷_, _++_}
+use Prim.Native.Nat.{ℕ, zero, suc, _*_, _/_, _%_, _<_}
+use native.Mathlib.Omega.{arith}
+use lib.ListN.{length, getD}
+use Rattle.convolutional_code.specs.Bits.{bitsOf, Bits, none, more}
+use Rattle.convolutional_code.specs.Code.{total, recent, nextMemory, motherOf}
+use Rattle.convolutional_code.specs.Sweep.{oldest}
+
+pub bits-at : {l : List ℕ} → Bits l → (k : ℕ) → getD l k 0 < 2
+bits-at none k = omega arith
+bits-at (more h t) zero = h
+bits-at (more h t) (suc k) = bits-at t k
+
+pub bits-append : {a b : List ℕ} → Bits a → Bits b → Bits (a ++ b)
+bits-append none t = t
+bits-append (more h s) t = more h (bits-append s t)
+
+pub bits-tail : {b : ℕ} {l : List ℕ} → Bits (b ∷ l) → Bits l
+bits-tail (more h t) = t
+
+digit : (n : ℕ) → n % 2 < 2
+digit n = omega arith
+
+pub bits-bits : (l : List ℕ) → Bits (bitsOf l)
+unfolding bitsOf
+bits-bits [] = none
+bits-bits (b ∷ bs) =
+    more (digit (b / 128)) (more (digit (b / 64)) (more (digit (b / 32)) (more (digit (b / 16))
+    (more (digit (b / 8)) (more (digit (b / 4)) (more (digit (b / 2)) (more (digit b) (bits-bits bs))))))))
+
+pub bits-oldest : (memory : ℕ) → Bits (oldest memory)
+bits-oldest m =
+    more (digit m) (more (digit (m / 2)) (more (digit (m / 4)) (more (digit (m / 8))
+    (more (digit (m / 16)) (more (digit (m / 32)) none)))))
+
+pub bits-mother : (taps : List ℕ) (memory : ℕ) (l : List ℕ) → Bits (motherOf taps memory l)
+unfolding motherOf
+bits-mother taps m [] = none
+bits-mother taps m (b ∷ bs) = more (digit (total taps (b ∷ recent m))) (bits-mother taps (nextMemory m b) bs)
+
+pub length-mother : (taps : List ℕ) (memory : ℕ) (l : List ℕ) → length (motherOf taps memory l) ≡ length l
+unfolding motherOf
+length-mother taps m [] = refl
+length-mother taps m (b ∷ bs) = ap suc (length-mother taps (nextMemory m b) bs)
+
+pub length-bits : (l : List ℕ) → length (bitsOf l) ≡ 8 * length l
+unfolding bitsOf
+length-bits [] = refl
+length-bits (b ∷ bs) = let e = length-bits bs in omega arith
+
+-- a block of 204 bytes has 1,632 bits
+pub block-bits : (block : List ℕ) → length block ≡ 204 → length (bitsOf block) ≡ 1632
+block-bits block h = let e = length-bits block in omega arith
+
+pub bits-split : (a b : List ℕ) → bitsOf (a ++ b) ≡ bitsOf a ++ bitsOf b
+unfolding bitsOf
+bits-split [] b = refl
+bits-split (x ∷ a) b =
+    ap
+    (λ (t : List ℕ). x / 128 % 2 ∷ x / 64 % 2 ∷ x / 32 % 2 ∷ x / 16 % 2 ∷ x / 8 % 2 ∷ x / 4 % 2 ∷ x / 2 % 2 ∷ x % 2 ∷ t)
+    (bits-split a b)

@@ -1,0 +1,160 @@
+// The convolutional mother code: G1 = 171 octal gives X, G2 = 133 octal gives Y.
+ghost use mathlib.Core.Path.{_≡_};
+ghost use mathlib.Core.List.{[], _∷_, _++_};
+ghost use Prim.Native.Nat.{_+_, _*_, _%_, _≤_, _<_};
+ghost use lib.ListN.{length, drop};
+ghost use Rattle.common.specs.Lists.{placed};
+ghost use Rattle.convolutional_code.specs.Bits.{bitsOf, Bits};
+ghost use Rattle.convolutional_code.specs.Code.{tapsX, tapsY, coded, nextMemory, memoryAfter, blockMother};
+ghost use Rattle.convolutional_code.specs.Sweep.{oldest, offsetsX, offsetsY, sweep, memoryAt};
+
+pub fn x_of(memory: u8, bit: u8) -> u8
+    requires { ⌜ bit < 2 ⌝ }
+    ensures { λ r. ⌜ r ≡ coded tapsX memory bit ⌝ }
+{
+    (bit + memory / 32 % 2 + memory / 16 % 2 + memory / 8 % 2 + memory % 2) % 2
+}
+
+pub fn y_of(memory: u8, bit: u8) -> u8
+    requires { ⌜ bit < 2 ⌝ }
+    ensures { λ r. ⌜ r ≡ coded tapsY memory bit ⌝ }
+{
+    (bit + memory / 16 % 2 + memory / 8 % 2 + memory / 2 % 2 + memory % 2) % 2
+}
+
+pub fn next_memory(memory: u8, bit: u8) -> u8
+    requires { ⌜ (memory < 64) × (bit < 2) ⌝ }
+    ensures { λ r. ⌜ r ≡ nextMemory memory bit ⌝ }
+{
+    bit * 32 + memory / 2
+}
+
+// Writes the bits of the memory, the oldest first, one to a byte.
+fn unpack_memory(memory: u8, room: &mut [u8])
+    requires { ⌜ 6 ≤ length (now room) ⌝ }
+    ensures { λ r. ⌜ now (room .exit) ≡ oldest memory ++ drop 6 (now (room .entry)) ⌝ }
+{
+    room[0] = memory % 2;
+    room[1] = memory / 2 % 2;
+    room[2] = memory / 4 % 2;
+    room[3] = memory / 8 % 2;
+    room[4] = memory / 16 % 2;
+    room[5] = memory / 32 % 2;
+}
+
+// Writes the bits of a byte, the top bit first, one to a byte.
+fn unpack_byte(b: u8, room: &mut [u8])
+    requires { ⌜ 8 ≤ length (now room) ⌝ }
+    ensures { λ r. ⌜ now (room .exit) ≡ bitsOf (b ∷ []) ++ drop 8 (now (room .entry)) ⌝ }
+{
+    room[0] = b / 128 % 2;
+    room[1] = b / 64 % 2;
+    room[2] = b / 32 % 2;
+    room[3] = b / 16 % 2;
+    room[4] = b / 8 % 2;
+    room[5] = b / 4 % 2;
+    room[6] = b / 2 % 2;
+    room[7] = b % 2;
+}
+
+// Writes the bits of the memory and of a block.
+fn unpack(memory: u8, block: &[u8], history: &mut [u8])
+    requires { ⌜ (length (now block) ≡ 204) × (length (now history) ≡ 1638) ⌝ }
+    ensures { λ r. ⌜ now (history .exit) ≡ oldest memory ++ bitsOf (now (block .entry)) ⌝ }
+{
+    unpack_memory(memory, history);
+    let mut i: usize = 0;
+    while i < 204 {
+        let n = 8 * i + 6;
+        unpack_byte(block[i], &mut history[n..]);
+        i += 1;
+    }
+}
+
+// The sum of five bits, modulo 2.
+fn parity(a: u8, b: u8, c: u8, d: u8, e: u8) -> u8
+    requires { ⌜ (a < 2) × (b < 2) × (c < 2) × (d < 2) × (e < 2) ⌝ }
+    ensures { λ r. ⌜ r ≡ (a + (b + (c + (d + (e + 0))))) % 2 ⌝ }
+{
+    (a + b + c + d + e) % 2
+}
+
+// Writes a coded bit for each bit but the first six, from at on. The taps are counted from the oldest of seven bits.
+fn convolve(
+    history: &[u8],
+    a: usize,
+    b: usize,
+    c: usize,
+    d: usize,
+    e: usize,
+    coded: &mut [u8],
+    at: usize,
+)
+    requires { ⌜
+        (Bits (now history))
+        × (length (now history) ≡ 1638)
+        × (a ≤ 6)
+        × (b ≤ 6)
+        × (c ≤ 6)
+        × (d ≤ 6)
+        × (e ≤ 6)
+        × (at + 1632 ≤ length (now coded)) ⌝ }
+    ensures { λ r. ⌜ now (coded .exit) ≡ placed (now (coded .entry)) at (sweep (a ∷ b ∷ c ∷ d ∷ e ∷ []) (now (history .entry)) 0 1632) ⌝ }
+{
+    let mut n: usize = 0;
+    while n < 1632 {
+        coded[at + n] = parity(
+            history[n + a],
+            history[n + b],
+            history[n + c],
+            history[n + d],
+            history[n + e],
+        );
+        n += 1;
+    }
+}
+
+// Writes X and then Y of each bit but the first six.
+fn mother(history: &[u8], coded: &mut [u8])
+    requires { ⌜ (Bits (now history)) × (length (now history) ≡ 1638) × (length (now coded) ≡ 3264) ⌝ }
+    ensures { λ r. ⌜ now (coded .exit) ≡ sweep offsetsX (now (history .entry)) 0 1632 ++ sweep offsetsY (now (history .entry)) 0 1632 ⌝ }
+{
+    convolve(history, 6, 5, 4, 3, 0, coded, 0);
+    convolve(history, 6, 4, 3, 1, 0, coded, 1632);
+}
+
+// The number that six bits make, the oldest first.
+fn six_bits(a: u8, b: u8, c: u8, d: u8, e: u8, f: u8) -> u8
+    requires { ⌜ (a < 2) × (b < 2) × (c < 2) × (d < 2) × (e < 2) × (f < 2) ⌝ }
+    ensures { λ r. ⌜ r ≡ a + 2 * b + 4 * c + 8 * d + 16 * e + 32 * f ⌝ }
+{
+    a + 2 * b + 4 * c + 8 * d + 16 * e + 32 * f
+}
+
+// The memory that the last six bits make.
+fn memory_of(history: &[u8]) -> u8
+    requires { ⌜ (Bits (now history)) × (length (now history) ≡ 1638) ⌝ }
+    ensures { λ r. ⌜ r ≡ memoryAt (now (history .entry)) 1632 ⌝ }
+{
+    six_bits(
+        history[1632],
+        history[1633],
+        history[1634],
+        history[1635],
+        history[1636],
+        history[1637],
+    )
+}
+
+// Writes X and then Y of each bit of a block. Gives the memory after it.
+pub fn code_block(memory: u8, block: &[u8], coded: &mut [u8]) -> u8
+    requires { ⌜ (memory < 64) × (length (now block) ≡ 204) × (length (now coded) ≡ 3264) ⌝ }
+    ensures { λ r. ⌜
+        (r ≡ memoryAfter memory (bitsOf (now (block .entry))))
+        × (now (coded .exit) ≡ blockMother memory (bitsOf (now (block .entry)))) ⌝ }
+{
+    let mut history = [0u8; 1638];
+    unpack(memory, block, &mut history);
+    mother(&history, coded);
+    memory_of(&history)
+}

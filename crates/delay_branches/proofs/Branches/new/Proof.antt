@@ -1,0 +1,13 @@
+-- `delay_branches::Branches::new` meets its contract.
+-- Assumes nothing.
+use mathlib.Core.Path.{refl}
+use Rattle.delay_branches.specs.Block.{fresh}
+use Rattle.delay_branches.proofs.Branches.new.Statement.{statement}
+use Rattle.delay_branches.proofs.Branches.new.Tie as tie
+
+returns : tie.Need-returns
+unfolding fresh
+returns c = refl
+
+pub new-spec : {M : Type 1} → statement M
+new-spec = tie.close (tie.spec returns)

@@ -1,0 +1,32 @@
+-- `group_sync::GroupSync::step` meets its contract.
+-- Assumes nothing.
+use mathlib.Core.Path.{ap}
+use Rattle.group_sync.specs.Group.{step}
+use Rattle.group_sync.specs.declared.Place.{Place}
+use Rattle.group_sync.specs.declared.Outcome.the-variants.{Lost}
+use borrow.Author.Needs.{needs}
+use Rattle.group_sync.proofs.GroupSync.step.Statement.{statement}
+use Rattle.group_sync.proofs.GroupSync.step.Tie as tie
+
+enum-told : tie.Need-enum-told
+enum-told c = search needs
+
+moved-requires : tie.Need-moved-requires
+moved-requires c κs = search needs
+
+enum-known-repair : tie.Need-enum-known-repair
+enum-known-repair c = search needs
+
+accepted-requires : tie.Need-accepted-requires
+accepted-requires c κs = search needs
+
+returns : tie.Need-returns
+returns c = simp (c .before .enum-told .given .1) (ap (λ (p : Place). step Lost p) (c .moved .ensures))
+
+returns-2 : tie.Need-returns-2
+returns-2 c = simp (c .before .before .repair .given .1, c .accepted .ensures)
+
+pub step-spec : {M : Type 1} → statement M
+step-spec =
+    tie.close
+    (tie.spec enum-told moved-requires enum-known-repair accepted-requires returns returns-2)

@@ -1,0 +1,7 @@
+pub mod Places
+pub mod BlockCounts
+pub mod Steps
+pub mod Run
+pub mod Patterns
+pub mod Rates
+pub mod Parts

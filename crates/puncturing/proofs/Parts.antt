@@ -1,0 +1,208 @@
+-- A run of bits in parts: up to the next pattern, whole patterns, and the rest.
+-- Assumes nothing.
+use mathlib.Core.Path.{_≡_, refl, ap, ap₂, sym, _∙_}
+use mathlib.Core.List.{List, [], _++_, append-assoc}
+use Prim.Native.Nat.{ℕ, zero, suc, _+_, _-_, _*_, _%_, _≤_, _<_}
+use native.Mathlib.Nat.{zero-add, add-zero, add-suc, suc-add, suc-mul, zero-mul}
+use native.Mathlib.Omega.{arith}
+use lib.ListN.{length, getD, length-append}
+use Rattle.common.proofs.Computed as computed
+use Rattle.convolutional_code.specs.Bits.{Bits}
+use Rattle.convolutional_code.proofs.Bits.{bits-at}
+use Rattle.puncturing.specs.Mode.{modeOf}
+use Rattle.puncturing.specs.Step.{patternLength, nextPlace, heldCount, listOf, punctured, heldAfter}
+use Rattle.puncturing.specs.Run.{sentSymbols, placeAfter, heldBehind, patternSymbols, patternsSymbols, iBits, qBits}
+use Rattle.puncturing.proofs.Places.{agreed-at, end, _&_, Below, below}
+use Rattle.puncturing.proofs.Steps.{some-bits, next-lt, held-in-range}
+use Rattle.puncturing.proofs.Patterns.{length-pattern}
+use Rattle.puncturing.proofs.Rates.{table}
+
+-- ---- one run after another
+
+pub sent-append : (r p h : ℕ) (l : List ℕ) (n j k : ℕ)
+    → sentSymbols r p h l n (j + k) ≡ sentSymbols r p h l n j ++ sentSymbols r (placeAfter r p j) (heldBehind r p h l n j) l (n + j) k
+unfolding sentSymbols placeAfter heldBehind
+sent-append r p h l n zero k = ap₂ (λ (m i : ℕ). sentSymbols r p h l m i) (sym (add-zero n)) (zero-add k)
+sent-append r p h l n (suc j) k =
+    let x = getD l n 0 in
+    let y = getD l (1632 + n) 0 in
+    let p′ = nextPlace r p in
+    let h′ = heldAfter r p x y h in
+    ap (sentSymbols r p h l n) (suc-add j k)
+    ∙ ap (λ (s : List ℕ). listOf (punctured r p x y h) ++ s) (sent-append r p′ h′ l (suc n) j k)
+    ∙ sym (append-assoc (listOf (punctured r p x y h)) (sentSymbols r p′ h′ l (suc n) j) _)
+    ∙ ap
+    (λ (m : ℕ). listOf (punctured r p x y h) ++ sentSymbols r p′ h′ l (suc n) j ++ sentSymbols r (placeAfter r p′ j) (heldBehind r p′ h′ l (suc n) j) l m k)
+    (suc-add n j ∙ sym (add-suc n j))
+
+pub place-append : (r p j k : ℕ) → placeAfter r p (j + k) ≡ placeAfter r (placeAfter r p j) k
+unfolding placeAfter
+place-append r p zero k = ap (placeAfter r p) (zero-add k)
+place-append r p (suc j) k = ap (placeAfter r p) (suc-add j k) ∙ place-append r (nextPlace r p) j k
+
+pub held-append : (r p h : ℕ) (l : List ℕ) (n j k : ℕ)
+    → heldBehind r p h l n (j + k) ≡ heldBehind r (placeAfter r p j) (heldBehind r p h l n j) l (n + j) k
+unfolding placeAfter heldBehind
+held-append r p h l n zero k = ap₂ (λ (m i : ℕ). heldBehind r p h l m i) (sym (add-zero n)) (zero-add k)
+held-append r p h l n (suc j) k =
+    let p′ = nextPlace r p in
+    let h′ = heldAfter r p (getD l n 0) (getD l (1632 + n) 0) h in
+    ap (heldBehind r p h l n) (suc-add j k)
+    ∙ held-append r p′ h′ l (suc n) j k
+    ∙ ap (λ (m : ℕ). heldBehind r (placeAfter r p′ j) (heldBehind r p′ h′ l (suc n) j) l m k) (suc-add n j ∙ sym (add-suc n j))
+
+pub held-behind : (r p h : ℕ) (l : List ℕ) (n k : ℕ) → r < 5 → p < patternLength r → h ≤ heldCount r p → Bits l
+    → heldBehind r p h l n k ≤ heldCount r (placeAfter r p k)
+unfolding placeAfter heldBehind
+held-behind r p h l n zero hr hp hh t = hh
+held-behind r p h l n (suc k) hr hp hh t =
+    held-behind r (nextPlace r p) (heldAfter r p (getD l n 0) (getD l (1632 + n) 0) h) l (suc n) k hr (next-lt r p hp)
+    (held-in-range r p (getD l n 0) (getD l (1632 + n) 0) h hr hp (bits-at t (1632 + n))) t
+
+-- ---- where a pattern begins
+
+none-held : (r : ℕ) → r < 5 → heldCount r 0 ≡ 0
+unfolding heldCount modeOf
+none-held r h = computed.agree-at (λ r. heldCount r 0) (λ r. 0) 5 tt r h
+
+pub to-start : (r p : ℕ) → r < 5 → p < patternLength r → placeAfter r p ((patternLength r - p) % patternLength r) ≡ 0
+unfolding placeAfter patternLength modeOf
+to-start r p h k = agreed-at (λ r p. placeAfter r p ((patternLength r - p) % patternLength r)) (λ r p. 0) tt r p h k
+
+around : (r : ℕ) → r < 5 → placeAfter r 0 (patternLength r) ≡ 0
+unfolding placeAfter patternLength modeOf
+around r h = computed.agree-at (λ r. placeAfter r 0 (patternLength r)) (λ r. 0) 5 tt r h
+
+-- at the start of a pattern nothing is held
+held-start : (r p h : ℕ) (l : List ℕ) (n k : ℕ) → r < 5 → p < patternLength r → h ≤ heldCount r p → Bits l → placeAfter r p k ≡ 0
+    → heldBehind r p h l n k ≡ 0
+held-start r p h l n k hr hp hh t e =
+    let a : heldBehind r p h l n k ≤ heldCount r (placeAfter r p k) = held-behind r p h l n k hr hp hh t in
+    let b : heldCount r (placeAfter r p k) ≡ 0 = ap (heldCount r) e ∙ none-held r hr in
+    omega arith
+
+-- ---- one pattern
+
+-- the symbols of k bits, from bit n + j on
+abbrev sentNear : ℕ → ℕ → ℕ → List ℕ → ℕ → ℕ → ℕ → List ℕ
+sentNear r p h l n j zero = []
+sentNear r p h l n j (suc k) =
+    listOf (punctured r p (getD l (n + j) 0) (getD l (n + (1632 + j)) 0) h)
+    ++ sentNear r (nextPlace r p) (heldAfter r p (getD l (n + j) 0) (getD l (n + (1632 + j)) 0) h) l n (suc j) k
+
+near : (r p h : ℕ) (l : List ℕ) (m n j k : ℕ) → m ≡ n + j → sentSymbols r p h l m k ≡ sentNear r p h l n j k
+unfolding sentSymbols
+near r p h l m n j zero e = refl
+near r p h l m n j (suc k) e =
+    let f : 1632 + m ≡ n + (1632 + j) = omega arith in
+    let g : suc m ≡ n + suc j = omega arith in
+    (λ i.
+    listOf (punctured r p (getD l (e i) 0) (getD l (f i) 0) h)
+    ++ sentSymbols r (nextPlace r p) (heldAfter r p (getD l (e i) 0) (getD l (f i) 0) h) l (suc m) k)
+    ∙ ap (λ (s : List ℕ). listOf (punctured r p (getD l (n + j) 0) (getD l (n + (1632 + j)) 0) h) ++ s)
+    (near r (nextPlace r p) (heldAfter r p (getD l (n + j) 0) (getD l (n + (1632 + j)) 0) h) l (suc m) n (suc j) k g)
+
+-- a pattern gives each symbol of its mode
+abbrev Whole : ℕ → Type 0
+Whole r = (l : List ℕ) (n : ℕ) → patternSymbols (iBits r) (qBits r) l n ≡ sentNear r 0 0 l n 0 (patternLength r)
+
+wholes : Below Whole 5
+unfolding patternSymbols iBits qBits punctured heldAfter patternLength modeOf
+wholes = (λ l n. refl) & (λ l n. refl) & (λ l n. refl) & (λ l n. refl) & (λ l n. refl) & end
+
+pattern-sent : (r : ℕ) (l : List ℕ) (n : ℕ) → r < 5 → patternSymbols (iBits r) (qBits r) l n ≡ sentSymbols r 0 0 l n (patternLength r)
+pattern-sent r l n h = below Whole 5 wholes r h l n ∙ sym (near r 0 0 l n n 0 (patternLength r) (sym (add-zero n)))
+
+-- ---- patterns
+
+module _ (r : ℕ) (l : List ℕ) (hr : r < 5) (bits : Bits l) where
+  pub length-patterns : (n t : ℕ) → length (patternsSymbols (iBits r) (qBits r) l (patternLength r) n t) ≡ t * length (iBits r)
+  unfolding patternsSymbols
+  length-patterns n zero = sym (zero-mul (length (iBits r)))
+  length-patterns n (suc t) =
+      let e = length-pattern (iBits r) (qBits r) l n (table r hr .same) in
+      let f = length-patterns (n + patternLength r) t in
+      let g = suc-mul t (length (iBits r)) in
+      length-append (patternSymbols (iBits r) (qBits r) l n) _ ∙ ap₂ (λ (a b : ℕ). a + b) e f ∙ swap (length (iBits r)) (t * length (iBits r)) ∙ sym g
+    where
+      swap : (a b : ℕ) → a + b ≡ b + a
+      swap a b = omega arith
+
+  turns-more : (t : ℕ) → suc t * patternLength r ≡ patternLength r + t * patternLength r
+  turns-more t = suc-mul t (patternLength r) ∙ swap (t * patternLength r) (patternLength r)
+    where
+      swap : (a b : ℕ) → a + b ≡ b + a
+      swap a b = omega arith
+
+  pub patterns-place : (t : ℕ) → placeAfter r 0 (t * patternLength r) ≡ 0
+  unfolding placeAfter
+  patterns-place zero = ap (placeAfter r 0) (zero-mul (patternLength r))
+  patterns-place (suc t) =
+      ap (placeAfter r 0) (turns-more t)
+      ∙ place-append r 0 (patternLength r) (t * patternLength r)
+      ∙ ap (λ (p : ℕ). placeAfter r p (t * patternLength r)) (around r hr)
+      ∙ patterns-place t
+
+  starts : 0 < patternLength r
+  starts = some-bits r hr
+
+  pub patterns-held : (n t : ℕ) → heldBehind r 0 0 l n (t * patternLength r) ≡ 0
+  patterns-held n t = held-start r 0 0 l n (t * patternLength r) hr starts (omega arith) bits (patterns-place t)
+
+  pub patterns-sent : (n t : ℕ) → patternsSymbols (iBits r) (qBits r) l (patternLength r) n t ≡ sentSymbols r 0 0 l n (t * patternLength r)
+  unfolding patternsSymbols sentSymbols
+  patterns-sent n zero = ap (sentSymbols r 0 0 l n) (sym (zero-mul (patternLength r)))
+  patterns-sent n (suc t) =
+      let len = patternLength r in
+      ap₂ (λ (a b : List ℕ). a ++ b) (pattern-sent r l n hr) (patterns-sent (n + len) t)
+      ∙ sym
+      (ap (sentSymbols r 0 0 l n) (turns-more t)
+      ∙ sent-append r 0 0 l n len (t * len)
+      ∙ ap₂ (λ (p h : ℕ). sentSymbols r 0 0 l n len ++ sentSymbols r p h l (n + len) (t * len)) (around r hr)
+      (held-start r 0 0 l n len hr starts (omega arith) bits (around r hr)))
+
+  -- ---- a block in three parts
+  module _ (p h head turns rest : ℕ) (hp : p < patternLength r) (hh : h ≤ heldCount r p) (start : placeAfter r p head ≡ 0) (all : head + (turns * patternLength r + rest) ≡ 1632) where
+    len : ℕ
+    len = turns * patternLength r
+
+    nothing : heldBehind r p h l 0 head ≡ 0
+    nothing = held-start r p h l 0 head hr hp hh bits start
+
+    pub parts-symbols : sentSymbols r p h l 0 1632
+        ≡ sentSymbols r p h l 0 head
+        ++ patternsSymbols (iBits r) (qBits r) l (patternLength r) head turns
+        ++ sentSymbols r 0 0 l (head + turns * patternLength r) rest
+    unfolding len
+    parts-symbols =
+        let a = sentSymbols r p h l 0 head in
+        let b = sentSymbols r 0 0 l head len in
+        let c = sentSymbols r 0 0 l (head + len) rest in
+        let two : sentSymbols r 0 0 l head (len + rest) ≡ b ++ c
+        = sent-append r 0 0 l head len rest
+        ∙ ap₂ (λ (p h : ℕ). b ++ sentSymbols r p h l (head + len) rest) (patterns-place turns) (patterns-held head turns)
+        in
+        ap (sentSymbols r p h l 0) (sym all)
+        ∙ sent-append r p h l 0 head (len + rest)
+        ∙ (λ i. a ++ sentSymbols r (start i) (nothing i) l (zero-add head i) (len + rest))
+        ∙ ap (λ (s : List ℕ). a ++ s) two
+        ∙ sym (append-assoc a b c)
+        ∙ ap (λ (s : List ℕ). a ++ s ++ c) (sym (patterns-sent head turns))
+
+    pub parts-place : placeAfter r p 1632 ≡ placeAfter r 0 rest
+    unfolding len
+    parts-place =
+        ap (placeAfter r p) (sym all)
+        ∙ place-append r p head (len + rest)
+        ∙ ap (λ (q : ℕ). placeAfter r q (len + rest)) start
+        ∙ place-append r 0 len rest
+        ∙ ap (λ (q : ℕ). placeAfter r q rest) (patterns-place turns)
+
+    pub parts-held : heldBehind r p h l 0 1632 ≡ heldBehind r 0 0 l (head + turns * patternLength r) rest
+    unfolding len
+    parts-held =
+        ap (heldBehind r p h l 0) (sym all)
+        ∙ held-append r p h l 0 head (len + rest)
+        ∙ (λ i. heldBehind r (start i) (nothing i) l (zero-add head i) (len + rest))
+        ∙ held-append r 0 0 l head len rest
+        ∙ ap₂ (λ (p h : ℕ). heldBehind r p h l (head + len) rest) (patterns-place turns) (patterns-held head turns)

@@ -1,0 +1,221 @@
+// The puncturing of the coded bits, and the symbols that they make up.
+ghost use mathlib.Core.Path.{_≡_};
+ghost use Prim.Native.Nat.{ℕ, _+_, _-_, _*_, _<_, _≤_};
+ghost use lib.ListN.{length};
+ghost use Rattle.common.specs.Lists.{placed};
+ghost use Rattle.convolutional_code.specs.Bits.{Bits};
+ghost use Rattle.puncturing.specs.Step.{patternLength, nextPlace, heldCount, punctured, symbolsIn};
+ghost use Rattle.puncturing.specs.Run.{byKind, punctureStep, sentSymbols, placeAfter, progress};
+
+mod tables;
+mod whole;
+
+use tables::COMPLETED;
+use tables::COUNTS;
+use tables::HELD;
+use whole::whole_patterns;
+
+// The bits of each rate's pattern.
+pub const PATTERN_LENGTHS: [u8; 5] = [1, 4, 3, 5, 7];
+
+// What a bit completes: no symbol yet, or one with this number.
+pub enum Symbol {
+    None,
+    One(u8),
+}
+
+pub fn pattern_length(rate: u8) -> u8
+    requires { ⌜ rate < 5 ⌝ }
+    ensures { λ r. ⌜ r ≡ patternLength rate ⌝ }
+{
+    PATTERN_LENGTHS[rate as usize]
+}
+
+// The entry of a table for a place of a rate's pattern.
+fn cell(rate: u8, place: u8) -> usize
+    requires { ⌜ (rate < 5) × (place < patternLength rate) ⌝ }
+    ensures { λ r. ⌜ (r ≡ rate * 7 + place) × (r < 35) ⌝ }
+{
+    rate as usize * 7 + place as usize
+}
+
+pub fn held_count(rate: u8, place: u8) -> u8
+    requires { ⌜ (rate < 5) × (place < patternLength rate) ⌝ }
+    ensures { λ r. ⌜ r ≡ heldCount rate place ⌝ }
+{
+    HELD[cell(rate, place)]
+}
+
+pub fn block_count(rate: u8, place: u8) -> u16
+    requires { ⌜ (rate < 5) × (place < patternLength rate) ⌝ }
+    ensures { λ r. ⌜ r ≡ symbolsIn rate place 1632 ⌝ }
+{
+    COUNTS[cell(rate, place)]
+}
+
+fn completed_at(rate: u8, place: u8) -> u8
+    requires { ⌜ (rate < 5) × (place < patternLength rate) ⌝ }
+    ensures { λ r. ⌜ ((x y held : ℕ) → punctured rate place x y held ≡ byKind r x y held) ⌝ }
+{
+    COMPLETED[cell(rate, place)]
+}
+
+fn next_place(rate: u8, place: u8) -> u8
+    requires { ⌜ (rate < 5) × (place < patternLength rate) ⌝ }
+    ensures { λ r. ⌜ r ≡ nextPlace rate place ⌝ }
+{
+    (place + 1) % pattern_length(rate)
+}
+
+pub struct Punctured {
+    pub place: u8,
+    pub held: u8,
+    pub symbol: Symbol,
+}
+
+// X and Y of one bit.
+pub fn puncture(rate: u8, place: u8, held: u8, x: u8, y: u8) -> Punctured
+    requires { ⌜ (rate < 5) × (place < patternLength rate) × (held < 2) × (x < 2) × (y < 2) ⌝ }
+    ensures { λ r. ⌜ r ≡ punctureStep rate place held x y ⌝ }
+{
+    let next = next_place(rate, place);
+    let kept = y * held_count(rate, next);
+    let kind = completed_at(rate, place);
+    if kind == 0 {
+        return Punctured {
+            place: next,
+            held: kept,
+            symbol: Symbol::None,
+        };
+    }
+    if kind == 1 {
+        return Punctured {
+            place: next,
+            held: kept,
+            symbol: Symbol::One(2 * x + y),
+        };
+    }
+    if kind == 2 {
+        return Punctured {
+            place: next,
+            held: kept,
+            symbol: Symbol::One(2 * held + x),
+        };
+    }
+    Punctured {
+        place: next,
+        held: kept,
+        symbol: Symbol::One(2 * held + y),
+    }
+}
+
+// Where the puncturing stands after a run, and how many symbols are in the room.
+pub struct Progress {
+    pub place: u8,
+    pub held: u8,
+    pub count: usize,
+}
+
+// Bits from .. to, one by one, into a room that has space for their symbols from at on.
+fn puncture_bits(
+    rate: u8,
+    place: u8,
+    held: u8,
+    coded: &[u8],
+    from: usize,
+    to: usize,
+    room: &mut [u8],
+    at: usize,
+) -> Progress
+    requires { ⌜
+        (rate < 5)
+        × (place < patternLength rate)
+        × (held ≤ heldCount rate place)
+        × (Bits (now coded))
+        × (length (now coded) ≡ 3264)
+        × (from ≤ to)
+        × (to ≤ 1632)
+        × (at + length (sentSymbols rate place held (now coded) from (to - from)) ≤ length (now room)) ⌝ }
+    ensures { λ r. ⌜
+        (r ≡ progress rate place held (now (coded .entry)) from (to - from) at)
+        × (now (room .exit) ≡ placed (now (room .entry)) at (sentSymbols rate place held (now (coded .entry)) from (to - from))) ⌝ }
+{
+    let mut p = place;
+    let mut i = held;
+    let mut count = at;
+    let mut n = from;
+    while n < to {
+        let punctured = puncture(rate, p, i, coded[n], coded[1632 + n]);
+        let symbol = punctured.symbol;
+        if let Symbol::One(v) = symbol {
+            room[count] = v;
+            count += 1;
+        }
+        p = punctured.place;
+        i = punctured.held;
+        n += 1;
+    }
+    Progress {
+        place: p,
+        held: i,
+        count,
+    }
+}
+
+// X and Y of each bit of a block: bit by bit to the start of a pattern, then whole patterns up to tail, then the rest bit by bit.
+fn puncture_parts(
+    rate: u8,
+    place: u8,
+    held: u8,
+    coded: &[u8],
+    head: usize,
+    turns: usize,
+    tail: usize,
+    room: &mut [u8],
+) -> Progress
+    requires { ⌜
+        (rate < 5)
+        × (place < patternLength rate)
+        × (held ≤ heldCount rate place)
+        × (Bits (now coded))
+        × (length (now coded) ≡ 3264)
+        × (placeAfter rate place head ≡ 0)
+        × (tail ≡ head + turns * patternLength rate)
+        × (tail ≤ 1632)
+        × (length (sentSymbols rate place held (now coded) 0 1632) ≤ length (now room)) ⌝ }
+    ensures { λ r. ⌜
+        (r ≡ progress rate place held (now (coded .entry)) 0 1632 0)
+        × (now (room .exit) ≡ placed (now (room .entry)) 0 (sentSymbols rate place held (now (coded .entry)) 0 1632)) ⌝ }
+{
+    let first = puncture_bits(rate, place, held, coded, 0, head, room, 0);
+    let next = whole_patterns(rate, coded, head, turns, room, first.count);
+    puncture_bits(rate, 0, 0, coded, tail, 1632, room, next)
+}
+
+// X and Y of each bit of a block, into a room that is long enough.
+pub fn puncture_block(rate: u8, place: u8, held: u8, coded: &[u8], room: &mut [u8]) -> Progress
+    requires { ⌜
+        (rate < 5)
+        × (place < patternLength rate)
+        × (held ≤ heldCount rate place)
+        × (Bits (now coded))
+        × (length (now coded) ≡ 3264)
+        × (length (sentSymbols rate place held (now coded) 0 1632) ≤ length (now room)) ⌝ }
+    ensures { λ r. ⌜
+        (r ≡ progress rate place held (now (coded .entry)) 0 1632 0)
+        × (now (room .exit) ≡ placed (now (room .entry)) 0 (sentSymbols rate place held (now (coded .entry)) 0 1632)) ⌝ }
+{
+    let len = pattern_length(rate) as usize;
+    let head = (len - place as usize) % len;
+    let turns = (1632 - head) / len;
+    puncture_parts(
+        rate,
+        place,
+        held,
+        coded,
+        head,
+        turns,
+        head + turns * len,
+        room,
+    )
+}

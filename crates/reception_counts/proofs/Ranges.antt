@@ -1,0 +1,69 @@
+-- The ranges of the counts, and that a block more keeps them.
+-- Assumes nothing.
+use mathlib.Core.Path.{_≡_}
+use mathlib.Core.Bool.{true, false}
+use Prim.Native.Nat.{ℕ, _+_, _*_, _≤_, _<_, min}
+use native.Mathlib.Omega.{arith}
+use borrow.Author.Tests.{leb-true, eqb-true, le-leb, eq-eqb, ne-eqb}
+use Rattle.common.proofs.Choice.{both-true}
+use Rattle.reception_counts.specs.Counts.{middleFive, acceptedBlocks, countsInRange, one, counted, Room}
+use Rattle.reception_counts.specs.declared.Counts.{Counts}
+
+-- the four ranges, each by itself
+pub record CountsRange (n : Counts) : Type 0 where
+  pub most : n .taken ≤ 4294967295
+  pub middle : middleFive n ≡ n .taken
+  pub filled : n .filling ≡ min (n .taken) 11
+  pub bytes : n .changed ≤ 8 * acceptedBlocks n
+
+module _ (n : Counts) where
+  pub counts-range : countsInRange n ≡ true → CountsRange n
+  unfolding countsInRange
+  counts-range e =
+      let a = both-true _ _ e in
+      let b = both-true _ _ (a .1) in
+      let f = both-true _ _ (b .1) in
+      record { most = leb-true _ _ (a .0); middle = eqb-true _ _ (b .0); filled = eqb-true _ _ (f .0); bytes = leb-true _ _ (f .1) }
+
+  pub counts-in-range : CountsRange n → countsInRange n ≡ true
+  unfolding countsInRange
+  counts-in-range r = simp (le-leb _ _ (r .most), eq-eqb _ _ (r .middle), eq-eqb _ _ (r .filled), le-leb _ _ (r .bytes))
+
+  -- a test that fails
+  pub sum-fails : (middleFive n ≡ n .taken → ⊥) → n .taken ≤ 4294967295 → false ≡ countsInRange n
+  unfolding countsInRange
+  sum-fails e h = simp (le-leb _ _ h, ne-eqb _ _ e)
+
+  -- room for a block more
+  pub counts-room : (changed : ℕ) → CountsRange n → n .taken < 4294967295 → changed ≤ 8 → Room n changed
+  counts-room changed r l h =
+      let m = r .middle in
+      let b = r .bytes in
+      record { taken = l; middle = m; bytes = omega arith; few = h }
+
+-- ---- a block more
+
+-- while filling
+pub filling-range : (n : Counts) → CountsRange n → n .taken < 11 → CountsRange (counted n 9 0)
+filling-range n r h =
+    let m = r .middle in
+    let f = r .filled in
+    let b = r .bytes in
+    record { most = omega arith; middle = omega arith; filled = omega arith; bytes = omega arith }
+
+-- a block that was lost
+pub lost-range : (n : Counts) → CountsRange n → 11 ≤ n .taken → n .taken < 4294967295 → CountsRange (counted n 8 0)
+lost-range n r h l =
+    let m = r .middle in
+    let f = r .filled in
+    let b = r .bytes in
+    record { most = omega arith; middle = omega arith; filled = omega arith; bytes = omega arith }
+
+-- a block that was accepted: in one of these counts, and at most eight bytes more
+pub accepted-range : (n : Counts) (number changed : ℕ) → CountsRange n → 11 ≤ n .taken → n .taken < 4294967295 → changed ≤ 8
+    → one 9 number ≡ 0 → one 8 number ≡ 0 → one 0 number + one 10 number + one 11 number ≡ 1 → CountsRange (counted n number changed)
+accepted-range n number changed r h l w x y z =
+    let m = r .middle in
+    let f = r .filled in
+    let b = r .bytes in
+    record { most = omega arith; middle = omega arith; filled = omega arith; bytes = omega arith }

@@ -1,0 +1,64 @@
+-- The counts of a receiver: document 01, "Receiver". Of its words, taken counts the blocks received, filling those received before the
+-- deinterleaver is full, delivered the packets given, lost the uncorrectable blocks, waiting the codewords before group synchronization,
+-- outofstep the codewords at which it is lost, and changed the bytes corrected.
+-- Assumes nothing.
+use mathlib.Core.Bool.{Bool, false}
+use mathlib.Core.Path.{_≡_}
+use Prim.Native.Nat.{ℕ, _+_, _*_, _≤_, _<_, min}
+use lib.Dec.{leb, eqb}
+use Rattle.common.specs.Choice.{pick}
+use Rattle.group_sync.specs.declared.Outcome.{Outcome}
+use Rattle.group_sync.specs.declared.Outcome.the-variants.{Filling, Delivered, Lost, Waiting, OutOfStep}
+use Rattle.reception_counts.specs.declared.Counts.{Counts}
+
+abbrev pub zeroCounts : Counts
+zeroCounts = record { taken = 0; filling = 0; delivered = 0; lost = 0; waiting = 0; outofstep = 0; changed = 0 }
+
+-- the blocks that are in one of the middle five counts
+abbrev pub middleFive : Counts → ℕ
+middleFive n = n .filling + n .delivered + n .lost + n .waiting + n .outofstep
+
+-- the accepted blocks
+abbrev pub acceptedBlocks : Counts → ℕ
+acceptedBlocks n = n .delivered + n .waiting + n .outofstep
+
+-- the ranges of document 01: taken at most 4,294,967,295, the middle five add up to it, filling is the smaller of taken and 11,
+-- and at most eight bytes were changed in each accepted block
+unfoldable pub countsInRange : Counts → Bool
+countsInRange n =
+    pick (leb (n .taken) 4294967295)
+    (pick (eqb (middleFive n) (n .taken))
+    (pick (eqb (n .filling) (min (n .taken) 11)) (leb (n .changed) (8 * acceptedBlocks n)) false)
+    false)
+    false
+
+-- the number of document 01 for what a block taken comes to
+abbrev pub outcomeNumber : Outcome → ℕ
+outcomeNumber (Delivered place) = 0
+outcomeNumber Lost = 8
+outcomeNumber Filling = 9
+outcomeNumber Waiting = 10
+outcomeNumber OutOfStep = 11
+
+-- 1 for a block answered with the number k, else 0
+abbrev pub one : ℕ → ℕ → ℕ
+one k number = pick (eqb number k) 1 0
+
+-- the counts after a block taken, with its answer's number and the bytes changed in it
+abbrev pub counted : Counts → ℕ → ℕ → Counts
+counted n number changed = record {
+  taken = n .taken + 1;
+  filling = n .filling + one 9 number;
+  delivered = n .delivered + one 0 number;
+  lost = n .lost + one 8 number;
+  waiting = n .waiting + one 10 number;
+  outofstep = n .outofstep + one 11 number;
+  changed = n .changed + changed;
+}
+
+-- another block can be counted, with so many bytes changed, and no count wraps
+pub record Room (n : Counts) (changed : ℕ) : Type 0 where
+  pub taken : n .taken < 4294967295
+  pub middle : middleFive n ≡ n .taken
+  pub bytes : n .changed ≤ 8 * n .taken
+  pub few : changed ≤ 8

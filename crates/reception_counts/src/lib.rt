@@ -1,0 +1,107 @@
+// The counts of a receiver.
+ghost use mathlib.Core.Path.{_≡_};
+ghost use Prim.Native.Nat.{_+_, min};
+ghost use Rattle.reception_counts.specs.Counts.{Room, zeroCounts, countsInRange, outcomeNumber, counted};
+use group_sync::Outcome;
+
+// How many blocks were taken, what each of them came to, and how many bytes were changed in the accepted ones.
+pub struct Counts {
+    pub taken: u64,
+    pub filling: u64,
+    pub delivered: u64,
+    pub lost: u64,
+    pub waiting: u64,
+    pub outofstep: u64,
+    pub changed: u64,
+}
+
+impl Counts {
+    // A receiver takes this many blocks.
+    pub const MOST: u64 = 4294967295;
+
+    pub fn new() -> Counts
+        ensures { λ r. ⌜ r ≡ zeroCounts ⌝ }
+    {
+        Counts {
+            taken: 0,
+            filling: 0,
+            delivered: 0,
+            lost: 0,
+            waiting: 0,
+            outofstep: 0,
+            changed: 0,
+        }
+    }
+
+    // Whether the counts are such as a receiver can have. Each is compared with taken before any are added, so that no sum wraps.
+    pub fn in_range(self) -> bool
+        ensures { λ r. ⌜ r ≡ countsInRange self ⌝ }
+    {
+        let taken = self.taken;
+        let filling = self.filling;
+        let delivered = self.delivered;
+        let lost = self.lost;
+        let waiting = self.waiting;
+        let outofstep = self.outofstep;
+        let changed = self.changed;
+        if taken > 4294967295 {
+            return false;
+        }
+        if filling > taken {
+            return false;
+        }
+        if delivered > taken {
+            return false;
+        }
+        if lost > taken {
+            return false;
+        }
+        if waiting > taken {
+            return false;
+        }
+        if outofstep > taken {
+            return false;
+        }
+        if filling + delivered + lost + waiting + outofstep != taken {
+            return false;
+        }
+        if filling != least(taken, 11) {
+            return false;
+        }
+        changed <= 8 * (delivered + waiting + outofstep)
+    }
+}
+
+fn least(a: u64, b: u64) -> u64
+    ensures { λ r. ⌜ r ≡ min a b ⌝ }
+{
+    if a < b { a } else { b }
+}
+
+// The counts after a block that came to this, with so many bytes changed.
+pub fn count(counts: Counts, outcome: Outcome, changed: u64) -> Counts
+    requires { ⌜ Room counts changed ⌝ }
+    ensures { λ r. ⌜ r ≡ counted counts (outcomeNumber outcome) changed ⌝ }
+{
+    let mut next = counts;
+    next.taken = next.taken + 1;
+    next.changed = next.changed + changed;
+    match outcome {
+        Outcome::Filling => {
+            next.filling = next.filling + 1;
+        }
+        Outcome::Delivered(_) => {
+            next.delivered = next.delivered + 1;
+        }
+        Outcome::Lost => {
+            next.lost = next.lost + 1;
+        }
+        Outcome::Waiting => {
+            next.waiting = next.waiting + 1;
+        }
+        Outcome::OutOfStep => {
+            next.outofstep = next.outofstep + 1;
+        }
+    }
+    next
+}

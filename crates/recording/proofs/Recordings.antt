@@ -1,0 +1,232 @@
+-- A loop that takes the blocks of a recording: what is in the room, and what is left to take.
+-- Assumes nothing.
+use mathlib.Core.Path.{_≡_, refl, sym, ap, ap₂, subst, subst₂, _∙_}
+use mathlib.Core.Bool.{Bool, true, false}
+use mathlib.Core.List.{List, [], _∷_, _++_, append-assoc, append-nil, flatten}
+use mathlib.Core.Logic.{_⊎_, inl, inr}
+use Prim.Native.Nat.{ℕ, _+_, _-_, _*_, _/_, _≤_, _<_}
+use Prim.{tt}
+use native.Mathlib.Decide.{decLt}
+use native.Mathlib.Omega.{arith}
+use borrow.Author.Tests.{ne-eqb, lt-ltb, le-ltb}
+use borrow.Rule.Slice.PartMut.{putMid, midOf}
+use lib.Dec.{eqb}
+use lib.ListN.{length, getD, take, drop, length-append, length-drop, take-append-drop, drop-of-length-le}
+use lib.Seq.{take-all, take-at, drop-at, drop-drop, length-take-le}
+use Rattle.common.specs.Choice.{pick}
+use Rattle.answer.specs.Number.{numberOf}
+use Rattle.reed_solomon.specs.Decode.{Decodes}
+use Rattle.randomizer.specs.Packet.{randomized, derandomized}
+use Rattle.randomizer.proofs.Laws.{length-randomized}
+use Rattle.delay_branches.specs.declared.Side.the-variants.{Receiving}
+use Rattle.delay_branches.proofs.Blocks.{length-out}
+use Rattle.group_sync.specs.Group.{PlaceOf}
+use Rattle.group_sync.specs.declared.Outcome.{Outcome}
+use Rattle.group_sync.specs.declared.Outcome.the-variants.{Filling, Delivered, Lost, Waiting, OutOfStep}
+use Rattle.group_sync.proofs.Synchronization.{outcome-place}
+use Rattle.reception_counts.specs.Counts.{outcomeNumber}
+use Rattle.receiver.specs.Receive.{delayedBlock, repairOf, stepOf, roomAfter, refusal, Ready, Receives}
+use Rattle.receiver.specs.Run.{Call, answerOf, after, roomOf, Roomy, blocksOf}
+use Rattle.receiver.specs.declared.Receiver.{Receiver}
+use Rattle.receiver.specs.declared.Received.{Received}
+use Rattle.receiver.proofs.Calls.{state-range, ready-number, ready-room, left-length}
+use Rattle.receiver.proofs.Reached.{Refused, ready-or-refused}
+use Rattle.recording.specs.Recording.{Recording, Takes, givenBytes}
+
+-- ---- the room after a call
+
+-- the packet that a call gives, or none
+abbrev givenBy : ℕ → List ℕ → List (List ℕ)
+givenBy number exit = pick (eqb number 0) (take 188 exit ∷ []) []
+
+record Filled (number : ℕ) (room exit : List ℕ) : Type 0 where
+  pub size : length (flatten (givenBy number exit)) ≡ givenBytes number
+  pub after-it : exit ≡ flatten (givenBy number exit) ++ drop (givenBytes number) room
+
+packet-length : (place : ℕ) (left : List ℕ) → place ≤ 7 → length left ≡ 204 → length (derandomized place (take 188 left)) ≡ 188
+unfolding derandomized
+packet-length place left h n =
+    let p = take 188 left in
+    omega (arith, length-drop 1 (randomized place p), length-randomized place p h (length-take-le 188 left (omega arith)))
+
+outcome-filled : (o : Outcome) (left room : List ℕ) → PlaceOf o → length left ≡ 204 → Filled (outcomeNumber o) room (roomAfter o left room)
+unfolding flatten
+outcome-filled Filling left room h n = record { size = refl; after-it = refl }
+outcome-filled (Delivered place) left room h n =
+    let d = derandomized place (take 188 left) in
+    let e : take 188 (d ++ drop 188 room) ++ [] ≡ d = append-nil _ ∙ take-at d (drop 188 room) 188 (packet-length place left h n) in
+    record { size = ap length e ∙ packet-length place left h n; after-it = sym (ap (λ (x : List ℕ). x ++ drop 188 room) e) }
+outcome-filled Lost left room h n = record { size = refl; after-it = refl }
+outcome-filled Waiting left room h n = record { size = refl; after-it = refl }
+outcome-filled OutOfStep left room h n = record { size = refl; after-it = refl }
+
+refused-filled : (n a : ℕ) (room b : List ℕ) → 0 < n → Filled (pick (eqb n 0) a n) room (pick (eqb n 0) b room)
+unfolding flatten
+refused-filled n a room b h =
+    let e = ne-eqb n 0 (λ e. omega arith) in
+    simp e (record { size = simp e; after-it = simp e })
+
+module _ (s : Receiver) (c : Call) (d : Decodes (delayedBlock s (c .block)) (c .left) (c .decoded)) where
+  step-place : Ready s (c .block) (c .room) → PlaceOf (stepOf s (c .left) (c .decoded) .outcome)
+  step-place y = by (decLt (s .counts .taken) 11)
+    where
+      by : Dec (s .counts .taken < 11) → PlaceOf (stepOf s (c .left) (c .decoded) .outcome)
+      by (yes h) = simp (lt-ltb _ _ h) tt
+      by (no h) =
+          let k : 11 ≤ s .counts .taken = omega arith in
+          simp (le-ltb _ _ k) (outcome-place (s .sync) (repairOf (c .decoded) (getD (c .left) 0 0)) (state-range s (y .range) .place))
+
+  call-filled : Filled (answerOf s c) (c .room) (roomOf s c)
+  call-filled = by (ready-or-refused s (c .block) (c .room))
+    where
+      by : Ready s (c .block) (c .room) ⊎ Refused s (c .block) (c .room) → Filled (answerOf s c) (c .room) (roomOf s c)
+      by (inl y) =
+          subst₂ (λ (n : ℕ) (x : List ℕ). Filled n (c .room) x)
+          (sym (ready-number s (c .block) (c .room) y (c .left) (c .decoded))) (sym (ready-room s (c .block) (c .room) y (c .left) (c .decoded)))
+          (outcome-filled (stepOf s (c .left) (c .decoded) .outcome) (c .left) (c .room) (step-place y)
+          (left-length (delayedBlock s (c .block)) (c .left) (c .decoded) d (length-out Receiving (s .deinterleaver .branches) (c .block))))
+      by (inr f) =
+          refused-filled (refusal s (c .block) (c .room)) (outcomeNumber (stepOf s (c .left) (c .decoded) .outcome)) (c .room)
+          (roomAfter (stepOf s (c .left) (c .decoded) .outcome) (c .left) (c .room)) (f .some)
+
+  -- a call on the first block, before those on the blocks after it
+  recorded-more : (bytes : List ℕ) (packets : List (List ℕ)) (last : Receiver) → c .block ≡ take 204 bytes → 204 ≤ length bytes → Roomy c
+      → Recording (after s c) (drop 204 bytes) packets last → Recording s bytes (givenBy (answerOf s c) (roomOf s c) ++ packets) last
+  unfolding flatten
+  recorded-more bytes packets last e h o r = record {
+    calls = c ∷ r .calls;
+    rest = r .rest;
+    whole =
+        sym (take-append-drop 204 bytes) ∙ ap₂ (λ (a b : List ℕ). a ++ b) (sym e) (r .whole)
+        ∙ sym (append-assoc (c .block) (flatten (blocksOf (r .calls))) (r .rest));
+    sizes = (ap length e ∙ length-take-le 204 bytes h, r .sizes);
+    short = r .short;
+    decodes = (d, r .decodes);
+    roomy = (o, r .roomy);
+    given = ap (λ (x : List (List ℕ)). givenBy (answerOf s c) (roomOf s c) ++ x) (r .given);
+    state = r .state;
+  }
+
+few-given : (number : ℕ) → givenBytes number ≤ 188
+few-given number = by (eqb number 0) refl
+  where
+    by : (t : Bool) → eqb number 0 ≡ t → givenBytes number ≤ 188
+    by true e = simp e (omega arith)
+    by false e = simp e (omega arith)
+
+flatten-join : (a b : List (List ℕ)) → flatten (a ++ b) ≡ flatten a ++ flatten b
+unfolding flatten
+flatten-join [] b = refl
+flatten-join (x ∷ a) b = ap (λ (l : List ℕ). x ++ l) (flatten-join a b) ∙ sym (append-assoc x (flatten a) (flatten b))
+
+-- ---- the loop
+
+-- The packets so far are in the room, and there is room for the blocks from at on. What those come to, after the packets so far, is what the recording comes to.
+pub record Progress (first : Receiver) (bytes room₀ room : List ℕ) (s : Receiver) (at count : ℕ) : Type 0 where
+  pub within : at ≤ length bytes
+  pub enough : count + 188 * ((length bytes - at) / 204) ≤ length room₀
+  pub front : List (List ℕ)
+  pub counted : length (flatten front) ≡ count
+  pub written : room ≡ flatten front ++ drop count room₀
+  pub further : (packets : List (List ℕ)) (last : Receiver) → Recording s (drop at bytes) packets last → Recording first bytes (front ++ packets) last
+
+pub progress-start : (s : Receiver) (bytes room : List ℕ) → 188 * (length bytes / 204) ≤ length room → Progress s bytes room room s 0 0
+unfolding flatten
+progress-start s bytes room h = record {
+  within = omega arith;
+  enough = omega arith;
+  front = [];
+  counted = refl;
+  written = refl;
+  further = λ packets last r. r;
+}
+
+module _ {first : Receiver} {bytes room₀ room : List ℕ} {s : Receiver} {at count : ℕ} (p : Progress first bytes room₀ room s at count) where
+  pub progress-end : length bytes - at < 204 → Takes first bytes room₀ count s room
+  unfolding flatten
+  progress-end h =
+      let d = length-drop at bytes in
+      let r : Recording s (drop at bytes) [] s = record {
+        calls = [];
+        rest = drop at bytes;
+        whole = refl;
+        sizes = tt;
+        short = omega arith;
+        decodes = tt;
+        roomy = tt;
+        given = refl;
+        state = refl;
+      } in
+      record {
+        packets = p .front;
+        recording = subst (λ (x : List (List ℕ)). Recording first bytes x s) (append-nil (p .front)) (p .further [] s r);
+        counted = sym (p .counted);
+        written = p .written;
+      }
+
+  pub progress-room : count ≤ length room
+  progress-room = omega (arith, ap length (p .written), length-append (flatten (p .front)) (drop count room₀), p .counted)
+
+  pub progress-length : length room ≡ length room₀
+  progress-length =
+      omega (arith, ap length (p .written), length-append (flatten (p .front)) (drop count room₀), length-drop count room₀, p .counted, p .enough)
+
+  front-room : take count room ≡ flatten (p .front)
+  front-room = ap (take count) (p .written) ∙ take-at (flatten (p .front)) (drop count room₀) count (p .counted)
+
+  back-room : drop count room ≡ drop count room₀
+  back-room = ap (drop count) (p .written) ∙ drop-at (flatten (p .front)) (drop count room₀) count (p .counted)
+
+  module _ (h : 204 ≤ length bytes - at) where
+    pub progress-count : (number : ℕ) → count + givenBytes number ≤ length room₀
+    progress-count number = omega (arith, p .enough, few-given number, h)
+
+    -- a call on this block and the rest of the room
+    module _ {r : Received} {exit : List ℕ}
+        (m : Receives s (take (at + 204 - at) (drop at bytes)) (midOf count (length room - count) room) r exit) where
+      kept : Receives s (take 204 (drop at bytes)) (drop count room) r exit
+      kept =
+          let k : at + 204 - at ≡ 204 = omega arith in
+          subst₂ (λ (a b : List ℕ). Receives s a b r exit) (ap (λ (j : ℕ). take j (drop at bytes)) k)
+          (take-all (length room - count) (drop count room) (omega (arith, length-drop count room))) m
+
+      call : Call
+      call = record { block = take 204 (drop at bytes); room = drop count room; left = kept .left; decoded = kept .decoded }
+
+      filled : Filled (numberOf (r .answer)) (drop count room) exit
+      unfolding call
+      filled = subst₂ (λ (n : ℕ) (x : List ℕ). Filled n (drop count room) x) (sym (kept .number)) (sym (kept .written)) (call-filled s call (kept .decodes))
+
+      more : Progress first bytes room₀ (putMid count (length room - count) room exit) (r .receiver) (at + 204) (count + givenBytes (numberOf (r .answer)))
+      unfolding call
+      more =
+          let n = givenBytes (numberOf (r .answer)) in
+          let g = givenBy (numberOf (r .answer)) exit in
+          record {
+            within = omega (arith, h);
+            enough = omega (arith, p .enough, few-given (numberOf (r .answer)), h);
+            front = p .front ++ g;
+            counted =
+                ap length (flatten-join (p .front) g) ∙ length-append (flatten (p .front)) (flatten g)
+                ∙ ap₂ (λ (a b : ℕ). a + b) (p .counted) (filled .size);
+            written =
+                ap₂ (λ (a b : List ℕ). a ++ b) front-room
+                (ap (λ (l : List ℕ). exit ++ l) (drop-of-length-le (drop count room) {i = length room - count} (omega (arith, length-drop count room))) ∙ append-nil exit
+                ∙ filled .after-it ∙ ap (λ (l : List ℕ). flatten g ++ drop n l) back-room ∙ ap (λ (l : List ℕ). flatten g ++ l) (drop-drop n count room₀))
+                ∙ sym (append-assoc (flatten (p .front)) (flatten g) (drop (count + n) room₀))
+                ∙ ap (λ (l : List ℕ). l ++ drop (count + n) room₀) (sym (flatten-join (p .front) g));
+            further = λ packets last t.
+                let u : Recording (after s call) (drop 204 (drop at bytes)) packets last =
+                subst₂ (λ (a : Receiver) (b : List ℕ). Recording a b packets last) (kept .state) (sym (drop-drop 204 at bytes)) t in
+                let v : Recording s (drop at bytes) (givenBy (answerOf s call) (roomOf s call) ++ packets) last =
+                recorded-more s call (kept .decodes) (drop at bytes) packets last refl (omega (arith, length-drop at bytes))
+                (omega (arith, ap length back-room, length-drop count room₀, p .enough, h)) u in
+                subst (λ (x : List (List ℕ)). Recording first bytes x last)
+                (ap₂ (λ (k : ℕ) (x : List ℕ). p .front ++ (givenBy k x ++ packets)) (sym (kept .number)) (sym (kept .written)) ∙ sym (append-assoc (p .front) g packets))
+                (p .further (givenBy (answerOf s call) (roomOf s call) ++ packets) last v);
+          }
+
+      pub progress-more : {n : ℕ} → n ≡ givenBytes (numberOf (r .answer))
+          → Progress first bytes room₀ (putMid count (length room - count) room exit) (r .receiver) (at + 204) (count + n)
+      progress-more e =
+          subst (λ (k : ℕ). Progress first bytes room₀ (putMid count (length room - count) room exit) (r .receiver) (at + 204) (count + k)) (sym e) more

@@ -1,0 +1,49 @@
+-- What a receiver makes of a recording: the calls on its whole blocks, one after the other.
+-- Assumes nothing.
+use mathlib.Core.Path.{_≡_}
+use mathlib.Core.List.{List, _++_, flatten}
+use Prim.Native.Nat.{ℕ, _-_, _*_, _/_, _<_}
+use lib.Dec.{ltb, eqb}
+use lib.ListN.{length, drop}
+use Rattle.common.specs.Choice.{pick}
+use Rattle.common.specs.Lists.{All, Length}
+use Rattle.receiver.specs.Receive.{inRange}
+use Rattle.receiver.specs.Run.{Call, Calls, Roomy, blocksOf, packetsGiven, afterCalls}
+use Rattle.receiver.specs.declared.Receiver.{Receiver}
+
+-- The recording is cut into blocks of 204 bytes, and the fewer than 204 bytes after the last of them are in none.
+-- There is one call for each block, in their order, with room for a packet. These are the packets given and the state after the calls.
+pub record Recording (s : Receiver) (bytes : List ℕ) (packets : List (List ℕ)) (last : Receiver) : Type 0 where
+  pub calls : List Call
+  pub rest : List ℕ
+  pub whole : bytes ≡ flatten (blocksOf calls) ++ rest
+  pub sizes : All (Length 204) (blocksOf calls)
+  pub short : length rest < 204
+  pub decodes : Calls s calls
+  pub roomy : All Roomy calls
+  pub given : packets ≡ packetsGiven s calls
+  pub state : last ≡ afterCalls s calls
+
+-- the packets stand in the room, one after the other, and count is how many bytes they are
+pub record Takes (s : Receiver) (bytes room : List ℕ) (count : ℕ) (last : Receiver) (exit : List ℕ) : Type 0 where
+  pub packets : List (List ℕ)
+  pub recording : Recording s bytes packets last
+  pub counted : count ≡ length (flatten packets)
+  pub written : exit ≡ flatten packets ++ drop count room
+
+-- how many bytes of packet a call gives, by the number of its answer
+abbrev pub givenBytes : ℕ → ℕ
+givenBytes number = pick (eqb number 0) 188 0
+
+-- The tests before the work, in the order of document 01, each for all the blocks: 5 for a state out of range, 4 where there is not room for
+-- a packet for each whole block, 7 where not all of them can be counted; 0 where none refuses.
+abbrev pub recordingNumber : Receiver → List ℕ → List ℕ → ℕ
+recordingNumber s bytes room =
+    pick (inRange s)
+    (pick (ltb (length room) (188 * (length bytes / 204))) 4 (pick (ltb (4294967295 - s .counts .taken) (length bytes / 204)) 7 0))
+    5
+
+-- what taking a recording promises: all as before, or each whole block taken
+pub data ReceivesRecording (s : Receiver) (bytes room : List ℕ) (number count : ℕ) (last : Receiver) (exit : List ℕ) : Type 0 where
+  refused : number ≡ recordingNumber s bytes room → 0 < number → count ≡ 0 → last ≡ s → exit ≡ room → ReceivesRecording s bytes room number count last exit
+  taken : recordingNumber s bytes room ≡ 0 → number ≡ 0 → Takes s bytes room count last exit → ReceivesRecording s bytes room number count last exit

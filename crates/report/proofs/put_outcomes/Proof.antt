@@ -1,0 +1,59 @@
+-- `report::put_outcomes` meets its contract.
+-- Assumes nothing.
+use mathlib.Core.Path.{refl}
+use native.Mathlib.Omega.{arith}
+use Rattle.report.specs.Text.{lineText, lostKey, waitingKey, outofstepKey}
+use Rattle.report.proofs.Lines.{joined-appended, restated}
+use borrow.Author.Needs.{needs}
+use Rattle.report.proofs.put_outcomes.Statement.{statement}
+use Rattle.report.proofs.put_outcomes.Tie as tie
+
+slice-aggregate-put-line : tie.Need-slice-aggregate-put-line
+slice-aggregate-put-line c = search needs
+
+put-line-requires : tie.Need-put-line-requires
+put-line-requires c κs = search needs
+
+slice-aggregate-put-line-2 : tie.Need-slice-aggregate-put-line-2
+slice-aggregate-put-line-2 c = search needs
+
+put-line-requires-2 : tie.Need-put-line-requires-2
+put-line-requires-2 c κs = search needs
+
+slice-aggregate-put-line-3 : tie.Need-slice-aggregate-put-line-3
+slice-aggregate-put-line-3 c = search needs
+
+put-line-requires-3 : tie.Need-put-line-requires-3
+put-line-requires-3 c κs = search needs
+
+slice-aggregate-put-line-4 : tie.Need-slice-aggregate-put-line-4
+slice-aggregate-put-line-4 c = search needs
+
+put-line-requires-4 : tie.Need-put-line-requires-4
+put-line-requires-4 c κs = search needs
+
+same-length : tie.Need-same-length
+same-length c = search needs
+
+returns : tie.Need-returns
+returns c =
+    let a = c .before .before .before .before .before .before .before .before .before .before .before .before .before .before .before .before .before .before .before .before .before .args in
+    let two = joined-appended _ (lineText lostKey (a .counts .lost)) _ _ _ (a .at) _ _ _ _ (c .before .before .before .before .before .before .before .before .before .before .before .before .before .before .before .before .before .put-line .ensures) (c .before .before .before .before .before .before .before .before .before .before .before .before .put-line2 .ensures) in
+    let three = joined-appended _ (lineText waitingKey (a .counts .waiting)) _ _ _ (a .at) _ _ _ _ two (c .before .before .before .before .before .before .before .put-line3 .ensures) in
+    let four = joined-appended _ (lineText outofstepKey (a .counts .outofstep)) _ _ _ (a .at) _ _ _ _ three (c .before .before .put-line4 .ensures) in
+    restated 199 four refl (omega arith)
+
+pub put-outcomes-spec : {M : Type 1} → statement M
+put-outcomes-spec =
+    tie.close
+    (tie.spec
+    slice-aggregate-put-line
+    put-line-requires
+    slice-aggregate-put-line-2
+    put-line-requires-2
+    slice-aggregate-put-line-3
+    put-line-requires-3
+    slice-aggregate-put-line-4
+    put-line-requires-4
+    same-length
+    returns)

@@ -1,0 +1,5 @@
+pub mod Counting
+pub mod Buffers
+pub mod Progress
+pub mod Outcome
+pub mod Idle

@@ -1,0 +1,92 @@
+-- `transmission::send_run` meets its contract.
+-- Assumes nothing.
+use mathlib.Core.Path.{_≡_, refl, sym, ap, _∙_}
+use mathlib.Core.Bool.{true}
+use borrow.Author.Tests.{eq-eqb, ne-eqb, lt-ltb, le-ltb, ltb-false, not-true, not-false}
+use lib.Dec.{ltb}
+use lib.ListN.{length}
+use Rattle.transmission.specs.Run.{packetsOf, synced, runSymbols}
+use Rattle.transmission.proofs.Counting.{length-run}
+use Rattle.transmission.proofs.Outcome.{run-refused, run-answered}
+use borrow.Author.Needs.{needs}
+use Rattle.transmission.proofs.send_run.Statement.{statement}
+use Rattle.transmission.proofs.send_run.Tie as tie
+
+returns : tie.Need-returns
+returns c =
+    let a = c .before .before .before in
+    run-refused (a .args .rate) (a .args .packets .now) (a .args .room .now) 6 (simp (le-ltb _ _ (c .if1 .taken))) refl
+
+returns-2 : tie.Need-returns-2
+returns-2 c =
+    let a = c .before .before .before .before in
+    run-refused (a .args .rate) (a .args .packets .now) (a .args .room .now) 1 (simp (lt-ltb _ _ (c .before .if1 .left), ne-eqb _ _ (c .if2 .taken))) refl
+
+is-synced-requires : tie.Need-is-synced-requires
+is-synced-requires c κs = search needs
+
+returns-3 : tie.Need-returns-3
+returns-3 c =
+    let a = c .before .before .before .before .before .before in
+    let e = c .before .before in
+    run-refused (a .args .rate) (a .args .packets .now) (a .args .room .now) 2
+    (simp (lt-ltb _ _ (e .before .if1 .left), eq-eqb _ _ (e .if2 .left), sym (c .before .is-synced .ensures) ∙ not-true _ (c .if3 .taken))) refl
+
+-- past the third test
+in-step : (c : tie.Else3) → synced (packetsOf (c .before .before .before .before .before .before .args .packets .now)) ≡ true
+in-step c = sym (c .before .is-synced .ensures) ∙ not-false _ (c .if3 .left)
+
+-- the fourth
+short : (c : tie.After-is-short)
+    → let a = c .before .before .before .before .before .before .before .args in
+    ltb (length (a .room .now)) (length (runSymbols (a .rate) (a .packets .now))) ≡ c .is-short .result
+short c =
+    let e = c .before .before .before in
+    let a = e .before .before .before .before .args in
+    ap (ltb (length (a .room .now))) (length-run (a .rate) (e .before .if1 .left) (a .packets .now)) ∙ sym (c .is-short .ensures)
+
+is-short-requires : tie.Need-is-short-requires
+is-short-requires c κs = search needs
+
+returns-4 : tie.Need-returns-4
+returns-4 c =
+    let a = c .before .before .before .before .before .before .before .before in
+    let d = c .before .before in
+    let e = d .before .before in
+    run-refused (a .args .rate) (a .args .packets .now) (a .args .room .now) 4
+    (simp (lt-ltb _ _ (e .before .if1 .left), eq-eqb _ _ (e .if2 .left), in-step d, short (c .before) ∙ c .if4 .taken)) refl
+
+send-packets-requires : tie.Need-send-packets-requires
+send-packets-requires c κs =
+    let f = c .before in
+    let d = f .before .before in
+    let e = d .before .before in
+    record { known = e .before .if1 .left; whole = e .if2 .left; sync = in-step d; fits = ltb-false _ _ (short (f .before) ∙ f .if4 .left) }
+
+same-length : tie.Need-same-length
+same-length c = search needs
+
+returns-5 : tie.Need-returns-5
+returns-5 c =
+    let t = c .before .before in
+    let f = t .before .before in
+    let d = f .before .before in
+    let e = d .before .before in
+    let a = e .before .before .before .before in
+    let r = t .send-packets .ensures in
+    run-answered (a .args .rate) (a .args .packets .now) (a .args .room .now)
+    (simp (lt-ltb _ _ (e .before .if1 .left), eq-eqb _ _ (e .if2 .left), in-step d, short (f .before) ∙ f .if4 .left)) (r .0) (r .1)
+
+pub send-run-spec : {M : Type 1} → statement M
+send-run-spec =
+    tie.close
+    (tie.spec
+    returns
+    returns-2
+    is-synced-requires
+    returns-3
+    is-short-requires
+    returns-4
+    send-packets-requires
+    same-length
+    returns-5)

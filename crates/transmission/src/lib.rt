@@ -1,0 +1,121 @@
+// A transmission: a whole list of packets, sent with a fresh sender.
+ghost use mathlib.Core.Path.{_≡_};
+ghost use mathlib.Core.List.{_++_};
+ghost use Prim.Native.Nat.{_*_, _%_, _<_};
+ghost use lib.Dec.{ltb};
+ghost use lib.ListN.{length, drop};
+ghost use Rattle.answer.specs.Number.{numberOf};
+ghost use Rattle.puncturing.specs.Step.{symbolsIn};
+ghost use Rattle.transmission.specs.Run.{packetsOf, synced, runSymbols, Sendable, Runs};
+use answer::Answer;
+use inner_code::InnerCoder;
+use sender::Sender;
+
+// The bits of a coded block.
+const BLOCK_BITS: u16 = 1632;
+
+// An answer, and how many symbols were written.
+pub struct Run {
+    pub answer: Answer,
+    pub count: usize,
+}
+
+// Whether each packet begins with the sync byte.
+fn is_synced(packets: &[u8]) -> bool
+    requires { ⌜ length (now packets) % 188 ≡ 0 ⌝ }
+    ensures { λ r. ⌜ r ≡ synced (packetsOf (now (packets .entry))) ⌝ }
+{
+    let mut start: usize = 0;
+    while start < packets.len() {
+        if packets[start] != 0x47 {
+            return false;
+        }
+        start += Sender::PACKET_LENGTH;
+    }
+    true
+}
+
+// Whether a room is too short for the symbols of so many packets.
+fn is_short(rate: u8, packets: usize, room: usize) -> bool
+    requires { ⌜ rate < 5 ⌝ }
+    ensures { λ r. ⌜ r ≡ ltb room (symbolsIn rate 0 (1632 * packets)) ⌝ }
+{
+    let lengths = InnerCoder::PATTERN_LENGTHS;
+    let length = lengths[rate as usize] as u16;
+    let mut place: u8 = 0;
+    let mut left = room;
+    let mut k: usize = 0;
+    while k < packets {
+        let coder = InnerCoder {
+            rate,
+            memory: 0,
+            place,
+            held: 0,
+        };
+        let needed = coder.symbol_count();
+        if left < needed {
+            return true;
+        }
+        left -= needed;
+        place = ((place as u16 + BLOCK_BITS) % length) as u8;
+        k += 1;
+    }
+    false
+}
+
+// Sends the packets one after the other. Gives the number of symbols.
+fn send_packets(rate: u8, packets: &[u8], room: &mut [u8]) -> usize
+    requires { ⌜ Sendable rate (now packets) (now room) ⌝ }
+    ensures { λ r. ⌜
+        (r ≡ length (runSymbols rate (now (packets .entry))))
+        × (now (room .exit) ≡ runSymbols rate (now (packets .entry)) ++ drop (length (runSymbols rate (now (packets .entry)))) (now (room .entry))) ⌝ }
+{
+    let created = Sender::new(rate);
+    let mut sender = created.sender;
+    let mut at: usize = 0;
+    let mut count: usize = 0;
+    while at < packets.len() {
+        let end = at + Sender::PACKET_LENGTH;
+        let sent = sender.send(&packets[at..end], &mut room[count..]);
+        sender = sent.sender;
+        count += sent.count;
+        at = end;
+    }
+    count
+}
+
+// Sends a whole list of packets with a fresh sender: writes the symbols that EN 300 421 gives for them.
+// Nothing is written unless all of them can be sent.
+pub fn send_run(rate: u8, packets: &[u8], room: &mut [u8]) -> Run
+    ensures { λ r. ⌜ Runs rate (now (packets .entry)) (now (room .entry)) (numberOf (r .answer)) (r .count) (now (room .exit)) ⌝ }
+{
+    if rate >= 5 {
+        return Run {
+            answer: Answer::UnknownRate,
+            count: 0,
+        };
+    }
+    if packets.len() % Sender::PACKET_LENGTH != 0 {
+        return Run {
+            answer: Answer::PacketLength,
+            count: 0,
+        };
+    }
+    if !is_synced(packets) {
+        return Run {
+            answer: Answer::SyncByte,
+            count: 0,
+        };
+    }
+    if is_short(rate, packets.len() / Sender::PACKET_LENGTH, room.len()) {
+        return Run {
+            answer: Answer::RoomLength,
+            count: 0,
+        };
+    }
+    let count = send_packets(rate, packets, room);
+    Run {
+        answer: Answer::Done,
+        count,
+    }
+}
