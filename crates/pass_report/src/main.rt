@@ -1,7 +1,13 @@
+// pass_report < blocks
 // Prints the pass report of the received bytes on standard input: document 01, form 1.
+use libc::STDERR_FILENO;
 use libc::STDIN_FILENO;
 use libc::STDOUT_FILENO;
 
 fn main() {
+    if os::arg_count() > 1 {
+        io::write_all(STDERR_FILENO, b"usage: pass_report < blocks\n");
+        return;
+    }
     pass::write_report(STDOUT_FILENO, pass::receive_file(STDIN_FILENO, false));
 }
