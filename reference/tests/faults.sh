@@ -4,13 +4,14 @@
 # the right one must pass, every faulty one must be found.
 set -eu
 here=$(cd "$(dirname "$0")/.." && pwd)
+peer=$here/../bench
 work=$(mktemp -d)
 trap 'rm -rf "$work"' EXIT
 mkdir "$work/lib"
 missed=0 found=0
 
 build() {
-    cc -std=gnu11 -O2 -w -DPLAIN_AS_LIBRARY -I"$here/bench" -c "$work/plain.c" -o "$work/plain.o"
+    cc -std=gnu11 -O2 -w -DPLAIN_AS_LIBRARY -I"$peer" -c "$work/plain.c" -o "$work/plain.o"
     rm -f "$work/lib/libexports.a"
     ar rcs "$work/lib/libexports.a" "$work/plain.o"
     (cd "$here" && EXPORTS_DIR=$work/lib CARGO_TARGET_DIR=$work/target cargo build -q --release --offline --bin compare)
@@ -21,7 +22,7 @@ fault() {
     name=$1 kind=$2 old=$3 new=$4
     OLD=$old NEW=$new awk 'BEGIN { old = ENVIRON["OLD"]; new = ENVIRON["NEW"] }
         { at = index($0, old); if (at && !done) { $0 = substr($0, 1, at - 1) new substr($0, at + length(old)); done = 1 } print }
-        END { exit !done }' "$here/bench/plain.c" > "$work/plain.c" || { echo "no such text: $old"; exit 2; }
+        END { exit !done }' "$peer/plain.c" > "$work/plain.c" || { echo "no such text: $old"; exit 2; }
     build
     if timeout 100 "$work/target/release/compare" "$kind" > "$work/out" 2>&1; then
         echo "MISSED: $name"; missed=$((missed + 1))
@@ -30,7 +31,7 @@ fault() {
     fi
 }
 
-cp "$here/bench/plain.c" "$work/plain.c"
+cp "$peer/plain.c" "$work/plain.c"
 build
 "$work/target/release/compare" | tail -1 | grep -q ' 0 failed$' || { echo "the right one does not pass"; exit 1; }
 echo "the right one passes"

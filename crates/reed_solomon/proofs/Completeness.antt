@@ -21,7 +21,7 @@ use Rattle.algebra.proofs.Syndromes.{Term, dot, dot-ext, syndrome, key, value}
 use Rattle.algebra.proofs.Terms.{length-terms, place-at, value-at}
 use Rattle.galois.proofs.Instance.{bytes, byte, byte-inj, byte-zero, byte-power, powers-differ}
 use Rattle.reed_solomon.specs.Code.{Codeword, differ}
-use Rattle.reed_solomon.specs.Steps.{elements, point, Powers, Located, Evaluated, zerosOf, RootProduct, valueBy, errorValue}
+use Rattle.reed_solomon.specs.Steps.{elements, point, Powers, Located, Evaluated, zerosOf, RootProduct, errorValue}
 use Rattle.reed_solomon.proofs.Codewords.{blockSyndrome, codeword-length, codeword-bytes, codeword-syndromes, rootsBelow, distinct-roots, length-roots}
 use Rattle.reed_solomon.proofs.Distance.{difference, difference-length, errors, errors-distinct, errors-weight, errors-syndrome}
 use Rattle.reed_solomon.proofs.Zeros.{zeros-all, zeros-has, zeros-distinct, zeros-syndrome}
@@ -232,7 +232,7 @@ module _ (came c : List ℕ) (n : length came ≡ 204) (b : Bytes came) (cw : Co
     on : errorValue p s (getD x d 0) ≡ g d
     unfolding errorValue
     on =
-        ap (λ (y : Fin 256). valueBy (quotient bytes y N) s y) (ap byte (px .each d (omega (arith, d-range))) ∙ byte-power 2 d)
+        ap (λ (y : Fin 256). bytes .mul (dot bytes (quotient bytes y N) (λ i. byte (getD s i 0))) (bytes .inv (eval (ops bytes) (quotient bytes y N) y))) (ap byte (px .each d (omega (arith, d-range))) ∙ byte-power 2 d)
         ∙ ap₂ (bytes .mul)
         (dot-ext bytes Q (λ i. byte (getD s i 0)) (syndrome bytes E) (λ i k. E-syndrome i (omega (arith, Q-length))))
         (ap (λ (y : Fin 256). bytes .inv (eval (ops bytes) Q y)) (sym (E-place d d-range)))

@@ -8,7 +8,7 @@ use native.Mathlib.Numerals.{add-one}
 use native.Mathlib.Decide.{decLt}
 use native.Mathlib.Omega.{arith}
 use lib.Bits.{bitXor}
-use lib.ListN.{length, getD, take, drop, replicate, length-map, List·getD-eq-default}
+use lib.ListN.{length, getD, take, drop, replicate, length-map, getD-replicate, List·getD-eq-default}
 use lib.Seq.{drop-cons, drop-length, length-take-le, getD-take}
 use Rattle.common.proofs.Lists.{getD-map-in}
 use Rattle.algebra.specs.Field.{Field, ops}
@@ -17,11 +17,12 @@ use Rattle.algebra.proofs.Ring.{ring}
 use Rattle.algebra.proofs.Polynomial.{eval-plus, eval-scale, fromRoots, eval-timesLinear, quotient, quotient-at, length-quotient}
 use Rattle.algebra.proofs.Syndromes.{dot, dot-ext}
 use Rattle.galois.specs.Field256.{numbers, mul, inv, scaled}
-use Rattle.galois.proofs.Laws.{mul-zero-right}
+use Rattle.galois.proofs.Laws.{mul-zero-right, mul-comm}
 use Rattle.galois.proofs.Instance.{bytes, byte, byte-zero, byte-one, byte-add, byte-mul, byte-inv}
-use Rattle.reed_solomon.specs.Steps.{elements, RootProduct, errorValue}
+use Rattle.reed_solomon.specs.Steps.{elements, RootProduct, quotientBy, numeratorAt, denominatorAt, FractionsAt, errorValue, productsOf}
 use Rattle.reed_solomon.proofs.Words.{elements-plus, elements-scale, length-sum, sum-at}
 use Rattle.reed_solomon.proofs.Residue.{zeros-at}
+use Rattle.reed_solomon.proofs.ErrorTerms.{length-products, products-at}
 use Rattle.reed_solomon.proofs.RootSearch.{Zeros, eval-zeros, eval-from}
 
 -- ---- identities
@@ -135,10 +136,6 @@ multiplied-all rs p l few h m =
 
 -- ---- the value of one error
 
--- p / (x + y)
-abbrev quotientBy : List ℕ → ℕ → List (Fin 256)
-quotientBy p y = quotient bytes (byte y) (elements (take 9 p))
-
 -- a is coefficient k - 1 of the quotient before the next step, u and v the sums from coefficient k on
 pub record Summed (p s : List ℕ) (y a u v k : ℕ) : Type 0 where
   pub most : k ≤ 8
@@ -230,20 +227,115 @@ module _ (p s : List ℕ) (y : ℕ) (n : length p ≡ 16) where
         there : (i : ℕ) → k + i ≡ k - 1 + suc i
         there i = omega arith
 
-    -- the same, with the products named
-    pub summed-step : (d e f : ℕ) → d ≡ mul a y → e ≡ mul (bitXor d (getD p k 0)) (getD s (k - 1) 0) → f ≡ mul v y
-        → Summed p s y (bitXor d (getD p k 0)) (bitXor e u) (bitXor f (bitXor d (getD p k 0))) (k - 1)
-    summed-step d e f g h i =
-        subst (λ (x : ℕ). Summed p s y (bitXor d (getD p k 0)) (bitXor e u) (bitXor x (bitXor d (getD p k 0))) (k - 1)) (sym i)
-        (subst (λ (x : ℕ). Summed p s y (bitXor d (getD p k 0)) (bitXor x u) (bitXor (mul v y) (bitXor d (getD p k 0))) (k - 1)) (sym h)
-        (subst (λ (x : ℕ). Summed p s y (bitXor x (getD p k 0)) (bitXor (mul (bitXor x (getD p k 0)) (getD s (k - 1) 0)) u) (bitXor (mul v y) (bitXor x (getD p k 0))) (k - 1)) (sym g) summed-more))
-
-  pub summed-all : (a u v k w r : ℕ) → k ≤ 0 → Summed p s y a u v k → w ≡ inv v → r ≡ mul u w → byte r ≡ errorValue p s y
-  unfolding errorValue
-  summed-all a u v k w r h m e f =
+  -- the sums over all coefficients
+  all-numerator : (a u v k : ℕ) → k ≤ 0 → Summed p s y a u v k → byte u ≡ numeratorAt p s y
+  all-numerator a u v k h m =
       let z : k ≡ 0 = omega arith in
-      ap byte (f ∙ ap (mul u) e) ∙ byte-mul u (inv v)
-      ∙ ap₂ (bytes .mul)
-      (m .numerator ∙ ap (λ (j : ℕ). dot bytes (drop j quot) (λ i. byte (getD s (j + i) 0))) z
-      ∙ dot-ext bytes quot (λ i. byte (getD s (0 + i) 0)) (λ i. byte (getD s i 0)) (λ i b. ap (λ (j : ℕ). byte (getD s j 0)) (zero-add i)))
-      (byte-inv v ∙ ap (bytes .inv) (m .denominator ∙ ap (λ (j : ℕ). eval (ops bytes) (drop j quot) (byte y)) z))
+      m .numerator ∙ ap (λ (j : ℕ). dot bytes (drop j quot) (λ i. byte (getD s (j + i) 0))) z
+      ∙ dot-ext bytes quot (λ i. byte (getD s (0 + i) 0)) (λ i. byte (getD s i 0)) (λ i b. ap (λ (j : ℕ). byte (getD s j 0)) (zero-add i))
+
+  all-denominator : (a u v k : ℕ) → k ≤ 0 → Summed p s y a u v k → byte v ≡ denominatorAt p y
+  all-denominator a u v k h m =
+      let z : k ≡ 0 = omega arith in
+      m .denominator ∙ ap (λ (j : ℕ). eval (ops bytes) (drop j quot) (byte y)) z
+
+-- ---- sixteen at once
+
+-- the sums of each place
+pub record SummedLanes (p s places a u v : List ℕ) (k : ℕ) : Type 0 where
+  pub coefficients : length a ≡ 16
+  pub numerators : length u ≡ 16
+  pub denominators : length v ≡ 16
+  pub each : (l : ℕ) → l < 16 → Summed p s (getD places l 0) (getD a l 0) (getD u l 0) (getD v l 0) k
+
+module _ (p s places : List ℕ) (n : length p ≡ 16) (o : length places ≡ 16) where
+  pub lanes-none : SummedLanes p s places (replicate 16 0) (replicate 16 0) (replicate 16 0) 8
+  lanes-none =
+      record {
+        coefficients = refl;
+        numerators = refl;
+        denominators = refl;
+        each = λ l h. subst (λ (x : ℕ). Summed p s (getD places l 0) x x x 8) (sym (zeros-at 16 l)) (summed-none p s (getD places l 0) n);
+      }
+
+  module _ (a u v : List ℕ) (k : ℕ) (more : 0 < k) (m : SummedLanes p s places a u v k) where
+    abbrev pub nextCoefficients : List ℕ
+    nextCoefficients = plus numbers (productsOf a places) (replicate 16 (getD p k 0))
+
+    abbrev pub nextNumerators : List ℕ
+    nextNumerators = plus numbers (scaled (getD s (k - 1) 0) nextCoefficients) u
+
+    abbrev pub nextDenominators : List ℕ
+    nextDenominators = plus numbers (productsOf v places) nextCoefficients
+
+    products-length : (b : List ℕ) → length b ≡ 16 → length (productsOf b places) ≡ 16
+    products-length b h = length-products b places (h ∙ sym o) ∙ h
+
+    coefficients-length : length nextCoefficients ≡ 16
+    coefficients-length = length-sum (productsOf a places) (replicate 16 (getD p k 0)) (products-length a (m .coefficients)) ∙ products-length a (m .coefficients)
+
+    scaled-length : length (scaled (getD s (k - 1) 0) nextCoefficients) ≡ 16
+    unfolding scale
+    scaled-length = length-map nextCoefficients (mul (getD s (k - 1) 0)) ∙ coefficients-length
+
+    module _ (l : ℕ) (h : l < 16) where
+      -- the next coefficient of the place
+      abbrev next-coefficient : ℕ
+      next-coefficient = bitXor (mul (getD a l 0) (getD places l 0)) (getD p k 0)
+
+      coefficient-at : getD nextCoefficients l 0 ≡ next-coefficient
+      coefficient-at =
+          sum-at (productsOf a places) (replicate 16 (getD p k 0)) l (products-length a (m .coefficients))
+          ∙ ap₂ bitXor (products-at a places l (m .coefficients ∙ sym o) (omega (arith, m .coefficients))) (getD-replicate 16 l (getD p k 0) 0 h)
+
+      numerator-at : getD nextNumerators l 0 ≡ bitXor (mul next-coefficient (getD s (k - 1) 0)) (getD u l 0)
+      unfolding scale
+      numerator-at =
+          sum-at (scaled (getD s (k - 1) 0) nextCoefficients) u l (scaled-length ∙ sym (m .numerators))
+          ∙ ap (λ (x : ℕ). bitXor x (getD u l 0))
+          (getD-map-in (mul (getD s (k - 1) 0)) nextCoefficients 0 0 l (omega (arith, coefficients-length)) ∙ ap (mul (getD s (k - 1) 0)) coefficient-at ∙ mul-comm (getD s (k - 1) 0) next-coefficient)
+
+      denominator-at : getD nextDenominators l 0 ≡ bitXor (mul (getD v l 0) (getD places l 0)) next-coefficient
+      denominator-at =
+          sum-at (productsOf v places) nextCoefficients l (products-length v (m .denominators) ∙ sym coefficients-length)
+          ∙ ap₂ bitXor (products-at v places l (m .denominators ∙ sym o) (omega (arith, m .denominators))) coefficient-at
+
+      lane-more : Summed p s (getD places l 0) (getD nextCoefficients l 0) (getD nextNumerators l 0) (getD nextDenominators l 0) (k - 1)
+      lane-more =
+          let y : ℕ = getD places l 0 in
+          subst (λ (x : ℕ). Summed p s y x (getD nextNumerators l 0) (getD nextDenominators l 0) (k - 1)) (sym coefficient-at)
+          (subst (λ (x : ℕ). Summed p s y next-coefficient x (getD nextDenominators l 0) (k - 1)) (sym numerator-at)
+          (subst (λ (x : ℕ). Summed p s y next-coefficient (bitXor (mul next-coefficient (getD s (k - 1) 0)) (getD u l 0)) x (k - 1)) (sym denominator-at)
+          (summed-more p s y n (getD a l 0) (getD u l 0) (getD v l 0) k (m .each l h) more)))
+
+    lanes-next : SummedLanes p s places nextCoefficients nextNumerators nextDenominators (k - 1)
+    lanes-next =
+        record {
+          coefficients = coefficients-length;
+          numerators = length-sum (scaled (getD s (k - 1) 0) nextCoefficients) u (scaled-length ∙ sym (m .numerators)) ∙ scaled-length;
+          denominators = length-sum (productsOf v places) nextCoefficients (products-length v (m .denominators) ∙ sym coefficients-length) ∙ products-length v (m .denominators);
+          each = lane-more;
+        }
+
+    -- the same, with each step's result named
+    pub lanes-more : (x c z w y v′ : List ℕ) → x ≡ productsOf a places → c ≡ plus numbers x (replicate 16 (getD p k 0)) → z ≡ scaled (getD s (k - 1) 0) c → w ≡ plus numbers z u
+        → y ≡ productsOf v places → v′ ≡ plus numbers y c → SummedLanes p s places c w v′ (k - 1)
+    lanes-more x c z w y v′ ex ec ez ew ey ev =
+        let f : c ≡ nextCoefficients = ec ∙ ap (λ (b : List ℕ). plus numbers b (replicate 16 (getD p k 0))) ex in
+        let g : w ≡ nextNumerators = ew ∙ ap (λ (b : List ℕ). plus numbers b u) (ez ∙ ap (scaled (getD s (k - 1) 0)) f) in
+        let h : v′ ≡ nextDenominators = ev ∙ ap₂ (plus numbers) ey f in
+        subst (λ (b : List ℕ). SummedLanes p s places b w v′ (k - 1)) (sym f)
+        (subst (λ (b : List ℕ). SummedLanes p s places nextCoefficients b v′ (k - 1)) (sym g)
+        (subst (λ (b : List ℕ). SummedLanes p s places nextCoefficients nextNumerators b (k - 1)) (sym h) lanes-next))
+
+  pub lanes-all : (a u v : List ℕ) (k : ℕ) → k ≤ 0 → SummedLanes p s places a u v k → FractionsAt p s places u v
+  lanes-all a u v k h m =
+      record {
+        numerator = λ l i. all-numerator p s (getD places l 0) n _ _ _ k h (m .each l i);
+        denominator = λ l i. all-denominator p s (getD places l 0) n _ _ _ k h (m .each l i);
+      }
+
+-- the value of an error from its fraction
+pub value-of : (p s : List ℕ) (y u v w r : ℕ) → byte u ≡ numeratorAt p s y → byte v ≡ denominatorAt p y → w ≡ inv v → r ≡ mul u w → byte r ≡ errorValue p s y
+unfolding errorValue
+value-of p s y u v w r hu hv e f = ap byte (f ∙ ap (mul u) e) ∙ byte-mul u (inv v) ∙ ap₂ (bytes .mul) hu (byte-inv v ∙ ap (bytes .inv) hv)

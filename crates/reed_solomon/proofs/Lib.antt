@@ -1,6 +1,7 @@
 pub mod Words
 pub mod Codewords
 pub mod Distance
+pub mod WordDivision
 pub mod LongDivision
 pub mod Residue
 pub mod KeyEquations

@@ -102,21 +102,23 @@ module _ (x : Fin 256) where
 
 -- ---- the division
 
--- the coefficients of g below x^16, from x^15 down, as antt computes them from the sixteen factors
+-- the generator polynomial, as antt computes it from the sixteen factors
+generator-is : generator ≡ 0x3B ∷ 0x24 ∷ 0x32 ∷ 0x62 ∷ 0xE5 ∷ 0x29 ∷ 0x41 ∷ 0xA3 ∷ 0x08 ∷ 0x1E ∷ 0xD1 ∷ 0x44 ∷ 0xBD ∷ 0x68 ∷ 0x0D ∷ 0x3B ∷ 1 ∷ []
+unfolding generator factors product scale plus power mul rounds timesX
+generator-is = refl
+
 pub tail-is : generatorTail ≡ 0x3B ∷ 0x0D ∷ 0x68 ∷ 0xBD ∷ 0x44 ∷ 0xD1 ∷ 0x1E ∷ 0x08 ∷ 0xA3 ∷ 0x41 ∷ 0x29 ∷ 0xE5 ∷ 0x62 ∷ 0x32 ∷ 0x24 ∷ 0x3B ∷ []
-unfolding generatorTail generator factors product scale plus power mul rounds timesX
-tail-is = refl
+unfolding generatorTail
+tail-is = ap (λ (g : List ℕ). reverse (take 16 g)) generator-is
 
 pub length-tail : length generatorTail ≡ 16
 length-tail = ap length tail-is
 
 monic : generator ≡ take 16 generator ++ 1 ∷ []
-unfolding generator factors product scale plus power mul rounds timesX
-monic = refl
+monic = generator-is ∙ sym (ap (λ (g : List ℕ). take 16 g ++ 1 ∷ []) generator-is)
 
 sixteen : length (take 16 generator) ≡ 16
-unfolding generator factors product scale plus power mul rounds timesX
-sixteen = refl
+sixteen = ap (λ (g : List ℕ). length (take 16 g)) generator-is
 
 length-scaled : (c : ℕ) → length (scaled c generatorTail) ≡ length generatorTail
 unfolding scale

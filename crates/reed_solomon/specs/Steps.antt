@@ -3,7 +3,7 @@
 use mathlib.Core.Path.{_≡_}
 use mathlib.Core.Bool.{Bool, true, false}
 use mathlib.Core.List.{List, [], _∷_, _++_, map, reverse}
-use Prim.Native.Nat.{ℕ, _+_, _-_, _*_, _≤_, _<_, Fin}
+use Prim.Native.Nat.{ℕ, zero, suc, _+_, _-_, _*_, _/_, _%_, _≤_, _<_, Fin}
 use lib.Bits.{bitXor}
 use lib.Dec.{eqb}
 use lib.ListN.{length, getD, take, drop, set}
@@ -13,9 +13,9 @@ use Rattle.algebra.specs.Polynomial.{power, eval, plus}
 use Rattle.algebra.proofs.Polynomial.{Zero, quotient, fromRoots}
 use Rattle.algebra.proofs.Syndromes.{Term, dot, syndrome}
 use Rattle.algebra.proofs.Elimination.{Reach, Units}
-use Rattle.galois.specs.Field256.{numbers, mul, pow}
+use Rattle.galois.specs.Field256.{numbers, mul, pow, scaled}
 use Rattle.galois.proofs.Instance.{bytes, byte}
-use Rattle.reed_solomon.specs.Encode.{checkBytes}
+use Rattle.reed_solomon.specs.Encode.{generatorTail, checkBytes}
 
 -- ---- lists of numbers as lists over the field
 
@@ -30,6 +30,22 @@ word l = elements (reverse l)
 -- power i of 02. The first sixteen are the roots of the generator polynomial, and the first 204 the places of a block's coefficients
 abbrev pub point : ℕ → Fin 256
 point i = power (ops bytes) (byte 2) i
+
+-- ---- the division
+
+-- the n lowest bytes of a number, the lowest first
+unfoldable pub lowBytes : ℕ → ℕ → List ℕ
+lowBytes zero w = []
+lowBytes (suc n) w = w % 256 ∷ lowBytes n (w / 256)
+
+-- the sixteen coefficients that two words hold
+abbrev pub coefficients : ℕ → ℕ → List ℕ
+coefficients upper lower = lowBytes 8 upper ++ lowBytes 8 lower
+
+-- the multiples of the generator's tail by the halves of a byte, each in two words
+pub record Multiples (m : List ℕ) : Type 0 where
+  pub low : (n : ℕ) → n < 16 → coefficients (getD m (n * 2) 0) (getD m (n * 2 + 1) 0) ≡ scaled n generatorTail
+  pub high : (n : ℕ) → n < 16 → coefficients (getD m (n * 2 + 32) 0) (getD m (n * 2 + 32 + 1) 0) ≡ scaled (n * 16) generatorTail
 
 -- ---- the residue
 
@@ -145,12 +161,25 @@ pub record FoundRoots (v x degrees places : List ℕ) (count : ℕ) : Type 0 whe
 pub record RootProduct (places p : List ℕ) : Type 0 where
   pub values : (y : Fin 256) → eval (ops bytes) (elements (take 9 p)) y ≡ eval (ops bytes) (fromRoots bytes (elements places)) y
 
--- with q = p / (x + y), the sum of q_i S_i over q(y)
-abbrev pub valueBy : List (Fin 256) → List ℕ → Fin 256 → Fin 256
-valueBy q s y = bytes .mul (dot bytes q (λ i. byte (getD s i 0))) (bytes .inv (eval (ops bytes) q y))
+-- p / (x + y)
+abbrev pub quotientBy : List ℕ → ℕ → List (Fin 256)
+quotientBy p y = quotient bytes (byte y) (elements (take 9 p))
 
+-- with q = p / (x + y), the sum of q_i S_i, and q(y)
+abbrev pub numeratorAt : List ℕ → List ℕ → ℕ → Fin 256
+numeratorAt p s y = dot bytes (quotientBy p y) (λ i. byte (getD s i 0))
+
+abbrev pub denominatorAt : List ℕ → ℕ → Fin 256
+denominatorAt p y = eval (ops bytes) (quotientBy p y) (byte y)
+
+-- both, for sixteen places
+pub record FractionsAt (p s places numerators denominators : List ℕ) : Type 0 where
+  pub numerator : (l : ℕ) → l < 16 → byte (getD numerators l 0) ≡ numeratorAt p s (getD places l 0)
+  pub denominator : (l : ℕ) → l < 16 → byte (getD denominators l 0) ≡ denominatorAt p (getD places l 0)
+
+-- the value of the error at y: the one over the other
 unfoldable pub errorValue : List ℕ → List ℕ → ℕ → Fin 256
-errorValue p s y = valueBy (quotient bytes (byte y) (elements (take 9 p))) s (byte y)
+errorValue p s y = bytes .mul (numeratorAt p s y) (bytes .inv (denominatorAt p y))
 
 pub record ErrorValues (p s places : List ℕ) (count : ℕ) (e : List ℕ) : Type 0 where
   pub own : (l : ℕ) → l < count → byte (getD e l 0) ≡ errorValue p s (getD places l 0)

@@ -3,8 +3,7 @@ ghost use mathlib.Core.Path.{_≡_};
 ghost use mathlib.Core.List.{_∷_};
 ghost use Prim.Native.Nat.{ℕ, _<_, _≤_};
 ghost use lib.ListN.{length, getD, take};
-ghost use Rattle.galois.proofs.Instance.{byte};
-ghost use Rattle.reed_solomon.specs.Steps.{Powers, Advanced, EndsAt, Evaluated, zerosOf, FoundRoots, RootProduct, errorValue, ErrorValues, sumOf, productsOf, Explained, correctedBy, changedIn};
+ghost use Rattle.reed_solomon.specs.Steps.{Powers, Advanced, EndsAt, Evaluated, zerosOf, FoundRoots, RootProduct, FractionsAt, ErrorValues, sumOf, productsOf, Explained, correctedBy, changedIn};
 use crate::division;
 
 // The degrees at which the locator vanishes, in order, their places, and how many they are. The places after them are zero.
@@ -108,32 +107,61 @@ pub fn root_product(places: [u8; 16], count: usize) -> [u8; 16]
     p
 }
 
-// The value of the error at the place y, which is a root of p: with q = p / (x + y), the sum of q_i S_i over q(y).
-fn error_value(p: [u8; 16], s: [u8; 16], y: u8) -> u8
-    ensures { λ r. ⌜ byte r ≡ errorValue p s y ⌝ }
+// The products in the field, lane by lane.
+fn products(a: [u8; 16], b: [u8; 16]) -> [u8; 16]
+    ensures { λ r. ⌜ r ≡ productsOf a b ⌝ }
 {
-    let mut coefficient: u8 = 0;
-    let mut numerator: u8 = 0;
-    let mut denominator: u8 = 0;
-    let mut k: usize = 8;
-    while 0 < k {
-        coefficient = galois::mul(coefficient, y) ^ p[k];
-        k -= 1;
-        numerator = galois::mul(coefficient, s[k]) ^ numerator;
-        denominator = galois::mul(denominator, y) ^ coefficient;
+    let mut r = [0u8; 16];
+    let mut l: usize = 0;
+    while l < 16 {
+        r[l] = galois::mul(a[l], b[l]);
+        l += 1;
     }
-    galois::mul(numerator, galois::inverse(denominator))
+    r
 }
 
-// The values of the errors at the places, and zeros after them.
+// For each of sixteen places y, with q = p / (x + y): the sum of q_i S_i, and q(y).
+struct Fractions {
+    numerators: [u8; 16],
+    denominators: [u8; 16],
+}
+
+// The fractions of all places at once, from the highest coefficient of the quotients down.
+fn value_fractions(p: [u8; 16], s: [u8; 16], places: [u8; 16]) -> Fractions
+    ensures { λ r. ⌜ FractionsAt p s places (r .numerators) (r .denominators) ⌝ }
+{
+    let mut coefficients = [0u8; 16];
+    let mut numerators = [0u8; 16];
+    let mut denominators = [0u8; 16];
+    let mut k: usize = 8;
+    while 0 < k {
+        let top = p[k];
+        k -= 1;
+        let c = division::sum(products(coefficients, places), [top; 16]);
+        let n = division::sum(galois::scale(c, s[k]), numerators);
+        let d = division::sum(products(denominators, places), c);
+        coefficients = c;
+        numerators = n;
+        denominators = d;
+    }
+    Fractions {
+        numerators,
+        denominators,
+    }
+}
+
+// The values of the errors at the places, which are roots of p, and zeros after them.
 pub fn error_values(p: [u8; 16], s: [u8; 16], places: [u8; 16], count: usize) -> [u8; 16]
     requires { ⌜ count ≤ 8 ⌝ }
     ensures { λ r. ⌜ ErrorValues p s places count r ⌝ }
 {
+    let f = value_fractions(p, s, places);
+    let numerators = f.numerators;
+    let denominators = f.denominators;
     let mut e = [0u8; 16];
     let mut l: usize = 0;
     while l < count {
-        e[l] = error_value(p, s, places[l]);
+        e[l] = galois::mul(numerators[l], galois::inverse(denominators[l]));
         l += 1;
     }
     e
@@ -150,19 +178,6 @@ fn total(w: [u8; 16]) -> u8
         l += 1;
     }
     t
-}
-
-// The products in the field, lane by lane.
-fn products(a: [u8; 16], b: [u8; 16]) -> [u8; 16]
-    ensures { λ r. ⌜ r ≡ productsOf a b ⌝ }
-{
-    let mut r = [0u8; 16];
-    let mut l: usize = 0;
-    while l < 16 {
-        r[l] = galois::mul(a[l], b[l]);
-        l += 1;
-    }
-    r
 }
 
 // Whether errors of these values at these places have the sixteen syndromes.

@@ -10,6 +10,7 @@ use answer::Answer;
 mod correction;
 mod division;
 mod locator;
+mod powers;
 mod syndromes;
 
 // What decoding a block answers. specs/Decode.antt gives each case the number of document 01.

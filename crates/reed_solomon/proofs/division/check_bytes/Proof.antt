@@ -1,59 +1,18 @@
--- `division::check_bytes` meets its contract: after i turns r is the remainder of the first i bytes.
+-- `division::check_bytes` meets its contract.
 -- Assumes nothing.
-use mathlib.Core.Path.{_≡_, refl, _∙_}
-use Prim.Native.Nat.{_-_, _≤_}
-use native.Mathlib.Omega.{arith}
-use lib.ListN.{take}
-use Rattle.reed_solomon.specs.Encode.{remainderFrom, checkBytes}
-use Rattle.reed_solomon.proofs.LongDivision.{check-more}
+use mathlib.Core.Path.{_∙_}
 use borrow.Author.Needs.{needs}
 use Rattle.reed_solomon.proofs.division.check_bytes.Statement.{statement}
 use Rattle.reed_solomon.proofs.division.check_bytes.Tie as tie
 
-abbrev Inv-loop : tie.InvT-loop
-Inv-loop message r₀ i₀ r i = (i ≤ 188) × (r ≡ checkBytes (take i message))
+divide-message-requires : tie.Need-divide-message-requires
+divide-message-requires c κs = search needs
 
-abbrev μ-loop : tie.MeasureT-loop
-μ-loop message r₀ i₀ r i = 188 - i
+bytes-requires : tie.Need-bytes-requires
+bytes-requires c κs = search needs
 
-loop-holds : tie.Need-loop-holds Inv-loop μ-loop
-unfolding checkBytes remainderFrom
-loop-holds c = (search needs, refl)
-
-shared-slice-read-divide : tie.Need-shared-slice-read-divide Inv-loop μ-loop
-shared-slice-read-divide c = search needs
-
-divide-requires : tie.Need-divide-requires Inv-loop μ-loop
-divide-requires c κs = search needs
-
-add-i : tie.Need-add-i Inv-loop μ-loop
-add-i c = search needs
-
-loop-less : tie.Need-loop-less Inv-loop μ-loop
-loop-less c = search needs
-
-loop-again : tie.Need-loop-again Inv-loop μ-loop
-loop-again c =
-    let l = c .before .before .before .loop in
-    let s = c .before .before .before .before .before in
-    (search needs, c .divide .ensures ∙ check-more (s .args .message .now) (l .i) _ _ (search needs) (l .inv .1) refl)
-
-returns : tie.Need-returns Inv-loop μ-loop
-returns c =
-    let l = c .before .loop in
-    let e : l .i ≡ 188 = omega arith in
-    rw e at (l .inv .1)
+returns : tie.Need-returns
+returns c = c .bytes .ensures ∙ c .before .divide-message .ensures
 
 pub check-bytes-spec : {M : Type 1} → statement M
-check-bytes-spec =
-    tie.close
-    (tie.spec
-    Inv-loop
-    μ-loop
-    loop-holds
-    shared-slice-read-divide
-    divide-requires
-    add-i
-    loop-less
-    loop-again
-    returns)
+check-bytes-spec = tie.close (tie.spec divide-message-requires bytes-requires returns)

@@ -1,12 +1,14 @@
 /* Measures the library beside its peers.
  *
+ *   bench list                      the kernels and their sides, and how many
+ *                                   blocks a call takes
  *   bench count KERNEL SIDE CALLS   makes so many calls (for callgrind)
- *   bench list                      the kernels and their sides
  *   bench table COUNTS              times all, and prints one table; COUNTS is a
  *                                   file of lines "KERNEL SIDE INSTRUCTIONS"
  */
 #define _POSIX_C_SOURCE 200809L
-#include "../../include/dvbs.h"
+#include "../include/dvbs.h"
+#include "kernels.h"
 #include "plain.h"
 
 #include <stdio.h>
@@ -21,12 +23,15 @@ static void *fec;
 enum { LIBRARY, PLAIN_C, LIBFEC, SIDES };
 static const char *const side_names[SIDES] = {"library", "plain", "libfec"};
 
-enum { POOL = 64, RUN = 256, REPEATS = 60 };
+/* A call takes the next of POOL blocks, so that no branch is learnt by heart, or
+ * RUN blocks at once. */
+enum { POOL = 1024, RUN = 256, FACTORS = 256, REPEATS = 200 };
 
 static uint8_t packets[RUN * 188], data[POOL][188], coded[POOL][204];
 static uint8_t harmed[5][POOL][204]; /* 0, 1, 4, 8 errors, and no codeword */
 static const int errors_of[5] = {0, 1, 4, 8, 12};
-static uint8_t clean_stream[RUN * 204], harmed_stream[RUN * 204];
+static uint8_t factors[FACTORS];
+static uint8_t coded_run[RUN * 204], clean_stream[RUN * 204], harmed_stream[RUN * 204];
 static uint8_t room[RUN * 1632], block[204], answer[1], counts[56];
 static volatile uint64_t sink;
 
@@ -37,46 +42,49 @@ static uint8_t random_byte(void)
     return (uint8_t)(state >> 32);
 }
 
-/* The interleaved stream of the packets, from the symbols at rate 1/2: X gives
- * each bit back, the memory being known. */
-static void interleaved_stream(void)
+static uint8_t random_nonzero(void)
 {
-    PLAIN(send_run)(0, packets, sizeof packets, room, sizeof room, answer, 1);
-    unsigned memory = 0;
-    for (size_t n = 0; n < sizeof clean_stream; n++)
-        for (int k = 0; k < 8; k++) {
-            unsigned x = room[8 * n + (size_t)k] >> 1;
-            unsigned bit = x ^ (unsigned)__builtin_parity(memory & 071);
-            memory = (memory | bit << 6) >> 1;
-            clean_stream[n] = (uint8_t)(clean_stream[n] << 1 | bit);
+    return (uint8_t)(1 + random_byte() % 255);
+}
+
+static void harm(uint8_t *bytes, const uint8_t *right, int errors)
+{
+    while (errors > 0) {
+        int n = random_byte() % 204;
+        if (bytes[n] == right[n]) {
+            bytes[n] ^= random_nonzero();
+            errors--;
         }
+    }
 }
 
 static void prepare(void)
 {
     for (size_t n = 0; n < sizeof packets; n++)
         packets[n] = n % 188 ? random_byte() : 0x47;
+    /* A zero factor would leave nothing but zeros to multiply. */
+    for (int i = 0; i < FACTORS; i++)
+        factors[i] = random_nonzero();
     for (int p = 0; p < POOL; p++) {
         for (int n = 0; n < 188; n++)
             data[p][n] = random_byte();
         PLAIN(rs_encode)(data[p], 188, coded[p], 204);
         for (int e = 0; e < 5; e++) {
             memcpy(harmed[e][p], coded[p], 204);
-            for (int left = errors_of[e]; left > 0;) {
-                int n = random_byte() % 204;
-                if (harmed[e][p][n] == coded[p][n]) {
-                    harmed[e][p][n] ^= (uint8_t)(1 + random_byte() % 255);
-                    left--;
-                }
-            }
+            harm(harmed[e][p], coded[p], errors_of[e]);
         }
     }
-    interleaved_stream();
+    for (int p = 0; p < RUN; p++) {
+        uint8_t randomized[188];
+        PLAIN(randomize)((uint8_t)(p % 8), packets + 188 * p, 188, randomized, 188);
+        PLAIN(rs_encode)(randomized, 188, coded_run + 204 * p, 204);
+    }
+    PLAIN(interleave)(coded_run, sizeof coded_run, clean_stream, sizeof clean_stream);
     /* One byte in 51 wrong: four in a block, now and then more than eight. */
     memcpy(harmed_stream, clean_stream, sizeof clean_stream);
     for (size_t i = 0; i < sizeof harmed_stream / 51; i++) {
         size_t n = ((size_t)random_byte() << 16 | (size_t)random_byte() << 8 | random_byte()) % sizeof harmed_stream;
-        harmed_stream[n] ^= (uint8_t)(1 + random_byte() % 255);
+        harmed_stream[n] ^= random_nonzero();
     }
     memset(room, 0xa5, sizeof room);
 #ifdef HAVE_LIBFEC
@@ -91,6 +99,14 @@ struct kernel {
     int argument;
     void (*call)(const struct kernel *k, int side, int n);
 };
+
+static void scale(const struct kernel *k, int side, int n)
+{
+    (void)k;
+    memcpy(block, data[n % POOL], 16);
+    (side == LIBRARY ? kernel_scale : PLAIN(scale))(block, 16, factors, FACTORS);
+    sink += block[0];
+}
 
 static void encode(const struct kernel *k, int side, int n)
 {
@@ -126,44 +142,66 @@ static void decode(const struct kernel *k, int side, int n)
 static void randomize(const struct kernel *k, int side, int n)
 {
     const uint8_t *p = packets + 188 * (n % RUN);
-    uint8_t place = (uint8_t)(n % 8);
     (void)k;
-    sink += side == LIBRARY ? dvbs_randomize(place, p, 188, room, 188) : PLAIN(randomize)(place, p, 188, room, 188);
+    sink += (side == LIBRARY ? dvbs_randomize : PLAIN(randomize))((uint8_t)(n % 8), p, 188, room, 188);
     sink += room[187];
+}
+
+static void interleave(const struct kernel *k, int side, int n)
+{
+    (void)n;
+    if (k->argument)
+        (side == LIBRARY ? kernel_deinterleave : PLAIN(deinterleave))(clean_stream, sizeof clean_stream, room, sizeof room);
+    else
+        (side == LIBRARY ? kernel_interleave : PLAIN(interleave))(coded_run, sizeof coded_run, room, sizeof room);
+    sink += room[203];
+}
+
+static void inner_code(const struct kernel *k, int side, int n)
+{
+    (void)n;
+    sink += (side == LIBRARY ? kernel_inner_code : PLAIN(inner_code))((uint8_t)k->argument, clean_stream, sizeof clean_stream,
+                                                                      room, sizeof room);
 }
 
 static void send(const struct kernel *k, int side, int n)
 {
-    uint8_t rate = (uint8_t)k->argument;
     (void)n;
-    sink += side == LIBRARY ? dvbs_send_run(rate, packets, sizeof packets, room, sizeof room, answer, 1)
-                            : PLAIN(send_run)(rate, packets, sizeof packets, room, sizeof room, answer, 1);
+    sink += (side == LIBRARY ? dvbs_send_run : PLAIN(send_run))((uint8_t)k->argument, packets, sizeof packets,
+                                                                room, sizeof room, answer, 1);
 }
 
 static void receive(const struct kernel *k, int side, int n)
 {
     const uint8_t *stream = k->argument ? harmed_stream : clean_stream;
     (void)n;
-    sink += side == LIBRARY ? dvbs_receive_run(stream, sizeof clean_stream, room, sizeof room, counts, 56)
-                            : PLAIN(receive_run)(stream, sizeof clean_stream, room, sizeof room, counts, 56);
+    sink += (side == LIBRARY ? dvbs_receive_run : PLAIN(receive_run))(stream, sizeof clean_stream, room, sizeof room, counts, 56);
 }
 
 enum { TWO = 3, THREE = 7 };
 static const struct kernel kernels[] = {
+    {"scale", "field product, 16 lanes", FACTORS, TWO, 0, scale},
     {"rs_encode", "RS encode", 1, THREE, 0, encode},
     {"rs_decode_0", "RS decode, clean", 1, THREE, 0, decode},
     {"rs_decode_1", "RS decode, 1 error", 1, THREE, 1, decode},
     {"rs_decode_4", "RS decode, 4 errors", 1, THREE, 2, decode},
     {"rs_decode_8", "RS decode, 8 errors", 1, THREE, 3, decode},
-    {"rs_decode_lost", "RS decode, no codeword", 1, THREE, 4, decode},
+    {"rs_decode_lost", "RS decode, uncorrectable", 1, THREE, 4, decode},
     {"randomize", "randomizer", 1, TWO, 0, randomize},
-    {"send_1_2", "send, 1/2", RUN, TWO, 0, send},
-    {"send_2_3", "send, 2/3", RUN, TWO, 1, send},
-    {"send_3_4", "send, 3/4", RUN, TWO, 2, send},
-    {"send_5_6", "send, 5/6", RUN, TWO, 3, send},
-    {"send_7_8", "send, 7/8", RUN, TWO, 4, send},
-    {"receive_clean", "receive, clean", RUN, TWO, 0, receive},
-    {"receive_harmed", "receive, harmed", RUN, TWO, 1, receive},
+    {"interleave", "interleaver", RUN, TWO, 0, interleave},
+    {"deinterleave", "deinterleaver", RUN, TWO, 1, interleave},
+    {"inner_code_1_2", "inner coder, 1/2", RUN, TWO, 0, inner_code},
+    {"inner_code_2_3", "inner coder, 2/3", RUN, TWO, 1, inner_code},
+    {"inner_code_3_4", "inner coder, 3/4", RUN, TWO, 2, inner_code},
+    {"inner_code_5_6", "inner coder, 5/6", RUN, TWO, 3, inner_code},
+    {"inner_code_7_8", "inner coder, 7/8", RUN, TWO, 4, inner_code},
+    {"send_1_2", "send a packet, 1/2", RUN, TWO, 0, send},
+    {"send_2_3", "send a packet, 2/3", RUN, TWO, 1, send},
+    {"send_3_4", "send a packet, 3/4", RUN, TWO, 2, send},
+    {"send_5_6", "send a packet, 5/6", RUN, TWO, 3, send},
+    {"send_7_8", "send a packet, 7/8", RUN, TWO, 4, send},
+    {"receive_clean", "receive a block, clean", RUN, TWO, 0, receive},
+    {"receive_harmed", "receive a block, harmed", RUN, TWO, 1, receive},
 };
 enum { KERNELS = sizeof kernels / sizeof *kernels };
 
@@ -195,19 +233,21 @@ static double time_of(const struct kernel *k, int side, int calls)
 static int agree(const struct kernel *k)
 {
     static uint8_t kept[sizeof room];
+    uint8_t kept_block[204];
     int calls = k->blocks == 1 ? POOL : 1;
-    for (int n = 0; n < calls; n++) {
-        uint8_t kept_block[204];
-        for (int side = 0; side < 2; side++) {
-            memset(room, 0xa5, sizeof room);
+    size_t used = k->blocks == 1 ? 204 : sizeof room;
+    for (int n = 0; n < calls; n++)
+        for (int side = 0; side < SIDES; side++) {
+            if (!has(k, side))
+                continue;
+            memset(room, 0xa5, used);
             memset(block, 0, sizeof block);
             k->call(k, side, n);
-            if (side == 0)
-                memcpy(kept, room, sizeof room), memcpy(kept_block, block, 204);
-            else if (memcmp(kept, room, sizeof room) || memcmp(kept_block, block, 204))
+            if (side == LIBRARY)
+                memcpy(kept, room, used), memcpy(kept_block, block, 204);
+            else if (memcmp(kept, room, used) || memcmp(kept_block, block, 204))
                 return 0;
         }
-    }
     return 1;
 }
 
@@ -234,19 +274,21 @@ static int table(const char *counts_file)
     if (f)
         fclose(f);
 
-    printf("Each figure is for one block (one packet in the randomizer and in send).\n"
-           "send and receive: one call for %d packets or blocks from a fresh state, divided.\n"
-           "Rooms are lent uncleared (whatever the call before left); a block to be repaired is\n"
-           "copied in afresh before every call, inside the measure, on every side.\n"
-           "Times: best of %d, the sides taking turns. Ratio: the library's time to the peer's.\n\n",
+    printf("Each figure is for one block: one packet in the randomizer and in sending, and in the field\n"
+           "product sixteen lanes times one factor.\n"
+           "Interleavers, inner coder, sending, receiving: one call on %d blocks from a fresh state, divided.\n"
+           "Data is random. Rooms are not cleared: they are lent as the call before left them. A block to be\n"
+           "decoded is copied in afresh before every call, inside the measure, on every side.\n"
+           "Plain C is built at -O3, libfec as its package has it. Times: best of %d, the sides taking turns.\n"
+           "Ratio: the library's time to the peer's.\n\n",
            RUN, REPEATS);
-    printf("%-24s|          instructions            |          time, ns                |       ratio of times\n", "");
-    printf("%-24s|    library    plain C     libfec |    library    plain C     libfec | to plain C  to libfec\n", "kernel");
+    printf("%-25s|          instructions            |          time, ns                |       ratio of times\n", "");
+    printf("%-25s|    library    plain C     libfec |    library    plain C     libfec | to plain C  to libfec\n", "kernel");
     int bad = 0;
     for (int i = 0; i < KERNELS; i++) {
         const struct kernel *k = &kernels[i];
         if (!agree(k)) {
-            printf("%-24s|  the library and plain C give different results\n", k->what);
+            printf("%-25s|  the sides give different results\n", k->what);
             bad = 1;
             continue;
         }
@@ -266,7 +308,7 @@ static int table(const char *counts_file)
                     if (best[s] == 0 || t < best[s])
                         best[s] = t;
                 }
-        printf("%-24s|", k->what);
+        printf("%-25s|", k->what);
         for (int s = 0; s < SIDES; s++)
             cell(instructions[i][s] > 0, "%11.0f", instructions[i][s]);
         printf(" |");
@@ -276,6 +318,7 @@ static int table(const char *counts_file)
         for (int s = 1; s < SIDES; s++)
             cell(has(k, s), "%11.2f", best[LIBRARY] / (best[s] > 0 ? best[s] : 1));
         printf("\n");
+        fflush(stdout);
     }
     return bad;
 }

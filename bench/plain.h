@@ -1,5 +1,5 @@
-/* The plain-C peer: the same functions as ../../include/dvbs.h, with the prefix
- * plain_. */
+/* The plain-C peer: the same functions as ../include/dvbs.h and kernels.h, with
+ * the prefix plain_. */
 #ifndef PLAIN_H
 #define PLAIN_H
 
@@ -22,5 +22,10 @@ uint64_t PLAIN(send_run)(uint8_t rate, const uint8_t *packets, size_t packets_le
                          uint8_t *answer, size_t answer_len);
 uint64_t PLAIN(receive_run)(const uint8_t *blocks, size_t blocks_len, uint8_t *room, size_t room_len,
                             uint8_t *counts, size_t counts_len);
+
+void PLAIN(scale)(uint8_t *lanes, size_t lanes_len, const uint8_t *factors, size_t factors_len);
+void PLAIN(interleave)(const uint8_t *blocks, size_t blocks_len, uint8_t *room, size_t room_len);
+void PLAIN(deinterleave)(const uint8_t *blocks, size_t blocks_len, uint8_t *room, size_t room_len);
+uint64_t PLAIN(inner_code)(uint8_t rate, const uint8_t *blocks, size_t blocks_len, uint8_t *room, size_t room_len);
 
 #endif

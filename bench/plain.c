@@ -1,6 +1,7 @@
 /* A plain-C peer of the same job, as one would write it straightforwardly:
- * table-driven outer code (decoder by Euclid's algorithm), byte-wise interleaver
- * with ring pointers, bit-serial inner coder. EN 300 421, clauses 4.4.1 to 4.4.3. */
+ * products by logarithms, table-driven outer code (decoder by Euclid's
+ * algorithm), byte-wise interleaver with ring pointers, bit-serial inner coder
+ * with a table of X and Y. EN 300 421, clauses 4.4.1 to 4.4.3. */
 #include "plain.h"
 
 #include <string.h>
@@ -364,5 +365,49 @@ uint64_t PLAIN(receive_run)(const uint8_t *blocks, size_t blocks_len, uint8_t *r
     for (int i = 0; i < 7; i++)
         for (int k = 0; k < 8; k++)
             counts[8 * i + k] = (uint8_t)(tally[i] >> 8 * k);
+    return written;
+}
+
+/* The stages by themselves. */
+void PLAIN(scale)(uint8_t *lanes, size_t lanes_len, const uint8_t *factors, size_t factors_len)
+{
+    uint8_t lane[16];
+    if (lanes_len < sizeof lane)
+        return;
+    memcpy(lane, lanes, sizeof lane);
+    for (size_t i = 0; i < factors_len; i++)
+        for (size_t j = 0; j < sizeof lane; j++)
+            lane[j] = mul(lane[j], factors[i]);
+    memcpy(lanes, lane, sizeof lane);
+}
+
+static void pass_all(int reversed, const uint8_t *blocks, size_t blocks_len, uint8_t *room, size_t room_len)
+{
+    struct branches branches;
+    if (room_len < blocks_len)
+        return;
+    memset(&branches, 0, sizeof branches);
+    for (size_t n = 0; blocks_len - n >= BLOCK; n += BLOCK)
+        pass(&branches, reversed, blocks + n, room + n);
+}
+
+void PLAIN(interleave)(const uint8_t *blocks, size_t blocks_len, uint8_t *room, size_t room_len)
+{
+    pass_all(0, blocks, blocks_len, room, room_len);
+}
+
+void PLAIN(deinterleave)(const uint8_t *blocks, size_t blocks_len, uint8_t *room, size_t room_len)
+{
+    pass_all(1, blocks, blocks_len, room, room_len);
+}
+
+uint64_t PLAIN(inner_code)(uint8_t rate, const uint8_t *blocks, size_t blocks_len, uint8_t *room, size_t room_len)
+{
+    if (rate > 4 || room_len / 8 < blocks_len)
+        return 0;
+    struct inner inner = {rate, 0, -1, 0};
+    uint64_t written = 0;
+    for (size_t n = 0; blocks_len - n >= BLOCK; n += BLOCK)
+        written += inner_code(&inner, blocks + n, BLOCK, room + written);
     return written;
 }

@@ -1,0 +1,17 @@
+-- A call on a good state, with a block and room enough, is answered.
+-- Assumes nothing.
+use mathlib.Core.Path.{_≡_, refl}
+use mathlib.Core.List.{List, _++_}
+use Prim.Native.Nat.{ℕ, _≤_}
+use borrow.Author.Tests.{eq-eqb, le-ltb}
+use lib.ListN.{length, drop}
+use Rattle.delay_branches.specs.Block.{blockOut, after}
+use Rattle.delay_branches.specs.declared.Side.{Side}
+use Rattle.delay_branches.specs.declared.Branches.{Branches}
+use Rattle.delay_branches.proofs.Blocks.{Good}
+use Rattle.interleaver.specs.Call.{passBranches, passRoom}
+
+pub pass-done : (side : Side) (s : Branches) (block room : List ℕ) → Good side s → length block ≡ 204 → 204 ≤ length room
+    → (passBranches side s block room ≡ after side s block)
+    × (passRoom side s block room ≡ blockOut side s block ++ drop 204 room)
+pass-done side s block room g n l = simp (g .range, eq-eqb _ _ n, le-ltb _ _ l) (refl, refl)

@@ -1,0 +1,145 @@
+-- A loop that codes the blocks of a buffer: what is in the room, and what is left to code.
+-- Assumes nothing.
+use mathlib.Core.Path.{_≡_, refl, ap, ap₂, sym, subst, _∙_}
+use mathlib.Core.List.{List, [], _∷_, _++_, append-assoc, append-nil}
+use Prim.Native.Nat.{ℕ, _+_, _-_, _*_, _≤_, _<_}
+use native.Mathlib.Omega.{arith}
+use borrow.Author.Tests.{eq-eqb, le-ltb}
+use borrow.Rule.Slice.PartMut.{putMid, midOf}
+use lib.ListN.{length, take, drop, length-append, length-drop}
+use lib.Seq.{length-take-le}
+use Rattle.puncturing.specs.Step.{listOf}
+use Rattle.inner_code.specs.Step.{InRange, symbolStep, coderStep, symbolsOf}
+use Rattle.convolutional_code.specs.Bits.{bitsOf}
+use Rattle.inner_code.specs.Encode.{freshCoder, blockSymbols, blockCoder, callsSymbols, encodeCoder, encodeCount, encodeRoom}
+use Rattle.inner_code.specs.declared.InnerCoder.{InnerCoder}
+use Rattle.puncturing.specs.declared.Symbol.{Symbol}
+use Rattle.puncturing.specs.declared.Symbol.the-variants.{None, One}
+use Rattle.convolutional_code.proofs.Bits.{bits-bits, block-bits}
+use Rattle.inner_code.proofs.Coder.{range-test, fresh-in-range, coder-in-range}
+use Rattle.inner_code.proofs.Stream.{calls-stream}
+use Rattle.kernels.specs.Blocks.{wholeBlocks}
+use Rattle.kernels.specs.Code.{codedSymbols}
+use Rattle.kernels.proofs.Blocks.{blocksFrom, blocks-end, blocks-more, put-next}
+
+-- ---- a bit gives at most one symbol
+
+at-most-one : (s : Symbol) → length (listOf s) ≤ 1
+at-most-one None = omega arith
+at-most-one (One s) = omega arith
+
+symbols-few : (c : InnerCoder) (bits : List ℕ) → length (symbolsOf c bits) ≤ length bits
+unfolding symbolsOf
+symbols-few c [] = omega arith
+symbols-few c (b ∷ bs) =
+    let r = symbols-few (coderStep c b) bs in
+    omega (arith, at-most-one (symbolStep c b), length-append (listOf (symbolStep c b)) (symbolsOf (coderStep c b) bs))
+
+block-few : (c : InnerCoder) (block : List ℕ) → length block ≡ 204 → length (blockSymbols c block) ≤ 1632
+block-few c block n = omega (arith, symbols-few c (bitsOf block), block-bits block n)
+
+-- ---- a call on a coder in range, with a block and room enough, is answered
+
+encode-done : (c : InnerCoder) (block room : List ℕ) → InRange c → length block ≡ 204 → length (blockSymbols c block) ≤ length room
+    → (encodeCoder c block room ≡ blockCoder c block)
+    × (encodeCount c block room ≡ length (blockSymbols c block))
+    × (encodeRoom c block room ≡ blockSymbols c block ++ drop (length (blockSymbols c block)) room)
+encode-done c block room g n l = simp (range-test c g, eq-eqb _ _ n, le-ltb _ _ l) (refl, refl, refl)
+
+-- ---- the loop
+
+-- the symbols so far are in the room, and with those that the rest gives they are those of the whole buffer
+pub record Coding (rate : ℕ) (bytes room₀ room : List ℕ) (c : InnerCoder) (at count : ℕ) : Type 0 where
+  pub within : at ≤ length bytes
+  pub few : count ≤ 8 * at
+  pub range : InRange c
+  pub front : List ℕ
+  pub counted : length front ≡ count
+  pub written : room ≡ front ++ drop count room₀
+  pub symbols : front ++ callsSymbols c (blocksFrom bytes at) ≡ codedSymbols rate bytes
+
+pub coding-start : (rate : ℕ) (bytes room : List ℕ) (c : InnerCoder) → rate < 5 → c ≡ freshCoder rate → Coding rate bytes room room c 0 0
+unfolding codedSymbols
+coding-start rate bytes room c h e = record {
+  within = omega arith;
+  few = omega arith;
+  range = subst InRange (sym e) (fresh-in-range rate h);
+  front = [];
+  counted = refl;
+  written = refl;
+  symbols = ap (λ (x : InnerCoder). callsSymbols x (wholeBlocks bytes)) e ∙ calls-stream rate (wholeBlocks bytes) h;
+}
+
+module _ {rate : ℕ} {bytes room₀ room : List ℕ} {c : InnerCoder} {at count : ℕ} (fits : 8 * length bytes ≤ length room₀) (p : Coding rate bytes room₀ room c at count) where
+  pub coding-length : length room ≡ length room₀
+  coding-length =
+      omega (arith, ap length (p .written), length-append (p .front) (drop count room₀), length-drop count room₀, p .counted, p .few, p .within)
+
+  pub coding-room : count ≤ length room
+  coding-room = omega (arith, coding-length, p .few, p .within)
+
+  pub coding-end : length bytes - at < 204
+      → (count ≡ length (codedSymbols rate bytes)) × (room ≡ codedSymbols rate bytes ++ drop (length (codedSymbols rate bytes)) room₀)
+  unfolding callsSymbols
+  coding-end h =
+      let e : p .front ≡ codedSymbols rate bytes
+      = sym (append-nil (p .front)) ∙ ap (λ (l : List (List ℕ)). p .front ++ callsSymbols c l) (sym (blocks-end bytes at h)) ∙ p .symbols in
+      let n : count ≡ length (codedSymbols rate bytes) = sym (p .counted) ∙ ap length e in
+      (n, p .written ∙ ap₂ (λ (a : List ℕ) (k : ℕ). a ++ drop k room₀) e n)
+
+  module _ (h : 204 ≤ length bytes - at) where
+    is : at + 204 - at ≡ 204
+    is = omega arith
+
+    -- a call on this block and the rest of the room
+    module _ {next : InnerCoder} {n : ℕ} {exit : List ℕ}
+        (s : next ≡ encodeCoder c (take (at + 204 - at) (drop at bytes)) (midOf count (length room - count) room))
+        (m : n ≡ encodeCount c (take (at + 204 - at) (drop at bytes)) (midOf count (length room - count) room))
+        (w : exit ≡ encodeRoom c (take (at + 204 - at) (drop at bytes)) (midOf count (length room - count) room)) where
+      block : List ℕ
+      block = take (at + 204 - at) (drop at bytes)
+
+      part : List ℕ
+      part = midOf count (length room - count) room
+
+      size : length block ≡ 204
+      unfolding block
+      size = length-take-le (at + 204 - at) (drop at bytes) (omega (arith, length-drop at bytes)) ∙ is
+
+      part-size : length part ≡ length room - count
+      unfolding part
+      part-size = length-take-le (length room - count) (drop count room) (omega (arith, length-drop count room))
+
+      enough : length (blockSymbols c block) ≤ length part
+      enough = omega (arith, block-few c block size, part-size, coding-length, p .few, p .within, h)
+
+      done : (next ≡ blockCoder c block) × (n ≡ length (blockSymbols c block)) × (exit ≡ blockSymbols c block ++ drop (length (blockSymbols c block)) part)
+      unfolding block part
+      done =
+          let d = encode-done c block part (p .range) size enough in
+          (s ∙ d .0, m ∙ d .1, w ∙ d .2)
+
+      pub coding-total : count + n ≤ length room₀
+      coding-total = omega (arith, done .1, enough, part-size, coding-length, coding-room)
+
+      pub coding-more : Coding rate bytes room₀ (putMid count (length room - count) room exit) next (at + 204) (count + n)
+      unfolding block part callsSymbols
+      coding-more =
+          let symbols : List ℕ = blockSymbols c block in
+          record {
+            within = omega (arith, h, p .within);
+            few = omega (arith, p .few, done .1, block-few c block size);
+            range = subst InRange (sym (done .0)) (coder-in-range c (p .range) (bits-bits block));
+            front = p .front ++ symbols;
+            counted = length-append (p .front) symbols ∙ ap₂ (λ (i j : ℕ). i + j) (p .counted) (sym (done .1));
+            written =
+                ap (putMid count (length room - count) room) (done .2)
+                ∙ put-next (p .front) room₀ room count (p .counted) (p .written) symbols (length room - count) enough
+                ∙ ap (λ (j : ℕ). (p .front ++ symbols) ++ drop (count + j) room₀) (sym (done .1));
+            symbols =
+                ap (λ (x : InnerCoder). (p .front ++ symbols) ++ callsSymbols x (blocksFrom bytes (at + 204))) (done .0)
+                ∙ append-assoc (p .front) symbols _
+                ∙ ap (λ (j : ℕ). let b : List ℕ = take j (drop at bytes) in p .front ++ (blockSymbols c b ++ callsSymbols (blockCoder c b) (blocksFrom bytes (at + 204)))) is
+                ∙ ap (λ (l : List (List ℕ)). p .front ++ callsSymbols c l) (sym (blocks-more bytes at h))
+                ∙ p .symbols;
+          }

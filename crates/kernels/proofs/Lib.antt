@@ -1,0 +1,4 @@
+pub mod Blocks
+pub mod Factors
+pub mod Delays
+pub mod Codes

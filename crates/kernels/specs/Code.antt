@@ -1,0 +1,28 @@
+-- The whole blocks of a buffer through the inner coder.
+-- Assumes nothing.
+use mathlib.Core.Bool.{Bool, true}
+use mathlib.Core.List.{List, _++_, flatten}
+use Prim.Native.Nat.{ℕ, _/_}
+use lib.Dec.{ltb}
+use lib.ListN.{length, drop}
+use Rattle.common.specs.Choice.{pick}
+use Rattle.puncturing.specs.Mode.{modeOf}
+use Rattle.convolutional_code.specs.Bits.{bitsOf}
+use Rattle.inner_code.specs.Stream.{symbols}
+use Rattle.kernels.specs.Blocks.{wholeBlocks}
+
+-- their symbols
+unfoldable pub codedSymbols : ℕ → List ℕ → List ℕ
+codedSymbols rate bytes = symbols (modeOf rate) (bitsOf (flatten (wholeBlocks bytes)))
+
+-- no such rate, or less room than a symbol for each bit
+abbrev pub refused : ℕ → List ℕ → List ℕ → Bool
+refused rate bytes room = pick (ltb rate 5) (ltb (length room / 8) (length bytes)) true
+
+-- how many symbols are written, and the room then
+abbrev pub codeCount : ℕ → List ℕ → List ℕ → ℕ
+codeCount rate bytes room = pick (refused rate bytes room) 0 (length (codedSymbols rate bytes))
+
+abbrev pub codeRoom : ℕ → List ℕ → List ℕ → List ℕ
+codeRoom rate bytes room =
+    pick (refused rate bytes room) room (codedSymbols rate bytes ++ drop (length (codedSymbols rate bytes)) room)

@@ -1,0 +1,19 @@
+-- The whole blocks of a buffer through the branches of either side.
+-- Assumes nothing.
+use mathlib.Core.List.{List, _++_, flatten}
+use Prim.Native.Nat.{ℕ, _*_, _/_}
+use lib.Dec.{ltb}
+use lib.ListN.{length, drop}
+use Rattle.common.specs.Choice.{pick}
+use Rattle.interleaver.specs.Stream.{delayed}
+use Rattle.delay_branches.specs.declared.Side.{Side}
+use Rattle.kernels.specs.Blocks.{wholeBlocks}
+
+-- the blocks that leave, one after the other
+unfoldable pub delayedBytes : Side → List ℕ → List ℕ
+delayedBytes side bytes = flatten (delayed side (wholeBlocks bytes))
+
+-- they stand in the room, unless it is shorter than the buffer
+abbrev pub delayRoom : Side → List ℕ → List ℕ → List ℕ
+delayRoom side bytes room =
+    pick (ltb (length room) (length bytes)) room (delayedBytes side bytes ++ drop (204 * (length bytes / 204)) room)

@@ -1,0 +1,4 @@
+pub mod Blocks
+pub mod Scale
+pub mod Delay
+pub mod Code
