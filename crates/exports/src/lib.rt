@@ -6,10 +6,7 @@ ghost use Rattle.randomizer.specs.Packet.{randomizeNumber, randomizeRoom, deran
 ghost use Rattle.exports.specs.Decode.{DecodeExported};
 ghost use Rattle.exports.specs.SendRun.{sendRunCount, sendRunRoom, sendRunAnswer};
 ghost use Rattle.exports.specs.ReceiveRun.{ReceiveRunExported};
-
-mod counts;
-
-use counts::put_counts;
+use count_bytes::put_counts;
 use reed_solomon::Decoded;
 
 // Randomizes a packet at a place of its group: the number of the answer.

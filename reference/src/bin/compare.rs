@@ -382,6 +382,27 @@ fn decode_kinds(s: &mut Score) {
     if refused > 0 {
         println!("  no codeword: {refused}");
     }
+    let mut accepted = 0u64;
+    s.kind("rs_decode: every root of g but one", 24_000, |s, r, case| {
+        // A codeword plus a multiple of g / (x + lambda^m): one syndrome alone is
+        // not zero. With up to eight bytes harmed on top.
+        let m = case as usize % 16;
+        let root = (0..m).fold(1, |power, _| times(power, 2));
+        let factor = 1 + r.below(255) as u8;
+        let at = r.below(189);
+        let mut block = codeword(r);
+        let mut coefficient = 0;
+        for (k, g) in reference::reed_solomon::generator()[..16].iter().enumerate() {
+            coefficient = g ^ times(coefficient, root);
+            block[at + k] ^= times(coefficient, factor);
+        }
+        harm(r, &mut block, case as usize / 16 % 9, 0, 204);
+        let before = count_before(r);
+        accepted += (rs_decode(s, &block, before).0 == 0) as u64;
+    });
+    if accepted > 0 {
+        println!("  within eight of a codeword all the same: {accepted}");
+    }
     s.kind("rs_decode: refusals", 410, |s, r, case| {
         for count in [0, 1, 2] {
             let block = r.bytes(case as usize);

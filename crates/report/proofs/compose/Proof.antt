@@ -2,8 +2,9 @@
 -- Assumes nothing.
 use mathlib.Core.List.{append-assoc, append-nil}
 use native.Mathlib.Omega.{arith}
-use Rattle.report.specs.Text.{lineText, reportText, changedKey, restKey}
-use Rattle.report.proofs.Lines.{joined-appended, restated}
+use Rattle.report_lines.specs.Line.{lineText}
+use Rattle.report_lines.proofs.Lines.{joined-appended, restated}
+use Rattle.report.specs.Text.{reportText, changedKey, restKey}
 use borrow.Author.Needs.{needs}
 use Rattle.report.proofs.compose.Statement.{statement}
 use Rattle.report.proofs.compose.Tie as tie

@@ -2,8 +2,9 @@
 -- Assumes nothing.
 use mathlib.Core.Path.{refl}
 use native.Mathlib.Omega.{arith}
-use Rattle.report.specs.Text.{lineText, takenKey, fillingKey}
-use Rattle.report.proofs.Lines.{joined-appended, restated}
+use Rattle.report_lines.specs.Line.{lineText}
+use Rattle.report_lines.proofs.Lines.{joined-appended, restated}
+use Rattle.report.specs.Text.{takenKey, fillingKey}
 use borrow.Author.Needs.{needs}
 use Rattle.report.proofs.put_opening.Statement.{statement}
 use Rattle.report.proofs.put_opening.Tie as tie

@@ -1,4 +1,4 @@
--- `counts::put_counts` meets its contract.
+-- `count_bytes::put_counts` meets its contract.
 -- Assumes nothing.
 use mathlib.Core.Path.{_≡_, sym, ap, _∙_}
 use mathlib.Core.List.{List, _++_}
@@ -8,10 +8,10 @@ use lib.ListN.{length, getD, drop, set}
 use Rattle.common.specs.Lists.{listOf}
 use Rattle.common.proofs.Lists.{length-listOf, getD-listOf}
 use Rattle.common.proofs.Written.{Written, written-none, written-next, written-length, written-all}
-use Rattle.exports.specs.ReceiveRun.{byteAt, numbersOf, countBytes}
+use Rattle.count_bytes.specs.Bytes.{byteAt, numbersOf, countBytes}
 use borrow.Author.Needs.{needs}
-use Rattle.exports.proofs.counts.put_counts.Statement.{statement}
-use Rattle.exports.proofs.counts.put_counts.Tie as tie
+use Rattle.count_bytes.proofs.put_counts.Statement.{statement}
+use Rattle.count_bytes.proofs.put_counts.Tie as tie
 
 -- the bytes of seven numbers
 abbrev bytesOf : List ℕ → List ℕ

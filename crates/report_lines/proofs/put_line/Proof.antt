@@ -1,15 +1,15 @@
--- `report::put_line` meets its contract.
+-- `report_lines::put_line` meets its contract.
 -- Assumes nothing.
 use mathlib.Core.Path.{_≡_, sym, _∙_, subst}
 use mathlib.Core.List.{[], _∷_, _++_}
 use Prim.Native.Nat.{ℕ, _+_, _≤_, _<_}
 use native.Mathlib.Omega.{arith}
 use lib.ListN.{length, set, length-set}
-use Rattle.report.specs.Text.{Appended, decimal, lineText}
-use Rattle.report.proofs.Lines.{put-appended, byte-appended, joined-appended}
+use Rattle.report_lines.specs.Line.{Appended, decimal, lineText}
+use Rattle.report_lines.proofs.Lines.{put-appended, byte-appended, joined-appended}
 use borrow.Author.Needs.{needs}
-use Rattle.report.proofs.put_line.Statement.{statement}
-use Rattle.report.proofs.put_line.Tie as tie
+use Rattle.report_lines.proofs.put_line.Statement.{statement}
+use Rattle.report_lines.proofs.put_line.Tie as tie
 
 put-requires : tie.Need-put-requires
 put-requires c κs = search needs

@@ -3,7 +3,7 @@ ghost use mathlib.Core.Path.{_≡_};
 ghost use mathlib.Core.List.{_++_};
 ghost use Prim.Native.Nat.{_≤_};
 ghost use lib.ListN.{length, drop};
-ghost use Rattle.exports.specs.ReceiveRun.{byteAt, countBytes};
+ghost use Rattle.count_bytes.specs.Bytes.{byteAt, countBytes};
 use reception_counts::Counts;
 
 // Byte k of a number, the lowest being byte 0.

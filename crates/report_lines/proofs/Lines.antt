@@ -7,7 +7,7 @@ use native.Mathlib.Numerals.{add-one}
 use native.Mathlib.Omega.{arith}
 use lib.ListN.{length, take, drop, set, length-append, length-drop, length-set}
 use lib.Seq.{take-at, take-suc-set, length-take-le}
-use Rattle.report.specs.Text.{Appended}
+use Rattle.report_lines.specs.Line.{Appended}
 
 -- a list put at a place
 pub put-appended : (room l : List ℕ) (at most : ℕ) → at + length l ≤ length room → at + length l ≤ most

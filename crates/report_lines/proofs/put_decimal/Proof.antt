@@ -1,16 +1,16 @@
--- `report::put_decimal` meets its contract.
+-- `report_lines::put_decimal` meets its contract.
 -- Assumes nothing.
 use mathlib.Core.Path.{_≡_, ap, _∙_}
 use mathlib.Core.List.{List, _++_}
 use Prim.Native.Nat.{ℕ, _+_, _≤_}
 use native.Mathlib.Omega.{arith}
 use lib.ListN.{length, take, drop}
-use Rattle.report.specs.Text.{decimal}
-use Rattle.report.proofs.Lines.{put-appended}
-use Rattle.report.proofs.Decimals.{fewest-decimal, fewest-small}
+use Rattle.report_lines.specs.Line.{decimal}
+use Rattle.report_lines.proofs.Lines.{put-appended}
+use Rattle.report_lines.proofs.Decimals.{fewest-decimal, fewest-small}
 use borrow.Author.Needs.{needs}
-use Rattle.report.proofs.put_decimal.Statement.{statement}
-use Rattle.report.proofs.put_decimal.Tie as tie
+use Rattle.report_lines.proofs.put_decimal.Statement.{statement}
+use Rattle.report_lines.proofs.put_decimal.Tie as tie
 
 decimal-requires : tie.Need-decimal-requires
 decimal-requires c κs = search needs

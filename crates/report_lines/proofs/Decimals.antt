@@ -8,7 +8,7 @@ use native.Mathlib.Decide.{decLt}
 use native.Mathlib.Omega.{arith}
 use borrow.Author.Tests.{lt-ltb, le-ltb}
 use Rattle.io.specs.Digits.{glyph, digits, Fewest}
-use Rattle.report.specs.Text.{decimalWithin, decimal}
+use Rattle.report_lines.specs.Line.{decimalWithin, decimal}
 
 -- a digit's character
 digit-is : (d : ℕ) → d < 10 → glyph d ≡ 48 + d

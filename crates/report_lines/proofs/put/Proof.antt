@@ -1,4 +1,4 @@
--- `report::put` meets its contract: after i turns the first i elements are written.
+-- `report_lines::put` meets its contract: after i turns the first i elements are written.
 -- Assumes nothing.
 use mathlib.Core.Path.{_≡_, refl}
 use Prim.Native.Nat.{_-_}
@@ -6,8 +6,8 @@ use native.Mathlib.Omega.{arith}
 use lib.ListN.{length}
 use Rattle.common.proofs.Written.{Written, written-none, written-more, written-length, written-all}
 use borrow.Author.Needs.{needs}
-use Rattle.report.proofs.put.Statement.{statement}
-use Rattle.report.proofs.put.Tie as tie
+use Rattle.report_lines.proofs.put.Statement.{statement}
+use Rattle.report_lines.proofs.put.Tie as tie
 
 abbrev Inv-loop : tie.InvT-loop
 Inv-loop bytes at room₀ i₀ room i = Written at room₀ bytes room i
