@@ -1,25 +1,71 @@
 #!/bin/bash
-# The tests: the Rattle gate, then the exported functions against the second coder and decoder of reference/.
+# The tests: the Rattle gate, then what stands beside the crates: the exported functions against the second coder and
+# decoder of reference/, the commands of README.md, and the usage lines of the programs.
 # The gate's line `N passed, 0 failed` comes last, and only where all of it passed.
 set -euo pipefail
 cd "$(dirname "$0")"
+work=$(mktemp -d)
+trap 'rm -rf "$work"' EXIT
 
-log=$(mktemp)
-trap 'rm -f "$log"' EXIT
-if ! rt ci | tee "$log" | sed '$d'; then
-    tail -n 1 "$log"
+fail() {
+    echo "FAILED: $*"
+    exit 1
+}
+
+# quietly COMMAND..: what it says is shown only where it fails.
+quietly() {
+    "$@" > "$work/said" 2>&1 || { cat "$work/said"; fail "$@"; }
+}
+
+# tool NAME PACKAGE: one that is missing, or is there and does not run for this user, comes from Debian.
+# This is done first, so that nobody waits for the proofs to hear of it.
+tool() {
+    if "$1" --version > /dev/null 2>&1; then
+        return
+    fi
+    [ "$(id -u)" = 0 ] || fail "the tests need $1 (Debian: $2)"
+    export DEBIAN_FRONTEND=noninteractive PATH=/usr/bin:$PATH
+    quietly apt-get update
+    quietly apt-get install -y "$2"
+    hash -r
+}
+tool cc gcc
+tool cargo cargo
+tool rustc rustc
+
+if ! rt ci | tee "$work/gate" | sed '$d'; then
+    tail -n 1 "$work/gate"
     exit 1
 fi
-last=$(tail -n 1 "$log")
+last=$(tail -n 1 "$work/gate")
 if ! [[ $last =~ ^[0-9]+\ passed,\ 0\ failed$ ]]; then
     echo "$last"
     exit 1
 fi
 
-if ! command -v cargo > /dev/null; then
-    apt-get update > /dev/null && apt-get install -y cargo > /dev/null
-fi
-rt staticlib exports > /dev/null
-(cd reference && cargo test --release --offline --quiet > /dev/null)
-(cd reference && EXPORTS_DIR=$PWD/../target/staticlib cargo run --release --offline --quiet --bin compare)
+# Nothing is written to a home folder.
+export CARGO_HOME=$PWD/target/cargo-home CARGO_TARGET_DIR=$PWD/target/cargo
+in_reference=(--release --offline --manifest-path reference/Cargo.toml)
+quietly rt staticlib exports
+quietly cargo build "${in_reference[@]}"
+quietly cargo test "${in_reference[@]}"
+EXPORTS_DIR=$PWD/target/staticlib cargo run --quiet "${in_reference[@]}" --bin compare
+
+# The commands of README.md that use what was built, as they stand there.
+sed -n '/^## The programs/,/^## Reading/s/^    //p' README.md > "$work/commands"
+bash -eu -o pipefail "$work/commands" 2>&1 | diff examples/expected.txt - || fail "the commands of README.md"
+echo "the commands of README.md: as expected"
+
+# usage PROGRAM WORD..: with these words it gives its usage line on standard error, and does nothing else.
+usage() {
+    target/bin/"$@" < reference/tests/data/packets.ts > "$work/out" 2> "$work/err"
+    [ ! -s "$work/out" ] && [ "$(wc -l < "$work/err")" = 1 ] && grep -q "^usage: $1 " "$work/err" || fail "usage line: $*"
+}
+usage dvbs_send
+usage dvbs_send 5
+usage dvbs_send 22
+usage dvbs_send 2 2
+usage dvbs_receive 0
+usage pass_report 0
+echo "usage lines: as expected"
 echo "$last"

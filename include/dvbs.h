@@ -1,10 +1,22 @@
-/* The library's C functions. A buffer is a pointer and its length.
+/* The C functions of the library: target/staticlib/libexports.a, which
+ * `rt staticlib exports` writes. examples/link_from_c.c uses two of them.
  *
- * Answers: 0 done; 1 a packet (or the outer coder's data) is not 188 bytes;
- * 2 the packet's first byte is not 47 hex; 3 a block is not 204 bytes; 4 room
- * too short; 5 a number in the state is out of its range (here: place above 7);
- * 6 rate other than 0 to 4; 8 no codeword within eight bytes. After a refusal
- * the buffers are as they were. Room beyond the answer is never written. */
+ * A buffer is a pointer and its length. The functions test what they are lent,
+ * so any length and any bytes may come; what the caller owes is that lengths are
+ * true and that buffers of one call do not overlap. Nothing is kept between
+ * calls. After a refusal the buffers are as they were, and room beyond what is
+ * given is never written.
+ *
+ * Answers:
+ *   0  done
+ *   1  a packet, or the message of the outer coder, is not 188 bytes
+ *   2  the packet's first byte is not 47 hex
+ *   3  a block is not 204 bytes
+ *   4  room too short
+ *   5  a number is out of its range: here a place above 7
+ *   6  a rate other than 0 to 4
+ *   8  no codeword within eight bytes
+ * Where several are due, the first in the order 6, 5, 1 or 3, 2, 4 is given. */
 #ifndef DVBS_H
 #define DVBS_H
 
@@ -17,33 +29,40 @@ extern "C" {
 
 enum { DVBS_PACKET = 188, DVBS_BLOCK = 204, DVBS_COUNTS = 56 };
 
-/* The packet at this place (0 to 7) of its group, randomized: 188 bytes. */
+/* Energy dispersal: the packet at this place (0 to 7) of its group of eight, as
+ * it is sent, 188 bytes; and the packet that was sent so. The second takes any
+ * first byte, and writes 47 hex there. Returns the answer. */
 uint8_t dvbs_randomize(uint8_t place, const uint8_t *packet, size_t packet_len,
                        uint8_t *room, size_t room_len);
 uint8_t dvbs_derandomize(uint8_t place, const uint8_t *packet, size_t packet_len,
                          uint8_t *room, size_t room_len);
 
-/* 188 bytes to the codeword of 204. */
+/* Outer coder, RS(204,188): the 188 bytes of a message and its 16 check bytes.
+ * Returns the answer. */
 uint8_t dvbs_rs_encode(const uint8_t *data, size_t data_len,
                        uint8_t *room, size_t room_len);
 
-/* Repairs 204 bytes in place; where the answer is 0, count[0] is how many
- * bytes were changed, otherwise it is left. */
+/* Outer decoder: leaves the codeword within eight bytes of the block in its
+ * place. Returns the answer; where it is 0, count[0] is how many bytes were
+ * changed, otherwise it is left. Lend at least one byte for the count. */
 uint8_t dvbs_rs_decode(uint8_t *block, size_t block_len,
                        uint8_t *count, size_t count_len);
 
-/* What a fresh sender sends for the packets; rates 0 to 4 are 1/2, 2/3, 3/4,
- * 5/6, 7/8. Returns the symbols written, one byte each, 2 I + Q; answer[0] is
- * the answer's number. An answer shorter than 1 byte: returns 0, writes nothing. */
+/* What a fresh sender sends for the packets, which lie one after the other;
+ * rates 0 to 4 are 1/2, 2/3, 3/4, 5/6, 7/8. Returns how many symbols were
+ * written, one byte each, 2 I + Q; answer[0] is the answer. A packet gives at
+ * most 1,632 symbols. All packets are tested before any is sent. Where no byte
+ * is lent for the answer: returns 0, writes nothing. */
 uint64_t dvbs_send_run(uint8_t rate, const uint8_t *packets, size_t packets_len,
                        uint8_t *room, size_t room_len,
                        uint8_t *answer, size_t answer_len);
 
-/* What a fresh receiver gives for the recording's whole blocks. Returns the
- * bytes of packets written. counts: taken, filling, delivered, lost, waiting,
- * outofstep, changed, eight bytes each, lowest first. Lend 188 bytes of room
- * for each whole block. counts shorter than 56, room too short for that, or more
- * than 4,294,967,295 blocks: returns 0, writes nothing. */
+/* What a fresh receiver gives for the whole blocks of a recording; bytes after
+ * the last of them are left alone. Returns how many bytes of packets were
+ * written. counts: taken, filling, delivered, lost, waiting, outofstep, changed,
+ * eight bytes each, lowest first. Lend 188 bytes of room for each whole block.
+ * Where counts is shorter than 56 bytes, the room is too short for that, or
+ * there are more than 4,294,967,295 blocks: returns 0, writes nothing. */
 uint64_t dvbs_receive_run(const uint8_t *blocks, size_t blocks_len,
                           uint8_t *room, size_t room_len,
                           uint8_t *counts, size_t counts_len);

@@ -17,8 +17,8 @@ impl Sender {
         Ok(Sender { place: 0, branches: Branches::interleaver(), inner })
     }
 
-    /// The interleaved block of a packet that has been tested.
-    fn interleaved(&mut self, packet: &[u8]) -> [u8; BLOCK_LENGTH] {
+    /// The interleaved block of a packet that begins with the sync byte.
+    pub fn interleaved(&mut self, packet: &[u8]) -> [u8; BLOCK_LENGTH] {
         let mut randomized = [0; PACKET_LENGTH];
         let mut coded = [0; BLOCK_LENGTH];
         let mut block = [0; BLOCK_LENGTH];

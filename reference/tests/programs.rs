@@ -1,0 +1,54 @@
+//! The programs of the reference: the pass report on the inputs of document 01,
+//! and the interleaved blocks of a transport stream.
+
+use std::io::Write;
+use std::process::{Command, Stdio};
+
+static PACKETS: &[u8] = include_bytes!("data/packets.ts");
+static INTERLEAVED: &[u8] = include_bytes!("data/interleaved.bin");
+
+fn output(program: &str, input: &[u8]) -> Vec<u8> {
+    let mut child = Command::new(program).stdin(Stdio::piped()).stdout(Stdio::piped()).spawn().unwrap();
+    child.stdin.take().unwrap().write_all(input).unwrap();
+    child.wait_with_output().unwrap().stdout
+}
+
+fn report(input: &[u8]) -> String {
+    String::from_utf8(output(env!("CARGO_BIN_EXE_pass_report"), input)).unwrap()
+}
+
+fn interleaved(input: &[u8]) -> Vec<u8> {
+    output(env!("CARGO_BIN_EXE_interleaved"), input)
+}
+
+#[test]
+fn zeros() {
+    let want = "form=1\ntaken=13\nfilling=11\ndelivered=0\nlost=0\nwaiting=2\noutofstep=0\nchanged=0\nrest=100\n";
+    assert_eq!(report(&[0; 2752]), want);
+}
+
+#[test]
+fn nothing_and_the_ends_of_rest() {
+    for (length, taken, rest) in [(0, 0, 0), (203, 0, 203), (204, 1, 0), (407, 1, 203)] {
+        let want = format!("form=1\ntaken={taken}\nfilling={taken}\ndelivered=0\nlost=0\nwaiting=0\noutofstep=0\nchanged=0\nrest={rest}\n");
+        assert_eq!(report(&vec![0; length]), want);
+    }
+}
+
+#[test]
+fn the_outside_stream() {
+    let want = "form=1\ntaken=40\nfilling=11\ndelivered=29\nlost=0\nwaiting=0\noutofstep=0\nchanged=0\nrest=0\n";
+    assert_eq!(report(INTERLEAVED), want);
+}
+
+#[test]
+fn the_blocks_of_a_stream() {
+    assert_eq!(interleaved(PACKETS), INTERLEAVED);
+    assert_eq!(interleaved(&[]), []);
+}
+
+#[test]
+fn what_a_sender_refuses_gives_no_block() {
+    let odd = [&[0; 188], PACKETS, &[0; 188], &[0x47; 187]].concat();
+    assert_eq!(interleaved(&odd), INTERLEAVED);
+}
