@@ -4,8 +4,8 @@
  * A buffer is a pointer and its length. The functions test what they are lent,
  * so any length and any bytes may come; what the caller owes is that lengths are
  * true and that buffers of one call do not overlap. Nothing is kept between
- * calls. After a refusal the buffers are as they were, and room beyond what is
- * given is never written.
+ * calls. After a refusal the buffers are as they were, but for a byte lent to
+ * take the answer, and room beyond what is given is never written.
  *
  * Answers:
  *   0  done
