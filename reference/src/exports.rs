@@ -141,6 +141,7 @@ pub mod library {
     }
 
     pub const NAME: &str = "the library";
+    pub const LINKED: bool = true;
 
     // Each pointer comes from a slice and is passed with that slice's length.
 
@@ -192,5 +193,6 @@ pub mod library {
 #[cfg(not(exports_linked))]
 pub mod library {
     pub const NAME: &str = "the reference itself";
+    pub const LINKED: bool = false;
     pub use super::expected::*;
 }

@@ -3,6 +3,9 @@
 //! no code with the project and favours the shapes of the standard's figures
 //! (shift registers, queues, bit by bit) over speed.
 
+// build.rs sets the cfg `exports_linked`. Newer compilers want to be told of it, and older ones do not know the lint.
+#![allow(unknown_lints, unexpected_cfgs)]
+
 pub mod answer;
 pub mod exports;
 pub mod inner_code;

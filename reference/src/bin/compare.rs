@@ -636,7 +636,7 @@ fn receive_kinds(s: &mut Score) {
 
 fn main() {
     let own = cfg!(feature = "self");
-    if !own && !cfg!(exports_linked) {
+    if !own && !library::LINKED {
         eprintln!("compare: no library linked; set EXPORTS_DIR to the folder of libexports.a and build again");
         eprintln!("(or build with --features self to try the harness on the reference itself)");
         std::process::exit(2);
