@@ -11,6 +11,26 @@ mod division;
 mod powers;
 mod syndromes;
 
+// The sixteen coefficients of the generator polynomial below x^16, from x^15 down. The division has them and their multiples in words.
+pub const GENERATOR: [u8; 16] = [
+    0x3B,
+    0x0D,
+    0x68,
+    0xBD,
+    0x44,
+    0xD1,
+    0x1E,
+    0x08,
+    0xA3,
+    0x41,
+    0x29,
+    0xE5,
+    0x62,
+    0x32,
+    0x24,
+    0x3B,
+];
+
 // What decoding a block answers. specs/Decode.antt gives each case the number of document 01.
 pub enum Decoded {
     // The block is now the codeword within eight bytes; the count says how many bytes were changed.
