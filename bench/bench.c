@@ -149,11 +149,8 @@ static void randomize(const struct kernel *k, int side, int n)
 
 static void interleave(const struct kernel *k, int side, int n)
 {
-    (void)n;
-    if (k->argument)
-        (side == LIBRARY ? kernel_deinterleave : PLAIN(deinterleave))(clean_stream, sizeof clean_stream, room, sizeof room);
-    else
-        (side == LIBRARY ? kernel_interleave : PLAIN(interleave))(coded_run, sizeof coded_run, room, sizeof room);
+    (void)k, (void)n;
+    (side == LIBRARY ? kernel_interleave : PLAIN(interleave))(coded_run, sizeof coded_run, room, sizeof room);
     sink += room[203];
 }
 
@@ -189,7 +186,6 @@ static const struct kernel kernels[] = {
     {"rs_decode_lost", "RS decode, uncorrectable", 1, THREE, 4, decode},
     {"randomize", "randomizer", 1, TWO, 0, randomize},
     {"interleave", "interleaver", RUN, TWO, 0, interleave},
-    {"deinterleave", "deinterleaver", RUN, TWO, 1, interleave},
     {"inner_code_1_2", "inner coder, 1/2", RUN, TWO, 0, inner_code},
     {"inner_code_2_3", "inner coder, 2/3", RUN, TWO, 1, inner_code},
     {"inner_code_3_4", "inner coder, 3/4", RUN, TWO, 2, inner_code},

@@ -9,10 +9,9 @@
 /* The first 16 bytes times each factor, one after the other; fewer stay. */
 void kernel_scale(uint8_t *lanes, size_t lanes_len, const uint8_t *factors, size_t factors_len);
 
-/* The whole blocks of 204 bytes through fresh branches. A room shorter than the
- * blocks is left as it is. */
+/* The whole blocks of 204 bytes through a fresh interleaver. A room shorter than
+ * the blocks is left as it is. */
 void kernel_interleave(const uint8_t *blocks, size_t blocks_len, uint8_t *room, size_t room_len);
-void kernel_deinterleave(const uint8_t *blocks, size_t blocks_len, uint8_t *room, size_t room_len);
 
 /* The whole blocks through a fresh inner coder; returns the symbols written. A
  * rate above 4, or room for fewer symbols than bits: returns 0, writes nothing. */

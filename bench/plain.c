@@ -381,24 +381,14 @@ void PLAIN(scale)(uint8_t *lanes, size_t lanes_len, const uint8_t *factors, size
     memcpy(lanes, lane, sizeof lane);
 }
 
-static void pass_all(int reversed, const uint8_t *blocks, size_t blocks_len, uint8_t *room, size_t room_len)
+void PLAIN(interleave)(const uint8_t *blocks, size_t blocks_len, uint8_t *room, size_t room_len)
 {
     struct branches branches;
     if (room_len < blocks_len)
         return;
     memset(&branches, 0, sizeof branches);
     for (size_t n = 0; blocks_len - n >= BLOCK; n += BLOCK)
-        pass(&branches, reversed, blocks + n, room + n);
-}
-
-void PLAIN(interleave)(const uint8_t *blocks, size_t blocks_len, uint8_t *room, size_t room_len)
-{
-    pass_all(0, blocks, blocks_len, room, room_len);
-}
-
-void PLAIN(deinterleave)(const uint8_t *blocks, size_t blocks_len, uint8_t *room, size_t room_len)
-{
-    pass_all(1, blocks, blocks_len, room, room_len);
+        pass(&branches, 0, blocks + n, room + n);
 }
 
 uint64_t PLAIN(inner_code)(uint8_t rate, const uint8_t *blocks, size_t blocks_len, uint8_t *room, size_t room_len)

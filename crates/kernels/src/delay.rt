@@ -1,11 +1,10 @@
-// The whole blocks of a buffer through fresh branches, on either side.
+// The whole blocks of a buffer through a fresh interleaver.
 ghost use mathlib.Core.Path.{_≡_};
 ghost use mathlib.Core.List.{_++_};
 ghost use Prim.Native.Nat.{_*_, _/_, _≤_};
 ghost use lib.ListN.{length, drop};
-ghost use Rattle.delay_branches.specs.declared.Side.the-variants.{Sending, Receiving};
+ghost use Rattle.delay_branches.specs.declared.Side.the-variants.{Sending};
 ghost use Rattle.kernels.specs.Delay.{delayedBytes};
-use interleaver::Deinterleaver;
 use interleaver::Interleaver;
 
 pub fn interleave_blocks(blocks: &[u8], room: &mut [u8])
@@ -18,20 +17,6 @@ pub fn interleave_blocks(blocks: &[u8], room: &mut [u8])
         let end = at + 204;
         let passed = interleaver.interleave(&blocks[at..end], &mut room[at..end]);
         interleaver = passed.interleaver;
-        at = end;
-    }
-}
-
-pub fn deinterleave_blocks(blocks: &[u8], room: &mut [u8])
-    requires { ⌜ length (now blocks) ≤ length (now room) ⌝ }
-    ensures { λ _. ⌜ now (room .exit) ≡ delayedBytes Receiving (now (blocks .entry)) ++ drop (204 * (length (now (blocks .entry)) / 204)) (now (room .entry)) ⌝ }
-{
-    let mut deinterleaver = Deinterleaver::new();
-    let mut at: usize = 0;
-    while blocks.len() - at >= 204 {
-        let end = at + 204;
-        let passed = deinterleaver.deinterleave(&blocks[at..end], &mut room[at..end]);
-        deinterleaver = passed.deinterleaver;
         at = end;
     }
 }

@@ -1,7 +1,7 @@
 // Stages that the library does not export, for the benchmark alone. They are functions for C, and take whatever they are lent.
 // A slice is a pointer and a length; slices of one call must not overlap.
 ghost use mathlib.Core.Path.{_≡_};
-ghost use Rattle.delay_branches.specs.declared.Side.the-variants.{Sending, Receiving};
+ghost use Rattle.delay_branches.specs.declared.Side.the-variants.{Sending};
 ghost use Rattle.kernels.specs.Scale.{scaleRoom};
 ghost use Rattle.kernels.specs.Delay.{delayRoom};
 ghost use Rattle.kernels.specs.Code.{codeCount, codeRoom};
@@ -11,10 +11,7 @@ mod delay;
 mod lanes;
 
 use code::code_blocks;
-use delay::deinterleave_blocks;
 use delay::interleave_blocks;
-use lanes::first_lanes;
-use lanes::put_lanes;
 use lanes::scale_by;
 
 // Multiplies the first sixteen bytes by each factor, one after the other. Fewer than sixteen stay as they are.
@@ -25,9 +22,8 @@ pub extern "C" fn kernel_scale(lanes: &mut [u8], factors: &[u8])
     if lanes.len() < 16 {
         return;
     }
-    let first = first_lanes(lanes);
-    let last = scale_by(first, factors);
-    put_lanes(last, lanes);
+    let last = scale_by(byte_lanes::sixteen(lanes, 0), factors);
+    byte_lanes::put(&last, 0, lanes);
 }
 
 // Interleaves the whole blocks of 204 bytes, from fresh branches. A room shorter than the blocks stays as it is.
@@ -39,17 +35,6 @@ pub extern "C" fn kernel_interleave(blocks: &[u8], room: &mut [u8])
         return;
     }
     interleave_blocks(blocks, room);
-}
-
-// The inverse of it, eleven blocks late.
-#[no_mangle]
-pub extern "C" fn kernel_deinterleave(blocks: &[u8], room: &mut [u8])
-    ensures { λ _. ⌜ now (room .exit) ≡ delayRoom Receiving (now (blocks .entry)) (now (room .entry)) ⌝ }
-{
-    if room.len() < blocks.len() {
-        return;
-    }
-    deinterleave_blocks(blocks, room);
 }
 
 // Codes the whole blocks of 204 bytes with a fresh inner coder: the number of symbols written.

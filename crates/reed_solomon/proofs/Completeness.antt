@@ -21,7 +21,9 @@ use Rattle.algebra.proofs.Syndromes.{Term, dot, dot-ext, syndrome, key, value}
 use Rattle.algebra.proofs.Terms.{length-terms, place-at, value-at}
 use Rattle.galois.proofs.Instance.{bytes, byte, byte-inj, byte-zero, byte-power, powers-differ}
 use Rattle.reed_solomon.specs.Code.{Codeword, differ}
-use Rattle.reed_solomon.specs.Steps.{elements, point, Powers, Located, Evaluated, zerosOf, RootProduct, errorValue}
+use Rattle.byte_lanes.specs.Lanes.{elements, point, Powers}
+use Rattle.error_locator.specs.Locator.{Located}
+use Rattle.error_correction.specs.Correction.{Evaluated, zerosOf, RootProduct, errorValue}
 use Rattle.reed_solomon.proofs.Codewords.{blockSyndrome, codeword-length, codeword-bytes, codeword-syndromes, rootsBelow, distinct-roots, length-roots}
 use Rattle.reed_solomon.proofs.Distance.{difference, difference-length, errors, errors-distinct, errors-weight, errors-syndrome}
 use Rattle.reed_solomon.proofs.Zeros.{zeros-all, zeros-has, zeros-distinct, zeros-syndrome}

@@ -20,8 +20,8 @@ use Rattle.algebra.proofs.Terms.{terms, distinct-terms, word-syndrome}
 use Rattle.galois.proofs.Instance.{bytes, byte, byte-inj, powers-differ}
 use Rattle.reed_solomon.specs.Code.{Codeword, differ}
 use Rattle.reed_solomon.specs.Decode.{Accepted}
-use Rattle.reed_solomon.specs.Steps.{elements, word, point}
-use Rattle.reed_solomon.proofs.Words.{length-word, elements-inj, bytes-reverse}
+use Rattle.byte_lanes.specs.Lanes.{elements, word, point}
+use Rattle.byte_lanes.proofs.Words.{length-word, elements-inj, bytes-reverse}
 use Rattle.reed_solomon.proofs.Codewords.{codeword-length, codeword-bytes, codeword-syndromes}
 
 -- ---- the distance

@@ -1,13 +1,8 @@
-pub mod Words
 pub mod Codewords
 pub mod Distance
 pub mod WordDivision
 pub mod LongDivision
 pub mod Residue
-pub mod KeyEquations
-pub mod RootSearch
-pub mod ErrorValues
-pub mod ErrorTerms
 pub mod Zeros
 pub mod Completeness
 pub mod Soundness

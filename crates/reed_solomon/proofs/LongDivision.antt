@@ -19,8 +19,8 @@ use Rattle.galois.specs.Field256.{numbers, mul, rounds, timesX, scaled}
 use Rattle.galois.proofs.Instance.{bytes, byte, byte-zero, byte-one, byte-add, byte-mul}
 use Rattle.reed_solomon.specs.Code.{factors, generator, Codeword, differ}
 use Rattle.reed_solomon.specs.Encode.{generatorTail, divided, remainderFrom, checkBytes, encoded}
-use Rattle.reed_solomon.specs.Steps.{elements, word, point}
-use Rattle.reed_solomon.proofs.Words.{length-sum, elements-append, length-word, bytes-append, bytes-drop, bytes-zeros, bytes-plus, bytes-scale}
+use Rattle.byte_lanes.specs.Lanes.{elements, word, point}
+use Rattle.byte_lanes.proofs.Words.{length-sum, elements-append, length-word, bytes-append, bytes-drop, bytes-zeros, bytes-plus, bytes-scale}
 use Rattle.reed_solomon.proofs.Codewords.{codeword-of, codeword-length, generator-root}
 use Rattle.reed_solomon.proofs.Distance.{same-codeword, differ-append, differ-none, differ-le}
 

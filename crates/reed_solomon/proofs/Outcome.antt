@@ -21,13 +21,16 @@ use Rattle.galois.proofs.Instance.{bytes, byte, byte-zero}
 use Rattle.reed_solomon.specs.Code.{Codeword, differ}
 use Rattle.reed_solomon.specs.Encode.{checkBytes}
 use Rattle.reed_solomon.specs.Decode.{Accepted, Rejected}
-use Rattle.reed_solomon.specs.Steps.{point, residueOf, allZero, Powers, SyndromesOf, Located, Evaluated, zerosOf, FoundRoots, RootProduct, errorValue, ErrorValues, termsOf, Explained, correctedBy, changedIn}
+use Rattle.byte_lanes.specs.Lanes.{point, Powers}
+use Rattle.reed_solomon.specs.Steps.{residueOf, allZero, SyndromesOf}
+use Rattle.error_locator.specs.Locator.{Located}
+use Rattle.error_correction.specs.Correction.{Evaluated, zerosOf, FoundRoots, RootProduct, errorValue, ErrorValues, termsOf, Explained, correctedBy, changedIn}
 use Rattle.reed_solomon.proofs.Codewords.{blockSyndrome, codeword-of, generator-root}
 use Rattle.reed_solomon.proofs.Distance.{differ-none, accepted}
 use Rattle.reed_solomon.proofs.LongDivision.{high, high-nil, high-cons, high-append, high-plus, high-check, check-remainder}
 use Rattle.reed_solomon.proofs.Completeness.{degreeTerms, roots-vanish, roots-distinct, roots-few, found}
 use Rattle.reed_solomon.proofs.Soundness.{corrected-length, corrected-bytes, corrected-value, corrected-differ, terms-cut, terms-by-degree, distinct-unmap}
-use Rattle.reed_solomon.proofs.ErrorTerms.{changed-le}
+use Rattle.error_correction.proofs.ErrorTerms.{changed-le}
 
 -- ---- the residue
 

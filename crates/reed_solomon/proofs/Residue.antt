@@ -1,9 +1,9 @@
 -- The residue of a block has its values at the roots of g, so that a block with residue zero is a codeword.
 -- Assumes nothing.
-use mathlib.Core.Path.{_≡_, refl, sym, ap, _∙_}
+use mathlib.Core.Path.{_≡_, sym, ap, _∙_}
 use mathlib.Core.Bool.{true, false}
 use mathlib.Core.List.{List, [], _∷_}
-use Prim.Native.Nat.{ℕ, zero, suc, _+_, _≤_, _<_, Fin}
+use Prim.Native.Nat.{ℕ, zero, _+_, _≤_, _<_, Fin}
 use native.Mathlib.Numerals.{add-one}
 use native.Mathlib.Omega.{arith}
 use borrow.Author.Tests.{eq-eqb, ne-eqb}
@@ -13,8 +13,10 @@ use Rattle.algebra.specs.Field.{Field}
 use Rattle.algebra.specs.Polynomial.{power}
 use Rattle.algebra.proofs.Ring.{ring}
 use Rattle.galois.specs.Field256.{mul}
-use Rattle.galois.proofs.Instance.{bytes, byte, byte-zero, byte-add, byte-mul, byte-power}
-use Rattle.reed_solomon.specs.Steps.{point, allZero, Powers, Advanced, SyndromesOf}
+use Rattle.galois.proofs.Instance.{bytes, byte, byte-zero}
+use Rattle.byte_lanes.specs.Lanes.{point, Powers, Advanced}
+use Rattle.reed_solomon.specs.Steps.{allZero, SyndromesOf}
+use Rattle.byte_lanes.proofs.Powers.{zeros-at, advanced}
 use Rattle.reed_solomon.proofs.LongDivision.{high, high-nil, high-one, high-append}
 
 -- ---- the test for zero
@@ -35,11 +37,6 @@ module _ (l : List ℕ) (j : ℕ) (n : length l ≡ 16) where
 
 -- ---- the syndromes
 
-pub zeros-at : (n j : ℕ) → getD {A = ℕ} (replicate n 0) j 0 ≡ 0
-zeros-at zero j = refl
-zeros-at (suc n) zero = refl
-zeros-at (suc n) (suc j) = zeros-at n j
-
 pub syndromes-none : SyndromesOf [] (replicate 16 0)
 syndromes-none = record { each = λ j h. ap byte (zeros-at 16 j) ∙ byte-zero ∙ sym (high-nil (point j)) }
 
@@ -50,14 +47,6 @@ module _ (K : Field) where
   infixl 70 _⊗_
   horner-identity : (x s d : F) → (x ⊗ s) ⊕ d ≡ d ⊕ ((x ⊗ 𝟙) ⊗ s)
   horner-identity x s d = simp ring
-
--- one step of Horner's rule, in the field
-pub advanced : (n : ℕ) (x s : List ℕ) (d : ℕ) (r : List ℕ) → n ≤ 208 → Powers x → Advanced n x s d r
-    → (j : ℕ) → j < n → byte (getD r j 0) ≡ bytes .add (bytes .mul (point j) (byte (getD s j 0))) (byte d)
-advanced n x s d r m p a j h =
-    ap byte (a .each j h) ∙ byte-add (mul (getD x j 0) (getD s j 0)) d
-    ∙ ap (λ (u : Fin 256). bytes .add u (byte d))
-    (byte-mul (getD x j 0) (getD s j 0) ∙ ap (λ (u : Fin 256). bytes .mul u (byte (getD s j 0))) (ap byte (p .each j (omega arith)) ∙ byte-power 2 j))
 
 module _ (x l : List ℕ) (i : ℕ) (s r : List ℕ) (n : length l ≡ 16) where
   pub syndromes-more : Powers x → i < 16 → SyndromesOf (take i l) s → Advanced 16 x s (getD l i 0) r → SyndromesOf (take (i + 1) l) r

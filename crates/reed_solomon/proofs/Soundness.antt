@@ -22,7 +22,8 @@ use Rattle.algebra.proofs.Syndromes.{Term, syndrome}
 use Rattle.algebra.proofs.Terms.{power-swap}
 use Rattle.galois.proofs.Instance.{bytes, byte, byte-zero, byte-add, byte-power}
 use Rattle.reed_solomon.specs.Code.{differ}
-use Rattle.reed_solomon.specs.Steps.{point, Powers, termsOf, correctedBy, changedIn}
+use Rattle.byte_lanes.specs.Lanes.{point, Powers}
+use Rattle.error_correction.specs.Correction.{termsOf, correctedBy, changedIn}
 use Rattle.reed_solomon.proofs.Distance.{unequal, unequal-same, unequal-other}
 use Rattle.reed_solomon.proofs.LongDivision.{high, high-cons}
 use Rattle.reed_solomon.proofs.Completeness.{degreeTerms}

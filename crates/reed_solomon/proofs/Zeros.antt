@@ -20,7 +20,8 @@ use Rattle.algebra.proofs.Ring.{mul-comm, zero-mul, zero-add}
 use Rattle.algebra.proofs.Syndromes.{syndrome}
 use Rattle.algebra.proofs.Terms.{terms}
 use Rattle.galois.proofs.Instance.{bytes, byte}
-use Rattle.reed_solomon.specs.Steps.{point, zerosFrom}
+use Rattle.byte_lanes.specs.Lanes.{point}
+use Rattle.error_correction.specs.Correction.{zerosFrom}
 
 point-next : (n : ℕ) → point (n + 1) ≡ bytes .mul (point n) (byte 2)
 unfolding power

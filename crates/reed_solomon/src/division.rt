@@ -3,8 +3,6 @@ ghost use mathlib.Core.Path.{_≡_};
 ghost use mathlib.Core.List.{[], _∷_, _++_};
 ghost use Prim.Native.Nat.{_+_, _≤_};
 ghost use lib.ListN.{length, take, drop};
-ghost use Rattle.algebra.specs.Polynomial.{plus};
-ghost use Rattle.galois.specs.Field256.{numbers};
 ghost use Rattle.reed_solomon.specs.Encode.{divided, checkBytes};
 ghost use Rattle.reed_solomon.specs.Steps.{coefficients, Multiples, residueOf, allZero};
 
@@ -148,51 +146,12 @@ pub fn check_bytes(message: &[u8]) -> [u8; 16]
     bytes(divide_message(message))
 }
 
-// The sum in the field, lane by lane.
-pub fn sum(a: [u8; 16], b: [u8; 16]) -> [u8; 16]
-    ensures { λ r. ⌜ r ≡ plus numbers a b ⌝ }
-{
-    let mut r = [0u8; 16];
-    let mut j: usize = 0;
-    while j < 16 {
-        r[j] = a[j] ^ b[j];
-        j += 1;
-    }
-    r
-}
-
-// Writes a list into room, from a place on.
-pub fn put(list: &[u8], at: usize, room: &mut [u8])
-    requires { ⌜ at + length (now list) ≤ length (now room) ⌝ }
-    ensures { λ _. ⌜ now (room .exit) ≡ take at (now (room .entry)) ++ now (list .entry) ++ drop (at + length (now (list .entry))) (now (room .entry)) ⌝ }
-{
-    let mut i: usize = 0;
-    while i < list.len() {
-        room[at + i] = list[i];
-        i += 1;
-    }
-}
-
-// Sixteen bytes of a list, from a place on.
-pub fn sixteen(list: &[u8], at: usize) -> [u8; 16]
-    requires { ⌜ at + 16 ≤ length (now list) ⌝ }
-    ensures { λ r. ⌜ r ≡ take 16 (drop at (now (list .entry))) ⌝ }
-{
-    let mut r = [0u8; 16];
-    let mut j: usize = 0;
-    while j < 16 {
-        r[j] = list[at + j];
-        j += 1;
-    }
-    r
-}
-
 // What is left of a block of 204 bytes by the generator polynomial: zero for a codeword.
 pub fn residue(block: &[u8]) -> [u8; 16]
     requires { ⌜ length (now block) ≡ 204 ⌝ }
     ensures { λ r. ⌜ r ≡ residueOf (now (block .entry)) ⌝ }
 {
-    sum(check_bytes(block), sixteen(block, 188))
+    byte_lanes::sum(check_bytes(block), byte_lanes::sixteen(block, 188))
 }
 
 // Whether sixteen bytes are all zero.

@@ -7,11 +7,29 @@ ghost use Rattle.reed_solomon.specs.Decode.{Decodes};
 ghost use Rattle.reed_solomon.specs.Steps.{residueOf};
 use answer::Answer;
 
-mod correction;
 mod division;
-mod locator;
 mod powers;
 mod syndromes;
+
+// The sixteen coefficients of the generator polynomial below x^16, from x^15 down. The division has them and their multiples in words.
+pub const GENERATOR: [u8; 16] = [
+    0x3B,
+    0x0D,
+    0x68,
+    0xBD,
+    0x44,
+    0xD1,
+    0x1E,
+    0x08,
+    0xA3,
+    0x41,
+    0x29,
+    0xE5,
+    0x62,
+    0x32,
+    0x24,
+    0x3B,
+];
 
 // What decoding a block answers. specs/Decode.antt gives each case the number of document 01.
 pub enum Decoded {
@@ -36,8 +54,8 @@ pub fn encode(message: &[u8], room: &mut [u8]) -> Answer
         return Answer::RoomLength;
     }
     let check = division::check_bytes(message);
-    division::put(message, 0, room);
-    division::put(&check, 188, room);
+    byte_lanes::put(message, 0, room);
+    byte_lanes::put(&check, 188, room);
     Answer::Done
 }
 
@@ -48,18 +66,18 @@ fn repair(block: &mut [u8], residue: [u8; 16]) -> Decoded
 {
     let x = syndromes::powers();
     let s = syndromes::syndromes(residue, &x);
-    let q = locator::locator(s);
-    let v = correction::evaluate(q, &x);
-    let roots = correction::find_roots(&v, &x);
+    let q = error_locator::locator(s);
+    let v = error_correction::evaluate(q, &x);
+    let roots = error_correction::find_roots(&v, &x);
     let degrees = roots.degrees;
     let places = roots.places;
     let count = roots.count;
-    let p = correction::root_product(places, count);
-    let values = correction::error_values(p, s, places, count);
-    if !correction::explains(places, values, &s) {
+    let p = error_correction::root_product(places, count);
+    let values = error_correction::error_values(p, s, places, count);
+    if !error_correction::explains(places, values, &s) {
         return Decoded::Uncorrectable;
     }
-    let changed = correction::correct(block, degrees, values, count);
+    let changed = error_correction::correct(block, degrees, values, count);
     Decoded::Corrected(changed)
 }
 

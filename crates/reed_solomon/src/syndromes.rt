@@ -1,5 +1,6 @@
 // The syndromes: the values of the residue at the sixteen roots of the generator polynomial.
-ghost use Rattle.reed_solomon.specs.Steps.{Powers, Advanced, SyndromesOf};
+ghost use Rattle.byte_lanes.specs.Lanes.{Powers, Advanced};
+ghost use Rattle.reed_solomon.specs.Steps.{SyndromesOf};
 use crate::powers::POWERS;
 
 // The first 208 powers of 02.

@@ -4,6 +4,7 @@ ghost use Prim.Native.Nat.{_<_, _≤_};
 ghost use lib.ListN.{length};
 use libc::STDOUT_FILENO;
 use reed_solomon::Decoded;
+use reed_solomon::GENERATOR;
 
 // How many blocks were corrected with the right count, how many were refused and untouched, and how many were neither.
 struct Tally {
@@ -236,6 +237,21 @@ fn never_sent() {
     }
 }
 
+// 187 zeros and 01 get the coefficients of the generator polynomial.
+fn generator() {
+    let mut message = [0u8; 188];
+    message[187] = 1;
+    let mut block = [0u8; 204];
+    reed_solomon::encode(&message, &mut block);
+    let coefficients = GENERATOR;
+    if check::same(&block[188..], &coefficients) {
+        io::write_all(
+            STDOUT_FILENO,
+            b"187 zeros and 01: the coefficients of the generator polynomial\n",
+        );
+    }
+}
+
 fn encode_answer(name: &[u8], message: &[u8], room: &mut [u8]) {
     let answer = reed_solomon::encode(message, room);
     report(name, answer.number() as u64);
@@ -265,5 +281,6 @@ fn main() {
     errors();
     lightest();
     never_sent();
+    generator();
     limits();
 }

@@ -5,7 +5,8 @@ use Prim.Native.Nat.{_≤_}
 use native.Mathlib.Omega.{arith}
 use lib.ListN.{length}
 use Rattle.common.proofs.Choice.{flag-false, flag-true}
-use Rattle.reed_solomon.specs.Steps.{SyndromesOf, zerosOf, Explained}
+use Rattle.reed_solomon.specs.Steps.{SyndromesOf}
+use Rattle.error_correction.specs.Correction.{zerosOf, Explained}
 use Rattle.reed_solomon.proofs.Completeness.{roots-few}
 use Rattle.common.proofs.Entries.{bytes-of}
 use Rattle.reed_solomon.proofs.Outcome.{Decoding, rejected, repaired, degrees-range}

@@ -9,7 +9,7 @@ use lib.Dec.{T, eqb, eqb→eq}
 use lib.ListN.{length, getD}
 use Rattle.common.proofs.Computed.{every, at}
 use Rattle.galois.proofs.Tables.{at as byteAt, exps, exp-pow}
-use Rattle.reed_solomon.specs.Steps.{Powers}
+use Rattle.byte_lanes.specs.Lanes.{Powers}
 use Rattle.reed_solomon.proofs.syndromes.powers.Statement.{statement}
 use Rattle.reed_solomon.proofs.syndromes.powers.Tie as tie
 

@@ -1,0 +1,38 @@
+-- Lists of bytes as lists over the field, the powers of 02, and sums and products byte by byte.
+-- Assumes nothing.
+use mathlib.Core.Path.{_≡_}
+use mathlib.Core.List.{List, [], _∷_, map, reverse}
+use Prim.Native.Nat.{ℕ, _<_, Fin}
+use lib.Bits.{bitXor}
+use lib.ListN.{getD}
+use Rattle.algebra.specs.Field.{ops}
+use Rattle.algebra.specs.Polynomial.{power}
+use Rattle.galois.specs.Field256.{mul, pow}
+use Rattle.galois.proofs.Instance.{bytes, byte}
+
+-- each number's low byte, as an element of the field
+abbrev pub elements : List ℕ → List (Fin 256)
+elements l = map byte l
+
+-- a list whose first element is the highest coefficient, as a polynomial
+abbrev pub word : List ℕ → List (Fin 256)
+word l = elements (reverse l)
+
+-- power i of 02. The first sixteen are the roots of the generator polynomial, and the first 204 the places of a block's coefficients
+abbrev pub point : ℕ → Fin 256
+point i = power (ops bytes) (byte 2) i
+
+-- element by element, the products
+unfoldable pub productsOf : List ℕ → List ℕ → List ℕ
+productsOf [] b = []
+productsOf (x ∷ a) [] = []
+productsOf (x ∷ a) (y ∷ b) = mul x y ∷ productsOf a b
+
+-- the first 208 powers of 02
+pub record Powers (x : List ℕ) : Type 0 where
+  pub each : (i : ℕ) → i < 208 → getD x i 0 ≡ pow 2 i
+
+-- one step of Horner's rule, at n points
+pub record Advanced (n : ℕ) (x s : List ℕ) (d : ℕ) (r : List ℕ) : Type 0 where
+  pub each : (j : ℕ) → j < n → getD r j 0 ≡ bitXor (mul (getD x j 0) (getD s j 0)) d
+  pub small : d < 256

@@ -1,0 +1,3 @@
+pub mod RootSearch
+pub mod ErrorTerms
+pub mod ErrorValues

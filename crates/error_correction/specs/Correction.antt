@@ -1,0 +1,100 @@
+-- What the steps from the error locator to the corrected block give.
+-- Assumes nothing.
+use mathlib.Core.Path.{_≡_}
+use mathlib.Core.Bool.{Bool, true, false}
+use mathlib.Core.List.{List, [], _∷_, _++_, map}
+use Prim.Native.Nat.{ℕ, zero, _+_, _-_, _/_, _≤_, _<_, Fin}
+use lib.Bits.{bitXor}
+use lib.Dec.{eqb}
+use lib.ListN.{length, getD, take, set}
+use Rattle.common.specs.Choice.{pick}
+use Rattle.algebra.specs.Field.{ops}
+use Rattle.algebra.specs.Polynomial.{eval}
+use Rattle.algebra.proofs.Polynomial.{quotient, fromRoots}
+use Rattle.algebra.proofs.Syndromes.{Term, dot, syndrome}
+use Rattle.galois.specs.Field256.{mul}
+use Rattle.galois.proofs.Instance.{bytes, byte}
+use Rattle.byte_lanes.specs.Lanes.{elements, point}
+
+-- the coefficients from k on are zero
+pub record EndsAt (q : List ℕ) (k : ℕ) : Type 0 where
+  pub most : k ≤ 9
+  pub zeros : (i : ℕ) → k ≤ i → getD q i 0 ≡ 0
+
+-- the values of a polynomial at the first 208 powers of 02
+pub record Evaluated (q v : List ℕ) : Type 0 where
+  pub each : (i : ℕ) → i < 208 → byte (getD v i 0) ≡ eval (ops bytes) (elements q) (point i)
+  pub small : (i : ℕ) → i < 208 → getD v i 0 < 256
+
+-- the places of a list's zeros, the first element being at n
+unfoldable pub zerosFrom : ℕ → List ℕ → List ℕ
+zerosFrom n [] = []
+zerosFrom n (x ∷ l) = pick (eqb x 0) (n ∷ []) [] ++ zerosFrom (n + 1) l
+
+-- the degrees below 204 at which the values are zero
+abbrev pub zerosOf : List ℕ → List ℕ
+zerosOf v = zerosFrom 0 (take 204 v)
+
+pub record FoundRoots (v x degrees places : List ℕ) (count : ℕ) : Type 0 where
+  pub number : count ≡ length (zerosOf v)
+  pub listed : take count degrees ≡ zerosOf v
+  pub placed : take count places ≡ map (λ d. getD x d 0) (zerosOf v)
+
+-- p, of which nine coefficients count, has the values of the product of x + r
+pub record RootProduct (places p : List ℕ) : Type 0 where
+  pub values : (y : Fin 256) → eval (ops bytes) (elements (take 9 p)) y ≡ eval (ops bytes) (fromRoots bytes (elements places)) y
+
+-- p / (x + y)
+abbrev pub quotientBy : List ℕ → ℕ → List (Fin 256)
+quotientBy p y = quotient bytes (byte y) (elements (take 9 p))
+
+-- with q = p / (x + y), the sum of q_i S_i, and q(y)
+abbrev pub numeratorAt : List ℕ → List ℕ → ℕ → Fin 256
+numeratorAt p s y = dot bytes (quotientBy p y) (λ i. byte (getD s i 0))
+
+abbrev pub denominatorAt : List ℕ → ℕ → Fin 256
+denominatorAt p y = eval (ops bytes) (quotientBy p y) (byte y)
+
+-- both, for sixteen places
+pub record FractionsAt (p s places numerators denominators : List ℕ) : Type 0 where
+  pub numerator : (l : ℕ) → l < 16 → byte (getD numerators l 0) ≡ numeratorAt p s (getD places l 0)
+  pub denominator : (l : ℕ) → l < 16 → byte (getD denominators l 0) ≡ denominatorAt p (getD places l 0)
+
+-- the value of the error at y: the one over the other
+unfoldable pub errorValue : List ℕ → List ℕ → ℕ → Fin 256
+errorValue p s y = bytes .mul (numeratorAt p s y) (bytes .inv (denominatorAt p y))
+
+pub record ErrorValues (p s places : List ℕ) (count : ℕ) (e : List ℕ) : Type 0 where
+  pub own : (l : ℕ) → l < count → byte (getD e l 0) ≡ errorValue p s (getD places l 0)
+  pub small : (l : ℕ) → l < count → getD e l 0 < 256
+  pub rest : (l : ℕ) → count ≤ l → getD e l 0 ≡ 0
+
+-- the sum of a list in the field
+unfoldable pub sumOf : List ℕ → ℕ
+sumOf [] = 0
+sumOf (x ∷ l) = bitXor x (sumOf l)
+
+-- places and values as terms
+unfoldable pub termsOf : List ℕ → List ℕ → List (Term bytes)
+termsOf [] es = []
+termsOf (x ∷ xs) [] = []
+termsOf (x ∷ xs) (e ∷ es) = (byte x, byte e) ∷ termsOf xs es
+
+-- the terms have the sixteen syndromes
+pub record Explains (terms : List (Term bytes)) (s : List ℕ) : Type 0 where
+  pub each : (j : ℕ) → j < 16 → syndrome bytes terms j ≡ byte (getD s j 0)
+
+abbrev pub Explained : List ℕ → List ℕ → List ℕ → Bool → Type 0
+Explained places values s true = Explains (termsOf places values) s
+Explained places values s false = Explains (termsOf places values) s → ⊥
+
+-- a block with the errors taken away; the coefficient of x^d stands at place 203 - d
+unfoldable pub correctedBy : List ℕ → List ℕ → List ℕ → List ℕ
+correctedBy b [] es = b
+correctedBy b (d ∷ ds) [] = b
+correctedBy b (d ∷ ds) (e ∷ es) = correctedBy (set b (203 - d) (bitXor (getD b (203 - d) 0) e)) ds es
+
+-- how many errors are not zero
+unfoldable pub changedIn : List ℕ → ℕ
+changedIn [] = 0
+changedIn (e ∷ es) = pick (eqb e 0) 0 1 + changedIn es

@@ -1,0 +1,207 @@
+// Where the errors are, what they are, and whether that explains all sixteen syndromes.
+ghost use mathlib.Core.Path.{_≡_};
+ghost use mathlib.Core.List.{_∷_};
+ghost use Prim.Native.Nat.{ℕ, _<_, _≤_};
+ghost use lib.ListN.{length, getD, take};
+ghost use Rattle.byte_lanes.specs.Lanes.{Powers, Advanced};
+ghost use Rattle.error_correction.specs.Correction.{EndsAt, Evaluated, zerosOf, FoundRoots, RootProduct, FractionsAt, ErrorValues, sumOf, Explained, correctedBy, changedIn};
+
+// The degrees at which the locator vanishes, in order, their places, and how many they are. The places after them are zero.
+pub struct Roots {
+    pub degrees: [u8; 16],
+    pub places: [u8; 16],
+    pub count: usize,
+}
+
+// One step of Horner's rule at every place.
+fn advance(v: &mut [u8], x: &[u8; 208], c: u8)
+    requires { ⌜ length (now v) ≡ 208 ⌝ }
+    ensures { λ _. ⌜ Advanced 208 (now (x .entry)) (now (v .entry)) c (now (v .exit)) ⌝ }
+{
+    let mut i: usize = 0;
+    while i < 208 {
+        v[i] = galois::mul(x[i], v[i]) ^ c;
+        i += 1;
+    }
+}
+
+// How many coefficients of the locator count: those from there on are zero.
+fn coefficients(q: [u8; 9]) -> usize
+    ensures { λ r. ⌜ EndsAt q r ⌝ }
+{
+    let mut k: usize = 9;
+    while 0 < k {
+        if q[k - 1] != 0 {
+            return k;
+        }
+        k -= 1;
+    }
+    k
+}
+
+// The values of the locator at every place.
+pub fn evaluate(q: [u8; 9], x: &[u8; 208]) -> [u8; 208]
+    requires { ⌜ Powers (now x) ⌝ }
+    ensures { λ r. ⌜ Evaluated q r ⌝ }
+{
+    let mut v = [0u8; 208];
+    let mut k = coefficients(q);
+    while 0 < k {
+        k -= 1;
+        advance(&mut v, x, q[k]);
+    }
+    v
+}
+
+// The degrees below 204 at which the value is zero. The four places above are not sent.
+pub fn find_roots(v: &[u8], x: &[u8; 208]) -> Roots
+    requires { ⌜ (length (now v) ≡ 208) × (length (zerosOf (now v)) ≤ 8) ⌝ }
+    ensures { λ r. ⌜ FoundRoots (now (v .entry)) (now (x .entry)) (r .degrees) (r .places) (r .count) ⌝ }
+{
+    let mut degrees = [0u8; 16];
+    let mut places = [0u8; 16];
+    let mut count: usize = 0;
+    let mut i: u8 = 0;
+    while i < 204 {
+        let at = i as usize;
+        if v[at] == 0 {
+            degrees[count] = i;
+            places[count] = x[at];
+            count += 1;
+        }
+        i += 1;
+    }
+    Roots {
+        degrees,
+        places,
+        count,
+    }
+}
+
+// A polynomial moved up by one power of x, without its highest coefficient.
+fn raised(p: [u8; 16]) -> [u8; 16]
+    ensures { λ r. ⌜ r ≡ 0 ∷ take 15 p ⌝ }
+{
+    let mut r = [0u8; 16];
+    let mut j: usize = 0;
+    while j < 15 {
+        r[j + 1] = p[j];
+        j += 1;
+    }
+    r
+}
+
+// The product of x + r over the places r.
+pub fn root_product(places: [u8; 16], count: usize) -> [u8; 16]
+    requires { ⌜ count ≤ 8 ⌝ }
+    ensures { λ r. ⌜ RootProduct (take count places) r ⌝ }
+{
+    let mut p = [0u8; 16];
+    p[0] = 1;
+    let mut l: usize = count;
+    while 0 < l {
+        l -= 1;
+        let q = byte_lanes::sum(galois::scale(p, places[l]), raised(p));
+        p = q;
+    }
+    p
+}
+
+// For each of sixteen places y, with q = p / (x + y): the sum of q_i S_i, and q(y).
+struct Fractions {
+    numerators: [u8; 16],
+    denominators: [u8; 16],
+}
+
+// The fractions of all places at once, from the highest coefficient of the quotients down.
+fn value_fractions(p: [u8; 16], s: [u8; 16], places: [u8; 16]) -> Fractions
+    ensures { λ r. ⌜ FractionsAt p s places (r .numerators) (r .denominators) ⌝ }
+{
+    let mut coefficients = [0u8; 16];
+    let mut numerators = [0u8; 16];
+    let mut denominators = [0u8; 16];
+    let mut k: usize = 8;
+    while 0 < k {
+        let top = p[k];
+        k -= 1;
+        let c = byte_lanes::sum(byte_lanes::products(coefficients, places), [top; 16]);
+        let n = byte_lanes::sum(galois::scale(c, s[k]), numerators);
+        let d = byte_lanes::sum(byte_lanes::products(denominators, places), c);
+        coefficients = c;
+        numerators = n;
+        denominators = d;
+    }
+    Fractions {
+        numerators,
+        denominators,
+    }
+}
+
+// The values of the errors at the places, which are roots of p, and zeros after them.
+pub fn error_values(p: [u8; 16], s: [u8; 16], places: [u8; 16], count: usize) -> [u8; 16]
+    requires { ⌜ count ≤ 8 ⌝ }
+    ensures { λ r. ⌜ ErrorValues p s places count r ⌝ }
+{
+    let f = value_fractions(p, s, places);
+    let numerators = f.numerators;
+    let denominators = f.denominators;
+    let mut e = [0u8; 16];
+    let mut l: usize = 0;
+    while l < count {
+        e[l] = galois::mul(numerators[l], galois::inverse(denominators[l]));
+        l += 1;
+    }
+    e
+}
+
+// The sum of sixteen bytes in the field.
+fn total(w: [u8; 16]) -> u8
+    ensures { λ r. ⌜ r ≡ sumOf w ⌝ }
+{
+    let mut t: u8 = 0;
+    let mut l: usize = 0;
+    while l < 16 {
+        t = t ^ w[l];
+        l += 1;
+    }
+    t
+}
+
+// Whether errors of these values at these places have the sixteen syndromes.
+pub fn explains(places: [u8; 16], values: [u8; 16], s: &[u8]) -> bool
+    requires { ⌜ length (now s) ≡ 16 ⌝ }
+    ensures { λ r. ⌜ Explained places values (now (s .entry)) r ⌝ }
+{
+    let mut w = values;
+    let mut j: usize = 0;
+    while j < 16 {
+        if total(w) != s[j] {
+            return false;
+        }
+        let next = byte_lanes::products(places, w);
+        w = next;
+        j += 1;
+    }
+    true
+}
+
+// Takes the errors away, and counts those that are not zero.
+pub fn correct(block: &mut [u8], degrees: [u8; 16], values: [u8; 16], count: usize) -> u8
+    requires { ⌜ (length (now block) ≡ 204) × (count ≤ 8) × ((l : ℕ) → l < count → getD degrees l 0 < 204) ⌝ }
+    ensures { λ r. ⌜
+        (r ≡ changedIn (take count values))
+        × (now (block .exit) ≡ correctedBy (now (block .entry)) (take count degrees) (take count values)) ⌝ }
+{
+    let mut changed: u8 = 0;
+    let mut l: usize = 0;
+    while l < count {
+        let at = 203 - degrees[l] as usize;
+        let e = values[l];
+        block[at] = block[at] ^ e;
+        if e != 0 {
+            changed += 1;
+        }
+        l += 1;
+    }
+    changed
+}
