@@ -8,7 +8,7 @@ use native.Mathlib.Nat.{le-of-suc-le-suc, not-suc-le-zero}
 use native.Mathlib.Omega.{arith}
 use lib.Bits.{bitXor, xor-lt}
 use lib.Dec.{lit<}
-use lib.ListN.{length, getD, take, drop, replicate, length-map, length-reverse}
+use lib.ListN.{length, getD, drop, replicate, length-map, length-reverse}
 use Rattle.common.specs.Lists.{Bytes}
 use Rattle.algebra.specs.Field.{ops}
 use Rattle.algebra.specs.Polynomial.{plus, scale, product}
@@ -49,11 +49,6 @@ pub bytes-drop : (n : ℕ) (a : List ℕ) → Bytes a → Bytes (drop n a)
 bytes-drop zero a h = h
 bytes-drop (suc n) [] h = tt
 bytes-drop (suc n) (x ∷ a) h = bytes-drop n a (h .1)
-
-pub bytes-take : (n : ℕ) (a : List ℕ) → Bytes a → Bytes (take n a)
-bytes-take zero a h = tt
-bytes-take (suc n) [] h = tt
-bytes-take (suc n) (x ∷ a) h = (h .0, bytes-take n a (h .1))
 
 pub bytes-zeros : (n : ℕ) → Bytes (replicate n 0)
 bytes-zeros zero = tt

@@ -1,6 +1,6 @@
--- Rules that hold of every number below a bound, of every entry of a table or of two lists, each proved by one test that antt computes.
+-- Rules that hold of every number below a bound, or of every entry of a table, each proved by one test that antt computes.
 -- Assumes nothing.
-use mathlib.Core.Path.{_≡_, refl, _∙_, ap₂, subst, subst₂, sym}
+use mathlib.Core.Path.{_≡_, _∙_, subst, subst₂, sym}
 use mathlib.Core.Bool.{Bool, true, false}
 use mathlib.Core.List.{List, [], _∷_}
 use mathlib.Core.Logic.{⊎-elim}
@@ -65,17 +65,3 @@ tested w n f = every (λ k x. f (k / w) (k % w)) 0 (replicate n 0)
 pub everywhere : (w n : ℕ) (f : ℕ → ℕ → Bool) → T (tested w n f) → (i j : ℕ) → (i * w + j) / w ≡ i → (i * w + j) % w ≡ j → i * w + j < n → T (f i j)
 everywhere w n f t i j r q k =
     subst₂ (λ (a b : ℕ). T (f a b)) r q (at (λ k x. f (k / w) (k % w)) (replicate n 0) t (i * w + j) (rw (length-replicate {A = ℕ} n 0) k))
-
--- ---- two lists
-
-abbrev pub same : List ℕ → List ℕ → Bool
-same [] [] = true
-same [] (y ∷ b) = false
-same (x ∷ a) [] = false
-same (x ∷ a) (y ∷ b) = both (eqb x y) (same a b)
-
-pub same-is : (a b : List ℕ) → T (same a b) → a ≡ b
-same-is [] [] t = refl
-same-is [] (y ∷ b) t = absurd t
-same-is (x ∷ a) [] t = absurd t
-same-is (x ∷ a) (y ∷ b) t = ap₂ _∷_ (eqb→eq x y (both-left (eqb x y) (same a b) t)) (same-is a b (both-right (eqb x y) (same a b) t))

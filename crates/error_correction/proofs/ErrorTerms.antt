@@ -23,7 +23,6 @@ use Rattle.galois.specs.Field256.{mul}
 use Rattle.galois.proofs.Instance.{bytes, byte, byte-inj, byte-zero, byte-add, byte-mul}
 use Rattle.error_correction.specs.Correction.{sumOf, termsOf, Explained, correctedBy, changedIn}
 use Rattle.byte_lanes.specs.Lanes.{productsOf}
-use Rattle.byte_lanes.proofs.Words.{length-products}
 
 -- ---- the sum of a list
 
@@ -60,10 +59,6 @@ unfolding power
 weight-byte x e zero = sym (mul-one bytes (byte e))
 weight-byte x e (suc j) =
     byte-mul x (weightOf x e j) ∙ ap (λ (u : Fin 256). bytes .mul (byte x) u) (weight-byte x e j) ∙ mul-left-comm bytes (byte x) (byte e) (power (ops bytes) (byte x) j)
-
-pub weighted-length : (xs es : List ℕ) (j : ℕ) → length xs ≡ length es → length (weightedBy xs es j) ≡ length es
-weighted-length xs es zero h = refl
-weighted-length xs es (suc j) h = length-products xs (weightedBy xs es j) (h ∙ sym (weighted-length xs es j h)) ∙ h
 
 weighted-nil : (es : List ℕ) (j : ℕ) → length es ≡ 0 → weightedBy [] es j ≡ []
 unfolding productsOf

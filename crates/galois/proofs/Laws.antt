@@ -152,3 +152,8 @@ mul-assoc a b c =
 pub mul-one : (a : ℕ) → a < 256 → mul a 1 ≡ a
 unfolding mul rounds timesX
 mul-one a h = linear-ext (λ x. mul x 1) (λ x. x) (λ x y. mul-add-left x y 1) (λ x y. refl) 8 (agree-at (λ i. mul (2 ^ i) 1) (λ i. 2 ^ i) 8 tt) a h
+
+-- 02 is x
+pub mul-two : (a : ℕ) → a < 256 → mul 2 a ≡ timesX a
+unfolding mul rounds timesX
+mul-two a h = linear-ext (mul 2) timesX (mul-add-right 2) timesX-linear 8 (agree-at (λ i. mul 2 (2 ^ i)) (λ i. timesX (2 ^ i)) 8 tt) a h

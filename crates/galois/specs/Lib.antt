@@ -1,2 +1,1 @@
 pub mod Field256
-pub mod Steps

@@ -1,10 +1,6 @@
-// Arithmetic in GF(256) by 11D hex: products without a table and without a branch on a value, inverses by a table.
+// Arithmetic in GF(256) by 11D hex, with no table and no branch on a value.
 ghost use mathlib.Core.Path.{_≡_};
 ghost use Rattle.galois.specs.Field256.{timesX as timesXOf, mul as mulOf, inv as invOf, scaled};
-ghost use Rattle.galois.specs.Steps.{Inverses};
-use crate::inverses::INVERSES;
-
-mod inverses;
 
 // a times x.
 pub fn times_x(a: u8) -> u8
@@ -28,20 +24,21 @@ pub fn mul(a: u8, b: u8) -> u8
     r
 }
 
-// The inverse of a by a table of all inverses.
-fn inverse_in(inverses: &[u8; 256], a: u8) -> u8
-    requires { ⌜ Inverses (now inverses) ⌝ }
-    ensures { λ r. ⌜ r ≡ invOf a ⌝ }
-{
-    inverses[a as usize]
-}
-
-// The inverse of a, and 0 of 0.
+// The inverse of a, and 0 of 0: a to the 254.
 pub fn inverse(a: u8) -> u8
     ensures { λ r. ⌜ r ≡ invOf a ⌝ }
 {
-    let inverses = INVERSES;
-    inverse_in(&inverses, a)
+    let a2 = mul(a, a);
+    let a3 = mul(a2, a);
+    let a6 = mul(a3, a3);
+    let a12 = mul(a6, a6);
+    let a15 = mul(a12, a3);
+    let a30 = mul(a15, a15);
+    let a60 = mul(a30, a30);
+    let a120 = mul(a60, a60);
+    let a126 = mul(a120, a6);
+    let a127 = mul(a126, a);
+    mul(a127, a127)
 }
 
 // Sixteen bytes, each times f: one loop without a branch, which becomes vector code.

@@ -67,9 +67,3 @@ from n (p ∷ ps) g = go (from (n + 1) ps (g .1))
 pub randomized-stream : (packets : List (List ℕ)) → All (Length 188) packets → randomizedFrom 0 packets ≡ randomizedStream packets
 unfolding randomizedStream
 randomized-stream packets g = sym (from 0 packets g)
-
--- the packets sent are as long as those that came
-pub each-length : (n : ℕ) (packets : List (List ℕ)) → All (Length 188) packets → All (Length 188) (randomizedFrom n packets)
-unfolding randomizedFrom
-each-length n [] g = tt
-each-length n (p ∷ ps) g = (length-randomized (n % 8) p (omega arith) (g .0), each-length (n + 1) ps (g .1))

@@ -1,7 +1,7 @@
 pub mod Codewords
 pub mod Distance
-pub mod WordDivision
 pub mod LongDivision
+pub mod WordDivision
 pub mod Residue
 pub mod Zeros
 pub mod Completeness

@@ -1,23 +1,26 @@
 -- The division's remainder in two words: bytes of numbers, the shift by one coefficient, and the multiples of the generator's tail.
 -- Assumes nothing.
-use mathlib.Core.Path.{_≡_, refl, sym, ap, ap₂, _∙_}
-use mathlib.Core.Bool.{Bool}
-use mathlib.Core.List.{List, [], _∷_, _++_}
-use Prim.Native.Nat.{ℕ, zero, suc, _+_, _*_, _/_, _%_, _^_, _<_}
-use native.Mathlib.Nat.{mod-lt, mul-assoc, pow-suc}
+use mathlib.Core.Path.{_≡_, refl, sym, ap, ap₂, _∙_, subst}
+use mathlib.Core.List.{List, [], _∷_, _++_, append-assoc}
+use Prim.Native.Nat.{ℕ, zero, suc, _+_, _-_, _*_, _/_, _%_, _^_, _≤_, _<_}
+use native.Mathlib.Nat.{mod-lt, mul-assoc, pow-suc, one-mul, zero-mul, add-zero}
+use native.Mathlib.Decide.{decLt, ℕ-discrete}
+use native.Mathlib.Numerals.{add-one}
 use native.Mathlib.Omega.{arith}
-use lib.Bits.{bitXor, xor-comm, xor-shr, xor-mod, xor-shifted}
-use lib.Dec.{T, lit<}
-use lib.ListN.{length, getD, drop, length-append, length-drop, List·getD-append}
-use lib.Pow.{split}
-use lib.Seq.{getD-drop}
-use Rattle.common.proofs.Computed.{below, below-at, same, same-is}
+use lib.Bits.{bitXor, xor-comm, xor-shr, xor-mod, xor-shifted, xor-block}
+use lib.Dec.{lit<, leb, leb→le}
+use lib.ListN.{length, getD, take, drop, replicate, set, length-append, length-drop, length-set, List·getD-append}
+use lib.Pow.{split, pow-pos}
+use lib.Seq.{getD-drop, drop-cons, take-suc, take-all, getD-set-same, getD-set-other}
+use Rattle.common.proofs.Computed.{below-at}
 use Rattle.common.proofs.Xor.{xor-assoc}
 use Rattle.algebra.specs.Polynomial.{plus, scale}
-use Rattle.galois.specs.Field256.{numbers, scaled}
+use Rattle.galois.specs.Field256.{numbers, mul, rounds, timesX, scaled}
 use Rattle.galois.proofs.Laws.{mul-add-left}
 use Rattle.reed_solomon.specs.Encode.{generatorTail, divided}
-use Rattle.reed_solomon.specs.Steps.{lowBytes, coefficients, Multiples}
+use Rattle.byte_lanes.proofs.Powers.{zeros-at}
+use Rattle.reed_solomon.proofs.LongDivision.{tail-is}
+use Rattle.reed_solomon.specs.Steps.{lowBytes, coefficients, Extended, Multiples}
 
 -- ---- bytes of a number
 
@@ -76,16 +79,16 @@ coefficients-sum a b c d =
 word-lt : (x y : ℕ) → x < 2 ^ 56 → y < 256 → x + y * 2 ^ 56 < 2 ^ 64
 word-lt x y hx hy = omega arith
 
-pub shifted-lt : (u l : ℕ) → u < 2 ^ 64 → u / 256 + l % 256 * 2 ^ 56 < 2 ^ 64
-shifted-lt u l h = word-lt (u / 256) (l % 256) (omega arith) (mod-lt l (lit< tt))
+pub shifted-lt : (u d : ℕ) → u < 2 ^ 64 → d < 256 → u / 256 + d * 2 ^ 56 < 2 ^ 64
+shifted-lt u d h hd = word-lt (u / 256) d (omega arith) hd
 
--- the lowest byte of the upper word leaves, and a zero comes in
-pub shifted-words : (u l : ℕ) → u < 2 ^ 64 → l < 2 ^ 64
-    → coefficients (u / 256 + l % 256 * 2 ^ 56) (l / 256) ≡ drop 1 (coefficients u l) ++ 0 ∷ []
+-- the lowest byte of the upper word leaves, and d comes in
+pub shifted-words : (u l d : ℕ) → u < 2 ^ 64 → l < 2 ^ 64 → d < 256
+    → coefficients (u / 256 + l % 256 * 2 ^ 56) (l / 256 + d * 2 ^ 56) ≡ drop 1 (coefficients u l) ++ d ∷ []
 unfolding lowBytes
-shifted-words u l hu hl =
+shifted-words u l d hu hl hd =
     let a : lowBytes 8 (u / 256 + l % 256 * 256 ^ 7) ≡ lowBytes 7 (u / 256) ++ l % 256 ∷ [] = low-more 7 (u / 256) (l % 256) (omega arith) (mod-lt l (lit< tt)) in
-    let b : lowBytes 8 (l / 256) ≡ lowBytes 7 (l / 256) ++ 0 ∷ [] = ap (lowBytes 8) (omega arith) ∙ low-more 7 (l / 256) 0 (omega arith) (lit< tt) in
+    let b : lowBytes 8 (l / 256 + d * 256 ^ 7) ≡ lowBytes 7 (l / 256) ++ d ∷ [] = low-more 7 (l / 256) d (omega arith) hd in
     ap₂ _++_ a b
 
 -- a byte is the sum of its halves
@@ -97,10 +100,10 @@ unfolding lowBytes
 first u l = refl
 
 -- and each other coefficient moves up by one
-pub shifted-at : (u l v w i : ℕ) → coefficients v w ≡ drop 1 (coefficients u l) ++ 0 ∷ [] → suc i < 16 → getD (coefficients v w) i 0 ≡ getD (coefficients u l) (suc i) 0
-shifted-at u l v w i e h =
+pub shifted-at : (u l v w d i : ℕ) → coefficients v w ≡ drop 1 (coefficients u l) ++ d ∷ [] → suc i < 16 → getD (coefficients v w) i 0 ≡ getD (coefficients u l) (suc i) 0
+shifted-at u l v w d i e h =
     ap (λ (c : List ℕ). getD c i 0) e
-    ∙ List·getD-append (drop 1 (coefficients u l)) (0 ∷ []) 0 i (omega (arith, length-drop 1 (coefficients u l), length-coefficients u l))
+    ∙ List·getD-append (drop 1 (coefficients u l)) (d ∷ []) 0 i (omega (arith, length-drop 1 (coefficients u l), length-coefficients u l))
     ∙ getD-drop 1 (coefficients u l) i 0 ∙ ap (λ (k : ℕ). getD (coefficients u l) k 0) (omega arith)
 
 module _ (m : List ℕ) (h : Multiples m) where
@@ -116,18 +119,196 @@ module _ (m : List ℕ) (h : Multiples m) where
       ∙ ap (plus numbers (drop 1 (coefficients u l) ++ 0 ∷ []))
       (sym (scaled-sum (f % 16) (f / 16 * 16) generatorTail) ∙ ap (λ (x : ℕ). scaled x generatorTail) (halves f ∙ e ∙ ap (λ (x : ℕ). bitXor x d) (sym (first u l))))
 
--- ---- the table
+-- ---- sixteen coefficients as two words, one after the other from the last
 
--- the tests of an entry, against a list that is the generator's tail
-abbrev lowTest : List ℕ → List ℕ → ℕ → Bool
-lowTest m g n = same (coefficients (getD m (n * 2) 0) (getD m (n * 2 + 1) 0)) (scaled n g)
+abbrev zeros : List ℕ
+zeros = replicate 16 0
 
-abbrev highTest : List ℕ → List ℕ → ℕ → Bool
-highTest m g n = same (coefficients (getD m (n * 2 + 32) 0) (getD m (n * 2 + 32 + 1) 0)) (scaled (n * 16) g)
+-- j of them have come in
+abbrev pub entered : List ℕ → ℕ → List ℕ
+entered b j = drop j zeros ++ take j b
 
-pub multiples-by : (m g : List ℕ) → generatorTail ≡ g → T (below (lowTest m g) 16) → T (below (highTest m g) 16) → Multiples m
-multiples-by m g e s t =
+pub entered-more : (b : List ℕ) (j : ℕ) → length b ≡ 16 → j < 16 → drop 1 (entered b j) ++ getD b j 0 ∷ [] ≡ entered b (j + 1)
+entered-more b j n h =
+    let z : drop j zeros ≡ getD zeros j 0 ∷ drop (suc j) zeros = drop-cons zeros j 0 h in
+    let t : take (suc j) b ≡ take j b ++ getD b j 0 ∷ [] = take-suc b j 0 (omega arith) in
+    ap (λ (l : List ℕ). drop 1 (l ++ take j b) ++ getD b j 0 ∷ []) z
+    ∙ append-assoc (drop (suc j) zeros) (take j b) (getD b j 0 ∷ [])
+    ∙ ap (λ (l : List ℕ). drop (suc j) zeros ++ l) (sym t)
+    ∙ ap (entered b) (sym (add-one j))
+
+pub entered-all : (b : List ℕ) (j : ℕ) → length b ≡ 16 → j ≤ 16 → 16 ≤ j → entered b j ≡ b
+entered-all b j n h k =
+    let e : j ≡ 16 = omega arith in
+    ap (entered b) e ∙ take-all 16 b (omega arith)
+
+-- ---- the multiples
+
+-- the first c multiples by 2 ^ j, from an entry on
+pub record Rows (m : List ℕ) (from c j : ℕ) : Type 0 where
+  pub each : (n : ℕ) → n < c → coefficients (getD m ((from + n) * 2) 0) (getD m ((from + n) * 2 + 1) 0) ≡ scaled (n * 2 ^ j) generatorTail
+
+-- a power of two and what is below it, times a power of two
+sum-of : (k j i : ℕ) → i < 2 ^ k → bitXor (i * 2 ^ j) (2 ^ k * 2 ^ j) ≡ (2 ^ k + i) * 2 ^ j
+sum-of k j i h =
+    let x : bitXor (2 ^ k) i ≡ 2 ^ k + i = ap (λ (n : ℕ). bitXor n i) (sym (one-mul (2 ^ k))) ∙ xor-shifted 1 k i h ∙ ap (λ (n : ℕ). n + i) (one-mul (2 ^ k)) in
+    ap₂ bitXor (sym (add-zero (i * 2 ^ j))) (sym (add-zero (2 ^ k * 2 ^ j))) ∙ xor-block j i (2 ^ k) 0 0 (pow-pos j) (pow-pos j) ∙ add-zero (bitXor i (2 ^ k) * 2 ^ j)
+    ∙ ap (λ (n : ℕ). n * 2 ^ j) (xor-comm i (2 ^ k) ∙ x)
+
+module _ (old new : List ℕ) (from k j upper lower : ℕ) (r : Rows old from (2 ^ k) j) (w : coefficients upper lower ≡ scaled (2 ^ k * 2 ^ j) generatorTail)
+    (e : Extended old new from (2 ^ k) (2 ^ k) upper lower) where
+  -- an entry that was there, and one that came
+  same-row : (n : ℕ) → n < 2 ^ k → coefficients (getD new ((from + n) * 2) 0) (getD new ((from + n) * 2 + 1) 0) ≡ scaled (n * 2 ^ j) generatorTail
+  same-row n h = ap₂ coefficients (e .before ((from + n) * 2) (omega arith)) (e .before ((from + n) * 2 + 1) (omega arith)) ∙ r .each n h
+
+  new-row : (i : ℕ) → i < 2 ^ k → coefficients (getD new ((from + 2 ^ k + i) * 2) 0) (getD new ((from + 2 ^ k + i) * 2 + 1) 0) ≡ scaled ((2 ^ k + i) * 2 ^ j) generatorTail
+  new-row i h =
+      ap₂ coefficients (e .first i h) (e .second i h)
+      ∙ coefficients-sum (getD old ((from + i) * 2) 0) (getD old ((from + i) * 2 + 1) 0) upper lower
+      ∙ ap₂ (plus numbers) (r .each i h) w
+      ∙ sym (scaled-sum (i * 2 ^ j) (2 ^ k * 2 ^ j) generatorTail)
+      ∙ ap (λ (n : ℕ). scaled n generatorTail) (sum-of k j i h)
+
+  rows-double : Rows new from (2 ^ k * 2) j
+  rows-double = record { each = λ n h. row n h (decLt n (2 ^ k)) }
+    where
+      row : (n : ℕ) → n < 2 ^ k * 2 → Dec (n < 2 ^ k) → coefficients (getD new ((from + n) * 2) 0) (getD new ((from + n) * 2 + 1) 0) ≡ scaled (n * 2 ^ j) generatorTail
+      row n h (yes b) = same-row n b
+      row n h (no b) =
+          let i : 2 ^ k + (n - 2 ^ k) ≡ n = omega arith in
+          let a : from + 2 ^ k + (n - 2 ^ k) ≡ from + n = omega arith in
+          ap (λ (x : ℕ). coefficients (getD new (x * 2) 0) (getD new (x * 2 + 1) 0)) (sym a) ∙ new-row (n - 2 ^ k) (omega arith)
+          ∙ ap (λ (x : ℕ). scaled (x * 2 ^ j) generatorTail) i
+
+-- rows before the entries that came, and after them
+rows-before : (old new : List ℕ) (from size i upper lower at c j : ℕ) → at + c ≤ from + size → Extended old new from size i upper lower → Rows old at c j → Rows new at c j
+rows-before old new from size i upper lower at c j h e r =
+    record { each = λ n b. ap₂ coefficients (e .before ((at + n) * 2) (omega arith)) (e .before ((at + n) * 2 + 1) (omega arith)) ∙ r .each n b }
+
+rows-after : (old new : List ℕ) (from size i upper lower at c j : ℕ) → from + size + i ≤ at → Extended old new from size i upper lower → Rows old at c j → Rows new at c j
+rows-after old new from size i upper lower at c j h e r =
+    record { each = λ n b. ap₂ coefficients (e .after ((at + n) * 2) (omega arith)) (e .after ((at + n) * 2 + 1) (omega arith)) ∙ r .each n b }
+
+rows-all : (m : List ℕ) → Rows m 0 16 0 → Rows m 16 16 4 → Multiples m
+rows-all m l h =
     record {
-      low = λ n h. same-is _ _ (below-at (lowTest m g) 16 s n h) ∙ ap (scaled n) (sym e);
-      high = λ n h. same-is _ _ (below-at (highTest m g) 16 t n h) ∙ ap (scaled (n * 16)) (sym e);
+      low = λ n b. ap at (low-place n) ∙ l .each n b ∙ ap (λ (k : ℕ). scaled k generatorTail) (once n);
+      high = λ n b. ap at (high-place n) ∙ h .each n b;
     }
+  where
+    at : ℕ → List ℕ
+    at k = coefficients (getD m k 0) (getD m (k + 1) 0)
+
+    low-place : (n : ℕ) → n * 2 ≡ (0 + n) * 2
+    low-place n = omega arith
+
+    high-place : (n : ℕ) → n * 2 + 32 ≡ (16 + n) * 2
+    high-place n = omega arith
+
+    once : (n : ℕ) → n * 2 ^ 0 ≡ n
+    once n = omega arith
+
+-- ---- entries that come
+
+pub extended-none : (old : List ℕ) (from size upper lower : ℕ) → Extended old old from size 0 upper lower
+extended-none old from size upper lower =
+    record { len = refl; first = λ n h. absurd (omega arith); second = λ n h. absurd (omega arith); before = λ k h. refl; after = λ k h. refl }
+
+module _ (old m : List ℕ) (from size i upper lower : ℕ) (h : i < size) (room : (from + size + size) * 2 ≤ length m) (e : Extended old m from size i upper lower) where
+  abbrev at : ℕ
+  at = (from + i) * 2
+
+  abbrev to : ℕ
+  to = (from + size + i) * 2
+
+  abbrev pub firstSet : List ℕ
+  firstSet = set m to (bitXor (getD m at 0) upper)
+
+  abbrev pub secondSet : List ℕ
+  secondSet = set firstSet (to + 1) (bitXor (getD firstSet (at + 1) 0) lower)
+
+  -- every word but those two is as before
+  other : (k : ℕ) → (k ≡ to → ⊥) → (k ≡ to + 1 → ⊥) → getD secondSet k 0 ≡ getD m k 0
+  other k p q =
+      getD-set-other firstSet (to + 1) k (bitXor (getD firstSet (at + 1) 0) lower) 0 q
+      ∙ getD-set-other m to k (bitXor (getD m at 0) upper) 0 p
+
+  first-len : length firstSet ≡ length m
+  first-len = length-set m to (bitXor (getD m at 0) upper)
+
+  first-own : getD secondSet to 0 ≡ bitXor (getD old at 0) upper
+  first-own =
+      getD-set-other firstSet (to + 1) to (bitXor (getD firstSet (at + 1) 0) lower) 0 (λ z. omega arith)
+      ∙ getD-set-same m to (bitXor (getD m at 0) upper) 0 (omega arith)
+      ∙ ap (λ (x : ℕ). bitXor x upper) (e .before at (omega arith))
+
+  second-own : getD secondSet (to + 1) 0 ≡ bitXor (getD old (at + 1) 0) lower
+  second-own =
+      getD-set-same firstSet (to + 1) (bitXor (getD firstSet (at + 1) 0) lower) 0 (omega (arith, first-len))
+      ∙ ap (λ (x : ℕ). bitXor x lower) (getD-set-other m to (at + 1) (bitXor (getD m at 0) upper) 0 (λ z. omega arith) ∙ e .before (at + 1) (omega arith))
+
+  pub extended-more : Extended old secondSet from size (i + 1) upper lower
+  extended-more =
+      record {
+        len = length-set firstSet (to + 1) (bitXor (getD firstSet (at + 1) 0) lower) ∙ first-len ∙ e .len;
+        first = λ n l. firsts n l (ℕ-discrete n i);
+        second = λ n l. seconds n l (ℕ-discrete n i);
+        before = λ k l. other k (λ z. omega arith) (λ z. omega arith) ∙ e .before k l;
+        after = λ k l. other k (λ z. omega arith) (λ z. omega arith) ∙ e .after k (omega arith);
+      }
+    where
+      firsts : (n : ℕ) → n < i + 1 → Dec (n ≡ i) → getD secondSet ((from + size + n) * 2) 0 ≡ bitXor (getD old ((from + n) * 2) 0) upper
+      firsts n l (yes z) = rw z first-own
+      firsts n l (no z) = other ((from + size + n) * 2) (λ x. z (omega arith)) (λ x. omega arith) ∙ e .first n (omega arith)
+
+      seconds : (n : ℕ) → n < i + 1 → Dec (n ≡ i) → getD secondSet ((from + size + n) * 2 + 1) 0 ≡ bitXor (getD old ((from + n) * 2 + 1) 0) lower
+      seconds n l (yes z) = rw z second-own
+      seconds n l (no z) = other ((from + size + n) * 2 + 1) (λ x. omega arith) (λ x. z (omega arith)) ∙ e .second n (omega arith)
+
+-- ---- the multiples below 2 ^ k of both halves
+
+pub record Doubled (m : List ℕ) (size k : ℕ) : Type 0 where
+  pub most : k ≤ 4
+  pub len : length m ≡ 64
+  pub power : size ≡ 2 ^ k
+  pub low : Rows m 0 (2 ^ k) 0
+  pub high : Rows m 16 (2 ^ k) 4
+
+pub power-small : (k : ℕ) → k < 4 → 2 ^ k ≤ 8
+power-small k h = leb→le (2 ^ k) 8 (below-at (λ k. leb (2 ^ k) 8) 4 tt k h)
+
+zero-row : coefficients 0 0 ≡ scaled 0 generatorTail
+unfolding lowBytes scale mul rounds timesX
+zero-row = sym (ap (scaled 0) tail-is)
+
+none : (from j : ℕ) → from ≤ 16 → Rows (replicate 64 0) from 1 j
+none from j h = record { each = λ n b. ap₂ coefficients (zeros-at 64 ((from + n) * 2)) (zeros-at 64 ((from + n) * 2 + 1)) ∙ zero-row ∙ ap (λ (k : ℕ). scaled k generatorTail) (nothing n b) }
+  where
+    nothing : (n : ℕ) → n < 1 → 0 ≡ n * 2 ^ j
+    nothing n b = let z : n ≡ 0 = omega arith in sym (ap (λ (k : ℕ). k * 2 ^ j) z ∙ zero-mul (2 ^ j))
+
+pub doubled-none : Doubled (replicate 64 0) 1 0
+doubled-none = record { most = omega arith; len = refl; power = refl; low = none 0 0 (omega arith); high = none 16 4 (omega arith) }
+
+pub doubled-more : (m m₁ m₂ : List ℕ) (size k u l v w : ℕ) → k < 4 → Doubled m size k → coefficients u l ≡ scaled size generatorTail → Extended m m₁ 0 size size u l
+    → coefficients v w ≡ scaled (size * 16) generatorTail → Extended m₁ m₂ 16 size size v w → Doubled m₂ (size * 2) (k + 1)
+doubled-more m m₁ m₂ size k u l v w h d a e b f =
+    let s : 2 ^ k ≤ 8 = power-small k h in
+    let next : 2 ^ k * 2 ≡ 2 ^ (k + 1) = sym (ap (λ (n : ℕ). 2 ^ n) (add-one k) ∙ pow-suc 2 k) in
+    let once : 2 ^ k ≡ 2 ^ k * 2 ^ 0 = omega arith in
+    let e′ : Extended m m₁ 0 (2 ^ k) (2 ^ k) u l = subst (λ (x : ℕ). Extended m m₁ 0 x x u l) (d .power) e in
+    let f′ : Extended m₁ m₂ 16 (2 ^ k) (2 ^ k) v w = subst (λ (x : ℕ). Extended m₁ m₂ 16 x x v w) (d .power) f in
+    let low₁ : Rows m₁ 0 (2 ^ k * 2) 0 = rows-double m m₁ 0 k 0 u l (d .low) (a ∙ ap (λ (x : ℕ). scaled x generatorTail) (d .power ∙ once)) e′ in
+    let high₁ : Rows m₁ 16 (2 ^ k) 4 = rows-after m m₁ 0 (2 ^ k) (2 ^ k) u l 16 (2 ^ k) 4 (omega arith) e′ (d .high) in
+    record {
+      most = omega arith;
+      len = f .len ∙ e .len ∙ d .len;
+      power = ap (λ (x : ℕ). x * 2) (d .power) ∙ next;
+      low = subst (λ (x : ℕ). Rows m₂ 0 x 0) next (rows-before m₁ m₂ 16 (2 ^ k) (2 ^ k) v w 0 (2 ^ k * 2) 0 (omega arith) f′ low₁);
+      high = subst (λ (x : ℕ). Rows m₂ 16 x 4) next (rows-double m₁ m₂ 16 k 4 v w high₁ (b ∙ ap (λ (x : ℕ). scaled (x * 16) generatorTail) (d .power)) f′);
+    }
+
+pub doubled-all : (m : List ℕ) (size k : ℕ) → 4 ≤ k → Doubled m size k → Multiples m
+doubled-all m size k h d =
+    let e : k ≡ 4 = omega (arith, d .most) in
+    rows-all m (subst (λ (x : ℕ). Rows m 0 (2 ^ x) 0) e (d .low)) (subst (λ (x : ℕ). Rows m 16 (2 ^ x) 4) e (d .high))

@@ -3,9 +3,10 @@
 use mathlib.Core.Path.{_≡_}
 use mathlib.Core.Bool.{Bool, true, false}
 use mathlib.Core.List.{List, [], _∷_, _++_}
-use Prim.Native.Nat.{ℕ, zero, suc, _+_, _*_, _/_, _%_, _<_}
+use Prim.Native.Nat.{ℕ, zero, suc, _+_, _*_, _/_, _%_, _≤_, _<_}
+use lib.Bits.{bitXor}
 use lib.Dec.{eqb}
-use lib.ListN.{getD, take, drop}
+use lib.ListN.{length, getD, take, drop}
 use Rattle.common.specs.Choice.{pick}
 use Rattle.algebra.specs.Field.{ops}
 use Rattle.algebra.specs.Polynomial.{eval, plus}
@@ -24,6 +25,14 @@ lowBytes (suc n) w = w % 256 ∷ lowBytes n (w / 256)
 -- the sixteen coefficients that two words hold
 abbrev pub coefficients : ℕ → ℕ → List ℕ
 coefficients upper lower = lowBytes 8 upper ++ lowBytes 8 lower
+
+-- i of the entries after those from to from + size: each is the sum of the entry size before it and a row. An entry is two words.
+pub record Extended (old new : List ℕ) (from size i upper lower : ℕ) : Type 0 where
+  pub len : length new ≡ length old
+  pub first : (n : ℕ) → n < i → getD new ((from + size + n) * 2) 0 ≡ bitXor (getD old ((from + n) * 2) 0) upper
+  pub second : (n : ℕ) → n < i → getD new ((from + size + n) * 2 + 1) 0 ≡ bitXor (getD old ((from + n) * 2 + 1) 0) lower
+  pub before : (k : ℕ) → k < (from + size) * 2 → getD new k 0 ≡ getD old k 0
+  pub after : (k : ℕ) → (from + size + i) * 2 ≤ k → getD new k 0 ≡ getD old k 0
 
 -- the multiples of the generator's tail by the halves of a byte, each in two words
 pub record Multiples (m : List ℕ) : Type 0 where

@@ -8,10 +8,9 @@ ghost use Rattle.reed_solomon.specs.Steps.{residueOf};
 use answer::Answer;
 
 mod division;
-mod powers;
 mod syndromes;
 
-// The sixteen coefficients of the generator polynomial below x^16, from x^15 down. The division has them and their multiples in words.
+// The sixteen coefficients of the generator polynomial below x^16, from x^15 down.
 pub const GENERATOR: [u8; 16] = [
     0x3B,
     0x0D,

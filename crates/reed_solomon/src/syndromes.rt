@@ -1,13 +1,20 @@
 // The syndromes: the values of the residue at the sixteen roots of the generator polynomial.
 ghost use Rattle.byte_lanes.specs.Lanes.{Powers, Advanced};
 ghost use Rattle.reed_solomon.specs.Steps.{SyndromesOf};
-use crate::powers::POWERS;
 
-// The first 208 powers of 02.
+// The powers of 02. The first sixteen are the roots of the generator polynomial, and power i is the place of the coefficient of x^i.
 pub fn powers() -> [u8; 208]
     ensures { λ r. ⌜ Powers r ⌝ }
 {
-    POWERS
+    let mut x = [0u8; 208];
+    let mut p: u8 = 1;
+    let mut i: usize = 0;
+    while i < 208 {
+        x[i] = p;
+        p = galois::times_x(p);
+        i += 1;
+    }
+    x
 }
 
 // One step of Horner's rule at the sixteen roots.

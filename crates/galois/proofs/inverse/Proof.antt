@@ -1,51 +1,77 @@
--- `galois::inverse` meets its contract: each entry of the table but the first gives one with its place, and so is the inverse.
+-- `galois::inverse` meets its contract: each product is the power of a that its name says.
 -- Assumes nothing.
-use mathlib.Core.Path.{_≡_, refl, sym, ap, _∙_}
-use mathlib.Core.Bool.{Bool}
-use mathlib.Core.List.{List}
-use Prim.Native.Nat.{ℕ, zero, suc, _<_}
+use mathlib.Core.Path.{_≡_, sym, _∙_}
+use Prim.Native.Nat.{ℕ}
 use native.Mathlib.Omega.{arith}
-use lib.Dec.{T, eqb, eqb→eq, ltb, ltb→lt}
-use lib.ListN.{length, getD}
-use Rattle.common.proofs.Computed.{both, both-left, both-right, every, at}
-use Rattle.algebra.specs.Polynomial.{power}
-use Rattle.galois.specs.Field256.{timesX, rounds, mul, inv}
-use Rattle.galois.specs.Steps.{Inverses}
-use Rattle.galois.proofs.Laws.{mul-comm, mul-assoc, mul-one}
-use Rattle.galois.proofs.Powers.{one-mul}
-use Rattle.galois.proofs.Tables.{mul-inv}
-use Rattle.galois.proofs.Instance.{inv-lt}
 use borrow.Author.Needs.{needs}
+use Rattle.galois.specs.Field256.{pow, inv}
+use Rattle.galois.proofs.Powers.{pow-one, times-pow}
 use Rattle.galois.proofs.inverse.Statement.{statement}
 use Rattle.galois.proofs.inverse.Tie as tie
 
--- the test of the entry x at the place a
-abbrev isInverse : ℕ → ℕ → Bool
-isInverse zero x = eqb x 0
-isInverse (suc a) x = both (ltb x 256) (eqb (mul (suc a) x) 1)
+mul-requires : tie.Need-mul-requires
+mul-requires c κs = search needs
 
--- a byte has one inverse
-unique : (a x : ℕ) → a < 256 → x < 256 → (a ≡ 0 → ⊥) → mul a x ≡ 1 → x ≡ inv a
-unique a x h hx n e =
-    sym (mul-one x hx) ∙ ap (mul x) (sym (mul-inv a h n)) ∙ sym (mul-assoc x a (inv a))
-    ∙ ap (λ (y : ℕ). mul y (inv a)) (mul-comm x a ∙ e) ∙ one-mul (inv a) (inv-lt a)
+mul-requires-2 : tie.Need-mul-requires-2
+mul-requires-2 c κs = search needs
 
-entry : (a x : ℕ) → a < 256 → T (isInverse a x) → x ≡ inv a
-unfolding inv power mul rounds timesX
-entry zero x h t = eqb→eq x 0 t
-entry (suc a) x h t =
-    unique (suc a) x h (ltb→lt x 256 (both-left (ltb x 256) (eqb (mul (suc a) x) 1) t)) (λ e. absurd (omega arith))
-    (eqb→eq (mul (suc a) x) 1 (both-right (ltb x 256) (eqb (mul (suc a) x) 1) t))
+mul-requires-3 : tie.Need-mul-requires-3
+mul-requires-3 c κs = search needs
 
-table : (t : List ℕ) → length t ≡ 256 → T (every isInverse 0 t) → Inverses t
-table t n s = record { each = λ a h. entry a (getD t a 0) h (at isInverse t s a (rw n h)) }
+mul-requires-4 : tie.Need-mul-requires-4
+mul-requires-4 c κs = search needs
 
-inverse-in-requires : tie.Need-inverse-in-requires
-unfolding mul rounds timesX
-inverse-in-requires c κs = table _ refl tt
+mul-requires-5 : tie.Need-mul-requires-5
+mul-requires-5 c κs = search needs
+
+mul-requires-6 : tie.Need-mul-requires-6
+mul-requires-6 c κs = search needs
+
+mul-requires-7 : tie.Need-mul-requires-7
+mul-requires-7 c κs = search needs
+
+mul-requires-8 : tie.Need-mul-requires-8
+mul-requires-8 c κs = search needs
+
+mul-requires-9 : tie.Need-mul-requires-9
+mul-requires-9 c κs = search needs
+
+mul-requires-10 : tie.Need-mul-requires-10
+mul-requires-10 c κs = search needs
+
+mul-requires-11 : tie.Need-mul-requires-11
+mul-requires-11 c κs = search needs
 
 returns : tie.Need-returns
-returns c = search needs
+unfolding inv
+returns c =
+    let a : ℕ = c .before .before .before .before .before .before .before .before .before .before .before .args .a in
+    let p1 : a ≡ pow a 1 = sym (pow-one a (omega arith)) in
+    let p2 = c .before .before .before .before .before .before .before .before .before .before .mul .ensures ∙ times-pow a 1 1 p1 p1 in
+    let p3 = c .before .before .before .before .before .before .before .before .before .mul2 .ensures ∙ times-pow a 2 1 p2 p1 in
+    let p6 = c .before .before .before .before .before .before .before .before .mul3 .ensures ∙ times-pow a 3 3 p3 p3 in
+    let p12 = c .before .before .before .before .before .before .before .mul4 .ensures ∙ times-pow a 6 6 p6 p6 in
+    let p15 = c .before .before .before .before .before .before .mul5 .ensures ∙ times-pow a 12 3 p12 p3 in
+    let p30 = c .before .before .before .before .before .mul6 .ensures ∙ times-pow a 15 15 p15 p15 in
+    let p60 = c .before .before .before .before .mul7 .ensures ∙ times-pow a 30 30 p30 p30 in
+    let p120 = c .before .before .before .mul8 .ensures ∙ times-pow a 60 60 p60 p60 in
+    let p126 = c .before .before .mul9 .ensures ∙ times-pow a 120 6 p120 p6 in
+    let p127 = c .before .mul10 .ensures ∙ times-pow a 126 1 p126 p1 in
+    c .mul11 .ensures ∙ times-pow a 127 127 p127 p127
 
 pub inverse-spec : {M : Type 1} → statement M
-inverse-spec = tie.close (tie.spec inverse-in-requires returns)
+inverse-spec =
+    tie.close
+    (tie.spec
+    mul-requires
+    mul-requires-2
+    mul-requires-3
+    mul-requires-4
+    mul-requires-5
+    mul-requires-6
+    mul-requires-7
+    mul-requires-8
+    mul-requires-9
+    mul-requires-10
+    mul-requires-11
+    returns)

@@ -19,7 +19,7 @@ Left u l j v w = (i : ℕ) → j + i < 16 → getD (coefficients v w) i 0 ≡ ge
 
 left-more : (u l j v w v′ w′ : ℕ) → Left u l j v w → coefficients v′ w′ ≡ drop 1 (coefficients v w) ++ 0 ∷ [] → Left u l (j + 1) v′ w′
 left-more u l j v w v′ w′ left e i h =
-    shifted-at v w v′ w′ i e (omega arith) ∙ left (suc i) (omega arith) ∙ ap (λ (k : ℕ). getD (coefficients u l) k 0) (omega arith)
+    shifted-at v w v′ w′ 0 i e (omega arith) ∙ left (suc i) (omega arith) ∙ ap (λ (k : ℕ). getD (coefficients u l) k 0) (omega arith)
 
 next : (u l j v w : ℕ) → Left u l j v w → j < 16 → v % 256 ≡ getD (coefficients u l) j 0
 next u l j v w left h = sym (first v w) ∙ left 0 (omega arith) ∙ ap (λ (k : ℕ). getD (coefficients u l) k 0) (omega arith)

@@ -4,12 +4,9 @@ use mathlib.Core.Path.{_≡_, refl, _∙_}
 use Prim.Native.Nat.{_-_, _≤_}
 use native.Mathlib.Omega.{arith}
 use lib.ListN.{take}
-use Rattle.algebra.specs.Polynomial.{scale}
-use Rattle.galois.specs.Field256.{mul, rounds, timesX}
 use Rattle.reed_solomon.specs.Encode.{remainderFrom, checkBytes}
 use Rattle.reed_solomon.specs.Steps.{lowBytes, coefficients}
-use Rattle.reed_solomon.proofs.LongDivision.{tail-is, check-more}
-use Rattle.reed_solomon.proofs.WordDivision.{multiples-by}
+use Rattle.reed_solomon.proofs.LongDivision.{check-more}
 use borrow.Author.Needs.{needs}
 use Rattle.reed_solomon.proofs.division.divide_message.Statement.{statement}
 use Rattle.reed_solomon.proofs.division.divide_message.Tie as tie
@@ -20,6 +17,9 @@ Inv-loop message multiples r₀ i₀ r i = (i ≤ 188) × (coefficients (r .uppe
 abbrev μ-loop : tie.MeasureT-loop
 μ-loop message multiples r₀ i₀ r i = 188 - i
 
+multiples-requires : tie.Need-multiples-requires Inv-loop μ-loop
+multiples-requires c κs = search needs
+
 loop-holds : tie.Need-loop-holds Inv-loop μ-loop
 unfolding checkBytes remainderFrom lowBytes
 loop-holds c = (search needs, refl)
@@ -28,8 +28,7 @@ shared-slice-read-divide : tie.Need-shared-slice-read-divide Inv-loop μ-loop
 shared-slice-read-divide c = search needs
 
 divide-requires : tie.Need-divide-requires Inv-loop μ-loop
-unfolding lowBytes scale mul rounds timesX
-divide-requires c κs = multiples-by _ _ tail-is tt tt
+divide-requires c κs = c .before .before .before .before .multiples .ensures
 
 add-i : tie.Need-add-i Inv-loop μ-loop
 add-i c = search needs
@@ -40,7 +39,7 @@ loop-less c = search needs
 loop-again : tie.Need-loop-again Inv-loop μ-loop
 loop-again c =
     let l = c .before .before .before .before .loop in
-    let s = c .before .before .before .before .before .before in
+    let s = c .before .before .before .before .before .before .before in
     (search needs, c .divide .ensures ∙ check-more (s .args .message .now) (l .i) _ _ (search needs) (l .inv .1) refl)
 
 returns : tie.Need-returns Inv-loop μ-loop
@@ -55,6 +54,7 @@ divide-message-spec =
     (tie.spec
     Inv-loop
     μ-loop
+    multiples-requires
     loop-holds
     shared-slice-read-divide
     divide-requires

@@ -1,27 +1,55 @@
--- `syndromes::powers` meets its contract: each entry is tested against the table of powers that the proofs compute with.
+-- `syndromes::powers` meets its contract: p is the next power, and those before it are stored.
 -- Assumes nothing.
-use mathlib.Core.Path.{_≡_, refl, _∙_}
-use mathlib.Core.Bool.{Bool}
-use mathlib.Core.List.{List}
-use Prim.Native.Nat.{ℕ}
-use native.Mathlib.Omega.{arith}
-use lib.Dec.{T, eqb, eqb→eq}
-use lib.ListN.{length, getD}
-use Rattle.common.proofs.Computed.{every, at}
-use Rattle.galois.proofs.Tables.{at as byteAt, exps, exp-pow}
-use Rattle.byte_lanes.specs.Lanes.{Powers}
+use mathlib.Core.Path.{_≡_, refl, ap, _∙_}
+use Prim.Native.Nat.{_-_}
+use Rattle.common.proofs.Each.{Each, each-none, each-more, each-all}
+use Rattle.algebra.specs.Polynomial.{power}
+use Rattle.galois.specs.Field256.{timesX, pow}
+use Rattle.galois.proofs.Powers.{power-next}
+use borrow.Author.Needs.{needs}
 use Rattle.reed_solomon.proofs.syndromes.powers.Statement.{statement}
 use Rattle.reed_solomon.proofs.syndromes.powers.Tie as tie
 
-abbrev isPower : ℕ → ℕ → Bool
-isPower i x = eqb x (byteAt exps i)
+abbrev Inv-loop : tie.InvT-loop
+Inv-loop x₀ p₀ i₀ x p i = Each (λ k v. v ≡ pow 2 k) 208 x i × (p ≡ pow 2 i)
 
-table : (t : List ℕ) → length t ≡ 208 → T (every isPower 0 t) → Powers t
-table t n s = record { each = λ i h. eqb→eq (getD t i 0) (byteAt exps i) (at isPower t s i (rw n h)) ∙ exp-pow i (omega arith) }
+abbrev μ-loop : tie.MeasureT-loop
+μ-loop x₀ p₀ i₀ x p i = 208 - i
 
-returns : tie.Need-returns
-unfolding exps
-returns c = table _ refl tt
+loop-holds : tie.Need-loop-holds Inv-loop μ-loop
+unfolding power
+loop-holds c = (each-none refl, refl)
+
+array-write-x : tie.Need-array-write-x Inv-loop μ-loop
+array-write-x c = search needs
+
+times-x-requires : tie.Need-times-x-requires Inv-loop μ-loop
+times-x-requires c κs = search needs
+
+add-i : tie.Need-add-i Inv-loop μ-loop
+add-i c = search needs
+
+loop-less : tie.Need-loop-less Inv-loop μ-loop
+loop-less c = search needs
+
+loop-again : tie.Need-loop-again Inv-loop μ-loop
+loop-again c =
+    let l = c .before .before .loop in
+    (each-more (l .p) (search needs) (l .inv .1) (l .inv .0), c .times-x .ensures ∙ ap timesX (l .inv .1) ∙ power-next (l .i))
+
+returns : tie.Need-returns Inv-loop μ-loop
+returns c = record { each = each-all (search needs) (c .before .loop .inv .0) }
 
 pub powers-spec : {M : Type 1} → statement M
-powers-spec = tie.close (tie.spec returns)
+powers-spec =
+    tie.close
+    (tie.spec
+    Inv-loop
+    μ-loop
+    loop-holds
+    array-write-x
+    times-x-requires
+    add-i
+    loop-less
+    loop-again
+    returns)
