@@ -33,6 +33,8 @@ tool cc gcc
 tool cargo cargo
 tool rustc rustc
 
+# rt waits for the whole of a batch. With four at a time two processors are seldom left idle by the longest one.
+export RT_JOBS=${RT_JOBS:-4}
 if ! rt ci | tee "$work/gate" | sed '$d'; then
     tail -n 1 "$work/gate"
     exit 1

@@ -52,7 +52,11 @@ fn due_byte(place: u8) -> u8
 fn place_after(place: u8) -> u8
     ensures { λ r. ⌜ r ≡ placeAfter place ⌝ }
 {
-    if place < 7 { place + 1 } else { 0 }
+    if place < GroupSync::GROUP_LENGTH - 1 {
+        place + 1
+    } else {
+        0
+    }
 }
 
 // A codeword while the place is not known.
@@ -100,6 +104,9 @@ fn expected(place: u8, first: u8) -> GroupStep
 }
 
 impl GroupSync {
+    // The packets of a group.
+    pub const GROUP_LENGTH: u8 = 8;
+
     pub fn new() -> GroupSync
         ensures { λ r. ⌜ r .place ≡ Place.NotKnown ⌝ }
     {
@@ -114,7 +121,7 @@ impl GroupSync {
         let place = self.place;
         match place {
             Place::NotKnown => true,
-            Place::Known(p) => p < 8,
+            Place::Known(p) => p < GroupSync::GROUP_LENGTH,
         }
     }
 

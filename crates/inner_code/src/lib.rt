@@ -151,7 +151,7 @@ impl InnerCoder {
                 count: 0,
             };
         }
-        if block.len() != 204 {
+        if block.len() != InnerCoder::BLOCK_LENGTH {
             return Encoded {
                 answer: Answer::BlockLength,
                 coder: self,

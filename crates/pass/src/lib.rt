@@ -77,7 +77,7 @@ fn receive_piece(
     requires { ⌜ (blocks ≤ 320) × (65280 ≤ length (now buffer)) × (60160 ≤ length (now packets)) ⌝ }
     ensures { λ r. ⌜ r .length ≤ 204 * blocks ⌝ }
 {
-    let want = 204 * blocks;
+    let want = Receiver::BLOCK_LENGTH * blocks;
     let piece = fill(fd, buffer, want);
     let n = piece.length;
     if piece.failed {
@@ -120,7 +120,7 @@ fn receive_all(fd: i32, wanted: bool, buffer: &mut [u8], packets: &mut [u8]) -> 
     ensures { λ r. ⌜ r .rest < 204 ⌝ }
 {
     let mut receiver = Receiver::new();
-    let mut left: u64 = 4294967295;
+    let mut left: u64 = Counts::MOST;
     while left > 0 {
         let blocks = piece_blocks(left);
         let step = receive_piece(fd, receiver, blocks as usize, buffer, packets, wanted);
@@ -136,11 +136,11 @@ fn receive_all(fd: i32, wanted: bool, buffer: &mut [u8], packets: &mut [u8]) -> 
                 failed: true,
             };
         }
-        if length < 204 * (blocks as usize) {
+        if length < Receiver::BLOCK_LENGTH * (blocks as usize) {
             let counts = receiver.counts;
             return Pass {
                 counts,
-                rest: (length % 204) as u64,
+                rest: (length % Receiver::BLOCK_LENGTH) as u64,
                 failed: false,
             };
         }

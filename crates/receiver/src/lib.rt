@@ -60,7 +60,7 @@ fn deliver(outcome: Outcome, left: &[u8], room: &mut [u8]) -> Answer
     match outcome {
         Outcome::Filling => Answer::Filling,
         Outcome::Delivered(place) => {
-            randomizer::derandomize(place, &left[..188], room);
+            randomizer::derandomize(place, &left[..Receiver::PACKET_LENGTH], room);
             Answer::Done
         }
         Outcome::Lost => Answer::Uncorrectable,
@@ -78,7 +78,7 @@ fn take_block(receiver: Receiver, block: &[u8], room: &mut [u8]) -> Received
     let sync = receiver.sync;
     let counts = receiver.counts;
     let taken = counts.taken;
-    let mut delayed = [0u8; 204];
+    let mut delayed = [0u8; Receiver::BLOCK_LENGTH];
     let passed = before.deinterleave(block, &mut delayed);
     let deinterleaver = passed.deinterleaver;
     if taken < 11 {
@@ -117,7 +117,7 @@ impl Receiver {
     pub const BLOCK_LENGTH: usize = 204;
 
     // The packets of a group.
-    pub const GROUP_LENGTH: usize = 8;
+    pub const GROUP_LENGTH: u8 = GroupSync::GROUP_LENGTH;
 
     // All cells and counts 0, the place not known.
     pub fn new() -> Receiver
@@ -161,19 +161,19 @@ impl Receiver {
                 receiver: self,
             };
         }
-        if block.len() != 204 {
+        if block.len() != Receiver::BLOCK_LENGTH {
             return Received {
                 answer: Answer::BlockLength,
                 receiver: self,
             };
         }
-        if room.len() < 188 {
+        if room.len() < Receiver::PACKET_LENGTH {
             return Received {
                 answer: Answer::RoomLength,
                 receiver: self,
             };
         }
-        if taken >= 4294967295 {
+        if taken >= Counts::MOST {
             return Received {
                 answer: Answer::CountsFull,
                 receiver: self,

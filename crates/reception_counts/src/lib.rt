@@ -44,7 +44,7 @@ impl Counts {
         let waiting = self.waiting;
         let outofstep = self.outofstep;
         let changed = self.changed;
-        if taken > 4294967295 {
+        if taken > Counts::MOST {
             return false;
         }
         if filling > taken {

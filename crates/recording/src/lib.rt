@@ -26,7 +26,11 @@ struct Batch {
 fn given_bytes(answer: Answer) -> usize
     ensures { λ r. ⌜ r ≡ givenBytes (numberOf answer) ⌝ }
 {
-    if answer.number() == 0 { 188 } else { 0 }
+    if answer.number() == 0 {
+        Receiver::PACKET_LENGTH
+    } else {
+        0
+    }
 }
 
 // Takes the whole blocks, each with a call. Its packet goes into the room after the one before.
@@ -37,8 +41,8 @@ fn receive_blocks(receiver: Receiver, bytes: &[u8], room: &mut [u8]) -> Batch
     let mut state = receiver;
     let mut at: usize = 0;
     let mut count: usize = 0;
-    while bytes.len() - at >= 204 {
-        let end = at + 204;
+    while bytes.len() - at >= Receiver::BLOCK_LENGTH {
+        let end = at + Receiver::BLOCK_LENGTH;
         let received = state.receive(&bytes[at..end], &mut room[count..]);
         let answer = received.answer;
         state = received.receiver;
