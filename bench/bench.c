@@ -272,7 +272,7 @@ static int table(const char *counts_file)
 
     printf("Each figure is for one block: one packet in the randomizer and in sending, and in the field\n"
            "product sixteen lanes times one factor.\n"
-           "Interleavers, inner coder, sending, receiving: one call on %d blocks from a fresh state, divided.\n"
+           "Interleaver, inner coder, sending, receiving: one call on %d blocks from a fresh state, divided.\n"
            "Data is random. Rooms are not cleared: they are lent as the call before left them. A block to be\n"
            "decoded is copied in afresh before every call, inside the measure, on every side.\n"
            "Plain C is built at -O3, libfec as its package has it. Times: best of %d, the sides taking turns.\n"
