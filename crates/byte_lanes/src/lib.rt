@@ -1,6 +1,5 @@
 // Sixteen bytes of the field at once: loops without a branch, which become vector code.
 ghost use mathlib.Core.Path.{_≡_};
-ghost use mathlib.Core.List.{_++_};
 ghost use Prim.Native.Nat.{_+_, _≤_};
 ghost use lib.ListN.{length, take, drop};
 ghost use Rattle.algebra.specs.Polynomial.{plus};
@@ -45,16 +44,4 @@ pub fn sixteen(list: &[u8], at: usize) -> [u8; 16]
         j += 1;
     }
     r
-}
-
-// Writes a list into room, from a place on.
-pub fn put(list: &[u8], at: usize, room: &mut [u8])
-    requires { ⌜ at + length (now list) ≤ length (now room) ⌝ }
-    ensures { λ _. ⌜ now (room .exit) ≡ take at (now (room .entry)) ++ now (list .entry) ++ drop (at + length (now (list .entry))) (now (room .entry)) ⌝ }
-{
-    let mut i: usize = 0;
-    while i < list.len() {
-        room[at + i] = list[i];
-        i += 1;
-    }
 }

@@ -1,1 +1,17 @@
-// Lemmas that several crates use and that belong to none of them: there is no code here.
+// What several crates use and belongs to none of them: lemmas, and the copying of bytes.
+ghost use mathlib.Core.Path.{_≡_};
+ghost use mathlib.Core.List.{_++_};
+ghost use Prim.Native.Nat.{_+_, _≤_};
+ghost use lib.ListN.{length, take, drop};
+
+// Writes a list into room, from a place on.
+pub fn put(list: &[u8], at: usize, room: &mut [u8])
+    requires { ⌜ at + length (now list) ≤ length (now room) ⌝ }
+    ensures { λ _. ⌜ now (room .exit) ≡ take at (now (room .entry)) ++ now (list .entry) ++ drop (at + length (now (list .entry))) (now (room .entry)) ⌝ }
+{
+    let mut i: usize = 0;
+    while i < list.len() {
+        room[at + i] = list[i];
+        i += 1;
+    }
+}

@@ -14,7 +14,7 @@ fn add_row(m: &mut [u8], i: usize, j: usize, a: u8)
 {
     let scaled = galois::scale(byte_lanes::sixteen(m, j * 16), a);
     let row = byte_lanes::sum(byte_lanes::sixteen(m, i * 16), scaled);
-    byte_lanes::put(&row, i * 16, m);
+    common::put(&row, i * 16, m);
 }
 
 // Row i times a.
@@ -23,7 +23,7 @@ fn scale_row(m: &mut [u8], i: usize, a: u8)
     ensures { λ _. ⌜ MulRow bytes 8 9 i (byte a) (mat (now (m .entry))) (mat (now (m .exit))) ⌝ }
 {
     let row = galois::scale(byte_lanes::sixteen(m, i * 16), a);
-    byte_lanes::put(&row, i * 16, m);
+    common::put(&row, i * 16, m);
 }
 
 // The first row from k on that is not zero in column k, or 8.

@@ -23,7 +23,7 @@ pub extern "C" fn kernel_scale(lanes: &mut [u8], factors: &[u8])
         return;
     }
     let last = scale_by(byte_lanes::sixteen(lanes, 0), factors);
-    byte_lanes::put(&last, 0, lanes);
+    common::put(&last, 0, lanes);
 }
 
 // Interleaves the whole blocks of 204 bytes, from fresh branches. A room shorter than the blocks stays as it is.

@@ -53,8 +53,8 @@ pub fn encode(message: &[u8], room: &mut [u8]) -> Answer
         return Answer::RoomLength;
     }
     let check = division::check_bytes(message);
-    byte_lanes::put(message, 0, room);
-    byte_lanes::put(&check, 188, room);
+    common::put(message, 0, room);
+    common::put(&check, 188, room);
     Answer::Done
 }
 

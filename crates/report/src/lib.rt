@@ -8,7 +8,6 @@ ghost use Rattle.report_lines.specs.Line.{lineText, Appended};
 ghost use Rattle.report.specs.Text.{formKey, takenKey, fillingKey, deliveredKey, lostKey, waitingKey, outofstepKey, reportText, reportNumber, reportLength, reportRoom};
 use answer::Answer;
 use reception_counts::Counts;
-use report_lines::put;
 use report_lines::put_line;
 
 // An answer, and how many bytes were written.
@@ -68,7 +67,7 @@ pub fn write_report(counts: Counts, rest: u64, room: &mut [u8]) -> Written
             length: 0,
         };
     }
-    put(&text[..n], 0, room);
+    common::put(&text[..n], 0, room);
     Written {
         answer: Answer::Done,
         length: n,

@@ -1,21 +1,7 @@
 // Lines of a report: a key, an equals sign, a number in decimal and a line feed.
-ghost use mathlib.Core.Path.{_≡_};
-ghost use mathlib.Core.List.{_++_};
 ghost use Prim.Native.Nat.{_+_, _≤_};
-ghost use lib.ListN.{length, take, drop};
+ghost use lib.ListN.{length};
 ghost use Rattle.report_lines.specs.Line.{decimal, lineText, Appended};
-
-// Copies the bytes to a place of the room.
-pub fn put(bytes: &[u8], at: usize, room: &mut [u8])
-    requires { ⌜ at + length (now bytes) ≤ length (now room) ⌝ }
-    ensures { λ _. ⌜ now (room .exit) ≡ take at (now (room .entry)) ++ now (bytes .entry) ++ drop (at + length (now (bytes .entry))) (now (room .entry)) ⌝ }
-{
-    let mut i: usize = 0;
-    while i < bytes.len() {
-        room[at + i] = bytes[i];
-        i += 1;
-    }
-}
 
 // Writes a number at a place of the room. Gives the place after it.
 fn put_decimal(value: u64, at: usize, room: &mut [u8]) -> usize
@@ -24,7 +10,7 @@ fn put_decimal(value: u64, at: usize, room: &mut [u8]) -> usize
 {
     let mut digits = [0u8; 20];
     let n = io::decimal(value, &mut digits);
-    put(&digits[..n], at, room);
+    common::put(&digits[..n], at, room);
     at + n
 }
 
@@ -34,7 +20,7 @@ pub fn put_line(key: &[u8], value: u64, at: usize, room: &mut [u8]) -> usize
     ensures { λ r. ⌜
         Appended (lineText (now (key .entry)) value) (now (room .entry)) (now (room .exit)) at r (at + length (now (key .entry)) + 22) ⌝ }
 {
-    put(key, at, room);
+    common::put(key, at, room);
     let equals = at + key.len();
     room[equals] = b'=';
     let end = put_decimal(value, equals + 1, room);

@@ -1,13 +1,13 @@
--- `division::put` meets its contract: after i turns the first i elements are written.
+-- `common::put` meets its contract: after i turns the first i elements are written.
 -- Assumes nothing.
 use mathlib.Core.Path.{_≡_, refl}
 use Prim.Native.Nat.{_-_}
 use native.Mathlib.Omega.{arith}
 use lib.ListN.{length}
 use Rattle.common.proofs.Written.{Written, written-none, written-more, written-length, written-all}
 use borrow.Author.Needs.{needs}
-use Rattle.byte_lanes.proofs.put.Statement.{statement}
-use Rattle.byte_lanes.proofs.put.Tie as tie
+use Rattle.common.proofs.put.Statement.{statement}
+use Rattle.common.proofs.put.Tie as tie
 
 abbrev Inv-loop : tie.InvT-loop
 Inv-loop list at room₀ i₀ room i = Written at room₀ list room i
