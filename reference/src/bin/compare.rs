@@ -79,22 +79,23 @@ fn hex(bytes: &[u8]) -> String {
 // One comparison of each function. Rooms start with the same bytes on both
 // sides and are compared whole, so a byte written beyond the answer shows.
 
-fn randomize(s: &mut Score, place: u8, packet: &[u8], room: Vec<u8>) -> u8 {
+type PacketStage = fn(u8, &[u8], &mut [u8]) -> u8;
+
+fn packet_stage(s: &mut Score, sides: (PacketStage, PacketStage), place: u8, packet: &[u8], room: Vec<u8>) -> u8 {
     let (mut a, mut b) = (room.clone(), room);
-    let want = expected::randomize(place, packet, &mut a);
-    let got = library::randomize(place, packet, &mut b);
+    let want = sides.0(place, packet, &mut a);
+    let got = sides.1(place, packet, &mut b);
     let inputs = format!("place {place}, packet of {}, room of {}", packet.len(), a.len());
     s.same(&inputs, &[("answer", &[want]), ("room", &a)], &[("answer", &[got]), ("room", &b)]);
     want
 }
 
+fn randomize(s: &mut Score, place: u8, packet: &[u8], room: Vec<u8>) -> u8 {
+    packet_stage(s, (expected::randomize, library::randomize), place, packet, room)
+}
+
 fn derandomize(s: &mut Score, place: u8, packet: &[u8], room: Vec<u8>) -> u8 {
-    let (mut a, mut b) = (room.clone(), room);
-    let want = expected::derandomize(place, packet, &mut a);
-    let got = library::derandomize(place, packet, &mut b);
-    let inputs = format!("place {place}, packet of {}, room of {}", packet.len(), a.len());
-    s.same(&inputs, &[("answer", &[want]), ("room", &a)], &[("answer", &[got]), ("room", &b)]);
-    want
+    packet_stage(s, (expected::derandomize, library::derandomize), place, packet, room)
 }
 
 fn rs_encode(s: &mut Score, data: &[u8], room: Vec<u8>) {
