@@ -1,23 +1,123 @@
--- Lists of zeros, and a step of Horner's rule at the powers of 02.
+-- Lists of zeros, the powers of 02, Horner's rule at sixteen places, and the powers of sixteen lanes.
 -- Assumes nothing.
-use mathlib.Core.Path.{_≡_, refl, ap, _∙_}
-use mathlib.Core.List.{List}
-use Prim.Native.Nat.{ℕ, zero, suc, _≤_, _<_, Fin}
+use mathlib.Core.Path.{_≡_, refl, sym, ap, ap₂, _∙_, subst}
+use mathlib.Core.List.{List, [], _∷_, map}
+use Prim.Native.Nat.{ℕ, zero, suc, _+_, _≤_, _<_, Fin}
+use native.Mathlib.Numerals.{add-one}
 use native.Mathlib.Omega.{arith}
-use lib.ListN.{getD, replicate}
-use Rattle.galois.specs.Field256.{mul}
+use lib.Bits.{bitXor, xor-lt}
+use lib.ListN.{length, getD, take, drop, replicate, getD-replicate, drop-of-length-le}
+use lib.Seq.{drop-cons, getD-take, getD-drop}
+use Rattle.algebra.specs.Field.{ops}
+use Rattle.algebra.specs.Polynomial.{eval, scale}
+use Rattle.algebra.proofs.Ring.{add-comm, add-zero, mul-zero}
+use Rattle.galois.specs.Field256.{mul, pow, scaled}
+use Rattle.galois.proofs.Laws.{mul-lt, mul-comm}
+use Rattle.galois.proofs.Powers.{times-one, pow-add}
 use Rattle.galois.proofs.Instance.{bytes, byte, byte-add, byte-mul, byte-power}
-use Rattle.byte_lanes.specs.Lanes.{point, Powers, Advanced}
+use Rattle.byte_lanes.specs.Lanes.{elements, point, productsOf, Powers, advanced, ValuesAt}
+use Rattle.byte_lanes.proofs.Words.{length-sum, sum-at, length-products, products-at}
 
 pub zeros-at : (n j : ℕ) → getD {A = ℕ} (replicate n 0) j 0 ≡ 0
 zeros-at zero j = refl
 zeros-at (suc n) zero = refl
 zeros-at (suc n) (suc j) = zeros-at n j
 
--- one step of Horner's rule, in the field
-pub advanced : (n : ℕ) (x s : List ℕ) (d : ℕ) (r : List ℕ) → n ≤ 208 → Powers x → Advanced n x s d r
-    → (j : ℕ) → j < n → byte (getD r j 0) ≡ bytes .add (bytes .mul (point j) (byte (getD s j 0))) (byte d)
-advanced n x s d r m p a j h =
-    ap byte (a .each j h) ∙ byte-add (mul (getD x j 0) (getD s j 0)) d
-    ∙ ap (λ (u : Fin 256). bytes .add u (byte d))
-    (byte-mul (getD x j 0) (getD s j 0) ∙ ap (λ (u : Fin 256). bytes .mul u (byte (getD s j 0))) (ap byte (p .each j (omega arith)) ∙ byte-power 2 j))
+-- sixteen of the powers of 02, from power n on
+pub powers-at : (x y : List ℕ) (n : ℕ) → Powers x → n + 16 ≤ 208 → y ≡ take 16 (drop n x) → (j : ℕ) → j < 16 → byte (getD y j 0) ≡ point (n + j)
+powers-at x y n p h e j l =
+    ap byte (ap (λ (r : List ℕ). getD r j 0) e ∙ getD-take 16 (drop n x) j 0 l ∙ getD-drop n x j 0 ∙ p .each (n + j) (omega arith)) ∙ byte-power 2 (n + j)
+
+-- ---- one factor in every lane
+
+pub products-scaled : (n f : ℕ) (a : List ℕ) → length a ≡ n → productsOf a (replicate n f) ≡ scaled f a
+unfolding productsOf scale
+products-scaled n f [] h = refl
+products-scaled zero f (x ∷ a) h = absurd (omega arith)
+products-scaled (suc n) f (x ∷ a) h = ap₂ (λ (y : ℕ) (l : List ℕ). y ∷ l) (mul-comm x f) (products-scaled n f a (omega arith))
+
+-- ---- one step of Horner's rule
+
+module _ (x v : List ℕ) (c : ℕ) (n : length x ≡ 16) (m : length v ≡ 16) where
+  products-length : length (productsOf x v) ≡ 16
+  products-length = length-products x v (n ∙ sym m) ∙ n
+
+  pub length-advanced : length (advanced x v c) ≡ 16
+  unfolding advanced
+  length-advanced = length-sum (productsOf x v) (replicate 16 c) products-length ∙ products-length
+
+  pub advanced-at : (j : ℕ) → j < 16 → getD (advanced x v c) j 0 ≡ bitXor (mul (getD x j 0) (getD v j 0)) c
+  unfolding advanced
+  advanced-at j h =
+      sum-at (productsOf x v) (replicate 16 c) j products-length
+      ∙ ap₂ bitXor (products-at x v j (n ∙ sym m) (omega arith)) (getD-replicate 16 j c 0 h)
+
+  -- the same, in the field
+  advanced-byte : (j : ℕ) → j < 16 → byte (getD (advanced x v c) j 0) ≡ bytes .add (bytes .mul (byte (getD x j 0)) (byte (getD v j 0))) (byte c)
+  advanced-byte j h =
+      ap byte (advanced-at j h) ∙ byte-add (mul (getD x j 0) (getD v j 0)) c
+      ∙ ap (λ (u : Fin 256). bytes .add u (byte c)) (byte-mul (getD x j 0) (getD v j 0))
+
+-- ---- Horner's rule from the highest coefficient down
+
+-- the value of the coefficients from k on
+pub eval-from : (l : List ℕ) (k : ℕ) (y : Fin 256) → k < length l
+    → eval (ops bytes) (elements (drop k l)) y ≡ bytes .add (byte (getD l k 0)) (bytes .mul y (eval (ops bytes) (elements (drop (k + 1) l)) y))
+unfolding eval
+eval-from l k y h =
+    ap (λ (m : List ℕ). eval (ops bytes) (elements m) y) (drop-cons l k 0 h)
+    ∙ ap (λ (n : ℕ). bytes .add (byte (getD l k 0)) (bytes .mul y (eval (ops bytes) (elements (drop n l)) y))) (sym (add-one k))
+
+pub values-none : (q x : List ℕ) (k : ℕ) → k + 1 ≡ length q → getD q k 0 < 256 → ValuesAt (drop k q) x (replicate 16 (getD q k 0))
+unfolding eval
+values-none q x k n s =
+    record {
+      len = refl;
+      each = λ j h.
+          let y : Fin 256 = byte (getD x j 0) in
+          ap byte (getD-replicate 16 j (getD q k 0) 0 h) ∙ sym (add-zero bytes (byte (getD q k 0)))
+          ∙ ap (bytes .add (byte (getD q k 0)))
+          (sym (ap (λ (l : List ℕ). bytes .mul y (eval (ops bytes) (elements l) y)) (drop-of-length-le q {i = k + 1} (omega arith)) ∙ mul-zero bytes y))
+          ∙ sym (eval-from q k y (omega arith));
+      small = λ j h. subst (λ (i : ℕ). i < 256) (sym (getD-replicate 16 j (getD q k 0) 0 h)) s;
+    }
+
+pub values-more : (q x : List ℕ) (k : ℕ) (v w : List ℕ) → k < length q → length x ≡ 16 → getD q k 0 < 256 → ValuesAt (drop (k + 1) q) x v → w ≡ advanced x v (getD q k 0)
+    → ValuesAt (drop k q) x w
+values-more q x k v w n l s e f =
+    record {
+      len = ap length f ∙ length-advanced x v (getD q k 0) l (e .len);
+      each = λ j h.
+          ap (λ (r : List ℕ). byte (getD r j 0)) f ∙ advanced-byte x v (getD q k 0) l (e .len) j h
+          ∙ add-comm bytes (bytes .mul (byte (getD x j 0)) (byte (getD v j 0))) (byte (getD q k 0))
+          ∙ ap (λ (u : Fin 256). bytes .add (byte (getD q k 0)) (bytes .mul (byte (getD x j 0)) u)) (e .each j h)
+          ∙ sym (eval-from q k (byte (getD x j 0)) n);
+      small = λ j h.
+          subst (λ (i : ℕ). i < 256) (sym (ap (λ (r : List ℕ). getD r j 0) f ∙ advanced-at x v (getD q k 0) l (e .len) j h))
+          (xor-lt 8 (mul (getD x j 0) (getD v j 0)) (getD q k 0) (mul-lt (getD x j 0) (getD v j 0)) s);
+    }
+
+-- ---- powers of every lane
+
+pub squares : (a : List ℕ) → productsOf a a ≡ map (λ u. pow u 2) a
+unfolding productsOf
+squares [] = refl
+squares (x ∷ a) =
+    ap₂ (λ (y : ℕ) (l : List ℕ). y ∷ l) (times-one x x ∙ mul-comm x (pow x 1) ∙ times-one (pow x 1) x ∙ pow-add x 1 1) (squares a)
+
+next-powers : (m : ℕ) (a : List ℕ) → productsOf (map (λ u. pow u m) a) a ≡ map (λ u. pow u (m + 1)) a
+unfolding productsOf
+next-powers m [] = refl
+next-powers m (x ∷ a) = ap₂ (λ (y : ℕ) (l : List ℕ). y ∷ l) (times-one (pow x m) x ∙ pow-add x m 1) (next-powers m a)
+
+powers-add : (m n : ℕ) (a : List ℕ) → productsOf (map (λ u. pow u m) a) (map (λ u. pow u n) a) ≡ map (λ u. pow u (m + n)) a
+unfolding productsOf
+powers-add m n [] = refl
+powers-add m n (x ∷ a) = ap₂ (λ (y : ℕ) (l : List ℕ). y ∷ l) (pow-add x m n) (powers-add m n a)
+
+-- the same, of lists that are powers of a
+pub one-more : (a : List ℕ) (m : ℕ) {x : List ℕ} → x ≡ map (λ u. pow u m) a → productsOf x a ≡ map (λ u. pow u (m + 1)) a
+one-more a m p = ap (λ (l : List ℕ). productsOf l a) p ∙ next-powers m a
+
+pub times-powers : (a : List ℕ) (m n : ℕ) {x y : List ℕ} → x ≡ map (λ u. pow u m) a → y ≡ map (λ u. pow u n) a → productsOf x y ≡ map (λ u. pow u (m + n)) a
+times-powers a m n p q = ap₂ productsOf p q ∙ powers-add m n a

@@ -3,11 +3,10 @@
 use mathlib.Core.Path.{_≡_}
 use mathlib.Core.List.{List, [], _∷_, map, reverse}
 use Prim.Native.Nat.{ℕ, _<_, Fin}
-use lib.Bits.{bitXor}
-use lib.ListN.{getD}
+use lib.ListN.{length, getD, replicate}
 use Rattle.algebra.specs.Field.{ops}
-use Rattle.algebra.specs.Polynomial.{power}
-use Rattle.galois.specs.Field256.{mul, pow}
+use Rattle.algebra.specs.Polynomial.{power, eval, plus}
+use Rattle.galois.specs.Field256.{numbers, mul, pow}
 use Rattle.galois.proofs.Instance.{bytes, byte}
 
 -- each number's low byte, as an element of the field
@@ -32,7 +31,12 @@ productsOf (x ∷ a) (y ∷ b) = mul x y ∷ productsOf a b
 pub record Powers (x : List ℕ) : Type 0 where
   pub each : (i : ℕ) → i < 208 → getD x i 0 ≡ pow 2 i
 
--- one step of Horner's rule, at n points
-pub record Advanced (n : ℕ) (x s : List ℕ) (d : ℕ) (r : List ℕ) : Type 0 where
-  pub each : (j : ℕ) → j < n → getD r j 0 ≡ bitXor (mul (getD x j 0) (getD s j 0)) d
-  pub small : d < 256
+-- one step of Horner's rule at the places x: from the values v, with one coefficient c more
+unfoldable pub advanced : List ℕ → List ℕ → ℕ → List ℕ
+advanced x v c = plus numbers (productsOf x v) (replicate 16 c)
+
+-- the values of a polynomial at sixteen places, the lowest coefficient first
+pub record ValuesAt (q x v : List ℕ) : Type 0 where
+  pub len : length v ≡ 16
+  pub each : (j : ℕ) → j < 16 → byte (getD v j 0) ≡ eval (ops bytes) (elements q) (byte (getD x j 0))
+  pub small : (j : ℕ) → j < 16 → getD v j 0 < 256

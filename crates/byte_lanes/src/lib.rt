@@ -1,10 +1,11 @@
 // Sixteen bytes of the field at once: loops without a branch, which become vector code.
 ghost use mathlib.Core.Path.{_≡_};
-ghost use Prim.Native.Nat.{_+_, _≤_};
+ghost use mathlib.Core.List.{map};
+ghost use Prim.Native.Nat.{_+_, _<_, _≤_};
 ghost use lib.ListN.{length, take, drop};
 ghost use Rattle.algebra.specs.Polynomial.{plus};
-ghost use Rattle.galois.specs.Field256.{numbers};
-ghost use Rattle.byte_lanes.specs.Lanes.{productsOf};
+ghost use Rattle.galois.specs.Field256.{numbers, inv, scaled};
+ghost use Rattle.byte_lanes.specs.Lanes.{productsOf, advanced, ValuesAt};
 
 // The sum in the field, lane by lane.
 pub fn sum(a: [u8; 16], b: [u8; 16]) -> [u8; 16]
@@ -19,7 +20,7 @@ pub fn sum(a: [u8; 16], b: [u8; 16]) -> [u8; 16]
     r
 }
 
-// The products in the field, lane by lane.
+// The products in the field, lane by lane. It is a whose multiples by the powers of x are made: where one factor stays, let it be a, and they are made once.
 pub fn products(a: [u8; 16], b: [u8; 16]) -> [u8; 16]
     ensures { λ r. ⌜ r ≡ productsOf a b ⌝ }
 {
@@ -30,6 +31,59 @@ pub fn products(a: [u8; 16], b: [u8; 16]) -> [u8; 16]
         l += 1;
     }
     r
+}
+
+// Each lane times f, which is laid in all lanes: with f alone the compiler would branch on its bits.
+pub fn scale(a: [u8; 16], f: u8) -> [u8; 16]
+    ensures { λ r. ⌜ r ≡ scaled f a ⌝ }
+{
+    products(a, [f; 16])
+}
+
+// The inverse of each lane, and 0 of 0: the lane to the 254.
+pub fn inverses(a: [u8; 16]) -> [u8; 16]
+    ensures { λ r. ⌜ r ≡ map inv a ⌝ }
+{
+    let a2 = products(a, a);
+    let a3 = products(a2, a);
+    let a6 = products(a3, a3);
+    let a12 = products(a6, a6);
+    let a15 = products(a12, a3);
+    let a30 = products(a15, a15);
+    let a60 = products(a30, a30);
+    let a120 = products(a60, a60);
+    let a126 = products(a120, a6);
+    let a127 = products(a126, a);
+    products(a127, a127)
+}
+
+// One step of Horner's rule at the places x: from the values v, with one coefficient c more.
+// It has one caller, so that the compiler makes what it needs of x once for all steps.
+fn advance(x: [u8; 16], v: [u8; 16], c: u8) -> [u8; 16]
+    ensures { λ r. ⌜ r ≡ advanced x v c ⌝ }
+{
+    let mut r = [0u8; 16];
+    let mut j: usize = 0;
+    while j < 16 {
+        r[j] = galois::mul(x[j], v[j]) ^ c;
+        j += 1;
+    }
+    r
+}
+
+// The values at sixteen places of a polynomial, whose lowest coefficient is the first.
+pub fn evaluate(q: &[u8], x: [u8; 16]) -> [u8; 16]
+    requires { ⌜ 0 < length (now q) ⌝ }
+    ensures { λ v. ⌜ ValuesAt (now (q .entry)) x v ⌝ }
+{
+    let mut k = q.len() - 1;
+    let mut v = [q[k]; 16];
+    while 0 < k {
+        k -= 1;
+        let w = advance(x, v, q[k]);
+        v = w;
+    }
+    v
 }
 
 // Sixteen bytes of a list, from a place on.

@@ -1,30 +1,30 @@
 -- The product of x + r over the roots, and the values of the errors from it.
 -- Assumes nothing.
 use mathlib.Core.Path.{_≡_, refl, sym, ap, ap₂, _∙_, subst}
-use mathlib.Core.List.{List, [], _∷_}
+use mathlib.Core.List.{List, [], _∷_, map}
 use Prim.Native.Nat.{ℕ, zero, suc, _+_, _-_, _≤_, _<_, Fin}
 use native.Mathlib.Nat.{zero-add}
 use native.Mathlib.Numerals.{add-one}
 use native.Mathlib.Decide.{decLt}
 use native.Mathlib.Omega.{arith}
 use lib.Bits.{bitXor}
-use lib.ListN.{length, getD, take, drop, replicate, length-map, getD-replicate, List·getD-eq-default}
+use lib.ListN.{length, getD, take, drop, replicate, length-map, List·getD-eq-default}
 use lib.Seq.{drop-cons, drop-length, length-take-le, getD-take}
 use Rattle.common.proofs.Lists.{getD-map-in}
 use Rattle.algebra.specs.Field.{Field, ops}
 use Rattle.algebra.specs.Polynomial.{eval, plus, scale}
 use Rattle.algebra.proofs.Ring.{ring}
-use Rattle.algebra.proofs.Polynomial.{eval-plus, eval-scale, fromRoots, eval-timesLinear, quotient, quotient-at, length-quotient}
+use Rattle.algebra.proofs.Polynomial.{eval-plus, eval-scale, fromRoots, eval-timesLinear, quotient-at, length-quotient}
 use Rattle.algebra.proofs.Syndromes.{dot, dot-ext}
 use Rattle.galois.specs.Field256.{numbers, mul, inv, scaled}
-use Rattle.galois.proofs.Laws.{mul-zero-right, mul-comm}
+use Rattle.galois.proofs.Laws.{mul-lt, mul-zero-right, mul-comm}
 use Rattle.galois.proofs.Instance.{bytes, byte, byte-zero, byte-one, byte-add, byte-mul, byte-inv}
-use Rattle.byte_lanes.specs.Lanes.{elements, productsOf}
-use Rattle.error_correction.specs.Correction.{RootProduct, quotientBy, numeratorAt, denominatorAt, FractionsAt, errorValue}
+use Rattle.byte_lanes.specs.Lanes.{elements, productsOf, advanced}
+use Rattle.error_correction.specs.Correction.{EndsAt, RootProduct, quotientBy, numeratorAt, denominatorAt, FractionsAt, errorValue}
 use Rattle.byte_lanes.proofs.Words.{elements-plus, elements-scale, length-sum, sum-at}
-use Rattle.byte_lanes.proofs.Powers.{zeros-at}
+use Rattle.byte_lanes.proofs.Powers.{zeros-at, length-advanced, advanced-at, eval-from}
 use Rattle.byte_lanes.proofs.Words.{length-products, products-at}
-use Rattle.error_correction.proofs.RootSearch.{Zeros, eval-zeros, eval-from}
+use Rattle.error_correction.proofs.RootSearch.{eval-zeros, eval-cut}
 
 -- ---- identities
 
@@ -38,14 +38,6 @@ module _ (K : Field) where
 
   next-identity : (a y b : F) → a ⊗ y ⊕ b ≡ b ⊕ y ⊗ a
   next-identity a y b = simp ring
-
--- ---- coefficients that are zero
-
-eval-cut : (n : ℕ) (p : List ℕ) (y : Fin 256) → Zeros p n → eval (ops bytes) (elements p) y ≡ eval (ops bytes) (elements (take n p)) y
-unfolding eval
-eval-cut zero p y h = eval-zeros p y h
-eval-cut (suc n) [] y h = refl
-eval-cut (suc n) (a ∷ p) y h = ap (λ (u : Fin 256). bytes .add (byte a) (bytes .mul y u)) (eval-cut n p y (λ k l. h (suc k) (omega arith)))
 
 -- ---- the product of x + r, from the last root to the first
 
@@ -144,6 +136,10 @@ pub record Summed (p s : List ℕ) (y a u v k : ℕ) : Type 0 where
   pub numerator : byte u ≡ dot bytes (drop k (quotientBy p y)) (λ i. byte (getD s (k + i) 0))
   pub denominator : byte v ≡ eval (ops bytes) (drop k (quotientBy p y)) (byte y)
 
+summed-as : {p s : List ℕ} {y k a b u v w z : ℕ} → a ≡ b → u ≡ w → v ≡ z → Summed p s y a u v k → Summed p s y b w z k
+summed-as {p} {s} {y} {k} {a} {b} {u} {v} {w} {z} e f g m =
+    subst (λ (x : ℕ). Summed p s y b w x k) g (subst (λ (x : ℕ). Summed p s y b x v k) f (subst (λ (x : ℕ). Summed p s y x u v k) e m))
+
 module _ (p s : List ℕ) (y : ℕ) (n : length p ≡ 16) where
   abbrev quot : List (Fin 256)
   quot = quotientBy p y
@@ -228,6 +224,19 @@ module _ (p s : List ℕ) (y : ℕ) (n : length p ≡ 16) where
         there : (i : ℕ) → k + i ≡ k - 1 + suc i
         there i = omega arith
 
+  -- the sums begin at the degree of p: the coefficients above it are zero
+  pub summed-from : (d k : ℕ) → k + d ≡ 8 → EndsAt (take 9 p) k → Summed p s y 0 0 0 k
+  summed-from zero k e z = let m : _≡_ {A = ℕ} 8 k = omega arith in subst (Summed p s y 0 0 0) m summed-none
+  summed-from (suc d) k e z =
+      let above : Summed p s y 0 0 0 (k + 1) = summed-from d (k + 1) (omega arith) (record { most = omega arith; zeros = λ i h. z .zeros i (omega arith) }) in
+      let top : getD p (k + 1) 0 ≡ 0 = sym (getD-take 9 p (k + 1) 0 (omega arith)) ∙ z .zeros (k + 1) (omega arith) in
+      let none : mul 0 y ≡ 0 = mul-comm 0 y ∙ mul-zero-right y in
+      let a : bitXor (mul 0 y) (getD p (k + 1) 0) ≡ 0 = ap₂ bitXor none top in
+      let j : k + 1 - 1 ≡ k = omega arith in
+      subst (Summed p s y 0 0 0) j
+      (summed-as a (ap (λ (x : ℕ). bitXor (mul x (getD s (k + 1 - 1) 0)) 0) a ∙ ap (λ (x : ℕ). bitXor x 0) (mul-comm 0 (getD s (k + 1 - 1) 0) ∙ mul-zero-right (getD s (k + 1 - 1) 0)))
+      (ap₂ bitXor none a) (summed-more 0 0 0 (k + 1) above (omega arith)))
+
   -- the sums over all coefficients
   all-numerator : (a u v k : ℕ) → k ≤ 0 → Summed p s y a u v k → byte u ≡ numeratorAt p s y
   all-numerator a u v k h m =
@@ -250,30 +259,31 @@ pub record SummedLanes (p s places a u v : List ℕ) (k : ℕ) : Type 0 where
   pub each : (l : ℕ) → l < 16 → Summed p s (getD places l 0) (getD a l 0) (getD u l 0) (getD v l 0) k
 
 module _ (p s places : List ℕ) (n : length p ≡ 16) (o : length places ≡ 16) where
-  pub lanes-none : SummedLanes p s places (replicate 16 0) (replicate 16 0) (replicate 16 0) 8
-  lanes-none =
+  pub lanes-none : (k : ℕ) → EndsAt (take 9 p) k → SummedLanes p s places (replicate 16 0) (replicate 16 0) (replicate 16 0) k
+  lanes-none k e =
       record {
         coefficients = refl;
         numerators = refl;
         denominators = refl;
-        each = λ l h. subst (λ (x : ℕ). Summed p s (getD places l 0) x x x 8) (sym (zeros-at 16 l)) (summed-none p s (getD places l 0) n);
+        each = λ l h.
+            subst (λ (x : ℕ). Summed p s (getD places l 0) x x x k) (sym (zeros-at 16 l)) (summed-from p s (getD places l 0) n (8 - k) k (omega (arith, e .most)) e);
       }
 
   module _ (a u v : List ℕ) (k : ℕ) (more : 0 < k) (m : SummedLanes p s places a u v k) where
     abbrev pub nextCoefficients : List ℕ
-    nextCoefficients = plus numbers (productsOf a places) (replicate 16 (getD p k 0))
+    nextCoefficients = advanced places a (getD p k 0)
 
     abbrev pub nextNumerators : List ℕ
     nextNumerators = plus numbers (scaled (getD s (k - 1) 0) nextCoefficients) u
 
     abbrev pub nextDenominators : List ℕ
-    nextDenominators = plus numbers (productsOf v places) nextCoefficients
+    nextDenominators = plus numbers (productsOf places v) nextCoefficients
 
-    products-length : (b : List ℕ) → length b ≡ 16 → length (productsOf b places) ≡ 16
-    products-length b h = length-products b places (h ∙ sym o) ∙ h
+    products-length : length (productsOf places v) ≡ 16
+    products-length = length-products places v (o ∙ sym (m .denominators)) ∙ o
 
     coefficients-length : length nextCoefficients ≡ 16
-    coefficients-length = length-sum (productsOf a places) (replicate 16 (getD p k 0)) (products-length a (m .coefficients)) ∙ products-length a (m .coefficients)
+    coefficients-length = length-advanced places a (getD p k 0) o (m .coefficients)
 
     scaled-length : length (scaled (getD s (k - 1) 0) nextCoefficients) ≡ 16
     unfolding scale
@@ -286,8 +296,7 @@ module _ (p s places : List ℕ) (n : length p ≡ 16) (o : length places ≡ 16
 
       coefficient-at : getD nextCoefficients l 0 ≡ next-coefficient
       coefficient-at =
-          sum-at (productsOf a places) (replicate 16 (getD p k 0)) l (products-length a (m .coefficients))
-          ∙ ap₂ bitXor (products-at a places l (m .coefficients ∙ sym o) (omega (arith, m .coefficients))) (getD-replicate 16 l (getD p k 0) 0 h)
+          advanced-at places a (getD p k 0) o (m .coefficients) l h ∙ ap (λ (x : ℕ). bitXor x (getD p k 0)) (mul-comm (getD places l 0) (getD a l 0))
 
       numerator-at : getD nextNumerators l 0 ≡ bitXor (mul next-coefficient (getD s (k - 1) 0)) (getD u l 0)
       unfolding scale
@@ -298,31 +307,27 @@ module _ (p s places : List ℕ) (n : length p ≡ 16) (o : length places ≡ 16
 
       denominator-at : getD nextDenominators l 0 ≡ bitXor (mul (getD v l 0) (getD places l 0)) next-coefficient
       denominator-at =
-          sum-at (productsOf v places) nextCoefficients l (products-length v (m .denominators) ∙ sym coefficients-length)
-          ∙ ap₂ bitXor (products-at v places l (m .denominators ∙ sym o) (omega (arith, m .denominators))) coefficient-at
+          sum-at (productsOf places v) nextCoefficients l (products-length ∙ sym coefficients-length)
+          ∙ ap₂ bitXor (products-at places v l (o ∙ sym (m .denominators)) (omega arith) ∙ mul-comm (getD places l 0) (getD v l 0)) coefficient-at
 
       lane-more : Summed p s (getD places l 0) (getD nextCoefficients l 0) (getD nextNumerators l 0) (getD nextDenominators l 0) (k - 1)
       lane-more =
-          let y : ℕ = getD places l 0 in
-          subst (λ (x : ℕ). Summed p s y x (getD nextNumerators l 0) (getD nextDenominators l 0) (k - 1)) (sym coefficient-at)
-          (subst (λ (x : ℕ). Summed p s y next-coefficient x (getD nextDenominators l 0) (k - 1)) (sym numerator-at)
-          (subst (λ (x : ℕ). Summed p s y next-coefficient (bitXor (mul next-coefficient (getD s (k - 1) 0)) (getD u l 0)) x (k - 1)) (sym denominator-at)
-          (summed-more p s y n (getD a l 0) (getD u l 0) (getD v l 0) k (m .each l h) more)))
+          summed-as (sym coefficient-at) (sym numerator-at) (sym denominator-at)
+          (summed-more p s (getD places l 0) n (getD a l 0) (getD u l 0) (getD v l 0) k (m .each l h) more)
 
     lanes-next : SummedLanes p s places nextCoefficients nextNumerators nextDenominators (k - 1)
     lanes-next =
         record {
           coefficients = coefficients-length;
           numerators = length-sum (scaled (getD s (k - 1) 0) nextCoefficients) u (scaled-length ∙ sym (m .numerators)) ∙ scaled-length;
-          denominators = length-sum (productsOf v places) nextCoefficients (products-length v (m .denominators) ∙ sym coefficients-length) ∙ products-length v (m .denominators);
+          denominators = length-sum (productsOf places v) nextCoefficients (products-length ∙ sym coefficients-length) ∙ products-length;
           each = lane-more;
         }
 
     -- the same, with each step's result named
-    pub lanes-more : (x c z w y v′ : List ℕ) → x ≡ productsOf a places → c ≡ plus numbers x (replicate 16 (getD p k 0)) → z ≡ scaled (getD s (k - 1) 0) c → w ≡ plus numbers z u
-        → y ≡ productsOf v places → v′ ≡ plus numbers y c → SummedLanes p s places c w v′ (k - 1)
-    lanes-more x c z w y v′ ex ec ez ew ey ev =
-        let f : c ≡ nextCoefficients = ec ∙ ap (λ (b : List ℕ). plus numbers b (replicate 16 (getD p k 0))) ex in
+    pub lanes-more : (c z w y v′ : List ℕ) → c ≡ nextCoefficients → z ≡ scaled (getD s (k - 1) 0) c → w ≡ plus numbers z u → y ≡ productsOf places v → v′ ≡ plus numbers y c
+        → SummedLanes p s places c w v′ (k - 1)
+    lanes-more c z w y v′ f ez ew ey ev =
         let g : w ≡ nextNumerators = ew ∙ ap (λ (b : List ℕ). plus numbers b u) (ez ∙ ap (scaled (getD s (k - 1) 0)) f) in
         let h : v′ ≡ nextDenominators = ev ∙ ap₂ (plus numbers) ey f in
         subst (λ (b : List ℕ). SummedLanes p s places b w v′ (k - 1)) (sym f)
@@ -332,11 +337,27 @@ module _ (p s places : List ℕ) (n : length p ≡ 16) (o : length places ≡ 16
   pub lanes-all : (a u v : List ℕ) (k : ℕ) → k ≤ 0 → SummedLanes p s places a u v k → FractionsAt p s places u v
   lanes-all a u v k h m =
       record {
+        above = m .numerators;
+        below = m .denominators;
         numerator = λ l i. all-numerator p s (getD places l 0) n _ _ _ k h (m .each l i);
         denominator = λ l i. all-denominator p s (getD places l 0) n _ _ _ k h (m .each l i);
       }
 
--- the value of an error from its fraction
-pub value-of : (p s : List ℕ) (y u v w r : ℕ) → byte u ≡ numeratorAt p s y → byte v ≡ denominatorAt p y → w ≡ inv v → r ≡ mul u w → byte r ≡ errorValue p s y
-unfolding errorValue
-value-of p s y u v w r hu hv e f = ap byte (f ∙ ap (mul u) e) ∙ byte-mul u (inv v) ∙ ap₂ (bytes .mul) hu (byte-inv v ∙ ap (bytes .inv) hv)
+-- the value of an error from its fraction: lane l of the products by the inverses
+module _ (p s places u v w r : List ℕ) (f : FractionsAt p s places u v) (e : w ≡ map inv v) (g : r ≡ productsOf u w) where
+  inverse-length : length w ≡ 16
+  inverse-length = ap length e ∙ length-map v inv ∙ f .below
+
+  quotient-lane : (l : ℕ) → l < 16 → getD r l 0 ≡ mul (getD u l 0) (inv (getD v l 0))
+  quotient-lane l h =
+      ap (λ (x : List ℕ). getD x l 0) g ∙ products-at u w l (f .above ∙ sym inverse-length) (omega (arith, f .above))
+      ∙ ap (mul (getD u l 0)) (ap (λ (x : List ℕ). getD x l 0) e ∙ getD-map-in inv v 0 0 l (omega (arith, f .below)))
+
+  pub value-small : (l : ℕ) → l < 16 → getD r l 0 < 256
+  value-small l h = subst (λ (x : ℕ). x < 256) (sym (quotient-lane l h)) (mul-lt (getD u l 0) (inv (getD v l 0)))
+
+  pub value-of : (l : ℕ) → l < 16 → byte (getD r l 0) ≡ errorValue p s (getD places l 0)
+  unfolding errorValue
+  value-of l h =
+      ap byte (quotient-lane l h) ∙ byte-mul (getD u l 0) (inv (getD v l 0))
+      ∙ ap₂ (bytes .mul) (f .numerator l h) (byte-inv (getD v l 0) ∙ ap (bytes .inv) (f .denominator l h))

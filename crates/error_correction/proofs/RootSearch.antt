@@ -2,37 +2,28 @@
 -- Assumes nothing.
 use mathlib.Core.Path.{_≡_, refl, sym, ap, ap₂, _∙_, subst}
 use mathlib.Core.List.{List, [], _∷_, _++_, map, append-assoc, append-nil}
-use Prim.Native.Nat.{ℕ, zero, suc, _+_, _-_, _≤_, _<_, Fin}
-use Prim.{tt}
+use mathlib.Core.Logic.{inl}
+use Prim.Native.Nat.{ℕ, zero, suc, _+_, _-_, _*_, _≤_, _<_, Fin}
 use native.Mathlib.Nat.{zero-add, add-zero}
 use native.Mathlib.Numerals.{add-one}
-use native.Mathlib.Decide.{ℕ-discrete}
+use native.Mathlib.Decide.{ℕ-discrete, decLt}
 use native.Mathlib.Omega.{arith}
 use borrow.Author.Tests.{eq-eqb, ne-eqb}
-use lib.Bits.{xor-lt}
-use lib.Dec.{eqb, lit<}
-use lib.ListN.{length, getD, take, drop, set, replicate, length-append, length-set, List·getD-eq-default}
-use lib.Seq.{drop-cons, getD-drop, take-suc, take-suc-set, length-take-le}
+use lib.Dec.{eqb}
+use lib.ListN.{length, getD, take, drop, set, replicate, length-append, length-take, length-set, List·getD-eq-default}
+use lib.Seq.{getD-take, take-suc, take-suc-set, take-all, length-take-le}
 use Rattle.common.specs.Choice.{pick}
+use Rattle.common.proofs.Lists.{put-own, put-other}
 use Rattle.algebra.specs.Field.{ops}
 use Rattle.algebra.specs.Polynomial.{eval}
-use Rattle.algebra.proofs.Ring.{add-comm, zero-add as field-zero-add, mul-zero as field-mul-zero}
+use Rattle.algebra.proofs.Ring.{zero-add as field-zero-add, mul-zero as field-mul-zero}
 use Rattle.galois.specs.Field256.{mul}
-use Rattle.galois.proofs.Laws.{mul-lt}
 use Rattle.galois.proofs.Instance.{bytes, byte, byte-zero}
-use Rattle.byte_lanes.specs.Lanes.{elements, point, Powers, Advanced}
+use Rattle.byte_lanes.specs.Lanes.{elements, point, Powers, ValuesAt}
 use Rattle.error_correction.specs.Correction.{EndsAt, Evaluated, zerosFrom, zerosOf, FoundRoots}
-use Rattle.byte_lanes.proofs.Powers.{zeros-at, advanced}
+use Rattle.byte_lanes.proofs.Powers.{powers-at}
 
 -- ---- the values
-
--- Horner's rule from coefficient k on
-pub eval-from : (l : List ℕ) (k : ℕ) (y : Fin 256) → k < length l
-    → eval (ops bytes) (elements (drop k l)) y ≡ bytes .add (byte (getD l k 0)) (bytes .mul y (eval (ops bytes) (elements (drop (k + 1) l)) y))
-unfolding eval
-eval-from l k y h =
-    ap (λ (m : List ℕ). eval (ops bytes) (elements m) y) (drop-cons l k 0 h)
-    ∙ ap (λ (n : ℕ). bytes .add (byte (getD l k 0)) (bytes .mul y (eval (ops bytes) (elements (drop n l)) y))) (sym (add-one k))
 
 -- coefficients that are zero from place n on
 abbrev pub Zeros : List ℕ → ℕ → Type 0
@@ -45,42 +36,71 @@ eval-zeros (a ∷ p) y h =
     ap₂ (λ (u v : Fin 256). bytes .add u (bytes .mul y v)) (ap byte (h 0 (omega arith)) ∙ byte-zero) (eval-zeros p y (λ k l. h (suc k) (omega arith)))
     ∙ field-zero-add bytes (bytes .mul y (bytes .𝟘)) ∙ field-mul-zero bytes y
 
--- the search for the last coefficient that is not zero
-pub ends-none : (q : List ℕ) → length q ≡ 9 → EndsAt q 9
-ends-none q n = record { most = omega arith; zeros = λ i h. List·getD-eq-default q 0 {n = i} (omega arith) }
+pub eval-cut : (n : ℕ) (p : List ℕ) (y : Fin 256) → Zeros p n → eval (ops bytes) (elements p) y ≡ eval (ops bytes) (elements (take n p)) y
+unfolding eval
+eval-cut zero p y h = eval-zeros p y h
+eval-cut (suc n) [] y h = refl
+eval-cut (suc n) (a ∷ p) y h = ap (λ (u : Fin 256). bytes .add (byte a) (bytes .mul y u)) (eval-cut n p y (λ k l. h (suc k) (omega arith)))
 
-pub ends-less : (q : List ℕ) (k : ℕ) → 0 < k → getD q (k - 1) 0 ≡ 0 → EndsAt q k → EndsAt q (k - 1)
-ends-less q k h z e = record { most = omega (arith, e .most); zeros = λ i l. go i l (ℕ-discrete i (k - 1)) }
+-- the search for the last coefficient that is not zero
+pub ends-none : (q : List ℕ) → EndsAt (take 9 q) 8
+ends-none q = record { most = omega arith; zeros = λ i h. List·getD-eq-default (take 9 q) 0 {n = i} (omega (arith, length-take 9 q)) }
+
+pub ends-less : (q : List ℕ) (d : ℕ) → 0 < d → getD q d 0 ≡ 0 → EndsAt (take 9 q) d → EndsAt (take 9 q) (d - 1)
+ends-less q d h z e = record { most = omega (arith, e .most); zeros = λ i l. go i l (ℕ-discrete i d) }
   where
-    go : (i : ℕ) → k - 1 ≤ i → Dec (i ≡ k - 1) → getD q i 0 ≡ 0
-    go i l (yes p) = ap (λ (j : ℕ). getD q j 0) p ∙ z
+    go : (i : ℕ) → d - 1 < i → Dec (i ≡ d) → getD (take 9 q) i 0 ≡ 0
+    go i l (yes p) = ap (λ (j : ℕ). getD (take 9 q) j 0) p ∙ getD-take 9 q d 0 (omega (arith, e .most)) ∙ z
     go i l (no p) = e .zeros i (omega arith)
 
-pub evaluated-none : (q : List ℕ) (k : ℕ) → EndsAt q k → Evaluated (drop k q) (replicate 208 0)
-evaluated-none q k n =
-    record {
-      each = λ i h. ap byte (zeros-at 208 i) ∙ byte-zero ∙ sym (eval-zeros (drop k q) (point i) (λ j l. getD-drop k q j 0 ∙ n .zeros (k + j) (omega arith)));
-      small = λ i h. subst (λ (k : ℕ). k < 256) (sym (zeros-at 208 i)) (lit< tt);
-    }
+-- the coefficients up to the degree, of nine
+pub ends-of : (q : List ℕ) (d : ℕ) → length q ≡ 9 → EndsAt (take 9 q) d → EndsAt q d
+ends-of q d n e = subst (λ (l : List ℕ). EndsAt l d) (take-all 9 q (omega arith)) e
 
-pub evaluated-more : (x q : List ℕ) (k : ℕ) (v w : List ℕ) → length q ≡ 9 → 0 < k → k ≤ 9 → Powers x → Evaluated (drop k q) v → Advanced 208 x v (getD q (k - 1) 0) w
-    → Evaluated (drop (k - 1) q) w
-evaluated-more x q k v w n a b p e s =
-    let m : k - 1 + 1 ≡ k = omega arith in
-    record {
-      each = λ i h.
-          advanced 208 x v (getD q (k - 1) 0) w (omega arith) p s i h
-          ∙ add-comm bytes (bytes .mul (point i) (byte (getD v i 0))) (byte (getD q (k - 1) 0))
-          ∙ ap (λ (u : Fin 256). bytes .add (byte (getD q (k - 1) 0)) (bytes .mul (point i) u))
-          (e .each i h ∙ ap (λ (j : ℕ). eval (ops bytes) (elements (drop j q)) (point i)) (sym m))
-          ∙ sym (eval-from q (k - 1) (point i) (omega arith));
-      small = λ i h. subst (λ (j : ℕ). j < 256) (sym (s .each i h)) (xor-lt 8 (mul (getD x i 0) (getD v i 0)) (getD q (k - 1) 0) (mul-lt (getD x i 0) (getD v i 0)) (s .small));
-    }
+pub length-prefix : (q : List ℕ) (d : ℕ) → length q ≡ 9 → EndsAt (take 9 q) d → length (take (d + 1) q) ≡ d + 1
+length-prefix q d n e = length-take-le (d + 1) q (omega (arith, e .most))
 
-pub evaluated-all : (q : List ℕ) (k : ℕ) (v : List ℕ) → k ≤ 0 → Evaluated (drop k q) v → Evaluated q v
-evaluated-all q k v h e =
-    let z : k ≡ 0 = omega arith in
-    record { each = λ i b. e .each i b ∙ ap (λ (j : ℕ). eval (ops bytes) (elements (drop j q)) (point i)) z; small = e .small }
+-- the values at the first i times sixteen places
+pub record EvaluatedTo (q v : List ℕ) (i : ℕ) : Type 0 where
+  pub most : i ≤ 13
+  pub len : length v ≡ 208
+  pub each : (k : ℕ) → k < i * 16 → byte (getD v k 0) ≡ eval (ops bytes) (elements q) (point k)
+  pub small : (k : ℕ) → k < i * 16 → getD v k 0 < 256
+
+pub evaluated-none : (q v : List ℕ) → length v ≡ 208 → EvaluatedTo q v 0
+evaluated-none q v l = record { most = omega arith; len = l; each = λ k h. absurd (omega arith); small = λ k h. absurd (omega arith) }
+
+module _ (q x v y w n : List ℕ) (i d : ℕ) (p : Powers x) (b : i < 13) (ey : y ≡ take 16 (drop (i * 16) x)) (g : ValuesAt (take (d + 1) q) y w) (z : EndsAt q d)
+    (en : n ≡ take (i * 16) v ++ w ++ drop (i * 16 + length w) v) (ln : length n ≡ length v) (e : EvaluatedTo q v i) where
+  fits : i * 16 + length w ≤ length v
+  fits = omega (arith, e .len, g .len)
+
+  own : (k : ℕ) → i * 16 ≤ k → k < (i + 1) * 16 → getD n k 0 ≡ getD w (k - i * 16) 0
+  own k l h =
+      let m : k ≡ i * 16 + (k - i * 16) = omega arith in
+      ap₂ (λ (l : List ℕ) (j : ℕ). getD l j 0) en m ∙ put-own v w (i * 16) (k - i * 16) fits (omega (arith, g .len))
+
+  other : (k : ℕ) → k < i * 16 → getD n k 0 ≡ getD v k 0
+  other k h = ap (λ (l : List ℕ). getD l k 0) en ∙ put-other v w (i * 16) k fits (omega (arith, e .len)) (inl h)
+
+  pub evaluated-more : EvaluatedTo q n (i + 1)
+  evaluated-more =
+      record { most = omega arith; len = ln ∙ e .len; each = λ k h. each k h (decLt k (i * 16)); small = λ k h. small k h (decLt k (i * 16)) }
+    where
+      each : (k : ℕ) → k < (i + 1) * 16 → Dec (k < i * 16) → byte (getD n k 0) ≡ eval (ops bytes) (elements q) (point k)
+      each k h (yes l) = ap byte (other k l) ∙ e .each k l
+      each k h (no l) =
+          let m : i * 16 + (k - i * 16) ≡ k = omega arith in
+          ap byte (own k (omega arith) h) ∙ g .each (k - i * 16) (omega arith)
+          ∙ sym (eval-cut (d + 1) q (byte (getD y (k - i * 16) 0)) (λ j b. z .zeros j (omega arith)))
+          ∙ ap (eval (ops bytes) (elements q)) (powers-at x y (i * 16) p (omega arith) ey (k - i * 16) (omega arith) ∙ ap point m)
+
+      small : (k : ℕ) → k < (i + 1) * 16 → Dec (k < i * 16) → getD n k 0 < 256
+      small k h (yes l) = subst (λ (j : ℕ). j < 256) (sym (other k l)) (e .small k l)
+      small k h (no l) = subst (λ (j : ℕ). j < 256) (sym (own k (omega arith) h)) (g .small (k - i * 16) (omega arith))
+
+pub evaluated-all : (q v : List ℕ) (i : ℕ) → 13 ≤ i → EvaluatedTo q v i → Evaluated q v
+evaluated-all q v i h e = record { each = λ k b. e .each k (omega arith); small = λ k b. e .small k (omega arith) }
 
 -- ---- the zeros of a list
 

@@ -3,7 +3,7 @@
 use mathlib.Core.Path.{_≡_}
 use mathlib.Core.Bool.{Bool, true, false}
 use mathlib.Core.List.{List, [], _∷_, _++_, map}
-use Prim.Native.Nat.{ℕ, zero, _+_, _-_, _/_, _≤_, _<_, Fin}
+use Prim.Native.Nat.{ℕ, _+_, _-_, _≤_, _<_, Fin}
 use lib.Bits.{bitXor}
 use lib.Dec.{eqb}
 use lib.ListN.{length, getD, take, set}
@@ -16,10 +16,10 @@ use Rattle.galois.specs.Field256.{mul}
 use Rattle.galois.proofs.Instance.{bytes, byte}
 use Rattle.byte_lanes.specs.Lanes.{elements, point}
 
--- the coefficients from k on are zero
-pub record EndsAt (q : List ℕ) (k : ℕ) : Type 0 where
-  pub most : k ≤ 9
-  pub zeros : (i : ℕ) → k ≤ i → getD q i 0 ≡ 0
+-- the coefficients above d are zero
+pub record EndsAt (q : List ℕ) (d : ℕ) : Type 0 where
+  pub most : d ≤ 8
+  pub zeros : (i : ℕ) → d < i → getD q i 0 ≡ 0
 
 -- the values of a polynomial at the first 208 powers of 02
 pub record Evaluated (q v : List ℕ) : Type 0 where
@@ -57,6 +57,8 @@ denominatorAt p y = eval (ops bytes) (quotientBy p y) (byte y)
 
 -- both, for sixteen places
 pub record FractionsAt (p s places numerators denominators : List ℕ) : Type 0 where
+  pub above : length numerators ≡ 16
+  pub below : length denominators ≡ 16
   pub numerator : (l : ℕ) → l < 16 → byte (getD numerators l 0) ≡ numeratorAt p s (getD places l 0)
   pub denominator : (l : ℕ) → l < 16 → byte (getD denominators l 0) ≡ denominatorAt p (getD places l 0)
 

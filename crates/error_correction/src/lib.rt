@@ -3,7 +3,7 @@ ghost use mathlib.Core.Path.{_≡_};
 ghost use mathlib.Core.List.{_∷_};
 ghost use Prim.Native.Nat.{ℕ, _<_, _≤_};
 ghost use lib.ListN.{length, getD, take};
-ghost use Rattle.byte_lanes.specs.Lanes.{Powers, Advanced};
+ghost use Rattle.byte_lanes.specs.Lanes.{Powers};
 ghost use Rattle.error_correction.specs.Correction.{EndsAt, Evaluated, zerosOf, FoundRoots, RootProduct, FractionsAt, ErrorValues, sumOf, Explained, correctedBy, changedIn};
 
 // The degrees at which the locator vanishes, in order, their places, and how many they are. The places after them are zero.
@@ -13,30 +13,19 @@ pub struct Roots {
     pub count: usize,
 }
 
-// One step of Horner's rule at every place.
-fn advance(v: &mut [u8], x: &[u8; 208], c: u8)
-    requires { ⌜ length (now v) ≡ 208 ⌝ }
-    ensures { λ _. ⌜ Advanced 208 (now (x .entry)) (now (v .entry)) c (now (v .exit)) ⌝ }
+// The degree of a polynomial of nine coefficients, and 0 of the zero polynomial.
+fn degree(q: &[u8]) -> usize
+    requires { ⌜ 9 ≤ length (now q) ⌝ }
+    ensures { λ d. ⌜ EndsAt (take 9 (now (q .entry))) d ⌝ }
 {
-    let mut i: usize = 0;
-    while i < 208 {
-        v[i] = galois::mul(x[i], v[i]) ^ c;
-        i += 1;
-    }
-}
-
-// How many coefficients of the locator count: those from there on are zero.
-fn coefficients(q: [u8; 9]) -> usize
-    ensures { λ r. ⌜ EndsAt q r ⌝ }
-{
-    let mut k: usize = 9;
-    while 0 < k {
-        if q[k - 1] != 0 {
-            return k;
+    let mut d: usize = 8;
+    while 0 < d {
+        if q[d] != 0 {
+            return d;
         }
-        k -= 1;
+        d -= 1;
     }
-    k
+    d
 }
 
 // The values of the locator at every place.
@@ -44,11 +33,13 @@ pub fn evaluate(q: [u8; 9], x: &[u8; 208]) -> [u8; 208]
     requires { ⌜ Powers (now x) ⌝ }
     ensures { λ r. ⌜ Evaluated q r ⌝ }
 {
+    let end = degree(&q) + 1;
     let mut v = [0u8; 208];
-    let mut k = coefficients(q);
-    while 0 < k {
-        k -= 1;
-        advance(&mut v, x, q[k]);
+    let mut i: usize = 0;
+    while i < 13 {
+        let w = byte_lanes::evaluate(&q[..end], byte_lanes::sixteen(x, i * 16));
+        common::put(&w, i * 16, &mut v);
+        i += 1;
     }
     v
 }
@@ -101,7 +92,7 @@ pub fn root_product(places: [u8; 16], count: usize) -> [u8; 16]
     let mut l: usize = count;
     while 0 < l {
         l -= 1;
-        let q = byte_lanes::sum(galois::scale(p, places[l]), raised(p));
+        let q = byte_lanes::sum(byte_lanes::scale(p, places[l]), raised(p));
         p = q;
     }
     p
@@ -120,13 +111,13 @@ fn value_fractions(p: [u8; 16], s: [u8; 16], places: [u8; 16]) -> Fractions
     let mut coefficients = [0u8; 16];
     let mut numerators = [0u8; 16];
     let mut denominators = [0u8; 16];
-    let mut k: usize = 8;
+    let mut k = degree(&p);
     while 0 < k {
         let top = p[k];
         k -= 1;
-        let c = byte_lanes::sum(byte_lanes::products(coefficients, places), [top; 16]);
-        let n = byte_lanes::sum(galois::scale(c, s[k]), numerators);
-        let d = byte_lanes::sum(byte_lanes::products(denominators, places), c);
+        let c = byte_lanes::sum(byte_lanes::products(places, coefficients), [top; 16]);
+        let n = byte_lanes::sum(byte_lanes::scale(c, s[k]), numerators);
+        let d = byte_lanes::sum(byte_lanes::products(places, denominators), c);
         coefficients = c;
         numerators = n;
         denominators = d;
@@ -145,10 +136,11 @@ pub fn error_values(p: [u8; 16], s: [u8; 16], places: [u8; 16], count: usize) ->
     let f = value_fractions(p, s, places);
     let numerators = f.numerators;
     let denominators = f.denominators;
+    let values = byte_lanes::products(numerators, byte_lanes::inverses(denominators));
     let mut e = [0u8; 16];
     let mut l: usize = 0;
     while l < count {
-        e[l] = galois::mul(numerators[l], galois::inverse(denominators[l]));
+        e[l] = values[l];
         l += 1;
     }
     e

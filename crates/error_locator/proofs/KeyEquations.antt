@@ -4,13 +4,13 @@ use mathlib.Core.Path.{_≡_, refl, sym, ap, ap₂, _∙_}
 use mathlib.Core.Bool.{true, false}
 use mathlib.Core.List.{List, _++_}
 use mathlib.Core.Logic.{_⊎_, inl, inr}
-use Prim.Native.Nat.{ℕ, _+_, _*_, _<_, _≤_, _/_, _%_, Fin}
+use Prim.Native.Nat.{ℕ, _+_, _*_, _<_, _≤_, Fin}
 use native.Mathlib.Omega.{arith}
 use native.Mathlib.Numerals.{add-one}
 use native.Mathlib.Decide.{ℕ-discrete, decLt}
 use lib.Dec.{lit<}
-use lib.ListN.{length, getD, take, drop, set, length-map, length-set, length-drop, List·getD-map}
-use lib.Seq.{getD-set-same, getD-set-other, getD-take, getD-drop, length-take-le}
+use lib.ListN.{length, getD, take, drop, length-map, length-drop, List·getD-map}
+use lib.Seq.{getD-take, getD-drop, length-take-le}
 use Rattle.common.proofs.Lists.{getD-map-in, put-own, put-other}
 use Rattle.algebra.specs.Polynomial.{plus, scale}
 use Rattle.algebra.proofs.Ring.{zero-add, one-mul, mul-inv, mul-comm, mul-zero}
@@ -185,33 +185,35 @@ units-none m = record { off = λ r c a b. absurd (omega arith); on = λ c b. abs
 
 -- ---- the matrix of the key equations, and the solution read from it
 
--- the first i elements, row by row, are filled in
+-- the first i rows are filled in
 pub record FilledTo (s m : List ℕ) (i : ℕ) : Type 0 where
-  pub most : i ≤ 72
+  pub most : i ≤ 8
   pub len : length m ≡ 128
-  pub each : (x : ℕ) → x < i → getD m (x / 9 * 16 + x % 9) 0 ≡ getD s (x / 9 + x % 9) 0
+  pub each : (r c : ℕ) → r < i → c < 9 → getD m (r * 16 + c) 0 ≡ getD s (r + c) 0
 
 pub filled-none : (s m : List ℕ) → length m ≡ 128 → FilledTo s m 0
-filled-none s m l = record { most = omega arith; len = l; each = λ x b. absurd (omega arith) }
+filled-none s m l = record { most = omega arith; len = l; each = λ r c b h. absurd (omega arith) }
 
-pub filled-more : (s m : List ℕ) (i v : ℕ) → i < 72 → v ≡ getD s (i / 9 + i % 9) 0 → FilledTo s m i → FilledTo s (set m (i / 9 * 16 + i % 9) v) (i + 1)
-filled-more s m i v l e F =
-    record { most = omega arith; len = length-set m (i / 9 * 16 + i % 9) v ∙ F .len; each = λ x b. go x b (ℕ-discrete x i) }
+pub filled-more : (s m row n : List ℕ) (i : ℕ) → length s ≡ 16 → i < 8 → row ≡ take 9 (drop i s)
+    → n ≡ take (i * 16) m ++ row ++ drop (i * 16 + length row) m → length n ≡ length m → FilledTo s m i → FilledTo s n (i + 1)
+filled-more s m row n i ls l e w z F = record { most = omega arith; len = z ∙ F .len; each = λ r c b h. ap (λ (x : List ℕ). getD x (r * 16 + c) 0) w ∙ go r c b h (ℕ-discrete r i) }
   where
-    go : (x : ℕ) → x < i + 1 → Dec (x ≡ i) → getD (set m (i / 9 * 16 + i % 9) v) (x / 9 * 16 + x % 9) 0 ≡ getD s (x / 9 + x % 9) 0
-    go x b (yes p) =
-        ap (λ (u : ℕ). getD (set m (i / 9 * 16 + i % 9) v) (u / 9 * 16 + u % 9) 0) p ∙ getD-set-same m (i / 9 * 16 + i % 9) v 0 (omega (arith, F .len)) ∙ e
-        ∙ ap (λ (u : ℕ). getD s (u / 9 + u % 9) 0) (sym p)
-    go x b (no p) = getD-set-other m (i / 9 * 16 + i % 9) (x / 9 * 16 + x % 9) v 0 (λ q. p (omega arith)) ∙ F .each x (omega arith)
+    nine : length row ≡ 9
+    nine = ap length e ∙ length-take-le 9 (drop i s) (omega (arith, length-drop i s))
 
-pub filled-all : (s m : List ℕ) (i : ℕ) → 72 ≤ i → FilledTo s m i → Filled s m
-filled-all s m i h F = record { len = F .len; each = λ r c a b. at r c a b }
-  where
-    at : (r c : ℕ) → r < 8 → c < 9 → getD m (r * 16 + c) 0 ≡ getD s (r + c) 0
-    at r c a b =
-        let p : r * 16 + c ≡ (r * 9 + c) / 9 * 16 + (r * 9 + c) % 9 = omega arith in
-        let q : (r * 9 + c) / 9 + (r * 9 + c) % 9 ≡ r + c = omega arith in
-        ap (λ (u : ℕ). getD m u 0) p ∙ F .each (r * 9 + c) (omega arith) ∙ ap (λ (u : ℕ). getD s u 0) q
+    fits : i * 16 + length row ≤ length m
+    fits = omega (arith, nine, F .len)
+
+    go : (r c : ℕ) → r < i + 1 → c < 9 → Dec (r ≡ i) → getD (take (i * 16) m ++ row ++ drop (i * 16 + length row) m) (r * 16 + c) 0 ≡ getD s (r + c) 0
+    go r c b h (yes p) =
+        ap (λ (u : ℕ). getD (take (i * 16) m ++ row ++ drop (i * 16 + length row) m) (u * 16 + c) 0) p
+        ∙ put-own m row (i * 16) c fits (omega (arith, nine))
+        ∙ ap (λ (x : List ℕ). getD x c 0) e ∙ getD-take 9 (drop i s) c 0 h ∙ getD-drop i s c 0
+        ∙ ap (λ (u : ℕ). getD s (u + c) 0) (sym p)
+    go r c b h (no p) = put-other m row (i * 16) (r * 16 + c) fits (omega (arith, F .len)) (inl (omega arith)) ∙ F .each r c (omega arith) h
+
+pub filled-all : (s m : List ℕ) (i : ℕ) → 8 ≤ i → FilledTo s m i → Filled s m
+filled-all s m i h F = record { len = F .len; each = λ r c a b. F .each r c (omega (arith, F .most)) b }
 
 pub solution-below : (m : List ℕ) (k c : ℕ) → c < k → SolutionAt m k c (getD m (c * 16 + k) 0)
 solution-below m k c l = record { below = λ b. refl; own = λ b. absurd (omega arith); above = λ b. absurd (omega arith) }

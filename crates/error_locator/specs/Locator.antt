@@ -3,10 +3,10 @@
 use mathlib.Core.Path.{_≡_}
 use mathlib.Core.Bool.{Bool, true, false}
 use mathlib.Core.List.{List}
-use Prim.Native.Nat.{ℕ, zero, _+_, _-_, _*_, _≤_, _<_, Fin}
+use Prim.Native.Nat.{ℕ, _+_, _*_, _≤_, _<_, Fin}
 use lib.ListN.{length, getD}
 use Rattle.algebra.proofs.Polynomial.{Zero}
-use Rattle.algebra.proofs.Syndromes.{dot, syndrome}
+use Rattle.algebra.proofs.Syndromes.{dot}
 use Rattle.algebra.proofs.Elimination.{Reach, Units}
 use Rattle.galois.proofs.Instance.{bytes, byte}
 use Rattle.byte_lanes.specs.Lanes.{elements}

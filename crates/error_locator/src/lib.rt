@@ -12,7 +12,7 @@ fn add_row(m: &mut [u8], i: usize, j: usize, a: u8)
     requires { ⌜ (length (now m) ≡ 128) × (i < 8) × (j < 8) ⌝ }
     ensures { λ _. ⌜ AddRow bytes 8 9 i j (byte a) (mat (now (m .entry))) (mat (now (m .exit))) ⌝ }
 {
-    let scaled = galois::scale(byte_lanes::sixteen(m, j * 16), a);
+    let scaled = byte_lanes::scale(byte_lanes::sixteen(m, j * 16), a);
     let row = byte_lanes::sum(byte_lanes::sixteen(m, i * 16), scaled);
     common::put(&row, i * 16, m);
 }
@@ -22,7 +22,7 @@ fn scale_row(m: &mut [u8], i: usize, a: u8)
     requires { ⌜ (length (now m) ≡ 128) × (i < 8) ⌝ }
     ensures { λ _. ⌜ MulRow bytes 8 9 i (byte a) (mat (now (m .entry))) (mat (now (m .exit))) ⌝ }
 {
-    let row = galois::scale(byte_lanes::sixteen(m, i * 16), a);
+    let row = byte_lanes::scale(byte_lanes::sixteen(m, i * 16), a);
     common::put(&row, i * 16, m);
 }
 
@@ -96,12 +96,11 @@ fn fill(s: [u8; 16], m: &mut [u8])
     requires { ⌜ length (now m) ≡ 128 ⌝ }
     ensures { λ _. ⌜ Filled s (now (m .exit)) ⌝ }
 {
-    let mut i: usize = 0;
-    while i < 72 {
-        let r = i / 9;
-        let c = i % 9;
-        m[r * 16 + c] = s[r + c];
-        i += 1;
+    let mut r: usize = 0;
+    while r < 8 {
+        let end = r + 9;
+        common::put(&s[r..end], r * 16, m);
+        r += 1;
     }
 }
 

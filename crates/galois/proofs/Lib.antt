@@ -3,4 +3,3 @@ pub mod Laws
 pub mod Powers
 pub mod Tables
 pub mod Instance
-pub mod Lanes

@@ -1,13 +1,13 @@
 -- Powers.
 -- Assumes nothing.
 use mathlib.Core.Path.{_≡_, refl, sym, ap, ap₂, _∙_}
-use Prim.Native.Nat.{ℕ, zero, suc, _+_, _<_}
-use native.Mathlib.Nat.{zero-add, suc-add}
+use Prim.Native.Nat.{ℕ, zero, suc, _+_, _%_, _<_}
+use native.Mathlib.Nat.{zero-add, suc-add, mod-lt}
 use lib.Dec.{lit<}
 use Rattle.algebra.specs.Polynomial.{power}
 use native.Mathlib.Numerals.{add-one}
 use Rattle.galois.specs.Field256.{timesX, mul, pow}
-use Rattle.galois.proofs.Laws.{mul-lt, mul-comm, mul-assoc, mul-one, mul-two}
+use Rattle.galois.proofs.Laws.{mul-lt, mul-mod-left, mul-mod-right, mul-comm, mul-assoc, mul-one, mul-two}
 
 pub pow-lt : (a n : ℕ) → pow a n < 256
 unfolding power
@@ -20,6 +20,11 @@ one-mul a h = mul-comm 1 a ∙ mul-one a h
 pub pow-one : (a : ℕ) → a < 256 → pow a 1 ≡ a
 unfolding power
 pow-one a h = mul-one a h
+
+-- as a factor, a is its first power, whatever number it is
+pub times-one : (x a : ℕ) → mul x a ≡ mul x (pow a 1)
+unfolding power
+times-one x a = sym (mul-mod-right x a) ∙ ap (mul x) (sym (sym (mul-mod-left a 1) ∙ mul-one (a % 256) (mod-lt a (lit< tt))))
 
 pub pow-add : (a m n : ℕ) → mul (pow a m) (pow a n) ≡ pow a (m + n)
 unfolding power

@@ -1,6 +1,6 @@
 // Arithmetic in GF(256) by 11D hex, with no table and no branch on a value.
 ghost use mathlib.Core.Path.{_≡_};
-ghost use Rattle.galois.specs.Field256.{timesX as timesXOf, mul as mulOf, inv as invOf, scaled};
+ghost use Rattle.galois.specs.Field256.{timesX as timesXOf, mul as mulOf, inv as invOf};
 
 // a times x.
 pub fn times_x(a: u8) -> u8
@@ -39,18 +39,4 @@ pub fn inverse(a: u8) -> u8
     let a126 = mul(a120, a6);
     let a127 = mul(a126, a);
     mul(a127, a127)
-}
-
-// Sixteen bytes, each times f: one loop without a branch, which becomes vector code.
-// f is the factor whose multiples are made, and the lanes give the bits: the other way round the compiler would branch on the bits of f.
-pub fn scale(a: [u8; 16], f: u8) -> [u8; 16]
-    ensures { λ r. ⌜ r ≡ scaled f a ⌝ }
-{
-    let mut r = [0u8; 16];
-    let mut j: usize = 0;
-    while j < 16 {
-        r[j] = mul(f, a[j]);
-        j += 1;
-    }
-    r
 }

@@ -16,7 +16,7 @@ use Rattle.common.specs.Lists.{ByteEntries}
 use Rattle.common.proofs.Entries.{entries-drop}
 use Rattle.randomizer.specs.Prbs.{loaded, output, stepped, steps, bits, sequence, generator, enabled, masks}
 use Rattle.randomizer.specs.Packet.{randomized, derandomized, randomizeNumber, randomizeRoom, derandomizeNumber, derandomizeRoom}
-use Rattle.randomizer.proofs.Xors.{length-out, getD-xors, bytes-xors, xors-undo}
+use Rattle.randomizer.proofs.Xors.{length-xors, getD-xors, bytes-xors, xors-undo}
 
 -- ---- the masks
 
@@ -100,15 +100,12 @@ sync (suc p) =
 -- ---- a packet
 
 module _ (place : ℕ) (packet : List ℕ) (h : place ≤ 7) (n : length packet ≡ 188) where
-  fits : 188 * place + length packet ≤ length masks
-  fits = let m = length-masks in omega arith
-
   enough : length packet ≤ length (drop (188 * place) masks)
-  enough = let f = fits in simp length-drop (omega arith)
+  enough = let m = length-masks in simp length-drop (omega arith)
 
   pub length-randomized : length (randomized place packet) ≡ 188
   unfolding randomized
-  length-randomized = length-out packet masks (188 * place) fits ∙ n
+  length-randomized = length-xors packet (drop (188 * place) masks) enough ∙ n
 
   -- a packet that begins 47 hex is sent with B8 first at place 0, and with 47 elsewhere
   pub first-byte : getD packet 0 0 ≡ 0x47 → getD (randomized place packet) 0 0 ≡ pick (eqb place 0) 0xB8 0x47

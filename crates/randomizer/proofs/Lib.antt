@@ -1,3 +1,4 @@
 pub mod Xors
+pub mod Run
 pub mod Laws
 pub mod Whole

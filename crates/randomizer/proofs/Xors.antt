@@ -1,17 +1,16 @@
 -- Laws of the xor of two lists, byte by byte.
 -- Assumes nothing.
-use mathlib.Core.Path.{_≡_, refl, ap, ap₂, _∙_, sym}
+use mathlib.Core.Path.{_≡_, refl, ap, ap₂}
 use mathlib.Core.List.{List, [], _∷_, zipWith}
-use Prim.Native.Nat.{ℕ, zero, suc, _+_, _≤_, _<_}
+use Prim.Native.Nat.{ℕ, zero, suc, _≤_, _<_}
 use native.Mathlib.Nat.{le-of-suc-le-suc, not-suc-le-zero}
 use lib.Bits.{bitXor, xor-lt}
-use lib.ListN.{length, getD, drop, length-drop}
-use lib.Seq.{getD-drop}
+use lib.ListN.{length, getD, take}
 use native.Mathlib.Omega.{arith}
 use Rattle.common.specs.Lists.{ByteEntries}
 use Rattle.common.proofs.Xor.{xor-undo}
 
-length-xors : (xs ys : List ℕ) → length xs ≤ length ys → length (zipWith bitXor xs ys) ≡ length xs
+pub length-xors : (xs ys : List ℕ) → length xs ≤ length ys → length (zipWith bitXor xs ys) ≡ length xs
 unfolding zipWith
 length-xors [] ys h = refl
 length-xors (x ∷ xs) [] h = absurd (not-suc-le-zero h)
@@ -39,15 +38,9 @@ xors-undo [] ys h = refl
 xors-undo (x ∷ xs) [] h = absurd (not-suc-le-zero h)
 xors-undo (x ∷ xs) (y ∷ ys) h = ap₂ (λ (a : ℕ) (l : List ℕ). a ∷ l) (xor-undo x y) (xors-undo xs ys (le-of-suc-le-suc h))
 
--- the list that a loop writes: a packet with the masks from base on
-module _ (packet masks : List ℕ) (base : ℕ) (h : base + length packet ≤ length masks) where
-  enough : length packet ≤ length (drop base masks)
-  enough = simp length-drop (omega arith)
-
-  pub length-out : length (zipWith bitXor packet (drop base masks)) ≡ length packet
-  length-out = length-xors packet (drop base masks) enough
-
-  pub out-at : (i : ℕ) → i < length packet → bitXor (getD packet i 0) (getD masks (base + i) 0) ≡ getD (zipWith bitXor packet (drop base masks)) i 0
-  out-at i k =
-      ap (bitXor (getD packet i 0)) (sym (getD-drop base masks i 0))
-      ∙ sym (getD-xors packet (drop base masks) i k (let e = enough in omega arith))
+-- the second list counts only as far as the first goes
+pub xors-take : (xs ys : List ℕ) → zipWith bitXor xs (take (length xs) ys) ≡ zipWith bitXor xs ys
+unfolding zipWith
+xors-take [] ys = refl
+xors-take (x ∷ xs) [] = refl
+xors-take (x ∷ xs) (y ∷ ys) = ap (λ (l : List ℕ). bitXor x y ∷ l) (xors-take xs ys)

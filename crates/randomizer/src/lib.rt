@@ -1,7 +1,7 @@
 // Randomizing for energy dispersal, and its removal: EN 300 421, 4.4.1.
 ghost use mathlib.Core.Path.{_≡_};
 ghost use mathlib.Core.List.{_++_, zipWith};
-ghost use Prim.Native.Nat.{_+_, _*_, _≤_};
+ghost use Prim.Native.Nat.{_≤_};
 ghost use lib.Bits.{bitXor};
 ghost use lib.ListN.{length, drop};
 ghost use Rattle.answer.specs.Number.{numberOf};
@@ -10,27 +10,71 @@ ghost use Rattle.randomizer.specs.Packet.{randomized, randomizeNumber, r
 mod masks;
 
 use answer::Answer;
-use masks::MASKS;
+use masks::MASKS_0;
+use masks::MASKS_1;
+use masks::MASKS_2;
+use masks::MASKS_3;
+use masks::MASKS_4;
+use masks::MASKS_5;
+use masks::MASKS_6;
+use masks::MASKS_7;
 
-// Writes the 188 bytes of the packet, each xored with its own of the masks from base on.
-fn xor_into(packet: &[u8], masks: &[u8], base: usize, room: &mut [u8])
-    requires { ⌜ (length (now packet) ≡ 188) × (base + 188 ≤ length (now masks)) × (188 ≤ length (now room)) ⌝ }
-    ensures { λ _. ⌜ now (room .exit) ≡ zipWith bitXor (now (packet .entry)) (drop base (now (masks .entry))) ++ drop 188 (now (room .entry)) ⌝ }
+// Writes the 188 bytes of the packet, each xored with its own mask.
+// The length of the masks is asked for, since a proof does not get it from the type of a reference.
+fn xor_into(packet: &[u8], masks: &[u8; 188], room: &mut [u8])
+    requires { ⌜ (length (now packet) ≡ 188) × (length (now masks) ≡ 188) × (188 ≤ length (now room)) ⌝ }
+    ensures { λ _. ⌜ now (room .exit) ≡ zipWith bitXor (now (packet .entry)) (now (masks .entry)) ++ drop 188 (now (room .entry)) ⌝ }
 {
     let mut i: usize = 0;
     while i < 188 {
-        room[i] = packet[i] ^ masks[base + i];
+        room[i] = packet[i] ^ masks[i];
         i += 1;
     }
 }
 
 // Writes the packet as it is sent at a place of its group.
+// Each branch has a local array of its own, so that a call copies the 188 masks of its place and no others.
 fn apply(place: u8, packet: &[u8], room: &mut [u8])
     requires { ⌜ (place ≤ 7) × (length (now packet) ≡ 188) × (188 ≤ length (now room)) ⌝ }
     ensures { λ _. ⌜ now (room .exit) ≡ randomized place (now (packet .entry)) ++ drop 188 (now (room .entry)) ⌝ }
 {
-    let masks = MASKS;
-    xor_into(packet, &masks, 188 * (place as usize), room);
+    if place == 0 {
+        let masks = MASKS_0;
+        xor_into(packet, &masks, room);
+        return;
+    }
+    if place == 1 {
+        let masks = MASKS_1;
+        xor_into(packet, &masks, room);
+        return;
+    }
+    if place == 2 {
+        let masks = MASKS_2;
+        xor_into(packet, &masks, room);
+        return;
+    }
+    if place == 3 {
+        let masks = MASKS_3;
+        xor_into(packet, &masks, room);
+        return;
+    }
+    if place == 4 {
+        let masks = MASKS_4;
+        xor_into(packet, &masks, room);
+        return;
+    }
+    if place == 5 {
+        let masks = MASKS_5;
+        xor_into(packet, &masks, room);
+        return;
+    }
+    if place == 6 {
+        let masks = MASKS_6;
+        xor_into(packet, &masks, room);
+        return;
+    }
+    let masks = MASKS_7;
+    xor_into(packet, &masks, room);
 }
 
 // Writes the packet at a place of its group as it is sent.

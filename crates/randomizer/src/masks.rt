@@ -1,5 +1,6 @@
 // What each byte of a group of eight packets is xored with: FF hex at the first sync byte, 0 at the other seven, and the PRBS elsewhere.
-pub const MASKS: [u8; 1504] = [
+// MASKS_k holds the 188 masks of the packet at place k of the group.
+pub const MASKS_0: [u8; 188] = [
     255,
     3,
     246,
@@ -188,6 +189,9 @@ pub const MASKS: [u8; 1504] = [
     180,
     197,
     186,
+];
+
+pub const MASKS_1: [u8; 188] = [
     0,
     159,
     77,
@@ -376,6 +380,9 @@ pub const MASKS: [u8; 1504] = [
     65,
     189,
     133,
+];
+
+pub const MASKS_2: [u8; 188] = [
     0,
     29,
     46,
@@ -564,6 +571,9 @@ pub const MASKS: [u8; 1504] = [
     2,
     84,
     13,
+];
+
+pub const MASKS_3: [u8; 188] = [
     0,
     44,
     16,
@@ -752,6 +762,9 @@ pub const MASKS: [u8; 1504] = [
     1,
     212,
     4,
+];
+
+pub const MASKS_4: [u8; 188] = [
     0,
     26,
     16,
@@ -940,6 +953,9 @@ pub const MASKS: [u8; 1504] = [
     228,
     220,
     90,
+];
+
+pub const MASKS_5: [u8; 188] = [
     0,
     222,
     180,
@@ -1128,6 +1144,9 @@ pub const MASKS: [u8; 1504] = [
     59,
     250,
     152,
+];
+
+pub const MASKS_6: [u8; 188] = [
     0,
     80,
     67,
@@ -1316,6 +1335,9 @@ pub const MASKS: [u8; 1504] = [
     194,
     0,
     140,
+];
+
+pub const MASKS_7: [u8; 188] = [
     0,
     40,
     10,

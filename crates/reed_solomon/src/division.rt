@@ -63,9 +63,9 @@ fn multiples() -> [u64; 64]
     let mut size: usize = 1;
     let mut k: usize = 0;
     while k < 4 {
-        let low = words(galois::scale(g, size as u8));
+        let low = words(byte_lanes::scale(g, size as u8));
         extend(&mut m, 0, size, low);
-        let high = words(galois::scale(g, (size * 16) as u8));
+        let high = words(byte_lanes::scale(g, (size * 16) as u8));
         extend(&mut m, 16, size, high);
         size = size * 2;
         k += 1;

@@ -1,5 +1,7 @@
 // The syndromes: the values of the residue at the sixteen roots of the generator polynomial.
-ghost use Rattle.byte_lanes.specs.Lanes.{Powers, Advanced};
+ghost use mathlib.Core.Path.{_≡_};
+ghost use mathlib.Core.List.{reverse};
+ghost use Rattle.byte_lanes.specs.Lanes.{Powers};
 ghost use Rattle.reed_solomon.specs.Steps.{SyndromesOf};
 
 // The powers of 02. The first sixteen are the roots of the generator polynomial, and power i is the place of the coefficient of x^i.
@@ -17,14 +19,14 @@ pub fn powers() -> [u8; 208]
     x
 }
 
-// One step of Horner's rule at the sixteen roots.
-fn advance(s: [u8; 16], x: &[u8; 208], d: u8) -> [u8; 16]
-    ensures { λ r. ⌜ Advanced 16 (now (x .entry)) s d r ⌝ }
+// Sixteen coefficients in the other order.
+fn reversed(l: [u8; 16]) -> [u8; 16]
+    ensures { λ r. ⌜ r ≡ reverse l ⌝ }
 {
     let mut r = [0u8; 16];
     let mut j: usize = 0;
     while j < 16 {
-        r[j] = galois::mul(x[j], s[j]) ^ d;
+        r[j] = l[15 - j];
         j += 1;
     }
     r
@@ -35,12 +37,6 @@ pub fn syndromes(residue: [u8; 16], x: &[u8; 208]) -> [u8; 16]
     requires { ⌜ Powers (now x) ⌝ }
     ensures { λ r. ⌜ SyndromesOf residue r ⌝ }
 {
-    let mut s = [0u8; 16];
-    let mut i: usize = 0;
-    while i < 16 {
-        let t = advance(s, x, residue[i]);
-        s = t;
-        i += 1;
-    }
-    s
+    let q = reversed(residue);
+    byte_lanes::evaluate(&q, byte_lanes::sixteen(x, 0))
 }

@@ -1,4 +1,4 @@
--- `correction::products` meets its contract: after l turns the first l products are written.
+-- `byte_lanes::products` meets its contract: after l turns the first l products are written.
 -- Assumes nothing.
 use mathlib.Core.Path.{_≡_, refl, sym, _∙_}
 use Prim.Native.Nat.{_-_}

@@ -1,4 +1,4 @@
--- `division::sixteen` meets its contract: after j turns the first j bytes are written.
+-- `byte_lanes::sixteen` meets its contract: after j turns the first j bytes are written.
 -- Assumes nothing.
 use mathlib.Core.Path.{_≡_, refl, sym, _∙_}
 use mathlib.Core.List.{List}

@@ -1,4 +1,4 @@
--- `division::sum` meets its contract: after j turns the first j bytes are those of the sum.
+-- `byte_lanes::sum` meets its contract: after j turns the first j bytes are those of the sum.
 -- Assumes nothing.
 use mathlib.Core.Path.{_≡_, refl, sym, _∙_}
 use Prim.Native.Nat.{_-_}

@@ -1,4 +1,4 @@
--- `correction::correct` meets its contract: the errors from l on are left to do.
+-- `error_correction::correct` meets its contract: the errors from l on are left to do.
 -- Assumes nothing.
 use mathlib.Core.Path.{sym, subst}
 use mathlib.Core.Logic.{⊎-elim}

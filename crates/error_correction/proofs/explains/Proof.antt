@@ -1,4 +1,4 @@
--- `correction::explains` meets its contract: the first j syndromes agree.
+-- `error_correction::explains` meets its contract: the first j syndromes agree.
 -- Assumes nothing.
 use Prim.Native.Nat.{_-_}
 use native.Mathlib.Omega.{arith}

@@ -1,4 +1,4 @@
--- `correction::find_roots` meets its contract: the zeros among the first i values are listed.
+-- `error_correction::find_roots` meets its contract: the zeros among the first i values are listed.
 -- Assumes nothing.
 use mathlib.Core.Logic.{⊎-elim}
 use Prim.Native.Nat.{_-_, _≤_}

@@ -1,4 +1,4 @@
--- `correction::raised` meets its contract: after j turns the first j coefficients are moved.
+-- `error_correction::raised` meets its contract: after j turns the first j coefficients are moved.
 -- Assumes nothing.
 use mathlib.Core.Path.{_≡_, sym, _∙_}
 use mathlib.Core.List.{_∷_, append-nil}

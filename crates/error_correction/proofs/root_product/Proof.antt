@@ -1,4 +1,4 @@
--- `correction::root_product` meets its contract: p is the product over the places from l on.
+-- `error_correction::root_product` meets its contract: p is the product over the places from l on.
 -- Assumes nothing.
 use mathlib.Core.Path.{_≡_, sym, ap, ap₂, _∙_, subst}
 use mathlib.Core.List.{List}

@@ -1,4 +1,4 @@
--- `correction::total` meets its contract: t and the sum of what is left make the whole.
+-- `error_correction::total` meets its contract: t and the sum of what is left make the whole.
 -- Assumes nothing.
 use mathlib.Core.Path.{_≡_}
 use Prim.Native.Nat.{_-_, _≤_}

@@ -1,4 +1,4 @@
--- `locator::add_row` meets its contract.
+-- `error_locator::add_row` meets its contract.
 -- Assumes nothing.
 use mathlib.Core.Path.{ap, ap₂, _∙_}
 use Rattle.algebra.specs.Polynomial.{plus}

@@ -1,4 +1,4 @@
--- `locator::clear` meets its contract: the rows below i are cleared in column k.
+-- `error_locator::clear` meets its contract: the rows below i are cleared in column k.
 -- Assumes nothing.
 use mathlib.Core.Path.{sym, _∙_, subst}
 use mathlib.Core.Logic.{⊎-elim}

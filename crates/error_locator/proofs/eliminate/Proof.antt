@@ -1,4 +1,4 @@
--- `locator::eliminate` meets its contract: the first k columns are those of the unit matrix.
+-- `error_locator::eliminate` meets its contract: the first k columns are those of the unit matrix.
 -- Assumes nothing.
 use Prim.Native.Nat.{_-_, _≤_}
 use native.Mathlib.Omega.{arith}

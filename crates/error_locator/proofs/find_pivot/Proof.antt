@@ -1,4 +1,4 @@
--- `locator::find_pivot` meets its contract: the rows from k up to p are zero in column k.
+-- `error_locator::find_pivot` meets its contract: the rows from k up to p are zero in column k.
 -- Assumes nothing.
 use Prim.Native.Nat.{_*_, _+_, _-_}
 use native.Mathlib.Omega.{arith}

@@ -1,4 +1,4 @@
--- `locator::locator` meets its contract.
+-- `error_locator::locator` meets its contract.
 -- Assumes nothing.
 use Rattle.error_locator.proofs.KeyEquations.{located}
 use borrow.Author.Needs.{needs}

@@ -1,4 +1,4 @@
--- `locator::pivot` meets its contract.
+-- `error_locator::pivot` meets its contract.
 -- Assumes nothing.
 use mathlib.Core.Path.{sym, ap, _∙_, subst}
 use mathlib.Core.Logic.{⊎-elim}

@@ -1,4 +1,4 @@
--- `locator::scale_row` meets its contract.
+-- `error_locator::scale_row` meets its contract.
 -- Assumes nothing.
 use mathlib.Core.Path.{ap, _∙_}
 use Rattle.galois.specs.Field256.{scaled}

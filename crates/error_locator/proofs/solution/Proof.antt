@@ -1,4 +1,4 @@
--- `locator::solution` meets its contract.
+-- `error_locator::solution` meets its contract.
 -- Assumes nothing.
 use mathlib.Core.Path.{refl}
 use Prim.Native.Nat.{_-_}

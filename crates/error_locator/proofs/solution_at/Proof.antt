@@ -1,4 +1,4 @@
--- `locator::solution_at` meets its contract.
+-- `error_locator::solution_at` meets its contract.
 -- Assumes nothing.
 use Rattle.error_locator.proofs.KeyEquations.{solution-below, solution-own, solution-above}
 use borrow.Author.Needs.{needs}

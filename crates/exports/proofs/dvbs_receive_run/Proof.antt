@@ -1,4 +1,4 @@
--- `dvbs_receive_run` meets its contract.
+-- `exports::dvbs_receive_run` meets its contract.
 -- Assumes nothing.
 use mathlib.Core.Path.{_≡_, refl, sym, _∙_}
 use mathlib.Core.List.{List}

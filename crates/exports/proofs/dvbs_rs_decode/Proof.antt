@@ -1,4 +1,4 @@
--- `dvbs_rs_decode` meets its contract.
+-- `exports::dvbs_rs_decode` meets its contract.
 -- Assumes nothing.
 use mathlib.Core.Path.{refl, sym, ap}
 use Rattle.reed_solomon.specs.Decode.{decodedNumber}

@@ -1,4 +1,4 @@
--- `dvbs_send_run` meets its contract.
+-- `exports::dvbs_send_run` meets its contract.
 -- Assumes nothing.
 use mathlib.Core.Path.{sym, ap, _∙_}
 use borrow.Author.Tests.{lt-ltb, le-ltb}

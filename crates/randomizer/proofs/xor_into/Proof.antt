@@ -2,28 +2,28 @@
 -- Assumes nothing.
 use mathlib.Core.Path.{_≡_, _∙_, sym}
 use mathlib.Core.List.{zipWith}
-use Prim.Native.Nat.{_-_, _<_}
+use Prim.Native.Nat.{_-_}
 use native.Mathlib.Nat.{zero-add}
 use native.Mathlib.Omega.{arith}
 use borrow.Author.Needs.{needs}
 use lib.Bits.{bitXor}
-use lib.ListN.{length, drop}
+use lib.ListN.{length}
 use Rattle.common.proofs.Written.{Written, written-none, written-more, written-length, written-all}
-use Rattle.randomizer.proofs.Xors.{length-out, out-at}
+use Rattle.randomizer.proofs.Xors.{length-xors, getD-xors}
 use Rattle.randomizer.proofs.xor_into.Statement.{statement}
 use Rattle.randomizer.proofs.xor_into.Tie as tie
 use Rattle.randomizer.proofs.xor_into.Reads as reads
 use Rattle.randomizer.proofs.xor_into.Lts as lts
 
 abbrev Inv-loop : tie.InvT-loop
-Inv-loop packet masks base room₀ i₀ room i = Written 0 room₀ (zipWith bitXor packet (drop base masks)) room i
+Inv-loop packet masks room₀ i₀ room i = Written 0 room₀ (zipWith bitXor packet masks) room i
 
 abbrev μ-loop : tie.MeasureT-loop
-μ-loop packet masks base room₀ i₀ room i = 188 - i
+μ-loop packet masks room₀ i₀ room i = 188 - i
 
 -- the list written has 188 bytes
-out-length : (c : lts.Start reads.Pre reads.Post Inv-loop μ-loop) → length (zipWith bitXor (c .args .packet .now) (drop (c .args .base) (c .args .masks .now))) ≡ 188
-out-length c = length-out (c .args .packet .now) (c .args .masks .now) (c .args .base) (rw (c .pre .0) (c .pre .1)) ∙ c .pre .0
+out-length : (c : lts.Start reads.Pre reads.Post Inv-loop μ-loop) → length (zipWith bitXor (c .args .packet .now) (c .args .masks .now)) ≡ 188
+out-length c = length-xors (c .args .packet .now) (c .args .masks .now) (omega arith) ∙ c .pre .0
 
 loop-holds : tie.Need-loop-holds Inv-loop μ-loop
 loop-holds c = written-none (let e = out-length c in omega arith)
@@ -31,11 +31,8 @@ loop-holds c = written-none (let e = out-length c in omega arith)
 shared-slice-read-room : tie.Need-shared-slice-read-room Inv-loop μ-loop
 shared-slice-read-room c = search needs
 
-add-room : tie.Need-add-room Inv-loop μ-loop
-add-room c = search needs
-
-shared-slice-read-room-2 : tie.Need-shared-slice-read-room-2 Inv-loop μ-loop
-shared-slice-read-room-2 c = search needs
+element-copy-out-room : tie.Need-element-copy-out-room Inv-loop μ-loop
+element-copy-out-room c = search needs
 
 slice-write-room : tie.Need-slice-write-room Inv-loop μ-loop
 slice-write-room c = omega (arith, written-length (c .before .before .before .loop .inv))
@@ -50,10 +47,9 @@ loop-again : tie.Need-loop-again Inv-loop μ-loop
 loop-again c =
     let s = c .before .before .before .before in
     let l = c .before .before .before .loop in
-    let test : l .i < 188 = omega arith in
     let n = out-length s in
     written-more (l .inv) (l .i) _ (omega arith) (sym (zero-add (l .i)))
-    (out-at (s .args .packet .now) (s .args .masks .now) (s .args .base) (rw (s .pre .0) (s .pre .1)) (l .i) (rw (s .pre .0) test))
+    (sym (getD-xors (s .args .packet .now) (s .args .masks .now) (l .i) (omega arith) (omega arith)))
 
 same-length : tie.Need-same-length Inv-loop μ-loop
 same-length c = written-length (c .before .loop .inv)
@@ -73,8 +69,7 @@ xor-into-spec =
     μ-loop
     loop-holds
     shared-slice-read-room
-    add-room
-    shared-slice-read-room-2
+    element-copy-out-room
     slice-write-room
     add-i
     loop-less

@@ -1,4 +1,4 @@
--- `decode` meets its contract: a block whose residue is zero is a codeword, and any other is repaired.
+-- `reed_solomon::decode` meets its contract: a block whose residue is zero is a codeword, and any other is repaired.
 -- Assumes nothing.
 use mathlib.Core.Path.{sym, ap, _∙_}
 use Rattle.reed_solomon.specs.Steps.{allZero}

@@ -1,4 +1,4 @@
--- `repair` meets its contract: each step gives what the theorems of the decoder ask of it.
+-- `reed_solomon::repair` meets its contract: each step gives what the theorems of the decoder ask of it.
 -- Assumes nothing.
 use mathlib.Core.Path.{subst}
 use Prim.Native.Nat.{_≤_}

@@ -1,4 +1,4 @@
--- `all_starts` ends.
+-- `reed_solomon_cases::all_starts` ends.
 -- Assumes nothing.
 use Prim.Native.Nat.{_-_, _≤_}
 use borrow.Author.Needs.{needs}

@@ -1,4 +1,4 @@
--- `all_steps` ends.
+-- `reed_solomon_cases::all_steps` ends.
 -- Assumes nothing.
 use Prim.Native.Nat.{_-_, _≤_}
 use borrow.Author.Needs.{needs}

@@ -1,4 +1,4 @@
--- `clear_eight` stays in the block.
+-- `reed_solomon_cases::clear_eight` stays in the block.
 -- Assumes nothing.
 use mathlib.Core.Path.{_≡_}
 use Prim.Native.Nat.{_-_, _≤_, _<_}

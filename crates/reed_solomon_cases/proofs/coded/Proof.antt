@@ -1,4 +1,4 @@
--- `coded` stays in the message.
+-- `reed_solomon_cases::coded` stays in the message.
 -- Assumes nothing.
 use mathlib.Core.Path.{_≡_}
 use Prim.Native.Nat.{_-_, _≤_}

@@ -1,4 +1,4 @@
--- `errors` ends.
+-- `reed_solomon_cases::errors` ends.
 -- Assumes nothing.
 use Prim.Native.Nat.{_-_, _≤_}
 use borrow.Author.Needs.{needs}

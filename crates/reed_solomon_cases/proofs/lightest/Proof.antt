@@ -1,4 +1,4 @@
--- `lightest` ends.
+-- `reed_solomon_cases::lightest` ends.
 -- Assumes nothing.
 use Prim.Native.Nat.{_-_, _≤_}
 use borrow.Author.Needs.{needs}

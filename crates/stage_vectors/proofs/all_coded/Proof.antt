@@ -1,4 +1,4 @@
--- `all_coded` ends, and stays within the 40.
+-- `stage_vectors::all_coded` ends, and stays within the 40.
 -- Assumes nothing.
 use Prim.Native.Nat.{_-_, _≤_}
 use borrow.Author.Needs.{needs}

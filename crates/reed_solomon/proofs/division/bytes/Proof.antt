@@ -1,4 +1,4 @@
--- `division::bytes` meets its contract: after j turns j bytes are written, and the remainder begins with the next.
+-- `reed_solomon::division::bytes` meets its contract: after j turns j bytes are written, and the remainder begins with the next.
 -- Assumes nothing.
 use mathlib.Core.Path.{_≡_, refl, sym, ap, _∙_}
 use mathlib.Core.List.{[], _∷_, _++_}

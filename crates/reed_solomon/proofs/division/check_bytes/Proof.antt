@@ -1,4 +1,4 @@
--- `division::check_bytes` meets its contract.
+-- `reed_solomon::division::check_bytes` meets its contract.
 -- Assumes nothing.
 use mathlib.Core.Path.{_∙_}
 use borrow.Author.Needs.{needs}

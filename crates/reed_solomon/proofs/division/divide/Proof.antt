@@ -1,4 +1,4 @@
--- `division::divide` meets its contract.
+-- `reed_solomon::division::divide` meets its contract.
 -- Assumes nothing.
 use mathlib.Core.Path.{refl}
 use Prim.Native.Nat.{_%_, _<_}

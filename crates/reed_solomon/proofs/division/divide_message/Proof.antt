@@ -1,4 +1,4 @@
--- `division::divide_message` meets its contract: after i turns r is the remainder of the first i bytes.
+-- `reed_solomon::division::divide_message` meets its contract: after i turns r is the remainder of the first i bytes.
 -- Assumes nothing.
 use mathlib.Core.Path.{_≡_, refl, _∙_}
 use Prim.Native.Nat.{_-_, _≤_}

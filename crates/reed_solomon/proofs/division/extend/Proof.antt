@@ -1,4 +1,4 @@
--- `division::extend` meets its contract: after i turns i entries have come.
+-- `reed_solomon::division::extend` meets its contract: after i turns i entries have come.
 -- Assumes nothing.
 use mathlib.Core.Path.{_≡_}
 use Prim.Native.Nat.{_-_, _≤_}

@@ -1,4 +1,4 @@
--- `division::is_zero` meets its contract: the bytes below j are zero, so that what is left decides.
+-- `reed_solomon::division::is_zero` meets its contract: the bytes below j are zero, so that what is left decides.
 -- Assumes nothing.
 use mathlib.Core.Path.{_≡_, refl, sym, _∙_}
 use Prim.Native.Nat.{_-_, _≤_}

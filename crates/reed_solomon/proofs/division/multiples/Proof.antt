@@ -1,4 +1,4 @@
--- `division::multiples` meets its contract: after k turns the multiples below 2 ^ k are there, of both halves.
+-- `reed_solomon::division::multiples` meets its contract: after k turns the multiples below 2 ^ k are there, of both halves.
 -- Assumes nothing.
 use mathlib.Core.Path.{sym, ap, _∙_}
 use mathlib.Core.List.{List}

@@ -1,4 +1,4 @@
--- `division::residue` meets its contract.
+-- `reed_solomon::division::residue` meets its contract.
 -- Assumes nothing.
 use mathlib.Core.Path.{ap₂, _∙_}
 use native.Mathlib.Omega.{arith}

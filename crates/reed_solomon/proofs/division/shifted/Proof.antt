@@ -1,4 +1,4 @@
--- `division::shifted` meets its contract.
+-- `reed_solomon::division::shifted` meets its contract.
 -- Assumes nothing.
 use native.Mathlib.Nat.{mod-lt}
 use lib.Dec.{lit<}

@@ -1,4 +1,4 @@
--- `division::words` meets its contract: after j turns the first j coefficients have come in.
+-- `reed_solomon::division::words` meets its contract: after j turns the first j coefficients have come in.
 -- Assumes nothing.
 use mathlib.Core.Path.{_≡_, refl, ap, _∙_}
 use mathlib.Core.List.{List, [], _∷_, _++_}

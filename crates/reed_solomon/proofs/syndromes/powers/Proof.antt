@@ -1,4 +1,4 @@
--- `syndromes::powers` meets its contract: p is the next power, and those before it are stored.
+-- `reed_solomon::syndromes::powers` meets its contract: p is the next power, and those before it are stored.
 -- Assumes nothing.
 use mathlib.Core.Path.{_≡_, refl, ap, _∙_}
 use Prim.Native.Nat.{_-_}
