@@ -330,10 +330,11 @@ int main(int argc, char **argv)
         return 0;
     }
     if (argc == 5 && !strcmp(argv[1], "count")) {
+        int calls = atoi(argv[4]);
         for (int i = 0; i < KERNELS; i++)
             for (int s = 0; s < SIDES; s++)
                 if (!strcmp(argv[2], kernels[i].name) && !strcmp(argv[3], side_names[s]) && has(&kernels[i], s)) {
-                    for (int n = 0; n < atoi(argv[4]); n++)
+                    for (int n = 0; n < calls; n++)
                         kernels[i].call(&kernels[i], s, n);
                     return 0;
                 }

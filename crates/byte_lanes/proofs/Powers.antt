@@ -11,8 +11,8 @@ use lib.Seq.{drop-cons, getD-take, getD-drop}
 use Rattle.algebra.specs.Field.{ops}
 use Rattle.algebra.specs.Polynomial.{eval, scale}
 use Rattle.algebra.proofs.Ring.{add-comm, add-zero, mul-zero}
-use Rattle.galois.specs.Field256.{mul, pow, scaled}
-use Rattle.galois.proofs.Laws.{mul-lt, mul-comm}
+use Rattle.galois.specs.Field256.{timesX, mul, pow, scaled}
+use Rattle.galois.proofs.Laws.{mul-lt, mul-comm, mul-assoc, mul-two}
 use Rattle.galois.proofs.Powers.{times-one, pow-add}
 use Rattle.galois.proofs.Instance.{bytes, byte, byte-add, byte-mul, byte-power}
 use Rattle.byte_lanes.specs.Lanes.{elements, point, productsOf, Powers, advanced, ValuesAt}
@@ -35,6 +35,14 @@ unfolding productsOf scale
 products-scaled n f [] h = refl
 products-scaled zero f (x ∷ a) h = absurd (omega arith)
 products-scaled (suc n) f (x ∷ a) h = ap₂ (λ (y : ℕ) (l : List ℕ). y ∷ l) (mul-comm x f) (products-scaled n f a (omega arith))
+
+-- a multiple by f, times x
+pub scaled-next : (f : ℕ) (a : List ℕ) → f < 256 → map timesX (scaled f a) ≡ scaled (timesX f) a
+unfolding scale
+scaled-next f [] h = refl
+scaled-next f (y ∷ a) h =
+    ap₂ (λ (z : ℕ) (l : List ℕ). z ∷ l)
+    (sym (mul-two (mul f y) (mul-lt f y)) ∙ sym (mul-assoc 2 f y) ∙ ap (λ (z : ℕ). mul z y) (mul-two f h)) (scaled-next f a h)
 
 -- ---- one step of Horner's rule
 
@@ -99,11 +107,14 @@ values-more q x k v w n l s e f =
 
 -- ---- powers of every lane
 
-pub squares : (a : List ℕ) → productsOf a a ≡ map (λ u. pow u 2) a
-unfolding productsOf
-squares [] = refl
-squares (x ∷ a) =
-    ap₂ (λ (y : ℕ) (l : List ℕ). y ∷ l) (times-one x x ∙ mul-comm x (pow x 1) ∙ times-one (pow x 1) x ∙ pow-add x 1 1) (squares a)
+pub first-squares : (a : List ℕ) → map (λ u. mul u u) a ≡ map (λ u. pow u 2) a
+first-squares [] = refl
+first-squares (x ∷ a) =
+    ap₂ (λ (y : ℕ) (l : List ℕ). y ∷ l) (times-one x x ∙ mul-comm x (pow x 1) ∙ times-one (pow x 1) x ∙ pow-add x 1 1) (first-squares a)
+
+squares-at : (m : ℕ) (a : List ℕ) → map (λ u. mul u u) (map (λ u. pow u m) a) ≡ map (λ u. pow u (m + m)) a
+squares-at m [] = refl
+squares-at m (x ∷ a) = ap₂ (λ (y : ℕ) (l : List ℕ). y ∷ l) (pow-add x m m) (squares-at m a)
 
 next-powers : (m : ℕ) (a : List ℕ) → productsOf (map (λ u. pow u m) a) a ≡ map (λ u. pow u (m + 1)) a
 unfolding productsOf
@@ -116,6 +127,9 @@ powers-add m n [] = refl
 powers-add m n (x ∷ a) = ap₂ (λ (y : ℕ) (l : List ℕ). y ∷ l) (pow-add x m n) (powers-add m n a)
 
 -- the same, of lists that are powers of a
+pub squares : (a : List ℕ) (m : ℕ) {x : List ℕ} → x ≡ map (λ u. pow u m) a → map (λ u. mul u u) x ≡ map (λ u. pow u (m + m)) a
+squares a m p = ap (map (λ u. mul u u)) p ∙ squares-at m a
+
 pub one-more : (a : List ℕ) (m : ℕ) {x : List ℕ} → x ≡ map (λ u. pow u m) a → productsOf x a ≡ map (λ u. pow u (m + 1)) a
 one-more a m p = ap (λ (l : List ℕ). productsOf l a) p ∙ next-powers m a
 

@@ -2,14 +2,16 @@
 -- Assumes nothing.
 use mathlib.Core.Path.{_≡_, refl, sym, ap, ap₂, _∙_}
 use mathlib.Core.List.{List, [], _∷_, _++_, map, reverse, reverse-cons}
-use Prim.Native.Nat.{ℕ, zero, suc, _<_, Fin}
+use Prim.Native.Nat.{ℕ, zero, suc, _+_, _≤_, _<_, Fin}
 use Prim.{tt}
 use native.Mathlib.Nat.{le-of-suc-le-suc, not-suc-le-zero}
 use native.Mathlib.Omega.{arith}
 use lib.Bits.{bitXor, xor-lt}
 use lib.Dec.{lit<}
-use lib.ListN.{length, getD, drop, replicate, length-map, length-reverse}
+use lib.ListN.{length, getD, drop, replicate, set, length-map, length-reverse}
 use Rattle.common.specs.Lists.{Bytes}
+use Rattle.common.proofs.Lists.{getD-map-in}
+use Rattle.common.proofs.Written.{Written, written-none, written-next, written-whole}
 use Rattle.algebra.specs.Field.{ops}
 use Rattle.algebra.specs.Polynomial.{plus, scale, product}
 use Rattle.algebra.proofs.Homomorphism as Hom
@@ -119,3 +121,20 @@ products-at [] b i h k = absurd (not-suc-le-zero k)
 products-at (x ∷ a) [] i h k = absurd (omega arith)
 products-at (x ∷ a) (y ∷ b) zero h k = refl
 products-at (x ∷ a) (y ∷ b) (suc i) h k = products-at a b i (omega arith) (le-of-suc-le-suc k)
+
+-- ---- a loop that writes what f makes of each of sixteen bytes
+
+module _ (f : ℕ → ℕ) (a : List ℕ) (n : length a ≡ 16) where
+  length-mapped : length (map f a) ≡ 16
+  length-mapped = length-map a f ∙ n
+
+  pub mapped-none : {d : List ℕ} → length d ≡ 16 → Written 0 d (map f a) d 0
+  mapped-none h = written-none (omega (arith, length-mapped))
+
+  pub mapped-more : {d r : List ℕ} {j : ℕ} → Written 0 d (map f a) r j → (v : ℕ) → j < 16 → v ≡ f (getD a j 0) → Written 0 d (map f a) (set r j v) (j + 1)
+  mapped-more {d} {r} {j} w v h e = written-next w v (omega (arith, length-mapped)) (e ∙ sym (getD-map-in f a 0 0 j (omega arith)))
+
+  pub mapped-all : {d r : List ℕ} {j : ℕ} → length d ≡ 16 → Written 0 d (map f a) r j → 16 ≤ j → r ≡ map f a
+  mapped-all {d} {r} {j} l w h =
+      let e : j ≡ 16 = omega (arith, w .within, length-mapped) in
+      written-whole (rw e at w) length-mapped l

@@ -4,7 +4,7 @@ ghost use mathlib.Core.List.{map};
 ghost use Prim.Native.Nat.{_+_, _<_, _≤_};
 ghost use lib.ListN.{length, take, drop};
 ghost use Rattle.algebra.specs.Polynomial.{plus};
-ghost use Rattle.galois.specs.Field256.{numbers, inv, scaled};
+ghost use Rattle.galois.specs.Field256.{numbers, timesX, mul, inv, scaled};
 ghost use Rattle.byte_lanes.specs.Lanes.{productsOf, advanced, ValuesAt};
 
 // The sum in the field, lane by lane.
@@ -33,6 +33,32 @@ pub fn products(a: [u8; 16], b: [u8; 16]) -> [u8; 16]
     r
 }
 
+// Each lane times x.
+pub fn times_x(a: [u8; 16]) -> [u8; 16]
+    ensures { λ r. ⌜ r ≡ map timesX a ⌝ }
+{
+    let mut r = [0u8; 16];
+    let mut i: usize = 0;
+    while i < 16 {
+        r[i] = galois::times_x(a[i]);
+        i += 1;
+    }
+    r
+}
+
+// The square of each lane.
+fn squares(a: [u8; 16]) -> [u8; 16]
+    ensures { λ r. ⌜ r ≡ map (λ u. mul u u) a ⌝ }
+{
+    let mut r = [0u8; 16];
+    let mut k: usize = 0;
+    while k < 16 {
+        r[k] = galois::square(a[k]);
+        k += 1;
+    }
+    r
+}
+
 // Each lane times f, which is laid in all lanes: with f alone the compiler would branch on its bits.
 pub fn scale(a: [u8; 16], f: u8) -> [u8; 16]
     ensures { λ r. ⌜ r ≡ scaled f a ⌝ }
@@ -44,17 +70,17 @@ pub fn scale(a: [u8; 16], f: u8) -> [u8; 16]
 pub fn inverses(a: [u8; 16]) -> [u8; 16]
     ensures { λ r. ⌜ r ≡ map inv a ⌝ }
 {
-    let a2 = products(a, a);
+    let a2 = squares(a);
     let a3 = products(a2, a);
-    let a6 = products(a3, a3);
-    let a12 = products(a6, a6);
+    let a6 = squares(a3);
+    let a12 = squares(a6);
+    let a14 = products(a12, a2);
     let a15 = products(a12, a3);
-    let a30 = products(a15, a15);
-    let a60 = products(a30, a30);
-    let a120 = products(a60, a60);
-    let a126 = products(a120, a6);
-    let a127 = products(a126, a);
-    products(a127, a127)
+    let a30 = squares(a15);
+    let a60 = squares(a30);
+    let a120 = squares(a60);
+    let a240 = squares(a120);
+    products(a240, a14)
 }
 
 // One step of Horner's rule at the places x: from the values v, with one coefficient c more.

@@ -1,24 +1,25 @@
 -- The division's remainder in two words: bytes of numbers, the shift by one coefficient, and the multiples of the generator's tail.
 -- Assumes nothing.
 use mathlib.Core.Path.{_≡_, refl, sym, ap, ap₂, _∙_, subst}
-use mathlib.Core.List.{List, [], _∷_, _++_, append-assoc}
+use mathlib.Core.List.{List, [], _∷_, _++_, map, append-assoc}
 use Prim.Native.Nat.{ℕ, zero, suc, _+_, _-_, _*_, _/_, _%_, _^_, _≤_, _<_}
 use native.Mathlib.Nat.{mod-lt, mul-assoc, pow-suc, one-mul, zero-mul, add-zero}
 use native.Mathlib.Decide.{decLt, ℕ-discrete}
 use native.Mathlib.Numerals.{add-one}
 use native.Mathlib.Omega.{arith}
 use lib.Bits.{bitXor, xor-comm, xor-shr, xor-mod, xor-shifted, xor-block}
-use lib.Dec.{lit<, leb, leb→le}
+use lib.Dec.{T, lit<, leb, leb→le}
 use lib.ListN.{length, getD, take, drop, replicate, set, length-append, length-drop, length-set, List·getD-append}
 use lib.Pow.{split, pow-pos}
 use lib.Seq.{getD-drop, drop-cons, take-suc, take-all, getD-set-same, getD-set-other}
-use Rattle.common.proofs.Computed.{below-at}
+use Rattle.common.proofs.Computed.{below-at, agree, agree-at}
 use Rattle.common.proofs.Xor.{xor-assoc}
-use Rattle.algebra.specs.Polynomial.{plus, scale}
-use Rattle.galois.specs.Field256.{numbers, mul, rounds, timesX, scaled}
+use Rattle.algebra.specs.Polynomial.{power, plus, scale}
+use Rattle.galois.specs.Field256.{numbers, mul, rounds, timesX, pow, scaled}
 use Rattle.galois.proofs.Laws.{mul-add-left}
+use Rattle.galois.proofs.Powers.{pow-lt, power-next}
 use Rattle.reed_solomon.specs.Encode.{generatorTail, divided}
-use Rattle.byte_lanes.proofs.Powers.{zeros-at}
+use Rattle.byte_lanes.proofs.Powers.{zeros-at, scaled-next}
 use Rattle.reed_solomon.proofs.LongDivision.{tail-is}
 use Rattle.reed_solomon.specs.Steps.{lowBytes, coefficients, Extended, Multiples}
 
@@ -276,6 +277,44 @@ pub record Doubled (m : List ℕ) (size k : ℕ) : Type 0 where
 
 pub power-small : (k : ℕ) → k < 4 → 2 ^ k ≤ 8
 power-small k h = leb→le (2 ^ k) 8 (below-at (λ k. leb (2 ^ k) 8) 4 tt k h)
+
+-- the multiples by powers of x, of both halves
+pub record Shifted (low high : List ℕ) (k : ℕ) : Type 0 where
+  pub lower : low ≡ scaled (pow 2 k) generatorTail
+  pub upper : high ≡ scaled (pow 2 (k + 4)) generatorTail
+
+powers-small : T (agree (pow 2) (λ k. 2 ^ k) 4)
+unfolding power mul rounds timesX
+powers-small = tt
+
+powers-high : T (agree (λ k. pow 2 (k + 4)) (λ k. 2 ^ k * 16) 4)
+unfolding power mul rounds timesX
+powers-high = tt
+
+pub shifted-none : (g h : List ℕ) → generatorTail ≡ g → g ≡ scaled 1 g → h ≡ scaled 16 g → Shifted g h 0
+unfolding power mul rounds timesX
+shifted-none g h e one f =
+    record {
+      lower = one ∙ ap (scaled 1) (sym e);
+      upper = f ∙ ap (scaled 16) (sym e);
+    }
+
+pub shifted-more : (low high l h : List ℕ) (k : ℕ) → Shifted low high k → l ≡ map timesX low → h ≡ map timesX high → Shifted l h (k + 1)
+shifted-more low high l h k s e f =
+    let m : k + 4 + 1 ≡ k + 1 + 4 = omega arith in
+    record {
+      lower = e ∙ ap (map timesX) (s .lower) ∙ scaled-next (pow 2 k) generatorTail (pow-lt 2 k) ∙ ap (λ (n : ℕ). scaled n generatorTail) (power-next k);
+      upper = f ∙ ap (map timesX) (s .upper) ∙ scaled-next (pow 2 (k + 4)) generatorTail (pow-lt 2 (k + 4))
+          ∙ ap (λ (n : ℕ). scaled n generatorTail) (power-next (k + 4) ∙ ap (pow 2) m);
+    }
+
+-- while there are rows to come, those are the multiples by size and by 16 size
+pub shifted-low : {low high : List ℕ} {m : List ℕ} {size k : ℕ} → k < 4 → Doubled m size k → Shifted low high k → low ≡ scaled size generatorTail
+shifted-low {k = k} h d s = s .lower ∙ ap (λ (n : ℕ). scaled n generatorTail) (agree-at (pow 2) (λ k. 2 ^ k) 4 powers-small k h ∙ sym (d .power))
+
+pub shifted-high : {low high : List ℕ} {m : List ℕ} {size k : ℕ} → k < 4 → Doubled m size k → Shifted low high k → high ≡ scaled (size * 16) generatorTail
+shifted-high {k = k} h d s =
+    s .upper ∙ ap (λ (n : ℕ). scaled n generatorTail) (agree-at (λ k. pow 2 (k + 4)) (λ k. 2 ^ k * 16) 4 powers-high k h ∙ ap (λ (n : ℕ). n * 16) (sym (d .power)))
 
 zero-row : coefficients 0 0 ≡ scaled 0 generatorTail
 unfolding lowBytes scale mul rounds timesX

@@ -54,19 +54,23 @@ fn extend(m: &mut [u64], from: usize, size: usize, row: Remainder)
     }
 }
 
-// The multiples of the generator polynomial's tail by 0 to 15, then by 0, 16 and so on to 240. Eight are products, the others sums.
+// The multiples of the generator polynomial's tail by 0 to 15, then by 0, 16 and so on to 240.
+// Those by a power of x come of the one before, times x; the others are sums.
 fn multiples() -> [u64; 64]
     ensures { λ m. ⌜ Multiples m ⌝ }
 {
-    let g = GENERATOR;
+    let mut low = GENERATOR;
+    let mut high = byte_lanes::scale(low, 16);
     let mut m = [0u64; 64];
     let mut size: usize = 1;
     let mut k: usize = 0;
     while k < 4 {
-        let low = words(byte_lanes::scale(g, size as u8));
-        extend(&mut m, 0, size, low);
-        let high = words(byte_lanes::scale(g, (size * 16) as u8));
-        extend(&mut m, 16, size, high);
+        extend(&mut m, 0, size, words(low));
+        extend(&mut m, 16, size, words(high));
+        let lower = byte_lanes::times_x(low);
+        let higher = byte_lanes::times_x(high);
+        low = lower;
+        high = higher;
         size = size * 2;
         k += 1;
     }
