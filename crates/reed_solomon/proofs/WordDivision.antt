@@ -3,25 +3,27 @@
 use mathlib.Core.Path.{_≡_, refl, sym, ap, ap₂, _∙_, subst}
 use mathlib.Core.List.{List, [], _∷_, _++_, map, append-assoc}
 use Prim.Native.Nat.{ℕ, zero, suc, _+_, _-_, _*_, _/_, _%_, _^_, _≤_, _<_}
-use native.Mathlib.Nat.{mod-lt, mul-assoc, pow-suc, one-mul, zero-mul, add-zero}
+use native.Mathlib.Nat.{mod-lt, add-assoc, mul-assoc, pow-suc, one-mul, zero-mul, add-zero}
 use native.Mathlib.Decide.{decLt, ℕ-discrete}
 use native.Mathlib.Numerals.{add-one}
 use native.Mathlib.Omega.{arith}
-use lib.Bits.{bitXor, xor-comm, xor-shr, xor-mod, xor-shifted, xor-block}
+use lib.Bits.{bitXor, xor-comm, xor-zero-r, xor-shr, xor-mod, xor-shifted, xor-block}
 use lib.Dec.{T, lit<, leb, leb→le}
-use lib.ListN.{length, getD, take, drop, replicate, set, length-append, length-drop, length-set, List·getD-append}
+use lib.ListN.{length, getD, take, drop, replicate, set, length-append, length-drop, length-map, length-set, List·getD-append}
 use lib.Pow.{split, pow-pos}
 use lib.Seq.{getD-drop, drop-cons, take-suc, take-all, getD-set-same, getD-set-other}
 use Rattle.common.proofs.Computed.{below-at, agree, agree-at}
 use Rattle.common.proofs.Xor.{xor-assoc}
 use Rattle.algebra.specs.Polynomial.{power, plus, scale}
 use Rattle.galois.specs.Field256.{numbers, mul, rounds, timesX, pow, scaled}
+use Rattle.galois.proofs.Linear.{xor-swap}
 use Rattle.galois.proofs.Laws.{mul-add-left}
 use Rattle.galois.proofs.Powers.{pow-lt, power-next}
 use Rattle.reed_solomon.specs.Encode.{generatorTail, divided}
+use Rattle.byte_lanes.proofs.Words.{sum-at}
 use Rattle.byte_lanes.proofs.Powers.{zeros-at, scaled-next}
-use Rattle.reed_solomon.proofs.LongDivision.{tail-is}
-use Rattle.reed_solomon.specs.Steps.{lowBytes, coefficients, Extended, Multiples}
+use Rattle.reed_solomon.proofs.LongDivision.{tail-is, length-tail}
+use Rattle.reed_solomon.specs.Steps.{lowBytes, coefficients, Extended, lowEntry, highEntry, Multiples, Following}
 
 -- ---- bytes of a number
 
@@ -61,6 +63,13 @@ plus-assoc (x ∷ a) [] c = refl
 plus-assoc (x ∷ a) (y ∷ b) [] = refl
 plus-assoc (x ∷ a) (y ∷ b) (z ∷ c) = ap₂ _∷_ (xor-assoc x y z) (plus-assoc a b c)
 
+plus-comm : (a b : List ℕ) → plus numbers a b ≡ plus numbers b a
+unfolding plus
+plus-comm [] [] = refl
+plus-comm [] (y ∷ b) = refl
+plus-comm (x ∷ a) [] = refl
+plus-comm (x ∷ a) (y ∷ b) = ap₂ _∷_ (xor-comm x y) (plus-comm a b)
+
 scaled-sum : (a b : ℕ) (l : List ℕ) → scaled (bitXor a b) l ≡ plus numbers (scaled a l) (scaled b l)
 unfolding plus scale
 scaled-sum a b [] = refl
@@ -73,6 +82,33 @@ coefficients-sum : (a b c d : ℕ) → coefficients (bitXor a c) (bitXor b d) �
 coefficients-sum a b c d =
     ap₂ _++_ (low-xor 8 a c) (low-xor 8 b d)
     ∙ sym (plus-append (lowBytes 8 a) (lowBytes 8 c) (lowBytes 8 b) (lowBytes 8 d) (length-low 8 a ∙ sym (length-low 8 c)))
+
+-- ---- the division is linear
+
+plus-swap : (a b c d : List ℕ) → plus numbers (plus numbers a b) (plus numbers c d) ≡ plus numbers (plus numbers a c) (plus numbers b d)
+plus-swap a b c d =
+    plus-assoc a b (plus numbers c d)
+    ∙ ap (plus numbers a) (sym (plus-assoc b c d) ∙ ap (λ (l : List ℕ). plus numbers l d) (plus-comm b c) ∙ plus-assoc c b d)
+    ∙ sym (plus-assoc a c (plus numbers b d))
+
+length-multiple : (f : ℕ) → length (scaled f generatorTail) ≡ 16
+unfolding scale
+length-multiple f = length-map generatorTail (mul f) ∙ length-tail
+
+moved : (a b : List ℕ) → length a ≡ length b → drop 1 (plus numbers a b) ++ 0 ∷ [] ≡ plus numbers (drop 1 a ++ 0 ∷ []) (drop 1 b ++ 0 ∷ [])
+unfolding plus
+moved [] [] h = refl
+moved [] (y ∷ b) h = absurd (omega arith)
+moved (x ∷ a) [] h = absurd (omega arith)
+moved (x ∷ a) (y ∷ b) h = sym (plus-append a b (0 ∷ []) (0 ∷ []) (omega arith))
+
+divided-sum : (a b : List ℕ) (d e : ℕ) → length a ≡ 16 → length b ≡ 16 → divided (plus numbers a b) (bitXor d e) ≡ plus numbers (divided a d) (divided b e)
+unfolding divided
+divided-sum a b d e n m =
+    ap₂ (plus numbers) (moved a b (n ∙ sym m))
+    (ap (λ (x : ℕ). scaled x generatorTail) (ap (λ (x : ℕ). bitXor x (bitXor d e)) (sum-at a b 0 (n ∙ sym m)) ∙ xor-swap (getD a 0 0) (getD b 0 0) d e)
+    ∙ scaled-sum (bitXor (getD a 0 0) d) (bitXor (getD b 0 0) e) generatorTail)
+    ∙ plus-swap (drop 1 a ++ 0 ∷ []) (drop 1 b ++ 0 ∷ []) (scaled (bitXor (getD a 0 0) d) generatorTail) (scaled (bitXor (getD b 0 0) e) generatorTail)
 
 -- ---- one step
 
@@ -92,6 +128,34 @@ shifted-words u l d hu hl hd =
     let b : lowBytes 8 (l / 256 + d * 256 ^ 7) ≡ lowBytes 7 (l / 256) ++ d ∷ [] = low-more 7 (l / 256) d (omega arith) hd in
     ap₂ _++_ a b
 
+shift-more : (x c : ℕ) → (x + c * 2 ^ 56) / 256 ≡ x / 256 + c * 2 ^ 48
+shift-more x c = omega arith
+
+shift-again : (u : ℕ) → u / 256 / 256 ≡ u / 65536
+shift-again u = omega arith
+
+two-bytes : (l : ℕ) → l % 256 * 2 ^ 48 + l / 256 % 256 * 2 ^ 56 ≡ l % 65536 * 2 ^ 48
+two-bytes l = omega arith
+
+-- six bytes and two more are a word
+pub twice-lt : (u l : ℕ) → u < 2 ^ 64 → u / 65536 + l % 65536 * 2 ^ 48 < 2 ^ 64
+twice-lt u l h = six-and-two (u / 65536) (l % 65536) (omega arith) (mod-lt l (lit< tt))
+  where
+    six-and-two : (x y : ℕ) → x < 2 ^ 48 → y < 65536 → x + y * 2 ^ 48 < 2 ^ 64
+    six-and-two x y hx hy = omega arith
+
+-- two bytes at once are two single ones
+pub shifted-twice : (u l : ℕ) → u < 2 ^ 64 → l < 2 ^ 64
+    → coefficients (u / 65536 + l % 65536 * 2 ^ 48) (l / 65536) ≡ drop 1 (drop 1 (coefficients u l) ++ 0 ∷ []) ++ 0 ∷ []
+shifted-twice u l hu hl =
+    let a : u / 65536 + l % 65536 * 2 ^ 48 ≡ (u / 256 + l % 256 * 2 ^ 56) / 256 + (l / 256 + 0 * 2 ^ 56) % 256 * 2 ^ 56
+    = ap₂ (λ (x y : ℕ). x + y) (sym (shift-again u)) (sym (two-bytes l)) ∙ sym (add-assoc (u / 256 / 256) (l % 256 * 2 ^ 48) (l / 256 % 256 * 2 ^ 56))
+    ∙ ap₂ (λ (x y : ℕ). x + y % 256 * 2 ^ 56) (sym (shift-more (u / 256) (l % 256))) (sym (add-zero (l / 256))) in
+    let b : l / 65536 ≡ (l / 256 + 0 * 2 ^ 56) / 256 + 0 * 2 ^ 56 = omega arith in
+    ap₂ coefficients a b
+    ∙ shifted-words (u / 256 + l % 256 * 2 ^ 56) (l / 256 + 0 * 2 ^ 56) 0 (shifted-lt u (l % 256) hu (mod-lt l (lit< tt))) (shifted-lt l 0 hl (lit< tt)) (lit< tt)
+    ∙ ap (λ (r : List ℕ). drop 1 r ++ 0 ∷ []) (shifted-words u l 0 hu hl (lit< tt))
+
 -- a byte is the sum of its halves
 halves : (f : ℕ) → bitXor (f % 16) (f / 16 * 16) ≡ f
 halves f = xor-comm (f % 16) (f / 16 * 16) ∙ xor-shifted (f / 16) 4 (f % 16) (mod-lt f (lit< tt)) ∙ split f 4
@@ -107,18 +171,50 @@ shifted-at u l v w d i e h =
     ∙ List·getD-append (drop 1 (coefficients u l)) (d ∷ []) 0 i (omega (arith, length-drop 1 (coefficients u l), length-coefficients u l))
     ∙ getD-drop 1 (coefficients u l) i 0 ∙ ap (λ (k : ℕ). getD (coefficients u l) k 0) (omega arith)
 
-module _ (m : List ℕ) (h : Multiples m) where
-  -- the shifted remainder and the two multiples
-  pub divided-words : (u l v w d f : ℕ) → f ≡ bitXor (u % 256) d → f < 256 → coefficients v w ≡ drop 1 (coefficients u l) ++ 0 ∷ []
-      → coefficients (bitXor (bitXor v (getD m (f % 16 * 2) 0)) (getD m (f / 16 * 2 + 32) 0)) (bitXor (bitXor w (getD m (f % 16 * 2 + 1) 0)) (getD m (f / 16 * 2 + 32 + 1) 0))
-      ≡ divided (coefficients u l) d
-  unfolding divided
-  divided-words u l v w d f e hf s =
-      coefficients-sum (bitXor v (getD m (f % 16 * 2) 0)) (bitXor w (getD m (f % 16 * 2 + 1) 0)) (getD m (f / 16 * 2 + 32) 0) (getD m (f / 16 * 2 + 32 + 1) 0)
-      ∙ ap₂ (plus numbers) (coefficients-sum v w (getD m (f % 16 * 2) 0) (getD m (f % 16 * 2 + 1) 0) ∙ ap₂ (plus numbers) s (h .low (f % 16) (mod-lt f (lit< tt)))) (h .high (f / 16) (omega arith))
-      ∙ plus-assoc (drop 1 (coefficients u l) ++ 0 ∷ []) (scaled (f % 16) generatorTail) (scaled (f / 16 * 16) generatorTail)
-      ∙ ap (plus numbers (drop 1 (coefficients u l) ++ 0 ∷ []))
-      (sym (scaled-sum (f % 16) (f / 16 * 16) generatorTail) ∙ ap (λ (x : ℕ). scaled x generatorTail) (halves f ∙ e ∙ ap (λ (x : ℕ). bitXor x d) (sym (first u l))))
+-- both entries of a byte, in words
+pub entries-words : (m : List ℕ) (u l f : ℕ)
+    → coefficients (bitXor (bitXor u (getD m (f % 16 * 2) 0)) (getD m (f / 16 * 2 + 32) 0)) (bitXor (bitXor l (getD m (f % 16 * 2 + 1) 0)) (getD m (f / 16 * 2 + 32 + 1) 0))
+    ≡ plus numbers (plus numbers (coefficients u l) (lowEntry m (f % 16))) (highEntry m (f / 16))
+entries-words m u l f =
+    coefficients-sum (bitXor u (getD m (f % 16 * 2) 0)) (bitXor l (getD m (f % 16 * 2 + 1) 0)) (getD m (f / 16 * 2 + 32) 0) (getD m (f / 16 * 2 + 32 + 1) 0)
+    ∙ ap (λ (r : List ℕ). plus numbers r (highEntry m (f / 16))) (coefficients-sum u l (getD m (f % 16 * 2) 0) (getD m (f % 16 * 2 + 1) 0))
+
+module _ (m : List ℕ) (h : Multiples m) (f : ℕ) (hf : f < 256) where
+  -- the two multiples make the multiple by the byte
+  both : plus numbers (scaled (f % 16) generatorTail) (scaled (f / 16 * 16) generatorTail) ≡ scaled f generatorTail
+  both = sym (scaled-sum (f % 16) (f / 16 * 16) generatorTail) ∙ ap (λ (x : ℕ). scaled x generatorTail) (halves f)
+
+  pub entries-multiple : (r : List ℕ) → plus numbers (plus numbers r (lowEntry m (f % 16))) (highEntry m (f / 16)) ≡ plus numbers r (scaled f generatorTail)
+  entries-multiple r =
+      ap₂ (λ (a b : List ℕ). plus numbers (plus numbers r a) b) (h .low (f % 16) (mod-lt f (lit< tt))) (h .high (f / 16) (omega arith))
+      ∙ plus-assoc r (scaled (f % 16) generatorTail) (scaled (f / 16 * 16) generatorTail) ∙ ap (plus numbers r) both
+
+  -- and after one step more they make that multiple after one step more
+  pub entries-following : (g : List ℕ) → Following m g → (r : List ℕ)
+      → plus numbers (plus numbers r (lowEntry g (f % 16))) (highEntry g (f / 16)) ≡ plus numbers r (divided (scaled f generatorTail) 0)
+  entries-following g w r =
+      ap₂ (λ (a b : List ℕ). plus numbers (plus numbers r a) b)
+      (w .low (f % 16) (mod-lt f (lit< tt)) ∙ ap (λ (l : List ℕ). divided l 0) (h .low (f % 16) (mod-lt f (lit< tt))))
+      (w .high (f / 16) (omega arith) ∙ ap (λ (l : List ℕ). divided l 0) (h .high (f / 16) (omega arith)))
+      ∙ plus-assoc r (divided (scaled (f % 16) generatorTail) 0) (divided (scaled (f / 16 * 16) generatorTail) 0)
+      ∙ ap (plus numbers r)
+      (sym (divided-sum (scaled (f % 16) generatorTail) (scaled (f / 16 * 16) generatorTail) 0 0 (length-multiple (f % 16)) (length-multiple (f / 16 * 16)))
+      ∙ ap (λ (l : List ℕ). divided l 0) both)
+
+-- one step: the shifted remainder and the multiple
+pub one-step : (u l d f : ℕ) (r : List ℕ) → f ≡ bitXor (u % 256) d → r ≡ drop 1 (coefficients u l) ++ 0 ∷ [] → plus numbers r (scaled f generatorTail) ≡ divided (coefficients u l) d
+unfolding divided
+one-step u l d f r e s = ap₂ (λ (a : List ℕ) (x : ℕ). plus numbers a (scaled x generatorTail)) s (e ∙ ap (λ (x : ℕ). bitXor x d) (sym (first u l)))
+
+-- two steps: the remainder shifted twice, the multiple of the second and what one step more makes of that of the first
+pub two-steps : (u l d e f g : ℕ) (r : List ℕ) → f ≡ bitXor (u % 256) d → g ≡ bitXor (u / 256 % 256) e → r ≡ drop 1 (drop 1 (coefficients u l) ++ 0 ∷ []) ++ 0 ∷ []
+    → plus numbers (plus numbers r (scaled g generatorTail)) (divided (scaled f generatorTail) 0) ≡ divided (divided (coefficients u l) d) e
+unfolding divided lowBytes
+two-steps u l d e f g r ef eg s =
+    ap (λ (a : List ℕ). plus numbers a (divided (scaled f generatorTail) 0))
+    (ap₂ (λ (a : List ℕ) (x : ℕ). plus numbers a (scaled x generatorTail)) s eg)
+    ∙ sym (divided-sum (drop 1 (coefficients u l) ++ 0 ∷ []) (scaled f generatorTail) e 0 refl (length-multiple f))
+    ∙ ap₂ divided (ap (λ (x : ℕ). plus numbers (drop 1 (coefficients u l) ++ 0 ∷ []) (scaled x generatorTail)) ef) (xor-zero-r e)
 
 -- ---- sixteen coefficients as two words, one after the other from the last
 
@@ -351,3 +447,43 @@ pub doubled-all : (m : List ℕ) (size k : ℕ) → 4 ≤ k → Doubled m size k
 doubled-all m size k h d =
     let e : k ≡ 4 = omega (arith, d .most) in
     rows-all m (subst (λ (x : ℕ). Rows m 0 (2 ^ x) 0) e (d .low)) (subst (λ (x : ℕ). Rows m 16 (2 ^ x) 4) e (d .high))
+
+-- ---- the multiples after one step more
+
+-- the first n entries are there
+pub record Followed (m f : List ℕ) (n : ℕ) : Type 0 where
+  pub most : n ≤ 32
+  pub len : length f ≡ 64
+  pub each : (k : ℕ) → k < n → lowEntry f k ≡ divided (lowEntry m k) 0
+
+pub followed-none : (m f : List ℕ) → length f ≡ 64 → Followed m f 0
+followed-none m f l = record { most = omega arith; len = l; each = λ k h. absurd (omega arith) }
+
+pub followed-more : (m f : List ℕ) (n u l : ℕ) → n < 32 → coefficients u l ≡ divided (lowEntry m n) 0 → Followed m f n → Followed m (set (set f (n * 2) u) (n * 2 + 1) l) (n + 1)
+followed-more m f n u l h e w =
+    record { most = omega arith; len = length-set (set f (n * 2) u) (n * 2 + 1) l ∙ length-set f (n * 2) u ∙ w .len; each = λ k b. go k b (ℕ-discrete k n) }
+  where
+    g : List ℕ
+    g = set (set f (n * 2) u) (n * 2 + 1) l
+
+    upper : getD g (n * 2) 0 ≡ u
+    upper = getD-set-other (set f (n * 2) u) (n * 2 + 1) (n * 2) l 0 (λ z. omega arith) ∙ getD-set-same f (n * 2) u 0 (omega (arith, w .len))
+
+    lower : getD g (n * 2 + 1) 0 ≡ l
+    lower = getD-set-same (set f (n * 2) u) (n * 2 + 1) l 0 (omega (arith, w .len, length-set f (n * 2) u))
+
+    other : (k : ℕ) → (k ≡ n * 2 → ⊥) → (k ≡ n * 2 + 1 → ⊥) → getD g k 0 ≡ getD f k 0
+    other k a b = getD-set-other (set f (n * 2) u) (n * 2 + 1) k l 0 b ∙ getD-set-other f (n * 2) k u 0 a
+
+    go : (k : ℕ) → k < n + 1 → Dec (k ≡ n) → lowEntry g k ≡ divided (lowEntry m k) 0
+    go k b (yes z) = ap (lowEntry g) z ∙ ap₂ coefficients upper lower ∙ e ∙ ap (λ (j : ℕ). divided (lowEntry m j) 0) (sym z)
+    go k b (no z) = ap₂ coefficients (other (k * 2) (λ q. z (omega arith)) (λ q. omega arith)) (other (k * 2 + 1) (λ q. omega arith) (λ q. z (omega arith))) ∙ w .each k (omega arith)
+
+pub followed-all : (m f : List ℕ) (n : ℕ) → 32 ≤ n → Followed m f n → Following m f
+followed-all m f n h w =
+    record { low = λ k b. w .each k (omega arith); high = λ k b. place f k ∙ w .each (k + 16) (omega arith) ∙ ap (λ (r : List ℕ). divided r 0) (sym (place m k)) }
+  where
+    place : (l : List ℕ) (k : ℕ) → highEntry l k ≡ lowEntry l (k + 16)
+    place l k =
+        let e : k * 2 + 32 ≡ (k + 16) * 2 = omega arith in
+        ap (λ (j : ℕ). coefficients (getD l j 0) (getD l (j + 1) 0)) e

@@ -13,7 +13,7 @@ use Rattle.algebra.specs.Polynomial.{eval, plus}
 use Rattle.galois.specs.Field256.{numbers, scaled}
 use Rattle.galois.proofs.Instance.{bytes, byte}
 use Rattle.byte_lanes.specs.Lanes.{word, point}
-use Rattle.reed_solomon.specs.Encode.{generatorTail, checkBytes}
+use Rattle.reed_solomon.specs.Encode.{generatorTail, divided, checkBytes}
 
 -- ---- the division
 
@@ -34,10 +34,22 @@ pub record Extended (old new : List ℕ) (from size i upper lower : ℕ) : Type 
   pub before : (k : ℕ) → k < (from + size) * 2 → getD new k 0 ≡ getD old k 0
   pub after : (k : ℕ) → (from + size + i) * 2 ≤ k → getD new k 0 ≡ getD old k 0
 
--- the multiples of the generator's tail by the halves of a byte, each in two words
+-- a table has an entry for each value of the low half of a byte, and then one for each of the high half
+abbrev pub lowEntry : List ℕ → ℕ → List ℕ
+lowEntry m n = coefficients (getD m (n * 2) 0) (getD m (n * 2 + 1) 0)
+
+abbrev pub highEntry : List ℕ → ℕ → List ℕ
+highEntry m n = coefficients (getD m (n * 2 + 32) 0) (getD m (n * 2 + 32 + 1) 0)
+
+-- the multiples of the generator's tail by the halves of a byte
 pub record Multiples (m : List ℕ) : Type 0 where
-  pub low : (n : ℕ) → n < 16 → coefficients (getD m (n * 2) 0) (getD m (n * 2 + 1) 0) ≡ scaled n generatorTail
-  pub high : (n : ℕ) → n < 16 → coefficients (getD m (n * 2 + 32) 0) (getD m (n * 2 + 32 + 1) 0) ≡ scaled (n * 16) generatorTail
+  pub low : (n : ℕ) → n < 16 → lowEntry m n ≡ scaled n generatorTail
+  pub high : (n : ℕ) → n < 16 → highEntry m n ≡ scaled (n * 16) generatorTail
+
+-- each entry after one step more of the division
+pub record Following (m f : List ℕ) : Type 0 where
+  pub low : (n : ℕ) → n < 16 → lowEntry f n ≡ divided (lowEntry m n) 0
+  pub high : (n : ℕ) → n < 16 → highEntry f n ≡ divided (highEntry m n) 0
 
 -- ---- the residue
 

@@ -1,10 +1,12 @@
 // Long division by the generator polynomial, with the remainder in two words.
 ghost use mathlib.Core.Path.{_≡_};
 ghost use mathlib.Core.List.{[], _∷_, _++_};
-ghost use Prim.Native.Nat.{_+_, _≤_};
+ghost use Prim.Native.Nat.{_+_, _/_, _%_, _≤_};
 ghost use lib.ListN.{length, take, drop};
+ghost use Rattle.algebra.specs.Polynomial.{plus};
+ghost use Rattle.galois.specs.Field256.{numbers};
 ghost use Rattle.reed_solomon.specs.Encode.{divided, checkBytes};
-ghost use Rattle.reed_solomon.specs.Steps.{coefficients, Extended, Multiples, residueOf, allZero};
+ghost use Rattle.reed_solomon.specs.Steps.{coefficients, Extended, lowEntry, highEntry, Multiples, Following, residueOf, allZero};
 use crate::GENERATOR;
 
 // A remainder of the division: sixteen coefficients, from x^15 down, eight in a word, the first in its lowest byte.
@@ -20,6 +22,16 @@ fn shifted(r: Remainder, d: u8) -> Remainder
     Remainder {
         upper: r.upper / 256 + r.lower % 256 * 0x0100000000000000,
         lower: r.lower / 256 + d as u64 * 0x0100000000000000,
+    }
+}
+
+// The same by two powers of x at once, with nothing coming in.
+fn shifted_two(r: Remainder) -> Remainder
+    ensures { λ q. ⌜ coefficients (q .upper) (q .lower) ≡ drop 1 (drop 1 (coefficients (r .upper) (r .lower)) ++ 0 ∷ []) ++ 0 ∷ [] ⌝ }
+{
+    Remainder {
+        upper: r.upper / 65536 + r.lower % 65536 * 0x0001000000000000,
+        lower: r.lower / 65536,
     }
 }
 
@@ -77,19 +89,59 @@ fn multiples() -> [u64; 64]
     m
 }
 
-// One step of the division, for the next byte of the dividend. What leaves at the top is taken away by its two halves.
+// A remainder, and the entry of a table for a byte: the sum of the entries for its two halves.
+fn add_entry(r: Remainder, f: u8, table: &[u64; 64]) -> Remainder
+    ensures { λ q. ⌜
+        coefficients (q .upper) (q .lower)
+        ≡ plus numbers (plus numbers (coefficients (r .upper) (r .lower)) (lowEntry (now (table .entry)) (f % 16))) (highEntry (now (table .entry)) (f / 16)) ⌝ }
+{
+    let low = (f % 16) as usize * 2;
+    let high = (f / 16) as usize * 2 + 32;
+    Remainder {
+        upper: r.upper ^ table[low] ^ table[high],
+        lower: r.lower ^ table[low + 1] ^ table[high + 1],
+    }
+}
+
+// One step of the division, for the next byte of the dividend.
 fn divide(r: Remainder, d: u8, multiples: &[u64; 64]) -> Remainder
     requires { ⌜ Multiples (now multiples) ⌝ }
     ensures { λ q. ⌜ coefficients (q .upper) (q .lower) ≡ divided (coefficients (r .upper) (r .lower)) d ⌝ }
 {
     let f = (r.upper % 256) as u8 ^ d;
-    let low = (f % 16) as usize * 2;
-    let high = (f / 16) as usize * 2 + 32;
-    let q = shifted(r, 0);
-    Remainder {
-        upper: q.upper ^ multiples[low] ^ multiples[high],
-        lower: q.lower ^ multiples[low + 1] ^ multiples[high + 1],
+    add_entry(shifted(r, 0), f, multiples)
+}
+
+// What each of the multiples is after one step more of the division.
+fn following(multiples: &[u64; 64]) -> [u64; 64]
+    requires { ⌜ Multiples (now multiples) ⌝ }
+    ensures { λ m. ⌜ Following (now (multiples .entry)) m ⌝ }
+{
+    let mut m = [0u64; 64];
+    let mut n: usize = 0;
+    while n < 32 {
+        let at = n * 2;
+        let row = Remainder {
+            upper: multiples[at],
+            lower: multiples[at + 1],
+        };
+        let q = divide(row, 0, multiples);
+        m[at] = q.upper;
+        m[at + 1] = q.lower;
+        n += 1;
     }
+    m
+}
+
+// Two steps of the division at once, so that the second need not wait for what the first looked up.
+fn divide_two(r: Remainder, d: u8, e: u8, multiples: &[u64; 64], following: &[u64; 64]) -> Remainder
+    requires { ⌜ Multiples (now multiples) × Following (now multiples) (now following) ⌝ }
+    ensures { λ q. ⌜ coefficients (q .upper) (q .lower) ≡ divided (divided (coefficients (r .upper) (r .lower)) d) e ⌝ }
+{
+    let f = (r.upper % 256) as u8 ^ d;
+    let g = (r.upper / 256 % 256) as u8 ^ e;
+    let q = add_entry(shifted_two(r), g, multiples);
+    add_entry(q, f, following)
 }
 
 // The remainder as bytes, from x^15 down.
@@ -114,12 +166,13 @@ fn divide_message(message: &[u8]) -> Remainder
     ensures { λ r. ⌜ coefficients (r .upper) (r .lower) ≡ checkBytes (take 188 (now (message .entry))) ⌝ }
 {
     let multiples = multiples();
+    let following = following(&multiples);
     let mut r = Remainder { upper: 0, lower: 0 };
     let mut i: usize = 0;
     while i < 188 {
-        let q = divide(r, message[i], &multiples);
+        let q = divide_two(r, message[i], message[i + 1], &multiples, &following);
         r = q;
-        i += 1;
+        i += 2;
     }
     r
 }

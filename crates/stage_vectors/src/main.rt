@@ -1,4 +1,4 @@
-// Compares the randomizer, the outer coder and the interleaver with what GNU Radio gives for the same 40 packets, and calls both at their limits.
+// Compares the randomizer, the outer coder and the interleaver with what GNU Radio gives for the same 40 packets, and calls the randomizer and the interleaver at their limits.
 ghost use mathlib.Core.Path.{_≡_};
 ghost use Prim.Native.Nat.{_<_};
 ghost use lib.ListN.{length};
