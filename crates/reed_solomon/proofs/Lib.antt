@@ -2,6 +2,7 @@ pub mod Codewords
 pub mod Distance
 pub mod LongDivision
 pub mod WordDivision
+pub mod PowerRuns
 pub mod Residue
 pub mod Zeros
 pub mod Completeness

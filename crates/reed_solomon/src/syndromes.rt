@@ -5,15 +5,25 @@ ghost use Rattle.byte_lanes.specs.Lanes.{Powers};
 ghost use Rattle.reed_solomon.specs.Steps.{SyndromesOf};
 
 // The powers of 02. The first sixteen are the roots of the generator polynomial, and power i is the place of the coefficient of x^i.
+// They are made in four runs side by side, each from its first one, so that a power need not wait for all those before it.
 pub fn powers() -> [u8; 208]
     ensures { λ r. ⌜ Powers r ⌝ }
 {
     let mut x = [0u8; 208];
-    let mut p: u8 = 1;
+    let mut a: u8 = 0x01;
+    let mut b: u8 = 0x14;
+    let mut c: u8 = 0x0D;
+    let mut d: u8 = 0xE4;
     let mut i: usize = 0;
-    while i < 208 {
-        x[i] = p;
-        p = galois::times_x(p);
+    while i < 52 {
+        x[i] = a;
+        x[i + 52] = b;
+        x[i + 104] = c;
+        x[i + 156] = d;
+        a = galois::times_x(a);
+        b = galois::times_x(b);
+        c = galois::times_x(c);
+        d = galois::times_x(d);
         i += 1;
     }
     x
