@@ -20,7 +20,7 @@ pub fn sum(a: [u8; 16], b: [u8; 16]) -> [u8; 16]
     r
 }
 
-// The products in the field, lane by lane. It is a whose multiples by the powers of x are made: where one factor stays, let it be a, and they are made once.
+// The products in the field, lane by lane.
 pub fn products(a: [u8; 16], b: [u8; 16]) -> [u8; 16]
     ensures { λ r. ⌜ r ≡ productsOf a b ⌝ }
 {
