@@ -8,22 +8,6 @@ struct Compared {
     same: bool,
 }
 
-// Whether the next bytes of a file are those of the slice.
-fn same_as_file(wanted: i32, symbols: &[u8], expected: &mut [u8]) -> bool {
-    io::read_full(wanted, expected) == symbols.len() && check::same(symbols, expected)
-}
-
-// The first so many of the room.
-fn same_symbols(wanted: i32, room: &[u8], expected: &mut [u8], count: usize) -> bool {
-    if count > room.len() {
-        return false;
-    }
-    if count > expected.len() {
-        return false;
-    }
-    same_as_file(wanted, &room[..count], &mut expected[..count])
-}
-
 fn compare_block(coder: InnerCoder, input: i32, wanted: i32) -> Compared {
     let mut block = [0u8; 204];
     let mut room = [0u8; 1632];
@@ -39,7 +23,7 @@ fn compare_block(coder: InnerCoder, input: i32, wanted: i32) -> Compared {
             same: false,
         };
     }
-    let same = same_symbols(wanted, &room, &mut expected, count);
+    let same = vector_files::same_symbols(wanted, &room, &mut expected, count);
     Compared { coder: next, same }
 }
 
@@ -57,18 +41,7 @@ fn compare_all(rate: u8, input: i32, wanted: i32) -> bool {
         }
         k += 1;
     }
-    same && at_end(input) && at_end(wanted)
-}
-
-fn at_end(fd: i32) -> bool {
-    let mut more = [0u8; 1];
-    io::read_full(fd, &mut more) == 0
-}
-
-fn print_line(name: &[u8], n: u64) {
-    io::write_all(STDOUT_FILENO, name);
-    io::print_decimal(STDOUT_FILENO, n);
-    io::write_all(STDOUT_FILENO, b"\n");
+    same && vector_files::at_end(input) && vector_files::at_end(wanted)
 }
 
 fn compare(rate: u8, name: &[u8]) {
@@ -92,14 +65,14 @@ fn compare(rate: u8, name: &[u8]) {
 fn answer_new(name: &[u8], rate: u8) {
     let created = InnerCoder::new(rate);
     let answer = created.answer;
-    print_line(name, answer.number() as u64);
+    vector_files::print_line(name, answer.number() as u64);
 }
 
 // The answer to a block and a room.
 fn answer_encode(name: &[u8], coder: InnerCoder, block: &[u8], room: &mut [u8]) {
     let encoded = coder.encode(block, room);
     let answer = encoded.answer;
-    print_line(name, answer.number() as u64);
+    vector_files::print_line(name, answer.number() as u64);
 }
 
 // The answer to a block of so many bytes.

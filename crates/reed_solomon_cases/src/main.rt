@@ -13,13 +13,6 @@ struct Tally {
     other: u64,
 }
 
-// Writes a line with a number.
-fn report(name: &[u8], n: u64) {
-    io::write_all(STDOUT_FILENO, name);
-    io::print_decimal(STDOUT_FILENO, n);
-    io::write_all(STDOUT_FILENO, b"\n");
-}
-
 // One more, up to a thousand.
 fn more(n: u64) -> u64 {
     if n < 1000 { n + 1 } else { n }
@@ -131,10 +124,10 @@ fn errors() {
     let mut n: usize = 0;
     while n < 13 {
         let tally = all_starts(sent, n);
-        report(b"errors in a block: ", n as u64);
-        report(b"  corrected with that count: ", tally.corrected);
-        report(b"  uncorrectable and untouched: ", tally.refused);
-        report(b"  anything else: ", tally.other);
+        vector_files::print_line(b"errors in a block: ", n as u64);
+        vector_files::print_line(b"  corrected with that count: ", tally.corrected);
+        vector_files::print_line(b"  uncorrectable and untouched: ", tally.refused);
+        vector_files::print_line(b"  anything else: ", tally.other);
         n += 1;
     }
 }
@@ -193,11 +186,11 @@ fn lightest() {
         tally = next;
         start += 1;
     }
-    report(
+    vector_files::print_line(
         b"codeword of weight 17 with eight bytes cleared, back with count 8: ",
         tally.corrected,
     );
-    report(b"  anything else: ", tally.other);
+    vector_files::print_line(b"  anything else: ", tally.other);
 }
 
 // The remainder of x^204 by the generator polynomial.
@@ -231,7 +224,7 @@ fn never_sent() {
     }
     let mut left = came;
     let answer = number(reed_solomon::decode(&mut left));
-    report(b"remainder of x^204: answer ", answer);
+    vector_files::print_line(b"remainder of x^204: answer ", answer);
     if check::same(&left, &came) {
         io::write_all(STDOUT_FILENO, b"  untouched\n");
     }
@@ -254,11 +247,11 @@ fn generator() {
 
 fn encode_answer(name: &[u8], message: &[u8], room: &mut [u8]) {
     let answer = reed_solomon::encode(message, room);
-    report(name, answer.number() as u64);
+    vector_files::print_line(name, answer.number() as u64);
 }
 
 fn decode_answer(name: &[u8], block: &mut [u8]) {
-    report(name, number(reed_solomon::decode(block)));
+    vector_files::print_line(name, number(reed_solomon::decode(block)));
 }
 
 fn limits() {

@@ -9,22 +9,6 @@ struct Compared {
     same: bool,
 }
 
-// Whether the next bytes of a file are those of the slice.
-fn same_as_file(wanted: i32, symbols: &[u8], expected: &mut [u8]) -> bool {
-    io::read_full(wanted, expected) == symbols.len() && check::same(symbols, expected)
-}
-
-// The first so many of the room.
-fn same_symbols(wanted: i32, room: &[u8], expected: &mut [u8], count: usize) -> bool {
-    if count > room.len() {
-        return false;
-    }
-    if count > expected.len() {
-        return false;
-    }
-    same_as_file(wanted, &room[..count], &mut expected[..count])
-}
-
 fn compare_packet(sender: Sender, input: i32, wanted: i32) -> Compared {
     let mut packet = [0u8; 188];
     let mut room = [0u8; 1632];
@@ -40,7 +24,7 @@ fn compare_packet(sender: Sender, input: i32, wanted: i32) -> Compared {
             same: false,
         };
     }
-    let same = same_symbols(wanted, &room, &mut expected, count);
+    let same = vector_files::same_symbols(wanted, &room, &mut expected, count);
     Compared { sender: next, same }
 }
 
@@ -58,7 +42,7 @@ fn compare_calls(rate: u8, input: i32, wanted: i32) -> bool {
         }
         k += 1;
     }
-    same && at_end(input) && at_end(wanted)
+    same && vector_files::at_end(input) && vector_files::at_end(wanted)
 }
 
 // The same packets as one run.
@@ -73,12 +57,9 @@ fn compare_run(rate: u8, input: i32, wanted: i32) -> bool {
     if got != 7520 || answer.number() != 0 {
         return false;
     }
-    same_symbols(wanted, &room, &mut expected, count) && at_end(input) && at_end(wanted)
-}
-
-fn at_end(fd: i32) -> bool {
-    let mut more = [0u8; 1];
-    io::read_full(fd, &mut more) == 0
+    vector_files::same_symbols(wanted, &room, &mut expected, count)
+        && vector_files::at_end(input)
+        && vector_files::at_end(wanted)
 }
 
 fn print_same(same: bool) {
@@ -108,17 +89,11 @@ fn compare(rate: u8, name: &[u8]) {
     libc::close(wanted_again);
 }
 
-fn print_line(name: &[u8], n: u64) {
-    io::write_all(STDOUT_FILENO, name);
-    io::print_decimal(STDOUT_FILENO, n);
-    io::write_all(STDOUT_FILENO, b"\n");
-}
-
 // The answer to a fresh sender at a rate.
 fn answer_new(name: &[u8], rate: u8) {
     let created = Sender::new(rate);
     let answer = created.answer;
-    print_line(name, answer.number() as u64);
+    vector_files::print_line(name, answer.number() as u64);
 }
 
 // The answer to a packet and a room.
@@ -127,14 +102,14 @@ fn answer_send(name: &[u8], rate: u8, packet: &[u8], room: &mut [u8]) {
     let sender = created.sender;
     let sent = sender.send(packet, room);
     let answer = sent.answer;
-    print_line(name, answer.number() as u64);
+    vector_files::print_line(name, answer.number() as u64);
 }
 
 // The answer of a run to a list of packets and a room.
 fn answer_run(name: &[u8], rate: u8, packets: &[u8], room: &mut [u8]) {
     let run = transmission::send_run(rate, packets, room);
     let answer = run.answer;
-    print_line(name, answer.number() as u64);
+    vector_files::print_line(name, answer.number() as u64);
 }
 
 // A packet of so many of the bytes, and a room of so many bytes.

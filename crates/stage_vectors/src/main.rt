@@ -17,13 +17,6 @@ struct Run {
     deinterleaved: u64,
 }
 
-// Writes a line with a number.
-fn report(name: &[u8], n: u64) {
-    io::write_all(STDOUT_FILENO, name);
-    io::print_decimal(STDOUT_FILENO, n);
-    io::write_all(STDOUT_FILENO, b"\n");
-}
-
 // Reads a file into the room.
 fn load(path: &[u8], room: &mut [u8]) {
     let file = os::open_read(path);
@@ -186,10 +179,10 @@ fn vectors() {
     load(b"coded.bin", &mut coded);
     load(b"interleaved.bin", &mut interleaved);
     let run = compared(&packets, &randomized, &coded, &interleaved);
-    report(b"packets randomized as by GNU Radio: ", run.randomized);
-    report(b"packets derandomized: ", run.derandomized);
-    report(b"blocks interleaved as by GNU Radio: ", run.interleaved);
-    report(
+    vector_files::print_line(b"packets randomized as by GNU Radio: ", run.randomized);
+    vector_files::print_line(b"packets derandomized: ", run.derandomized);
+    vector_files::print_line(b"blocks interleaved as by GNU Radio: ", run.interleaved);
+    vector_files::print_line(
         b"blocks deinterleaved, eleven blocks late: ",
         run.deinterleaved,
     );
@@ -201,16 +194,16 @@ fn outer_code_vectors() {
     load(b"randomized.bin", &mut randomized);
     load(b"coded.bin", &mut coded);
     let agreed = all_coded(&randomized, &coded);
-    report(b"packets coded as by GNU Radio: ", agreed);
+    vector_files::print_line(b"packets coded as by GNU Radio: ", agreed);
 }
 
 // The answers of the randomizer.
 fn randomizer_answers(name: &[u8], place: u8, packet: &[u8], room: &mut [u8]) {
     io::write_all(STDOUT_FILENO, name);
     let sent = randomizer::randomize(place, packet, room);
-    report(b"  randomize ", sent.number() as u64);
+    vector_files::print_line(b"  randomize ", sent.number() as u64);
     let back = randomizer::derandomize(place, packet, room);
-    report(b"  derandomize ", back.number() as u64);
+    vector_files::print_line(b"  derandomize ", back.number() as u64);
 }
 
 fn randomizer_limits() {
@@ -242,11 +235,11 @@ fn interleaver_answers(name: &[u8], position: u8, block: &[u8], room: &mut [u8])
     let sending = Interleaver { branches };
     let sent = sending.interleave(block, room);
     let answer = sent.answer;
-    report(b"  interleave ", answer.number() as u64);
+    vector_files::print_line(b"  interleave ", answer.number() as u64);
     let receiving = Deinterleaver { branches };
     let back = receiving.deinterleave(block, room);
     let answer = back.answer;
-    report(b"  deinterleave ", answer.number() as u64);
+    vector_files::print_line(b"  deinterleave ", answer.number() as u64);
 }
 
 fn interleaver_limits() {

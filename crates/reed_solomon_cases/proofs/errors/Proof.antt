@@ -20,29 +20,29 @@ loop-holds c = search needs
 all-starts-requires : tie.Need-all-starts-requires Inv-loop μ-loop
 all-starts-requires c κs = search needs
 
-slice-aggregate-report : tie.Need-slice-aggregate-report Inv-loop μ-loop
-slice-aggregate-report c = search needs
+slice-aggregate-print-line : tie.Need-slice-aggregate-print-line Inv-loop μ-loop
+slice-aggregate-print-line c = search needs
 
-report-requires : tie.Need-report-requires Inv-loop μ-loop
-report-requires c κs = search needs
+print-line-requires : tie.Need-print-line-requires Inv-loop μ-loop
+print-line-requires c κs = search needs
 
-slice-aggregate-report-2 : tie.Need-slice-aggregate-report-2 Inv-loop μ-loop
-slice-aggregate-report-2 c = search needs
+slice-aggregate-print-line-2 : tie.Need-slice-aggregate-print-line-2 Inv-loop μ-loop
+slice-aggregate-print-line-2 c = search needs
 
-report-requires-2 : tie.Need-report-requires-2 Inv-loop μ-loop
-report-requires-2 c κs = search needs
+print-line-requires-2 : tie.Need-print-line-requires-2 Inv-loop μ-loop
+print-line-requires-2 c κs = search needs
 
-slice-aggregate-report-3 : tie.Need-slice-aggregate-report-3 Inv-loop μ-loop
-slice-aggregate-report-3 c = search needs
+slice-aggregate-print-line-3 : tie.Need-slice-aggregate-print-line-3 Inv-loop μ-loop
+slice-aggregate-print-line-3 c = search needs
 
-report-requires-3 : tie.Need-report-requires-3 Inv-loop μ-loop
-report-requires-3 c κs = search needs
+print-line-requires-3 : tie.Need-print-line-requires-3 Inv-loop μ-loop
+print-line-requires-3 c κs = search needs
 
-slice-aggregate-report-4 : tie.Need-slice-aggregate-report-4 Inv-loop μ-loop
-slice-aggregate-report-4 c = search needs
+slice-aggregate-print-line-4 : tie.Need-slice-aggregate-print-line-4 Inv-loop μ-loop
+slice-aggregate-print-line-4 c = search needs
 
-report-requires-4 : tie.Need-report-requires-4 Inv-loop μ-loop
-report-requires-4 c κs = search needs
+print-line-requires-4 : tie.Need-print-line-requires-4 Inv-loop μ-loop
+print-line-requires-4 c κs = search needs
 
 add-n : tie.Need-add-n Inv-loop μ-loop
 add-n c = search needs
@@ -65,14 +65,14 @@ errors-spec =
     coded-requires
     loop-holds
     all-starts-requires
-    slice-aggregate-report
-    report-requires
-    slice-aggregate-report-2
-    report-requires-2
-    slice-aggregate-report-3
-    report-requires-3
-    slice-aggregate-report-4
-    report-requires-4
+    slice-aggregate-print-line
+    print-line-requires
+    slice-aggregate-print-line-2
+    print-line-requires-2
+    slice-aggregate-print-line-3
+    print-line-requires-3
+    slice-aggregate-print-line-4
+    print-line-requires-4
     add-n
     loop-less
     loop-again

@@ -38,17 +38,17 @@ loop-less c = search needs
 loop-again : tie.Need-loop-again Inv-loop μ-loop
 loop-again c = search needs
 
-slice-aggregate-report : tie.Need-slice-aggregate-report Inv-loop μ-loop
-slice-aggregate-report c = search needs
+slice-aggregate-print-line : tie.Need-slice-aggregate-print-line Inv-loop μ-loop
+slice-aggregate-print-line c = search needs
 
-report-requires : tie.Need-report-requires Inv-loop μ-loop
-report-requires c κs = search needs
+print-line-requires : tie.Need-print-line-requires Inv-loop μ-loop
+print-line-requires c κs = search needs
 
-slice-aggregate-report-2 : tie.Need-slice-aggregate-report-2 Inv-loop μ-loop
-slice-aggregate-report-2 c = search needs
+slice-aggregate-print-line-2 : tie.Need-slice-aggregate-print-line-2 Inv-loop μ-loop
+slice-aggregate-print-line-2 c = search needs
 
-report-requires-2 : tie.Need-report-requires-2 Inv-loop μ-loop
-report-requires-2 c κs = search needs
+print-line-requires-2 : tie.Need-print-line-requires-2 Inv-loop μ-loop
+print-line-requires-2 c κs = search needs
 
 returns : tie.Need-returns Inv-loop μ-loop
 returns c = search needs
@@ -68,8 +68,8 @@ lightest-spec =
     add-start
     loop-less
     loop-again
-    slice-aggregate-report
-    report-requires
-    slice-aggregate-report-2
-    report-requires-2
+    slice-aggregate-print-line
+    print-line-requires
+    slice-aggregate-print-line-2
+    print-line-requires-2
     returns)

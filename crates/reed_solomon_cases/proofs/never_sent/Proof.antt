@@ -43,11 +43,11 @@ decode-requires c κs = search needs
 number-requires : tie.Need-number-requires Inv-loop μ-loop
 number-requires c κs = search needs
 
-slice-aggregate-report : tie.Need-slice-aggregate-report Inv-loop μ-loop
-slice-aggregate-report c = search needs
+slice-aggregate-print-line : tie.Need-slice-aggregate-print-line Inv-loop μ-loop
+slice-aggregate-print-line c = search needs
 
-report-requires : tie.Need-report-requires Inv-loop μ-loop
-report-requires c κs = search needs
+print-line-requires : tie.Need-print-line-requires Inv-loop μ-loop
+print-line-requires c κs = search needs
 
 slice-aggregate-same : tie.Need-slice-aggregate-same Inv-loop μ-loop
 slice-aggregate-same c = search needs
@@ -86,8 +86,8 @@ never-sent-spec =
     slice-aggregate-decode
     decode-requires
     number-requires
-    slice-aggregate-report
-    report-requires
+    slice-aggregate-print-line
+    print-line-requires
     slice-aggregate-same
     slice-aggregate-same-2
     same-requires

@@ -1,10 +1,10 @@
--- `sender_vectors::same_symbols` is safe and ends.
+-- `vector_files::same_symbols` is safe and ends.
 -- Assumes nothing.
 use native.Mathlib.Omega.{arith}
 use lib.ListN.{length-take}
 use borrow.Author.Needs.{needs}
-use Rattle.sender_vectors.proofs.same_symbols.Statement.{statement}
-use Rattle.sender_vectors.proofs.same_symbols.Tie as tie
+use Rattle.vector_files.proofs.same_symbols.Statement.{statement}
+use Rattle.vector_files.proofs.same_symbols.Tie as tie
 
 returns : tie.Need-returns
 returns c = search needs
