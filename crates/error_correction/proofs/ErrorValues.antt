@@ -337,8 +337,8 @@ module _ (p s places : List ℕ) (n : length p ≡ 16) (o : length places ≡ 16
   pub lanes-all : (a u v : List ℕ) (k : ℕ) → k ≤ 0 → SummedLanes p s places a u v k → FractionsAt p s places u v
   lanes-all a u v k h m =
       record {
-        above = m .numerators;
-        below = m .denominators;
+        numerators-length = m .numerators;
+        denominators-length = m .denominators;
         numerator = λ l i. all-numerator p s (getD places l 0) n _ _ _ k h (m .each l i);
         denominator = λ l i. all-denominator p s (getD places l 0) n _ _ _ k h (m .each l i);
       }
@@ -346,12 +346,12 @@ module _ (p s places : List ℕ) (n : length p ≡ 16) (o : length places ≡ 16
 -- the value of an error from its fraction: lane l of the products by the inverses
 module _ (p s places u v w r : List ℕ) (f : FractionsAt p s places u v) (e : w ≡ map inv v) (g : r ≡ productsOf u w) where
   inverse-length : length w ≡ 16
-  inverse-length = ap length e ∙ length-map v inv ∙ f .below
+  inverse-length = ap length e ∙ length-map v inv ∙ f .denominators-length
 
   quotient-lane : (l : ℕ) → l < 16 → getD r l 0 ≡ mul (getD u l 0) (inv (getD v l 0))
   quotient-lane l h =
-      ap (λ (x : List ℕ). getD x l 0) g ∙ products-at u w l (f .above ∙ sym inverse-length) (omega (arith, f .above))
-      ∙ ap (mul (getD u l 0)) (ap (λ (x : List ℕ). getD x l 0) e ∙ getD-map-in inv v 0 0 l (omega (arith, f .below)))
+      ap (λ (x : List ℕ). getD x l 0) g ∙ products-at u w l (f .numerators-length ∙ sym inverse-length) (omega (arith, f .numerators-length))
+      ∙ ap (mul (getD u l 0)) (ap (λ (x : List ℕ). getD x l 0) e ∙ getD-map-in inv v 0 0 l (omega (arith, f .denominators-length)))
 
   pub value-small : (l : ℕ) → l < 16 → getD r l 0 < 256
   value-small l h = subst (λ (x : ℕ). x < 256) (sym (quotient-lane l h)) (mul-lt (getD u l 0) (inv (getD v l 0)))

@@ -12,7 +12,6 @@ use Rattle.algebra.specs.Field.{ops}
 use Rattle.algebra.specs.Polynomial.{eval}
 use Rattle.algebra.proofs.Polynomial.{quotient, fromRoots}
 use Rattle.algebra.proofs.Syndromes.{Term, dot, syndrome}
-use Rattle.galois.specs.Field256.{mul}
 use Rattle.galois.proofs.Instance.{bytes, byte}
 use Rattle.byte_lanes.specs.Lanes.{elements, point}
 
@@ -57,8 +56,8 @@ denominatorAt p y = eval (ops bytes) (quotientBy p y) (byte y)
 
 -- both, for sixteen places
 pub record FractionsAt (p s places numerators denominators : List ℕ) : Type 0 where
-  pub above : length numerators ≡ 16
-  pub below : length denominators ≡ 16
+  pub numerators-length : length numerators ≡ 16
+  pub denominators-length : length denominators ≡ 16
   pub numerator : (l : ℕ) → l < 16 → byte (getD numerators l 0) ≡ numeratorAt p s (getD places l 0)
   pub denominator : (l : ℕ) → l < 16 → byte (getD denominators l 0) ≡ denominatorAt p (getD places l 0)
 

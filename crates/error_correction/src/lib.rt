@@ -16,7 +16,7 @@ pub struct Roots {
 // The degree of a polynomial of nine coefficients, and 0 of the zero polynomial.
 fn degree(q: &[u8]) -> usize
     requires { ⌜ 9 ≤ length (now q) ⌝ }
-    ensures { λ d. ⌜ EndsAt (take 9 (now (q .entry))) d ⌝ }
+    ensures { λ d. ⌜ EndsAt (take 9 (now (q .entry))) d × (0 < d → getD (now (q .entry)) d 0 ≡ 0 → ⊥) ⌝ }
 {
     let mut d: usize = 8;
     while 0 < d {

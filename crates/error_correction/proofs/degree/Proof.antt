@@ -21,7 +21,7 @@ shared-slice-read-if1 : tie.Need-shared-slice-read-if1 Inv-loop μ-loop
 shared-slice-read-if1 c = omega (arith, c .before .before .loop .inv .most, c .before .before .before .pre)
 
 returns : tie.Need-returns Inv-loop μ-loop
-returns c = c .before .before .before .loop .inv
+returns c = (c .before .before .before .loop .inv, λ h. c .if1 .taken)
 
 sub-d : tie.Need-sub-d Inv-loop μ-loop
 sub-d c = search needs
@@ -35,7 +35,7 @@ loop-again c =
     ends-less (c .before .before .before .before .args .q .now) (l .d) (search needs) (c .if1 .left) (l .inv)
 
 returns-2 : tie.Need-returns-2 Inv-loop μ-loop
-returns-2 c = c .before .loop .inv
+returns-2 c = (c .before .loop .inv, λ h e. absurd (omega arith))
 
 pub degree-spec : {M : Type 1} → statement M
 degree-spec =

@@ -21,19 +21,19 @@ degree-requires : tie.Need-degree-requires Inv-loop μ-loop
 degree-requires c κs = omega (arith, c .before .good .0 .1 .0 .1)
 
 add-end : tie.Need-add-end Inv-loop μ-loop
-add-end c = omega (arith, c .degree .ensures .most)
+add-end c = omega (arith, c .degree .ensures .0 .most)
 
 loop-holds : tie.Need-loop-holds Inv-loop μ-loop
 loop-holds c = evaluated-none _ _ refl
 
 array-share-prefix-q : tie.Need-array-share-prefix-q Inv-loop μ-loop
-array-share-prefix-q c = omega (arith, c .before .before .degree .ensures .most, c .before .before .before .before .good .0 .1 .0 .1)
+array-share-prefix-q c = omega (arith, c .before .before .degree .ensures .0 .most, c .before .before .before .before .good .0 .1 .0 .1)
 
 slice-aggregate-evaluate : tie.Need-slice-aggregate-evaluate Inv-loop μ-loop
 slice-aggregate-evaluate c =
     let s = c .before .before .before .before .before in
     let d = c .before .before .before .degree in
-    sym (length-prefix (s .args .t1) (d .result) (s .good .0 .1 .0 .1) (d .ensures))
+    sym (length-prefix (s .args .t1) (d .result) (s .good .0 .1 .0 .1) (d .ensures .0))
 
 mul-sixteen : tie.Need-mul-sixteen Inv-loop μ-loop
 mul-sixteen c = search needs
@@ -45,7 +45,7 @@ evaluate-requires : tie.Need-evaluate-requires Inv-loop μ-loop
 evaluate-requires c κs =
     let s = c .before .before .before .before .before .before .before in
     let d = c .before .before .before .before .before .degree in
-    omega (arith, length-prefix (s .args .t1) (d .result) (s .good .0 .1 .0 .1) (d .ensures))
+    omega (arith, length-prefix (s .args .t1) (d .result) (s .good .0 .1 .0 .1) (d .ensures .0))
 
 slice-aggregate-put : tie.Need-slice-aggregate-put Inv-loop μ-loop
 slice-aggregate-put c = search needs
@@ -71,7 +71,7 @@ loop-again c =
     let s = c .before .before .before .before .before .before .before .before .before .before .before .before in
     let d = c .before .before .before .before .before .before .before .before .before .before .degree in
     evaluated-more (s .args .t1) (s .args .x .now) (l .v) _ _ _ (l .i) (d .result) (s .pre) (search needs) (c .before .before .before .before .before .sixteen .ensures)
-    (c .before .before .before .before .evaluate .ensures) (ends-of (s .args .t1) (d .result) (s .good .0 .1 .0 .1) (d .ensures)) (c .before .put .ensures) (c .before .put .kept .1 .1 .0) (l .inv)
+    (c .before .before .before .before .evaluate .ensures) (ends-of (s .args .t1) (d .result) (s .good .0 .1 .0 .1) (d .ensures .0)) (c .before .put .ensures) (c .before .put .kept .1 .1 .0) (l .inv)
 
 returns : tie.Need-returns Inv-loop μ-loop
 returns c = evaluated-all _ _ (c .before .loop .i) (search needs) (c .before .loop .inv)

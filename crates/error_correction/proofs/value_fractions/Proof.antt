@@ -28,7 +28,7 @@ degree-requires c κs = omega (arith, c .before .good .0 .1 .0 .1)
 loop-holds : tie.Need-loop-holds Inv-loop μ-loop
 loop-holds c =
     let s = c .before .before in
-    (c .degree .ensures .most, lanes-none (s .args .t1) (s .args .t2) (s .args .places) (s .good .0 .1 .0 .1) (s .good .1 .1 .0 .1 .0 .1) (c .degree .result) (c .degree .ensures))
+    (c .degree .ensures .0 .most, lanes-none (s .args .t1) (s .args .t2) (s .args .places) (s .good .0 .1 .0 .1) (s .good .1 .1 .0 .1 .0 .1) (c .degree .result) (c .degree .ensures .0))
 
 array-read-top : tie.Need-array-read-top Inv-loop μ-loop
 array-read-top c = search needs
