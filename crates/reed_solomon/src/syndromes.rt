@@ -5,7 +5,7 @@ ghost use Rattle.byte_lanes.specs.Lanes.{Powers};
 ghost use Rattle.reed_solomon.specs.Steps.{SyndromesOf};
 
 // The powers of 02. The first sixteen are the roots of the generator polynomial, and power i is the place of the coefficient of x^i.
-// They are made in four runs side by side, each from its first one, so that a power need not wait for all those before it.
+// They are made in four runs side by side, from the powers 0, 52, 104 and 156 on, so that a power need not wait for all those before it.
 pub fn powers() -> [u8; 208]
     ensures { λ r. ⌜ Powers r ⌝ }
 {
