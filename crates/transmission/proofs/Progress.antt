@@ -70,8 +70,10 @@ module _ {rate : ℕ} {bytes room₀ room : List ℕ} {s : Sender} {at count : �
   back-room = ap (drop count) (p .written) ∙ drop-at (p .front) (drop count room₀) count (p .counted)
 
   module _ (h : at < length bytes) where
-    input packet : List ℕ
+    input : List ℕ
     input = take 188 (drop at bytes)
+
+    packet : List ℕ
     packet = packetFor input
 
     -- the symbols of this packet, and those of the packets after it
@@ -82,7 +84,7 @@ module _ {rate : ℕ} {bytes room₀ room : List ℕ} {s : Sender} {at count : �
 
     is-input : isInput input ≡ true
     unfolding input
-    is-input = input-test _ (inr (scanning-size (p .scanning) h))
+    is-input = input-test input (inr (scanning-size (p .scanning) h))
 
     packet-sized : length packet ≡ 188
     unfolding packet
