@@ -52,6 +52,7 @@ quietly rt staticlib exports
 quietly cargo build "${in_reference[@]}"
 quietly cargo test "${in_reference[@]}"
 EXPORTS_DIR=$PWD/target/staticlib cargo run --quiet "${in_reference[@]}" --bin compare
+cargo run --quiet "${in_reference[@]}" --bin compare_calls target/bin/send_calls
 
 # The commands of README.md that use what was built, as they stand there.
 sed -n '/^## The programs/,/^## Reading/s/^    //p' README.md > "$work/commands"

@@ -14,6 +14,7 @@ static uint8_t feedback_table[256][CHECK]; /* multiples of g */
 static uint8_t root_table[CHECK][256];     /* products with the roots */
 static uint8_t prbs[GROUP * PACKET];       /* masks of a group, 0 at the sync bytes */
 static uint8_t xy_table[128];              /* 2 X + Y of seven bits, newest on top */
+static uint8_t null_packet[PACKET];
 
 static uint8_t mul(uint8_t a, uint8_t b)
 {
@@ -52,6 +53,8 @@ __attribute__((constructor)) static void fill_tables(void)
     }
     for (int w = 0; w < 128; w++)
         xy_table[w] = (uint8_t)(__builtin_parity((unsigned)w & 0171) << 1 | __builtin_parity((unsigned)w & 0133));
+    memset(null_packet, 0xff, PACKET);
+    memcpy(null_packet, "\x47\x1f\xff\x10", 4);
 }
 
 static void mask(unsigned place, uint8_t first, const uint8_t *packet, uint8_t *room)
@@ -300,9 +303,6 @@ uint64_t PLAIN(send_run)(uint8_t rate, const uint8_t *packets, size_t packets_le
     if (packets_len % PACKET)
         return answer[0] = 1, 0;
     size_t count = packets_len / PACKET;
-    for (size_t p = 0; p < count; p++)
-        if (packets[PACKET * p] != 0x47)
-            return answer[0] = 2, 0;
     if (room_len < symbols_of(rate, 8ull * BLOCK * count))
         return answer[0] = 4, 0;
     struct branches branches;
@@ -311,7 +311,10 @@ uint64_t PLAIN(send_run)(uint8_t rate, const uint8_t *packets, size_t packets_le
     uint64_t written = 0;
     for (size_t p = 0; p < count; p++) {
         uint8_t block[BLOCK], out[BLOCK];
-        mask(p % GROUP, p % GROUP ? 0x47 : 0xb8, packets + PACKET * p, block);
+        const uint8_t *packet = packets + PACKET * p;
+        if (packet[0] != 0x47)
+            packet = null_packet, answer[0] = 15;
+        mask(p % GROUP, p % GROUP ? 0x47 : 0xb8, packet, block);
         check_bytes(block, block + PACKET);
         pass(&branches, 0, block, out);
         written += inner_code(&inner, out, BLOCK, room + written);

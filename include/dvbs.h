@@ -10,12 +10,13 @@
  * Answers:
  *   0  done
  *   1  a packet, or the message of the outer coder, is not 188 bytes
- *   2  the packet's first byte is not 47 hex
+ *   2  the packet's first byte is not 47 hex; of dvbs_randomize alone
  *   3  a block is not 204 bytes
  *   4  room too short
  *   5  a number is out of its range: here a place above 7
  *   6  a rate other than 0 to 4
  *   8  no codeword within eight bytes
+ *  15  done, with a null packet put in
  * Where several are due, the first in the order 6, 5, 1 or 3, 2, 4 is given. */
 #ifndef DVBS_H
 #define DVBS_H
@@ -51,8 +52,11 @@ uint8_t dvbs_rs_decode(uint8_t *block, size_t block_len,
 /* What a fresh sender sends for the packets, which lie one after the other;
  * rates 0 to 4 are 1/2, 2/3, 3/4, 5/6, 7/8. Returns how many symbols were
  * written, one byte each, 2 I + Q; answer[0] is the answer. A packet gives at
- * most 1,632 symbols. All packets are tested before any is sent. Where no byte
- * is lent for the answer: returns 0, writes nothing. */
+ * most 1,632 symbols. In place of 188 bytes that do not begin with 47 hex a null
+ * packet is sent (47 1F FF 10 and 184 bytes FF), and the answer is 15 where at
+ * least one was, else 0: a caller that has nothing to send lends 188 zeros.
+ * Lengths are tested before anything is sent. Where no byte is lent for the
+ * answer: returns 0, writes nothing. */
 uint64_t dvbs_send_run(uint8_t rate, const uint8_t *packets, size_t packets_len,
                        uint8_t *room, size_t room_len,
                        uint8_t *answer, size_t answer_len);

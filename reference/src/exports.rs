@@ -11,7 +11,7 @@ pub mod expected {
     use crate::answer::Answer;
     use crate::receiver::Receiver;
     use crate::sender::Sender;
-    use crate::{randomizer, reed_solomon, BLOCK_LENGTH, PACKET_LENGTH, SYNC};
+    use crate::{randomizer, reed_solomon, BLOCK_LENGTH, PACKET_LENGTH};
 
     pub fn randomize(place: u8, packet: &[u8], room: &mut [u8]) -> u8 {
         randomizer::randomize(place, packet, room).number()
@@ -41,7 +41,8 @@ pub mod expected {
         answer.number()
     }
 
-    /// The whole run is tested first; a refused run writes nothing.
+    /// The whole run is tested first; a refused run writes nothing. The answer is 15
+    /// where a null packet was put in.
     pub fn send_run(rate: u8, packets: &[u8], room: &mut [u8], answer: &mut [u8]) -> u64 {
         if answer.is_empty() {
             return 0;
@@ -56,8 +57,6 @@ pub mod expected {
         let whole = packets.len() / PACKET_LENGTH;
         let refusal = if packets.len() % PACKET_LENGTH != 0 {
             Some(Answer::PacketLength)
-        } else if packets.chunks_exact(PACKET_LENGTH).any(|p| p[0] != SYNC) {
-            Some(Answer::SyncByte)
         } else if room.len() < sender.symbols_due(whole) {
             Some(Answer::ShortRoom)
         } else {
@@ -68,10 +67,14 @@ pub mod expected {
             return 0;
         }
         let mut written = 0;
-        for packet in packets.chunks(PACKET_LENGTH) {
-            written += sender.send(packet, &mut room[written..]).1;
-        }
         answer[0] = Answer::Done.number();
+        for packet in packets.chunks(PACKET_LENGTH) {
+            let (said, symbols) = sender.send(packet, &mut room[written..]);
+            written += symbols;
+            if said == Answer::NullPacket {
+                answer[0] = said.number();
+            }
+        }
         written as u64
     }
 

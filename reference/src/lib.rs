@@ -25,3 +25,13 @@ pub const GROUP_LENGTH: usize = 8;
 /// MPEG-2 sync byte, and the same inverted (4.4.1).
 pub const SYNC: u8 = 0x47;
 pub const INVERTED_SYNC: u8 = 0xB8;
+/// The MPEG-2 null packet: PID 1FFF, payload only, stuffing bytes FF. It is sent
+/// where there is no packet, since randomizing stays active then (4.4.1).
+pub const NULL_PACKET: [u8; PACKET_LENGTH] = {
+    let mut packet = [0xFF; PACKET_LENGTH];
+    packet[0] = SYNC;
+    packet[1] = 0x1F;
+    packet[2] = 0xFF;
+    packet[3] = 0x10;
+    packet
+};

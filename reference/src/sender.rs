@@ -3,7 +3,7 @@
 use crate::answer::Answer;
 use crate::inner_code::InnerCoder;
 use crate::interleaver::Branches;
-use crate::{randomizer, reed_solomon, BLOCK_LENGTH, GROUP_LENGTH, PACKET_LENGTH, SYNC};
+use crate::{randomizer, reed_solomon, BLOCK_LENGTH, GROUP_LENGTH, NULL_PACKET, PACKET_LENGTH, SYNC};
 
 pub struct Sender {
     place: usize,
@@ -30,23 +30,25 @@ impl Sender {
         block
     }
 
-    /// One packet; the answer and how many symbols were written.
-    pub fn send(&mut self, packet: &[u8], room: &mut [u8]) -> (Answer, usize) {
-        if packet.len() != PACKET_LENGTH {
+    /// One packet, or no bytes; the answer and how many symbols were written.
+    /// A null packet stands in for no bytes and for a packet without the sync byte.
+    pub fn send(&mut self, input: &[u8], room: &mut [u8]) -> (Answer, usize) {
+        if input.len() != 0 && input.len() != PACKET_LENGTH {
             return (Answer::PacketLength, 0);
-        }
-        if packet[0] != SYNC {
-            return (Answer::SyncByte, 0);
         }
         let due = self.inner.symbols_due(8 * BLOCK_LENGTH);
         if room.len() < due {
             return (Answer::ShortRoom, 0);
         }
+        let (packet, answer) = match input.first() {
+            Some(&SYNC) => (input, Answer::Done),
+            _ => (&NULL_PACKET[..], Answer::NullPacket),
+        };
         let block = self.interleaved(packet);
         let symbols = self.inner.code(&block);
         assert_eq!(symbols.len(), due);
         room[..due].copy_from_slice(&symbols);
-        (Answer::Done, due)
+        (answer, due)
     }
 
     /// How many symbols the next `packets` packets give.

@@ -1,5 +1,7 @@
 //! A small repeatable generator for test inputs (xorshift64*).
 
+use crate::{INVERTED_SYNC, SYNC};
+
 pub struct Xorshift(u64);
 
 impl Xorshift {
@@ -26,6 +28,16 @@ impl Xorshift {
     /// A number from 0 to `bound` - 1.
     pub fn below(&mut self, bound: usize) -> usize {
         ((self.next() >> 32) * bound as u64 >> 32) as usize
+    }
+
+    /// A first byte of no packet: any but the sync byte, the likely ones often.
+    pub fn not_sync(&mut self) -> u8 {
+        let byte = [0x46, INVERTED_SYNC, 0x00, self.byte()][self.below(4)];
+        if byte == SYNC {
+            0x48
+        } else {
+            byte
+        }
     }
 
     pub fn bytes(&mut self, count: usize) -> Vec<u8> {

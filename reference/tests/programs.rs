@@ -48,7 +48,11 @@ fn the_blocks_of_a_stream() {
 }
 
 #[test]
-fn what_a_sender_refuses_gives_no_block() {
+fn null_packets_are_put_in() {
+    let mut null = vec![0xFF; 188];
+    null[..4].copy_from_slice(&[0x47, 0x1F, 0xFF, 0x10]);
     let odd = [&[0; 188], PACKETS, &[0; 188], &[0x47; 187]].concat();
-    assert_eq!(interleaved(&odd), INTERLEAVED);
+    let whole = [&null[..], PACKETS, &null].concat();
+    assert_eq!(interleaved(&odd), interleaved(&whole));
+    assert_eq!(interleaved(&odd).len(), 204 * 42);
 }

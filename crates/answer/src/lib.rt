@@ -1,4 +1,4 @@
-// The answer of a public call. specs/Number.antt gives each case the number of document 01.
+// The answer of a public call. specs/Number.antt gives each case its number.
 ghost use mathlib.Core.Path.{_≡_};
 ghost use Rattle.answer.specs.Number.{numberOf};
 
@@ -27,10 +27,12 @@ pub enum Answer {
     WaitingForGroup,
     // The sync byte that is due was not there.
     OutOfStep,
+    // A null packet was sent in place of the input.
+    NullPacket,
 }
 
 impl Answer {
-    // The number that document 01 gives the answer.
+    // The number of the answer.
     pub fn number(self) -> u8
         ensures { λ r. ⌜ r ≡ numberOf self ⌝ }
     {
@@ -47,6 +49,7 @@ impl Answer {
             Answer::Filling => 9,
             Answer::WaitingForGroup => 10,
             Answer::OutOfStep => 11,
+            Answer::NullPacket => 15,
         }
     }
 }

@@ -33,8 +33,8 @@ fn report(key: &[u8], n: u64, end: &[u8]) {
     io::write_all(STDERR_FILENO, end);
 }
 
-// Says that a packet was refused. The first packet has number 0.
-fn report_refused(packet: u64, answer: u8) {
+// Says what became of a packet that was not sent as it came. The first packet has number 0.
+fn report_answer(packet: u64, answer: u8) {
     if answer != 0 {
         report(b"packet=", packet, b" ");
         report(b"answer=", answer as u64, b"\n");
@@ -48,7 +48,7 @@ fn report_rest(rest: usize) {
     }
 }
 
-// Sends the whole packets of the input. A refused packet sends nothing.
+// Sends the whole packets of the input; for one that does not begin with the sync byte, a null packet.
 fn send_whole(sender: Sender, packets: u64, input: &[u8], output: &mut [u8]) -> Batch
     ensures { λ r. ⌜ (r .taken ≤ length (now (input .entry))) × (length (now (input .entry)) - r .taken < 188) × (r .count ≤ length (now (output .entry))) ⌝ }
 {
@@ -60,7 +60,7 @@ fn send_whole(sender: Sender, packets: u64, input: &[u8], output: &mut [u8]) -> 
         let end = taken + Sender::PACKET_LENGTH;
         let sent = sender.send(&input[taken..end], &mut output[count..]);
         let answer = sent.answer;
-        report_refused(packets, answer.number());
+        report_answer(packets, answer.number());
         sender = sent.sender;
         packets = std::num::wrapping_add_u64(packets, 1);
         count += sent.count;

@@ -1,3 +1,4 @@
+pub mod Inputs
 pub mod Stages
 pub mod Ready
 pub mod Stream

@@ -25,7 +25,8 @@ use Rattle.inner_code.specs.Step as coder
 use Rattle.inner_code.specs.Encode as inner
 use Rattle.inner_code.specs.declared.InnerCoder.{InnerCoder}
 use Rattle.inner_code.proofs.Coder as range
-use Rattle.sender.specs.Send.{inRange, codedPacket, sentBlock, sentSymbols, senderAfter, sendNumber, Sends}
+use Rattle.sender.specs.Input.{isInput, packetFor, sentNumber}
+use Rattle.sender.specs.Send.{inRange, codedPacket, sentBlock, sentSymbols, senderAfter, refusal, Sends}
 use Rattle.sender.specs.declared.Sender.{Sender}
 
 -- what the test of the ranges tells
@@ -47,39 +48,35 @@ range-test s g = simp (le-ltb _ _ (g .place), g .branches, g .coder)
 
 -- ---- what a call promises, by the number of its answer
 
-module _ (s : Sender) (packet room : List ℕ) where
-  pub refused : (n : ℕ) → sendNumber s packet room ≡ n → eqb n 0 ≡ false → Sends s packet room n 0 s room
+module _ (s : Sender) (input room : List ℕ) where
+  pub refused : (n : ℕ) → refusal s input room ≡ n → eqb n 0 ≡ false → Sends s input room n 0 s room
   refused n e f =
-      let t : eqb (sendNumber s packet room) 0 ≡ false = ap (λ (k : ℕ). eqb k 0) e ∙ f in
-      record {
-        answered = sym e;
-        counted = ap (λ (b : Bool). pick b (inner.symbolCount (s .coder)) 0) (sym t);
-        sender = ap (λ (b : Bool). pick b (senderAfter s packet) s) (sym t);
-        written = ap (λ (b : Bool). pick b (sentSymbols s packet ++ drop (inner.symbolCount (s .coder)) room) room) (sym t);
-      }
+      let t : eqb (refusal s input room) 0 ≡ false = ap (λ (k : ℕ). eqb k 0) e ∙ f in
+      record { answered = simp t (sym e); counted = simp t; sender = simp t; written = simp t }
 
-  pub answered : sendNumber s packet room ≡ 0 → {number count : ℕ} {next : Sender} {left : List ℕ}
-      → number ≡ 0 → count ≡ inner.symbolCount (s .coder) → next ≡ senderAfter s packet
-      → left ≡ sentSymbols s packet ++ drop (inner.symbolCount (s .coder)) room → Sends s packet room number count next left
-  answered e n k t l = record {
-    answered = n ∙ sym e;
+  pub answered : refusal s input room ≡ 0 → {packet : List ℕ} → packet ≡ packetFor input → {number count : ℕ} {next : Sender} {left : List ℕ}
+      → number ≡ sentNumber input → count ≡ inner.symbolCount (s .coder) → next ≡ senderAfter s packet
+      → left ≡ sentSymbols s packet ++ drop (inner.symbolCount (s .coder)) room → Sends s input room number count next left
+  answered e p n k t l = record {
+    answered = n ∙ ap (λ (k : ℕ). pick (eqb k 0) (sentNumber input) k) (sym e);
     counted = k ∙ ap (λ (k : ℕ). pick (eqb k 0) (inner.symbolCount (s .coder)) 0) (sym e);
-    sender = t ∙ ap (λ (k : ℕ). pick (eqb k 0) (senderAfter s packet) s) (sym e);
-    written = l ∙ ap (λ (k : ℕ). pick (eqb k 0) (sentSymbols s packet ++ drop (inner.symbolCount (s .coder)) room) room) (sym e);
+    sender = t ∙ ap (senderAfter s) p ∙ ap (λ (k : ℕ). pick (eqb k 0) (senderAfter s (packetFor input)) s) (sym e);
+    written =
+        l ∙ ap (λ (x : List ℕ). sentSymbols s x ++ drop (inner.symbolCount (s .coder)) room) p
+        ∙ ap (λ (k : ℕ). pick (eqb k 0) (sentSymbols s (packetFor input) ++ drop (inner.symbolCount (s .coder)) room) room) (sym e);
   }
 
 -- a call writes no more than the room
-fits : (a b c d : Bool) (count n k : ℕ) → count ≡ pick (eqb (pick a (pick b (pick c (pick d 4 0) 2) 1) 5) 0) n 0 → (d ≡ false → n ≤ k) → count ≤ k
-fits false b c d count n k e f = omega arith
-fits true false c d count n k e f = omega arith
-fits true true false d count n k e f = omega arith
-fits true true true true count n k e f = omega arith
-fits true true true false count n k e f = let l = f refl in omega arith
+fits : (a b c : Bool) (count n k : ℕ) → count ≡ pick (eqb (pick a (pick b (pick c 4 0) 1) 5) 0) n 0 → (c ≡ false → n ≤ k) → count ≤ k
+fits false b c count n k e f = omega arith
+fits true false c count n k e f = omega arith
+fits true true true count n k e f = omega arith
+fits true true false count n k e f = let l = f refl in omega arith
 
-pub count-fits : {s : Sender} {packet room : List ℕ} {number count : ℕ} {next : Sender} {left : List ℕ} → Sends s packet room number count next left
+pub count-fits : {s : Sender} {input room : List ℕ} {number count : ℕ} {next : Sender} {left : List ℕ} → Sends s input room number count next left
     → count ≤ length room
-count-fits {s} {packet} {room} {number} {count} m =
-    fits (inRange s) (eqb (length packet) 188) (eqb (getD packet 0 0) 0x47) (ltb (length room) (inner.symbolCount (s .coder))) count
+count-fits {s} {input} {room} {number} {count} m =
+    fits (inRange s) (isInput input) (ltb (length room) (inner.symbolCount (s .coder))) count
     (inner.symbolCount (s .coder)) (length room) (m .counted) (λ t. ltb-false _ _ t)
 
 -- ---- the stages

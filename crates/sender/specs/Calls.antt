@@ -39,10 +39,10 @@ fewest = 1632 ∷ 1224 ∷ 1088 ∷ 979 ∷ 932 ∷ []
 abbrev pub most : List ℕ
 most = 1632 ∷ 1224 ∷ 1088 ∷ 980 ∷ 933 ∷ []
 
--- a history: each packet is sent by a call that keeps its promise and is lent room enough, with the sender that the call before handed back;
+-- a history: each input is given to a call that keeps its promise and is lent room enough, with the sender that the call before handed back;
 -- the symbols are those that the calls wrote
 pub data Calls : Sender → List (List ℕ) → List ℕ → Sender → Type 0 where
   none : {s : Sender} → Calls s [] [] s
-  call : {s next last : Sender} {packet : List ℕ} {packets : List (List ℕ)} {symbols : List ℕ} (room left : List ℕ) (number count : ℕ)
-      → symbolCount (s .coder) ≤ length room → Sends s packet room number count next left → Calls next packets symbols last
-      → Calls s (packet ∷ packets) (take count left ++ symbols) last
+  call : {s next last : Sender} {input : List ℕ} {inputs : List (List ℕ)} {symbols : List ℕ} (room left : List ℕ) (number count : ℕ)
+      → symbolCount (s .coder) ≤ length room → Sends s input room number count next left → Calls next inputs symbols last
+      → Calls s (input ∷ inputs) (take count left ++ symbols) last

@@ -1,3 +1,4 @@
 pub mod Standard
+pub mod Input
 pub mod Send
 pub mod Calls

@@ -5,7 +5,7 @@ use mathlib.Core.Bool.{Bool, false}
 use mathlib.Core.List.{List, _++_}
 use Prim.Native.Nat.{ℕ, _+_, _%_}
 use lib.Dec.{ltb, eqb}
-use lib.ListN.{length, getD, drop}
+use lib.ListN.{length, drop}
 use Rattle.common.specs.Choice.{pick}
 use Rattle.reed_solomon.specs.Encode.{encoded}
 use Rattle.randomizer.specs.Packet.{randomized}
@@ -14,6 +14,7 @@ use Rattle.delay_branches.specs.Block.{fresh, blockOut, after}
 use Rattle.delay_branches.specs.declared.Side.the-variants.{Sending}
 use Rattle.inner_code.specs.Step as coder
 use Rattle.inner_code.specs.Encode.{freshCoder, blockSymbols, blockCoder, symbolCount}
+use Rattle.sender.specs.Input.{isInput, packetFor, sentNumber}
 use Rattle.sender.specs.declared.Sender.{Sender}
 
 -- a fresh sender: the first place of a group, empty branches, a fresh inner coder
@@ -46,28 +47,28 @@ senderAfter s packet = record {
   coder = blockCoder (s .coder) (sentBlock s packet);
 }
 
--- the number of the answer: 5 for a state out of range, 1 for a packet that is not 188 bytes, 2 for another sync byte, 4 for short room
+-- What is refused: 5 for a state out of range, 1 for an input that is neither no bytes nor 188, 4 for short room; 0 where nothing is.
+abbrev pub refusal : Sender → List ℕ → List ℕ → ℕ
+refusal s input room = pick (inRange s) (pick (isInput input) (pick (ltb (length room) (symbolCount (s .coder))) 4 0) 1) 5
+
+-- the number of the answer: the refusal, or else which packet was sent
 abbrev pub sendNumber : Sender → List ℕ → List ℕ → ℕ
-sendNumber s packet room =
-    pick (inRange s)
-    (pick (eqb (length packet) 188)
-    (pick (eqb (getD packet 0 0) 0x47) (pick (ltb (length room) (symbolCount (s .coder))) 4 0) 2)
-    1)
-    5
+sendNumber s input room = pick (eqb (refusal s input room) 0) (sentNumber input) (refusal s input room)
 
 -- how many symbols the call sends, the sender and the room after it; on refusal none, and both as before
 abbrev pub sendCount : Sender → List ℕ → List ℕ → ℕ
-sendCount s packet room = pick (eqb (sendNumber s packet room) 0) (symbolCount (s .coder)) 0
+sendCount s input room = pick (eqb (refusal s input room) 0) (symbolCount (s .coder)) 0
 
 abbrev pub sendSender : Sender → List ℕ → List ℕ → Sender
-sendSender s packet room = pick (eqb (sendNumber s packet room) 0) (senderAfter s packet) s
+sendSender s input room = pick (eqb (refusal s input room) 0) (senderAfter s (packetFor input)) s
 
 abbrev pub sendRoom : Sender → List ℕ → List ℕ → List ℕ
-sendRoom s packet room = pick (eqb (sendNumber s packet room) 0) (sentSymbols s packet ++ drop (symbolCount (s .coder)) room) room
+sendRoom s input room =
+    pick (eqb (refusal s input room) 0) (sentSymbols s (packetFor input) ++ drop (symbolCount (s .coder)) room) room
 
 -- what a call promises
-pub record Sends (s : Sender) (packet room : List ℕ) (number count : ℕ) (next : Sender) (left : List ℕ) : Type 0 where
-  pub answered : number ≡ sendNumber s packet room
-  pub counted : count ≡ sendCount s packet room
-  pub sender : next ≡ sendSender s packet room
-  pub written : left ≡ sendRoom s packet room
+pub record Sends (s : Sender) (input room : List ℕ) (number count : ℕ) (next : Sender) (left : List ℕ) : Type 0 where
+  pub answered : number ≡ sendNumber s input room
+  pub counted : count ≡ sendCount s input room
+  pub sender : next ≡ sendSender s input room
+  pub written : left ≡ sendRoom s input room

@@ -6,6 +6,7 @@ ghost use Prim.Native.Nat.{_+_, _%_, _<_, _≤_};
 ghost use lib.ListN.{length, getD, drop};
 ghost use Rattle.answer.specs.Number.{numberOf};
 ghost use Rattle.inner_code.specs.Encode.{symbolCount};
+ghost use Rattle.sender.specs.Input.{isInput, isSynced, nullPacket};
 ghost use Rattle.sender.specs.Send.{freshSender, newNumber, inRange, sentSymbols, senderAfter, Sends};
 use answer::Answer;
 use inner_code::InnerCoder;
@@ -76,9 +77,9 @@ impl Sender {
         coder.in_range()
     }
 
-    // Sends a packet: writes its symbols.
-    pub fn send(self, packet: &[u8], room: &mut [u8]) -> Sent
-        ensures { λ r. ⌜ Sends self (now (packet .entry)) (now (room .entry)) (numberOf (r .answer)) (r .count) (r .sender) (now (room .exit)) ⌝ }
+    // Sends a packet: writes its symbols. For no bytes, and for 188 that do not begin with the sync byte, a null packet is sent.
+    pub fn send(self, input: &[u8], room: &mut [u8]) -> Sent
+        ensures { λ r. ⌜ Sends self (now (input .entry)) (now (room .entry)) (numberOf (r .answer)) (r .count) (r .sender) (now (room .exit)) ⌝ }
     {
         if !self.in_range() {
             return Sent {
@@ -87,16 +88,9 @@ impl Sender {
                 sender: self,
             };
         }
-        if packet.len() != Sender::PACKET_LENGTH {
+        if !is_input(input) {
             return Sent {
                 answer: Answer::PacketLength,
-                count: 0,
-                sender: self,
-            };
-        }
-        if packet[0] != 0x47 {
-            return Sent {
-                answer: Answer::SyncByte,
                 count: 0,
                 sender: self,
             };
@@ -109,8 +103,50 @@ impl Sender {
                 sender: self,
             };
         }
-        transmit(self, packet, room)
+        if is_synced(input) {
+            return transmit(self, input, room);
+        }
+        let null = null_packet();
+        let sent = transmit(self, &null, room);
+        let count = sent.count;
+        let sender = sent.sender;
+        Sent {
+            answer: Answer::NullPacket,
+            count,
+            sender,
+        }
     }
+}
+
+// Whether an input is no bytes or those of a packet.
+fn is_input(input: &[u8]) -> bool
+    ensures { λ r. ⌜ r ≡ isInput (now (input .entry)) ⌝ }
+{
+    if input.len() == 0 {
+        return true;
+    }
+    input.len() == Sender::PACKET_LENGTH
+}
+
+// Whether it begins with the sync byte; no bytes do not.
+fn is_synced(input: &[u8]) -> bool
+    ensures { λ r. ⌜ r ≡ isSynced (now (input .entry)) ⌝ }
+{
+    if input.len() == 0 {
+        return false;
+    }
+    input[0] == 0x47
+}
+
+// The null packet: packet identifier 1FFF hex, a payload of bytes FF.
+fn null_packet() -> [u8; Sender::PACKET_LENGTH]
+    ensures { λ r. ⌜ r ≡ nullPacket ⌝ }
+{
+    let mut packet = [0xFFu8; Sender::PACKET_LENGTH];
+    packet[0] = 0x47;
+    packet[1] = 0x1F;
+    packet[3] = 0x10;
+    packet
 }
 
 // Sends a packet with a sender that is in range and room enough.

@@ -144,6 +144,10 @@ fn main() {
     compare(4, b"symbols_rate4.bin");
     let mut packets = [0u8; 376];
     send_part(b"packet that begins 00: ", 0, &packets, 188, 1632);
+    send_part(b"the same, room of 1631: ", 0, &packets, 188, 1631);
+    send_part(b"no bytes: ", 0, &packets, 0, 1632);
+    send_part(b"no bytes, room of 1631: ", 0, &packets, 0, 1631);
+    send_part(b"one byte: ", 0, &packets, 1, 1632);
     packets[0] = 0x47;
     answer_new(b"fresh sender at rate 4: ", 4);
     answer_new(b"fresh sender at rate 5: ", 5);

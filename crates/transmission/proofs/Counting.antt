@@ -5,11 +5,12 @@ use mathlib.Core.List.{List}
 use Prim.Native.Nat.{ℕ, _+_, _-_, _*_, _/_, _%_, _≤_, _<_}
 use native.Mathlib.Nat.{add-comm, mod-lt}
 use native.Mathlib.Omega.{arith}
-use lib.ListN.{length}
+use lib.ListN.{length, length-map}
 use Rattle.puncturing.specs.Step.{patternLength, symbolsIn}
 use Rattle.puncturing.proofs.Steps.{some-bits}
 use Rattle.inner_code.specs.Encode.{symbolCount}
 use Rattle.inner_code.proofs.Coder.{range-test}
+use Rattle.sender.specs.Input.{packetFor, packetsFor}
 use Rattle.sender.proofs.Counts.{length-packets, length-on-air, symbols-in-append, place-after}
 use Rattle.transmission.specs.Run.{packetsOf, runSymbols}
 
@@ -17,7 +18,8 @@ use Rattle.transmission.specs.Run.{packetsOf, runSymbols}
 pub length-run : (rate : ℕ) → rate < 5 → (bytes : List ℕ) → length (runSymbols rate bytes) ≡ symbolsIn rate 0 (1632 * (length bytes / 188))
 unfolding packetsOf
 length-run rate h bytes =
-    length-on-air rate h (packetsOf bytes) ∙ ap (λ (n : ℕ). symbolsIn rate 0 (1632 * n)) (length-packets (length bytes / 188) bytes)
+    length-on-air rate h (packetsFor (packetsOf bytes))
+    ∙ ap (λ (n : ℕ). symbolsIn rate 0 (1632 * n)) (length-map (packetsOf bytes) packetFor ∙ length-packets (length bytes / 188) bytes)
 
 -- k of n packets have been counted, from room, and left is what they leave
 pub record Counting (rate n room : ℕ) (place left k : ℕ) : Type 0 where

@@ -2,22 +2,23 @@
 -- Each is refuted on lists of more than k packets, whatever k is, so on lists longer than a group.
 -- Assumes nothing.
 use mathlib.Core.Path.{_≡_, refl, ap, ap₂, sym, _∙_}
-use mathlib.Core.Bool.{true}
 use mathlib.Core.List.{List, [], _∷_, _++_, flatten}
 use Prim.Native.Nat.{ℕ, zero, suc, _+_, _*_, _%_, _≤_, _<_}
 use native.Mathlib.Omega.{arith}
 use borrow.Author.Tests.{eq-eqb, le-ltb}
 use lib.ListN.{length, getD, take, drop, replicate, length-append, length-replicate, getD-replicate, List·getD-append}
 use lib.Seq.{take-at, drop-at, getD-at}
-use Rattle.common.specs.Lists.{All, Bytes, Length}
+use Rattle.common.specs.Lists.{All, Length}
 use Rattle.randomizer.specs.Stream.{Packet}
 use Rattle.randomizer.proofs.Whole.{packet-lengths}
 use Rattle.puncturing.specs.Mode.{modeOf}
 use Rattle.puncturing.specs.Step.{patternLength, symbolsIn}
 use Rattle.sender.specs.Standard.{onAir}
+use Rattle.sender.specs.Input.{packetsFor}
+use Rattle.sender.proofs.Inputs.{packets-kept, bytes-replicate}
 use Rattle.sender.proofs.Counts.{length-flatten, length-on-air}
 use Rattle.sender.proofs.Distinct.{same-bits}
-use Rattle.transmission.specs.Run.{packetsOf, synced, runSymbols, runNumber, Runs}
+use Rattle.transmission.specs.Run.{packetsOf, runSymbols, runRefusal, Runs}
 use Rattle.transmission.proofs.Buffers.{packets-none, packets-more}
 
 -- what a program leaves after a run
@@ -44,11 +45,6 @@ packets-flatten (p ∷ ps) g =
     ∙ ap₂ (λ (a : List ℕ) (b : List (List ℕ)). a ∷ b) (take-at p (flatten ps) 188 (g .0))
     (ap packetsOf (drop-at p (flatten ps) 188 (g .0)) ∙ packets-flatten ps (g .1))
 
-packets-synced : (ps : List (List ℕ)) → All Packet ps → synced ps ≡ true
-unfolding synced
-packets-synced [] g = refl
-packets-synced (p ∷ ps) g = let r = packets-synced ps (g .1) in simp (eq-eqb _ _ (g .0 .sync), r)
-
 -- ---- rate 1/2 gives a symbol for each bit
 
 each-bit : (n : ℕ) → symbolsIn 0 0 n ≡ n
@@ -71,12 +67,11 @@ pub record Kept (f : Program) (ps : List (List ℕ)) (room : List ℕ) : Type 0 
 kept : (f : Program) → Keeps f → (ps : List (List ℕ)) (room : List ℕ) → All Packet ps → 1632 * length ps ≤ length room → Kept f ps room
 kept f keeps ps room g h =
     let l = packet-lengths ps g in
-    let e : packetsOf (flatten ps) ≡ ps = packets-flatten ps l in
+    let e : packetsFor (packetsOf (flatten ps)) ≡ ps = ap packetsFor (packets-flatten ps l) ∙ packets-kept ps g in
     let n : length (runSymbols 0 (flatten ps)) ≡ 1632 * length ps = ap (λ (x : List (List ℕ)). length (onAir (modeOf 0) x)) e ∙ half-length ps in
     let w : length (flatten ps) % 188 ≡ 0 = (let m = length-flatten 188 ps l in omega arith) in
-    let s : synced (packetsOf (flatten ps)) ≡ true = ap synced e ∙ packets-synced ps g in
     let t : length (runSymbols 0 (flatten ps)) ≤ length room = omega arith in
-    let z : runNumber 0 (flatten ps) room ≡ 0 = simp (eq-eqb _ _ w, s, le-ltb _ _ t) in
+    let z : runRefusal 0 (flatten ps) room ≡ 0 = simp (eq-eqb _ _ w, le-ltb _ _ t) in
     let r = keeps 0 (flatten ps) room in
     record {
       counted = r .counted ∙ simp z n;
@@ -87,10 +82,6 @@ kept f keeps ps room g h =
 
 sample : ℕ → List ℕ
 sample v = 0x47 ∷ replicate 187 v
-
-bytes-replicate : (n v : ℕ) → v < 256 → Bytes (replicate n v)
-bytes-replicate zero v h = tt
-bytes-replicate (suc n) v h = (h, bytes-replicate n v h)
 
 sample-packet : (v : ℕ) → v < 256 → Packet (sample v)
 unfolding sample

@@ -1,28 +1,25 @@
 -- What a run promises, by the number of its answer.
 -- Assumes nothing.
 use mathlib.Core.Path.{_≡_, ap, sym, _∙_}
-use mathlib.Core.Bool.{Bool, false}
+use mathlib.Core.Bool.{false}
 use mathlib.Core.List.{List, _++_}
 use Prim.Native.Nat.{ℕ}
 use lib.Dec.{eqb}
 use lib.ListN.{length, drop}
 use Rattle.common.specs.Choice.{pick}
-use Rattle.transmission.specs.Run.{runSymbols, runNumber, Runs}
+use Rattle.transmission.specs.Run.{packetsOf, synced, runSymbols, runRefusal, Runs}
 
 module _ (rate : ℕ) (bytes room : List ℕ) where
-  pub run-refused : (n : ℕ) → runNumber rate bytes room ≡ n → eqb n 0 ≡ false → Runs rate bytes room n 0 room
+  pub run-refused : (n : ℕ) → runRefusal rate bytes room ≡ n → eqb n 0 ≡ false → Runs rate bytes room n 0 room
   run-refused n e f =
-      let t : eqb (runNumber rate bytes room) 0 ≡ false = ap (λ (k : ℕ). eqb k 0) e ∙ f in
-      record {
-        answered = sym e;
-        counted = ap (λ (b : Bool). pick b (length (runSymbols rate bytes)) 0) (sym t);
-        written = ap (λ (b : Bool). pick b (runSymbols rate bytes ++ drop (length (runSymbols rate bytes)) room) room) (sym t);
-      }
+      let t : eqb (runRefusal rate bytes room) 0 ≡ false = ap (λ (k : ℕ). eqb k 0) e ∙ f in
+      record { answered = simp t (sym e); counted = simp t; written = simp t }
 
-  pub run-answered : runNumber rate bytes room ≡ 0 → {count : ℕ} {left : List ℕ} → count ≡ length (runSymbols rate bytes)
-      → left ≡ runSymbols rate bytes ++ drop (length (runSymbols rate bytes)) room → Runs rate bytes room 0 count left
-  run-answered e k l = record {
-    answered = sym e;
+  pub run-answered : runRefusal rate bytes room ≡ 0 → {number count : ℕ} {left : List ℕ} → number ≡ pick (synced (packetsOf bytes)) 0 15
+      → count ≡ length (runSymbols rate bytes)
+      → left ≡ runSymbols rate bytes ++ drop (length (runSymbols rate bytes)) room → Runs rate bytes room number count left
+  run-answered e n k l = record {
+    answered = n ∙ ap (λ (k : ℕ). pick (eqb k 0) (pick (synced (packetsOf bytes)) 0 15) k) (sym e);
     counted = k ∙ ap (λ (k : ℕ). pick (eqb k 0) (length (runSymbols rate bytes)) 0) (sym e);
     written = l ∙ ap (λ (k : ℕ). pick (eqb k 0) (runSymbols rate bytes ++ drop (length (runSymbols rate bytes)) room) room) (sym e);
   }

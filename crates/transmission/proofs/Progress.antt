@@ -1,24 +1,26 @@
 -- A loop that sends the packets of a buffer: what is in the room, and what is left to send.
 -- Assumes nothing.
 use mathlib.Core.Path.{_≡_, refl, ap, ap₂, sym, subst, subst₂, _∙_}
+use mathlib.Core.Bool.{true}
+use mathlib.Core.Logic.{inr}
 use mathlib.Core.List.{List, [], _++_, append-assoc, append-nil, flatten}
 use Prim.Native.Nat.{ℕ, _+_, _-_, _%_, _≤_, _<_}
 use native.Mathlib.Omega.{arith}
-use borrow.Author.Tests.{eqb-true}
 use borrow.Rule.Slice.PartMut.{putMid, midOf}
-use lib.ListN.{length, getD, take, drop, length-append, length-drop, drop-of-length-le}
+use lib.ListN.{length, take, drop, length-append, length-drop, drop-of-length-le}
 use lib.Seq.{take-all, take-at, drop-at, drop-drop}
-use Rattle.common.proofs.Choice.{both-true}
 use Rattle.inner_code.specs.Encode.{symbolCount}
+use Rattle.sender.specs.Input.{isInput, packetFor, packetsFor}
 use Rattle.sender.specs.Send.{freshSender, sentSymbols, senderAfter, Sends}
 use Rattle.sender.specs.Calls.{callsSymbols}
 use Rattle.sender.specs.declared.Sender.{Sender}
+use Rattle.sender.proofs.Inputs.{input-test, packet-size, packet-lengths}
 use Rattle.sender.proofs.Stages.{symbol-count}
 use Rattle.sender.proofs.Ready.{Ready, ready-range, ready-fresh, ready-after}
 use Rattle.sender.proofs.Stream.{calls-on-air}
-use Rattle.sender.proofs.History.{Answered, packet-sent}
-use Rattle.transmission.specs.Run.{packetsOf, synced, runSymbols, Sendable}
-use Rattle.transmission.proofs.Buffers.{packet-lengths, Scanning, scanning-start, scanning-end, scanning-packet, scanning-size, scanning-first, scanning-more}
+use Rattle.sender.proofs.History.{Answered, input-sent}
+use Rattle.transmission.specs.Run.{packetsOf, runSymbols, Sendable}
+use Rattle.transmission.proofs.Buffers.{packets-inputs, Scanning, scanning-start, scanning-end, scanning-packet, scanning-size, scanning-more}
 
 -- the symbols in front are in the room, those of the packets from at on are still to be sent, and together they are those of the run
 pub record Progress (rate : ℕ) (bytes room₀ room : List ℕ) (s : Sender) (at count : ℕ) : Type 0 where
@@ -27,7 +29,7 @@ pub record Progress (rate : ℕ) (bytes room₀ room : List ℕ) (s : Sender) (a
   pub front : List ℕ
   pub counted : length front ≡ count
   pub written : room ≡ front ++ drop count room₀
-  pub symbols : front ++ flatten (callsSymbols s (packetsOf (drop at bytes))) ≡ runSymbols rate bytes
+  pub symbols : front ++ flatten (callsSymbols s (packetsFor (packetsOf (drop at bytes)))) ≡ runSymbols rate bytes
 
 pub progress-start : (rate : ℕ) (bytes room : List ℕ) (s : Sender) → rate < 5 → length bytes % 188 ≡ 0 → s ≡ freshSender rate
     → Progress rate bytes room room s 0 0
@@ -38,8 +40,8 @@ progress-start rate bytes room s h w e = record {
   counted = refl;
   written = refl;
   symbols =
-      ap (λ (x : Sender). flatten (callsSymbols x (packetsOf bytes))) e
-      ∙ calls-on-air rate h (packetsOf bytes) (packet-lengths bytes);
+      ap (λ (x : Sender). flatten (callsSymbols x (packetsFor (packetsOf bytes)))) e
+      ∙ calls-on-air rate h (packetsFor (packetsOf bytes)) (packet-lengths (packetsOf bytes) (packets-inputs bytes));
 }
 
 module _ {rate : ℕ} {bytes room₀ room : List ℕ} {s : Sender} {at count : ℕ} (g : Sendable rate bytes room₀) (p : Progress rate bytes room₀ room s at count) where
@@ -48,14 +50,14 @@ module _ {rate : ℕ} {bytes room₀ room : List ℕ} {s : Sender} {at count : �
   progress-end h =
       let e : p .front ≡ runSymbols rate bytes =
       sym (append-nil (p .front))
-      ∙ ap (λ (l : List (List ℕ)). p .front ++ flatten (callsSymbols s l)) (sym (scanning-end (p .scanning) h))
+      ∙ ap (λ (l : List (List ℕ)). p .front ++ flatten (callsSymbols s (packetsFor l))) (sym (scanning-end (p .scanning) h))
       ∙ p .symbols in
       let n : count ≡ length (runSymbols rate bytes) = sym (p .counted) ∙ ap length e in
       (n, p .written ∙ ap₂ (λ (a : List ℕ) (k : ℕ). a ++ drop k room₀) e n)
 
   pub progress-length : length room ≡ length room₀
   progress-length =
-      let rest = flatten (callsSymbols s (packetsOf (drop at bytes))) in
+      let rest = flatten (callsSymbols s (packetsFor (packetsOf (drop at bytes)))) in
       omega (arith, ap length (p .written), length-append (p .front) (drop count room₀), length-drop count room₀, ap length (p .symbols), length-append (p .front) rest, p .counted, g .fits)
 
   pub progress-room : count ≤ length room
@@ -68,42 +70,43 @@ module _ {rate : ℕ} {bytes room₀ room : List ℕ} {s : Sender} {at count : �
   back-room = ap (drop count) (p .written) ∙ drop-at (p .front) (drop count room₀) count (p .counted)
 
   module _ (h : at < length bytes) where
+    input : List ℕ
+    input = take 188 (drop at bytes)
+
     packet : List ℕ
-    packet = take 188 (drop at bytes)
+    packet = packetFor input
 
     -- the symbols of this packet, and those of the packets after it
-    next-symbols : p .front ++ (sentSymbols s packet ++ flatten (callsSymbols (senderAfter s packet) (packetsOf (drop (at + 188) bytes)))) ≡ runSymbols rate bytes
-    unfolding packet callsSymbols flatten
+    next-symbols : p .front ++ (sentSymbols s packet ++ flatten (callsSymbols (senderAfter s packet) (packetsFor (packetsOf (drop (at + 188) bytes))))) ≡ runSymbols rate bytes
+    unfolding input packet callsSymbols flatten
     next-symbols =
-        ap (λ (l : List (List ℕ)). p .front ++ flatten (callsSymbols s l)) (sym (scanning-packet (p .scanning) h)) ∙ p .symbols
+        ap (λ (l : List (List ℕ)). p .front ++ flatten (callsSymbols s (packetsFor l))) (sym (scanning-packet (p .scanning) h)) ∙ p .symbols
 
-    packet-size : length packet ≡ 188
+    is-input : isInput input ≡ true
+    unfolding input
+    is-input = input-test input (inr (scanning-size (p .scanning) h))
+
+    packet-sized : length packet ≡ 188
     unfolding packet
-    packet-size = scanning-size (p .scanning) h
-
-    packet-sync : getD packet 0 0 ≡ 0x47
-    unfolding packet synced
-    packet-sync =
-        let e = sym (p .scanning .rest ∙ ap synced (scanning-packet (p .scanning) h)) ∙ g .sync in
-        eqb-true _ _ (both-true _ _ e .0)
+    packet-sized = packet-size input is-input
 
     count-is : length (sentSymbols s packet) ≡ symbolCount (s .coder)
-    count-is = symbol-count s packet (ready-range s (p .ready)) packet-size
+    count-is = symbol-count s packet (ready-range s (p .ready)) packet-sized
 
     fits-next : count + symbolCount (s .coder) ≤ length room₀
     fits-next =
-        let rest = flatten (callsSymbols (senderAfter s packet) (packetsOf (drop (at + 188) bytes))) in
+        let rest = flatten (callsSymbols (senderAfter s packet) (packetsFor (packetsOf (drop (at + 188) bytes)))) in
         omega (arith, ap length next-symbols, length-append (p .front) (sentSymbols s packet ++ rest), length-append (sentSymbols s packet) rest, count-is, p .counted, g .fits)
 
-    answered : Answered s packet (drop count room)
+    answered : Answered s input (drop count room)
     answered =
-        packet-sent s packet (drop count room) (p .ready) packet-size packet-sync
+        input-sent s input (drop count room) (p .ready) is-input
         (omega (arith, ap length back-room, length-drop count room₀, fits-next))
 
     -- a call on this packet and the rest of the room
     module _ {number n : ℕ} {next : Sender} {left : List ℕ} (m : Sends s (take (at + 188 - at) (drop at bytes)) (midOf count (length room - count) room) number n next left) where
-      kept : Sends s packet (drop count room) number n next left
-      unfolding packet
+      kept : Sends s input (drop count room) number n next left
+      unfolding input
       kept =
           let k : at + 188 - at ≡ 188 = omega arith in
           subst₂ (λ (a b : List ℕ). Sends s a b number n next left) (ap (λ (j : ℕ). take j (drop at bytes)) k)
@@ -122,7 +125,7 @@ module _ {rate : ℕ} {bytes room₀ room : List ℕ} {s : Sender} {at count : �
           let k : length (sentSymbols s packet) ≡ n = count-is ∙ sym progress-count in
           record {
             ready = subst Ready (sym e) (ready-after s packet (p .ready));
-            scanning = scanning-more (p .scanning) h (sym (scanning-first (p .scanning) h) ∙ packet-sync);
+            scanning = scanning-more (p .scanning) h;
             front = p .front ++ sentSymbols s packet;
             counted = length-append (p .front) (sentSymbols s packet) ∙ ap₂ (λ (a b : ℕ). a + b) (p .counted) k;
             written =
@@ -133,7 +136,7 @@ module _ {rate : ℕ} {bytes room₀ room : List ℕ} {s : Sender} {at count : �
                 ∙ ap (λ (l : List ℕ). sentSymbols s packet ++ l) (drop-drop n count room₀))
                 ∙ sym (append-assoc (p .front) (sentSymbols s packet) (drop (count + n) room₀));
             symbols =
-                ap (λ (x : Sender). (p .front ++ sentSymbols s packet) ++ flatten (callsSymbols x (packetsOf (drop (at + 188) bytes)))) e
+                ap (λ (x : Sender). (p .front ++ sentSymbols s packet) ++ flatten (callsSymbols x (packetsFor (packetsOf (drop (at + 188) bytes))))) e
                 ∙ append-assoc (p .front) (sentSymbols s packet) _
                 ∙ next-symbols;
           }

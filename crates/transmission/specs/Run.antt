@@ -5,11 +5,12 @@ use mathlib.Core.Bool.{Bool, true, false}
 use mathlib.Core.List.{List, [], _∷_, _++_}
 use Prim.Native.Nat.{ℕ, _/_, _%_, _≤_, _<_}
 use lib.Dec.{ltb, eqb}
-use lib.ListN.{length, getD, drop}
+use lib.ListN.{length, drop}
 use Rattle.common.specs.Choice.{pick}
 use Rattle.randomizer.specs.Stream.{inPackets}
 use Rattle.puncturing.specs.Mode.{modeOf}
 use Rattle.sender.specs.Standard.{onAir}
+use Rattle.sender.specs.Input.{isSynced, packetsFor}
 
 -- the packets of a buffer
 unfoldable pub packetsOf : List ℕ → List (List ℕ)
@@ -18,35 +19,34 @@ packetsOf bytes = inPackets (length bytes / 188) bytes
 -- each begins with the sync byte
 unfoldable pub synced : List (List ℕ) → Bool
 synced [] = true
-synced (p ∷ ps) = pick (eqb (getD p 0 0) 0x47) (synced ps) false
+synced (p ∷ ps) = pick (isSynced p) (synced ps) false
 
--- the symbols of the standard for them
+-- the symbols of the standard for them, with null packets put in
 abbrev pub runSymbols : ℕ → List ℕ → List ℕ
-runSymbols rate bytes = onAir (modeOf rate) (packetsOf bytes)
+runSymbols rate bytes = onAir (modeOf rate) (packetsFor (packetsOf bytes))
 
 -- what the tests tell: all of them can be sent
 pub record Sendable (rate : ℕ) (bytes room : List ℕ) : Type 0 where
   pub known : rate < 5
   pub whole : length bytes % 188 ≡ 0
-  pub sync : synced (packetsOf bytes) ≡ true
   pub fits : length (runSymbols rate bytes) ≤ length room
 
--- The number of the answer. A constructor's answer comes first: 6 for another rate. Then, as for one packet, 1 where the bytes make no whole
--- packets, 2 where a packet has another sync byte, 4 where the room is too short for all the symbols.
+-- What is refused. A constructor's answer comes first: 6 for another rate. Then, as for one packet, 1 where the bytes make no whole packets,
+-- 4 where the room is too short for all the symbols; 0 where nothing is.
+abbrev pub runRefusal : ℕ → List ℕ → List ℕ → ℕ
+runRefusal rate bytes room =
+    pick (ltb rate 5) (pick (eqb (length bytes % 188) 0) (pick (ltb (length room) (length (runSymbols rate bytes))) 4 0) 1) 6
+
+-- the number of the answer: the refusal, or else 15 where a null packet was put in
 abbrev pub runNumber : ℕ → List ℕ → List ℕ → ℕ
-runNumber rate bytes room =
-    pick (ltb rate 5)
-    (pick (eqb (length bytes % 188) 0)
-    (pick (synced (packetsOf bytes)) (pick (ltb (length room) (length (runSymbols rate bytes))) 4 0) 2)
-    1)
-    6
+runNumber rate bytes room = pick (eqb (runRefusal rate bytes room) 0) (pick (synced (packetsOf bytes)) 0 15) (runRefusal rate bytes room)
 
 abbrev pub runCount : ℕ → List ℕ → List ℕ → ℕ
-runCount rate bytes room = pick (eqb (runNumber rate bytes room) 0) (length (runSymbols rate bytes)) 0
+runCount rate bytes room = pick (eqb (runRefusal rate bytes room) 0) (length (runSymbols rate bytes)) 0
 
 abbrev pub runRoom : ℕ → List ℕ → List ℕ → List ℕ
 runRoom rate bytes room =
-    pick (eqb (runNumber rate bytes room) 0) (runSymbols rate bytes ++ drop (length (runSymbols rate bytes)) room) room
+    pick (eqb (runRefusal rate bytes room) 0) (runSymbols rate bytes ++ drop (length (runSymbols rate bytes)) room) room
 
 -- what a run promises
 pub record Runs (rate : ℕ) (bytes room : List ℕ) (number count : ℕ) (left : List ℕ) : Type 0 where

@@ -84,8 +84,8 @@ fn send_packets(rate: u8, packets: &[u8], room: &mut [u8]) -> usize
     count
 }
 
-// Sends a whole list of packets with a fresh sender: writes the symbols that EN 300 421 gives for them.
-// Nothing is written unless all of them can be sent.
+// Sends a whole list of packets with a fresh sender: writes the symbols that EN 300 421 gives for them, with a null packet
+// in place of each that does not begin with the sync byte. Nothing is written unless all of them can be sent.
 pub fn send_run(rate: u8, packets: &[u8], room: &mut [u8]) -> Run
     ensures { λ r. ⌜ Runs rate (now (packets .entry)) (now (room .entry)) (numberOf (r .answer)) (r .count) (now (room .exit)) ⌝ }
 {
@@ -101,12 +101,6 @@ pub fn send_run(rate: u8, packets: &[u8], room: &mut [u8]) -> Run
             count: 0,
         };
     }
-    if !is_synced(packets) {
-        return Run {
-            answer: Answer::SyncByte,
-            count: 0,
-        };
-    }
     if is_short(rate, packets.len() / Sender::PACKET_LENGTH, room.len()) {
         return Run {
             answer: Answer::RoomLength,
@@ -114,6 +108,12 @@ pub fn send_run(rate: u8, packets: &[u8], room: &mut [u8]) -> Run
         };
     }
     let count = send_packets(rate, packets, room);
+    if !is_synced(packets) {
+        return Run {
+            answer: Answer::NullPacket,
+            count,
+        };
+    }
     Run {
         answer: Answer::Done,
         count,

@@ -443,6 +443,22 @@ fn send_kinds(s: &mut Score) {
             println!("  packets: {sent}");
         }
     }
+    s.kind("send_run: null packets put in", 256 + 24, |s, r, case| {
+        // Every mix of packets with and without the sync byte in a group, then longer lists.
+        let count = if case < 256 { 8 } else { 9 + r.below(90) };
+        let bad: Vec<bool> = (0..count).map(|n| if case < 256 { case >> n & 1 == 1 } else { r.below(3) == 0 }).collect();
+        let mut list = packets(r, count);
+        for n in (0..count).filter(|&n| bad[n]) {
+            list[188 * n] = r.not_sync();
+        }
+        for rate in 0..5 {
+            let need = symbols_of(rate, count);
+            let room = room_of(r, need);
+            let (answer, symbols) = send_run(s, rate, &list, room, vec![0xA5]);
+            assert_eq!((answer, symbols as usize), (if bad.contains(&true) { 15 } else { 0 }, need));
+            send_run(s, rate, &list, r.bytes(need - 1), vec![0xA5]);
+        }
+    });
     s.kind("send_run: refusals", 256, |s, r, case| {
         // Every rate with each of the other refusals, alone and together.
         let count = 1 + case as usize % 10;
@@ -450,7 +466,7 @@ fn send_kinds(s: &mut Score) {
             let need = symbols_of(rate % 5, count);
             let good = packets(r, count);
             let mut wrong = good.clone();
-            wrong[188 * r.below(count)] = [0x46, INVERTED_SYNC, 0x00, case as u8][r.below(4)];
+            wrong[188 * r.below(count)] = r.not_sync();
             let short = &good[..188 * count - 1 - r.below(187)];
             let mut longer = good.clone();
             let more = 1 + r.below(187);

@@ -1,10 +1,10 @@
 //! The interleaved blocks of a transport stream, from a fresh state: packets of
 //! 188 bytes on standard input, blocks of 204 on standard output, as an inner
-//! decoder would hand them to the receiver. Packets without the sync byte are
-//! left out, as the sender refuses them, and so are bytes after the last whole one.
+//! decoder would hand them to the receiver. For packets without the sync byte the
+//! sender puts null packets in; bytes after the last whole one are left out.
 
 use reference::sender::Sender;
-use reference::{PACKET_LENGTH, SYNC};
+use reference::{NULL_PACKET, PACKET_LENGTH, SYNC};
 use std::io::{BufReader, BufWriter, ErrorKind, Read, Write};
 
 fn main() -> std::io::Result<()> {
@@ -16,7 +16,7 @@ fn main() -> std::io::Result<()> {
     loop {
         match input.read_exact(&mut packet) {
             Ok(()) if packet[0] == SYNC => output.write_all(&sender.interleaved(&packet))?,
-            Ok(()) => {}
+            Ok(()) => output.write_all(&sender.interleaved(&NULL_PACKET))?,
             Err(e) if e.kind() == ErrorKind::UnexpectedEof => return output.flush(),
             Err(e) => return Err(e),
         }

@@ -55,8 +55,8 @@ send-requires c κs = search needs
 number-requires : tie.Need-number-requires Inv-loop μ-loop
 number-requires c κs = search needs
 
-report-refused-requires : tie.Need-report-refused-requires Inv-loop μ-loop
-report-refused-requires c κs = search needs
+report-answer-requires : tie.Need-report-answer-requires Inv-loop μ-loop
+report-answer-requires c κs = search needs
 
 wrapping-add-u64-requires : tie.Need-wrapping-add-u64-requires Inv-loop μ-loop
 wrapping-add-u64-requires c κs = search needs
@@ -109,7 +109,7 @@ send-whole-spec =
     part-send-end-2
     send-requires
     number-requires
-    report-refused-requires
+    report-answer-requires
     wrapping-add-u64-requires
     add-count
     loop-less

@@ -4,19 +4,19 @@ use mathlib.Core.Path.{sym}
 use Prim.Native.Nat.{_-_}
 use native.Mathlib.Omega.{arith}
 use lib.ListN.{length}
-use Rattle.transmission.proofs.Buffers.{Scanning, scanning-start, scanning-left, scanning-more, scanning-bad, scanning-all}
+use Rattle.transmission.proofs.Buffers.{scanning-left, Synced, synced-start, synced-more, synced-bad, synced-all}
 use borrow.Author.Needs.{needs}
 use Rattle.transmission.proofs.is_synced.Statement.{statement}
 use Rattle.transmission.proofs.is_synced.Tie as tie
 
 abbrev Inv-loop : tie.InvT-loop
-Inv-loop packets start₀ start = Scanning packets start
+Inv-loop packets start₀ start = Synced packets start
 
 abbrev μ-loop : tie.MeasureT-loop
 μ-loop packets start₀ start = length packets - start
 
 loop-holds : tie.Need-loop-holds Inv-loop μ-loop
-loop-holds c = scanning-start (c .args .packets .now) (c .pre)
+loop-holds c = synced-start (c .args .packets .now) (c .pre)
 
 shared-slice-read-if1 : tie.Need-shared-slice-read-if1 Inv-loop μ-loop
 shared-slice-read-if1 c = search needs
@@ -24,25 +24,25 @@ shared-slice-read-if1 c = search needs
 returns : tie.Need-returns Inv-loop μ-loop
 returns c =
     let l = c .before .before in
-    sym (scanning-bad (l .before .loop .inv) (l .loop-test .taken) (c .if1 .taken))
+    sym (synced-bad (l .before .loop .inv) (l .loop-test .taken) (c .if1 .taken))
 
 add-start : tie.Need-add-start Inv-loop μ-loop
 add-start c =
     let l = c .before .before in
-    omega (arith, scanning-left (l .before .loop .inv) (l .loop-test .taken))
+    omega (arith, scanning-left (l .before .loop .inv .scanning) (l .loop-test .taken))
 
 loop-less : tie.Need-loop-less Inv-loop μ-loop
 loop-less c =
     let l = c .before .before in
-    omega (arith, scanning-left (l .before .loop .inv) (l .loop-test .taken))
+    omega (arith, scanning-left (l .before .loop .inv .scanning) (l .loop-test .taken))
 
 loop-again : tie.Need-loop-again Inv-loop μ-loop
 loop-again c =
     let l = c .before .before in
-    scanning-more (l .before .loop .inv) (l .loop-test .taken) (c .if1 .left)
+    synced-more (l .before .loop .inv) (l .loop-test .taken) (c .if1 .left)
 
 returns-2 : tie.Need-returns-2 Inv-loop μ-loop
-returns-2 c = sym (scanning-all (c .before .loop .inv) (c .loop-test .left))
+returns-2 c = sym (synced-all (c .before .loop .inv) (c .loop-test .left))
 
 pub is-synced-spec : {M : Type 1} → statement M
 is-synced-spec =
