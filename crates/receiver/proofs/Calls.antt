@@ -11,7 +11,7 @@ use lib.ListN.{length, getD, drop-of-length-le}
 use Rattle.common.proofs.Choice.{both-true}
 use Rattle.answer.specs.Number.{numberOf}
 use Rattle.answer.specs.declared.Answer.{Answer}
-use Rattle.reed_solomon.specs.Code.{differ, differBits, changes}
+use Rattle.reed_solomon.specs.Code.{differ, differBits, changes, noChange}
 use Rattle.reed_solomon.specs.Decode.{Decodes, changedBy}
 use Rattle.reed_solomon.specs.declared.Changed.{Changed}
 use Rattle.reed_solomon.specs.declared.Decoded.{Decoded}
@@ -90,7 +90,7 @@ module _ (s : Receiver) (block room : List ℕ) (y : Ready s block room) where
       state {d} {n} {b} {m} q e = ap₂ (λ (x : Branches) (k : Counts). record { deinterleaver = record { branches = x }; sync = s .sync; counts = k }) q e
 
   -- of each number of changes that decoding tells, the sum over the accepted blocks takes what differs
-  pub changed-is : (f : Changed → ℕ) → f (record { bytes = 0; bits = 0 }) ≡ 0 → (left : List ℕ) (decoded : Decoded) → Decodes (delayedBlock s block) left decoded
+  pub changed-is : (f : Changed → ℕ) → f noChange ≡ 0 → (left : List ℕ) (decoded : Decoded) → Decodes (delayedBlock s block) left decoded
       → f (changedBy decoded) ≡ ofAccepted (groupStep (s .sync) (repairOf decoded (getD left 0 0)) .outcome) (f (changes (delayedBlock s block) left))
   changed-is f z left (Corrected changed) d =
       ap f (d .1 .counted) ∙ sym (accepted-whole (s .sync .place) (getD left 0 0) (f (changes (delayedBlock s block) left)) (state-range s (y .range) .place))
@@ -127,7 +127,7 @@ module _ (s : Receiver) (block room : List ℕ) (y : Ready s block room) where
             (ofAccepted (x .outcome) (differ (delayedBlock s block) left)) (ofAccepted (x .outcome) (differBits (delayedBlock s block) left));
       }
 
-      sums : (f : Changed → ℕ) → f (record { bytes = 0; bits = 0 }) ≡ 0 → f (changedBy decoded) ≡ ofAccepted (g .outcome) (f (changes (delayedBlock s block) left))
+      sums : (f : Changed → ℕ) → f noChange ≡ 0 → f (changedBy decoded) ≡ ofAccepted (g .outcome) (f (changes (delayedBlock s block) left))
       sums f z =
           changed-is f z left decoded c ∙ ap (λ (x : GroupStep). ofAccepted (x .outcome) (f (changes (delayedBlock s block) left))) (sym i)
 

@@ -7,7 +7,7 @@ use native.Mathlib.Omega.{arith}
 use borrow.Author.Tests.{le-ltb}
 use lib.ListN.{replicate}
 use Rattle.answer.specs.Number.{numberOf}
-use Rattle.reed_solomon.specs.Code.{Codeword, differ, differBits, changes}
+use Rattle.reed_solomon.specs.Code.{Codeword, differ, differBits, changes, noChange}
 use Rattle.reed_solomon.specs.Decode.{changedBy}
 use Rattle.reed_solomon.specs.declared.Changed.{Changed}
 use Rattle.reed_solomon.specs.declared.Decoded.{Decoded}
@@ -54,7 +54,7 @@ invented-changes s block room r exit p y h c w l n =
     same : Same (p .left) c (p .decoded) (Corrected (changes (delayedBlock s block) c))
     same = decodes-near (delayedBlock s block) c (p .left) (p .decoded) (length-out Receiving (s .deinterleaver .branches) block) w l (p .decodes)
 
-    added : (f : Changed → ℕ) → f (record { bytes = 0; bits = 0 }) ≡ 0
+    added : (f : Changed → ℕ) → f noChange ≡ 0
         → ofAccepted (stepOf s (p .left) (p .decoded) .outcome) (f (changes (delayedBlock s block) (p .left))) ≡ f (changes (delayedBlock s block) c)
     added f z =
         simp (le-ltb _ _ h) (sym (changed-is s block room y f z (p .left) (p .decoded) (p .decodes)) ∙ ap (λ (x : Decoded). f (changedBy x)) (same .answer))

@@ -10,7 +10,7 @@ use lib.Bits.{bitXor}
 use lib.Count.{ones, ones-step}
 use lib.ListN.{length}
 use Rattle.common.proofs.Xor.{xor-half, xor-low}
-use Rattle.reed_solomon.specs.Code.{unequal, unequalBits, distance, differ, differBits, changes}
+use Rattle.reed_solomon.specs.Code.{unequal, unequalBits, distance, differ, differBits, changes, noChange}
 use Rattle.reed_solomon.proofs.Distance.{unequal-same, unequal-other, unequal-le, unequal-xor, distance-none, differ-none}
 
 -- ---- of two numbers of n bits
@@ -110,5 +110,5 @@ bits-none-equal (x ∷ a) (y ∷ b) n e =
     ap₂ (λ (z : ℕ) (l : List ℕ). z ∷ l) (bits-equal 7 x y (omega arith)) (bits-none-equal a b (omega arith) (omega arith))
 
 -- where a block is left as it came nothing is changed
-pub changes-none : (a : List ℕ) → changes a a ≡ record { bytes = 0; bits = 0 }
+pub changes-none : (a : List ℕ) → changes a a ≡ noChange
 changes-none a = ap₂ (λ (x y : ℕ). record { bytes = x; bits = y }) (differ-none a) (bits-none a)

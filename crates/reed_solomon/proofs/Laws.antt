@@ -9,7 +9,7 @@ use native.Mathlib.Nat.{not-suc-le-zero}
 use native.Mathlib.Omega.{arith}
 use lib.ListN.{length}
 use Rattle.galois.proofs.Instance.{bytes}
-use Rattle.reed_solomon.specs.Code.{Codeword, differ, changes}
+use Rattle.reed_solomon.specs.Code.{Codeword, differ, changes, noChange}
 use Rattle.reed_solomon.specs.Decode.{Accepted, Rejected, Decodes, changedBy}
 use Rattle.reed_solomon.specs.declared.Changed.{Changed}
 use Rattle.reed_solomon.specs.declared.Decoded.{Decoded}
@@ -56,8 +56,9 @@ pub decodes-near : (came c left : List ℕ) (r : Decoded) → length came ≡ 20
 decodes-near came c left r n w h d = unique came left c r (Corrected (changes came c)) d (near came c n w h)
 
 -- a codeword decodes to itself, with nothing changed
-pub decodes-codeword : (c left : List ℕ) (r : Decoded) → Codeword c → Decodes c left r → Same left c r (Corrected (changes c c))
-decodes-codeword c left r w d = decodes-near c c left r (codeword-length c w) w (omega (arith, differ-none c)) d
+pub decodes-codeword : (c left : List ℕ) (r : Decoded) → Codeword c → Decodes c left r → Same left c r (Corrected noChange)
+decodes-codeword c left r w d =
+    unique c left c r (Corrected noChange) d (codeword-length c w, accepted c c noChange (codeword-length c w) w (sym (changes-none c)) (omega (arith, differ-none c)))
 
 -- ---- what is changed
 

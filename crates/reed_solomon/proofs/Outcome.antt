@@ -7,6 +7,7 @@ use Prim.Native.Nat.{ℕ, _+_, _≤_, _<_, Fin}
 use native.Mathlib.Decide.{decLt, ℕ-discrete}
 use native.Mathlib.Omega.{arith}
 use borrow.Author.Tests.{eq-eqb, ne-eqb}
+use lib.Bits.{bitXor}
 use lib.ListN.{length, getD, take, drop, length-drop, take-append-drop, List·getD-eq-default}
 use lib.Seq.{length-take-le, getD-take}
 use Rattle.common.specs.Lists.{All, Bytes}
@@ -18,8 +19,7 @@ use Rattle.algebra.specs.Polynomial.{power}
 use Rattle.algebra.proofs.Ring.{add-comm, add-self, zero-add, mul-zero}
 use Rattle.algebra.proofs.Syndromes.{syndrome}
 use Rattle.galois.proofs.Instance.{bytes, byte, byte-zero}
-use lib.Bits.{bitXor}
-use Rattle.reed_solomon.specs.Code.{Codeword, unequal, unequalBits, distance, differ, differBits, changes}
+use Rattle.reed_solomon.specs.Code.{Codeword, unequal, unequalBits, distance, differ, differBits, noChange}
 use Rattle.reed_solomon.specs.Encode.{checkBytes}
 use Rattle.reed_solomon.specs.Decode.{Accepted, Rejected}
 use Rattle.byte_lanes.specs.Lanes.{point, Powers}
@@ -61,9 +61,9 @@ module _ (came : List ℕ) (n : length came ≡ 204) where
       go (no e) r = false-true (rw (ne-eqb y 0 e) at h)
 
   -- a block whose residue is zero is a codeword already
-  pub clean : Bytes came → allZero (residueOf came) ≡ true → Accepted came came (record { bytes = 0; bits = 0 })
+  pub clean : Bytes came → allZero (residueOf came) ≡ true → Accepted came came noChange
   clean b h =
-      accepted came came _ n (codeword-of came n b (λ j l. sym (residue-value j l) ∙ zero-value (point j) (residueOf came) h)) (sym (changes-none came)) (omega (arith, differ-none came))
+      accepted came came noChange n (codeword-of came n b (λ j l. sym (residue-value j l) ∙ zero-value (point j) (residueOf came) h)) (sym (changes-none came)) (omega (arith, differ-none came))
 
 -- ---- the search for errors
 

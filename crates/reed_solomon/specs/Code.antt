@@ -38,8 +38,8 @@ pub record Codeword (block : List ℕ) : Type 0 where
 abbrev pub unequal : ℕ → ℕ → ℕ
 unequal x y = pick (eqb x y) 0 1
 
--- In how many bits two numbers of n bits are unequal, the lowest bit first. The highest bit is what is left once the others are gone,
--- so that unequal numbers have an unequal bit, whatever numbers they are.
+-- In how many bits two numbers of n bits are unequal, from the lowest bit up. The highest is what n - 1 halvings leave: of a byte, which
+-- has eight bits, the top bit. So unequal numbers have an unequal bit, also where they are no bytes.
 unfoldable pub unequalBits : ℕ → ℕ → ℕ → ℕ
 unequalBits zero x y = 0
 unequalBits (suc zero) x y = unequal x y
@@ -59,6 +59,9 @@ differ a b = distance unequal a b
 unfoldable pub differBits : List ℕ → List ℕ → ℕ
 differBits a b = distance (unequalBits 8) a b
 
--- what is changed where one block is left in the place of another: its bytes, and their bits
+-- what is changed where one block is left in the place of another: how many bytes, and how many bits of them
 abbrev pub changes : List ℕ → List ℕ → Changed
 changes came left = record { bytes = differ came left; bits = differBits came left }
+
+abbrev pub noChange : Changed
+noChange = record { bytes = 0; bits = 0 }

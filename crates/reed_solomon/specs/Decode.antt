@@ -4,7 +4,7 @@ use mathlib.Core.Path.{_≡_}
 use mathlib.Core.List.{List}
 use Prim.Native.Nat.{ℕ, _≤_, _<_}
 use lib.ListN.{length}
-use Rattle.reed_solomon.specs.Code.{Codeword, differ, changes}
+use Rattle.reed_solomon.specs.Code.{Codeword, differ, changes, noChange}
 use Rattle.reed_solomon.specs.declared.Changed.{Changed}
 use Rattle.reed_solomon.specs.declared.Decoded.{Decoded}
 use Rattle.reed_solomon.specs.declared.Decoded.the-variants.{Corrected, Uncorrectable, BlockLength}
@@ -36,5 +36,5 @@ decodedNumber BlockLength = 3
 -- what decoding tells that it changed: nothing where it answers with a refusal
 abbrev pub changedBy : Decoded → Changed
 changedBy (Corrected changed) = changed
-changedBy Uncorrectable = record { bytes = 0; bits = 0 }
-changedBy BlockLength = record { bytes = 0; bits = 0 }
+changedBy Uncorrectable = noChange
+changedBy BlockLength = noChange

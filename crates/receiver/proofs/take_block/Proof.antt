@@ -5,6 +5,7 @@ use native.Mathlib.Omega.{arith}
 use Prim.Native.Nat.{ℕ}
 use mathlib.Core.List.{List}
 use lib.ListN.{replicate}
+use Rattle.reed_solomon.specs.Code.{noChange}
 use Rattle.reed_solomon.specs.Decode.{Decodes}
 use Rattle.reed_solomon.specs.declared.Changed.{Changed}
 use Rattle.reed_solomon.proofs.Laws.{tells-changes, FewChanges, few-changes}
@@ -29,7 +30,7 @@ deinterleave-requires c κs = search needs
 count-requires : tie.Need-count-requires
 count-requires c κs =
     let s = c .before .before .before .before .before .before .before .before .before .before in
-    room-for (s .args .receiver) (s .args .block .now) (s .args .room .now) (s .pre) (record { bytes = 0; bits = 0 }) (record { few = omega arith; least = omega arith; most = omega arith })
+    room-for (s .args .receiver) (s .args .block .now) (s .args .room .now) (s .pre) noChange (record { few = omega arith; least = omega arith; most = omega arith })
 
 returns : tie.Need-returns
 returns c =
