@@ -32,7 +32,7 @@ static uint8_t harmed[5][POOL][204]; /* 0, 1, 4, 8 errors, and no codeword */
 static const int errors_of[5] = {0, 1, 4, 8, 12};
 static uint8_t factors[FACTORS];
 static uint8_t coded_run[RUN * 204], clean_stream[RUN * 204], harmed_stream[RUN * 204];
-static uint8_t room[RUN * 1632], block[204], answer[1], counts[56];
+static uint8_t room[RUN * 1632], block[204], answer[2], counts[64];
 static volatile uint64_t sink;
 
 static uint64_t state = 300421;
@@ -129,9 +129,9 @@ static void decode(const struct kernel *k, int side, int n)
 {
     memcpy(block, harmed[k->argument][n % POOL], 204);
     if (side == LIBRARY)
-        sink += dvbs_rs_decode(block, 204, answer, 1);
+        sink += dvbs_rs_decode(block, 204, answer, sizeof answer);
     else if (side == PLAIN_C)
-        sink += PLAIN(rs_decode)(block, 204, answer, 1);
+        sink += PLAIN(rs_decode)(block, 204, answer, sizeof answer);
 #ifdef HAVE_LIBFEC
     else
         sink += (uint64_t)decode_rs_char(fec, block, NULL, 0);
@@ -172,7 +172,7 @@ static void receive(const struct kernel *k, int side, int n)
 {
     const uint8_t *stream = k->argument ? harmed_stream : clean_stream;
     (void)n;
-    sink += (side == LIBRARY ? dvbs_receive_run : PLAIN(receive_run))(stream, sizeof clean_stream, room, sizeof room, counts, 56);
+    sink += (side == LIBRARY ? dvbs_receive_run : PLAIN(receive_run))(stream, sizeof clean_stream, room, sizeof room, counts, sizeof counts);
 }
 
 enum { TWO = 3, THREE = 7 };

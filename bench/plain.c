@@ -130,8 +130,8 @@ static uint8_t value_at(const uint8_t *p, int top, uint8_t x)
     return sum;
 }
 
-/* Bytes changed, or -1 and the block as it was. */
-static int repair(uint8_t *block)
+/* Bytes changed, or -1 and the block as it was. The bits changed are added. */
+static int repair(uint8_t *block, int *bits)
 {
     uint8_t s[CHECK] = {0}, any = 0;
     for (int n = 0; n < BLOCK; n++)
@@ -197,6 +197,8 @@ static int repair(uint8_t *block)
         uint8_t change = mul(top, exp_table[255 - log_table[slope]]);
         block[BLOCK - 1 - place[k]] ^= change;
         changed += change != 0;
+        for (; change; change &= change - 1)
+            ++*bits;
     }
     return changed;
 }
@@ -205,12 +207,13 @@ uint8_t PLAIN(rs_decode)(uint8_t *block, size_t block_len, uint8_t *count, size_
 {
     if (block_len != BLOCK)
         return 3;
-    if (count_len < 1)
+    if (count_len < 2)
         return 4;
-    int changed = repair(block);
+    int bits = 0, changed = repair(block, &bits);
     if (changed < 0)
         return 8;
     count[0] = (uint8_t)changed;
+    count[1] = (uint8_t)bits;
     return 0;
 }
 
@@ -326,10 +329,10 @@ uint64_t PLAIN(receive_run)(const uint8_t *blocks, size_t blocks_len, uint8_t *r
                             uint8_t *counts, size_t counts_len)
 {
     size_t count = blocks_len / BLOCK;
-    if (counts_len < 56 || room_len < PACKET * count)
+    if (counts_len < 64 || room_len < PACKET * count)
         return 0;
-    enum { TAKEN, FILLING, DELIVERED, LOST, WAITING, OUTOFSTEP, CHANGED };
-    uint64_t tally[7] = {0}, written = 0;
+    enum { TAKEN, FILLING, DELIVERED, LOST, WAITING, OUTOFSTEP, CHANGED, BITS };
+    uint64_t tally[8] = {0}, written = 0;
     struct branches branches;
     memset(&branches, 0, sizeof branches);
     int place = -1;
@@ -341,7 +344,7 @@ uint64_t PLAIN(receive_run)(const uint8_t *blocks, size_t blocks_len, uint8_t *r
             tally[FILLING]++;
             continue;
         }
-        int changed = repair(block);
+        int bits = 0, changed = repair(block, &bits);
         if (changed < 0) {
             tally[LOST]++;
             if (place >= 0)
@@ -349,6 +352,7 @@ uint64_t PLAIN(receive_run)(const uint8_t *blocks, size_t blocks_len, uint8_t *r
             continue;
         }
         tally[CHANGED] += (uint64_t)changed;
+        tally[BITS] += (uint64_t)bits;
         if (place < 0) {
             if (block[0] != 0xb8) {
                 tally[WAITING]++;
@@ -365,7 +369,7 @@ uint64_t PLAIN(receive_run)(const uint8_t *blocks, size_t blocks_len, uint8_t *r
         tally[DELIVERED]++;
         place = (place + 1) % GROUP;
     }
-    for (int i = 0; i < 7; i++)
+    for (int i = 0; i < 8; i++)
         for (int k = 0; k < 8; k++)
             counts[8 * i + k] = (uint8_t)(tally[i] >> 8 * k);
     return written;

@@ -14,7 +14,7 @@ static void harm(uint8_t *block, int n)
 
 int main(void)
 {
-    uint8_t message[DVBS_PACKET], codeword[DVBS_BLOCK], block[DVBS_BLOCK], came[DVBS_BLOCK], count[1] = {0};
+    uint8_t message[DVBS_PACKET], codeword[DVBS_BLOCK], block[DVBS_BLOCK], came[DVBS_BLOCK], count[2] = {0};
     for (int n = 0; n < DVBS_PACKET; n++)
         message[n] = (uint8_t)n;
 
@@ -24,7 +24,7 @@ int main(void)
     memcpy(block, codeword, sizeof block);
     harm(block, 8);
     answer = dvbs_rs_decode(block, sizeof block, count, sizeof count);
-    printf("eight bytes harmed: answer %u, %u bytes repaired, %s\n", answer, count[0],
+    printf("eight bytes harmed: answer %u, %u bytes and %u bits repaired, %s\n", answer, count[0], count[1],
            memcmp(block, codeword, sizeof block) ? "another codeword" : "the same codeword");
 
     memcpy(block, codeword, sizeof block);

@@ -37,11 +37,11 @@ fn main() {
     let answer = rs_encode(&message, &mut codeword);
     println!("coded: answer {answer}");
 
-    let mut count = [0];
+    let mut count = [0; 2];
     let mut block = harmed(codeword, 8);
     let answer = rs_decode(&mut block, &mut count);
     let which = if block == codeword { "the same" } else { "another" };
-    println!("eight bytes harmed: answer {answer}, {} bytes repaired, {which} codeword", count[0]);
+    println!("eight bytes harmed: answer {answer}, {} bytes and {} bits repaired, {which} codeword", count[0], count[1]);
 
     let came = harmed(codeword, 9);
     let mut block = came;

@@ -28,7 +28,7 @@
 extern "C" {
 #endif
 
-enum { DVBS_PACKET = 188, DVBS_BLOCK = 204, DVBS_COUNTS = 56 };
+enum { DVBS_PACKET = 188, DVBS_BLOCK = 204, DVBS_COUNTS = 64 };
 
 /* Energy dispersal: the packet at this place (0 to 7) of its group of eight, as
  * it is sent, 188 bytes; and the packet that was sent so. The second takes any
@@ -45,7 +45,8 @@ uint8_t dvbs_rs_encode(const uint8_t *data, size_t data_len,
 
 /* Outer decoder: leaves the codeword within eight bytes of the block in its
  * place. Returns the answer; where it is 0, count[0] is how many bytes were
- * changed, otherwise it is left. Lend at least one byte for the count. */
+ * changed and count[1] how many bits of them, otherwise both are left. Lend at
+ * least two bytes for the count. */
 uint8_t dvbs_rs_decode(uint8_t *block, size_t block_len,
                        uint8_t *count, size_t count_len);
 
@@ -64,8 +65,8 @@ uint64_t dvbs_send_run(uint8_t rate, const uint8_t *packets, size_t packets_len,
 /* What a fresh receiver gives for the whole blocks of a recording; bytes after
  * the last of them are left alone. Returns how many bytes of packets were
  * written. counts: taken, filling, delivered, lost, waiting, outofstep, changed,
- * eight bytes each, lowest first. Lend 188 bytes of room for each whole block.
- * Where counts is shorter than 56 bytes, the room is too short for that, or
+ * bits, eight bytes each, lowest first. Lend 188 bytes of room for each whole
+ * block. Where counts is shorter than 64 bytes, the room is too short for that, or
  * there are more than 4,294,967,295 blocks: returns 0, writes nothing. */
 uint64_t dvbs_receive_run(const uint8_t *blocks, size_t blocks_len,
                           uint8_t *room, size_t room_len,

@@ -32,6 +32,16 @@ static void harm(uint8_t *block, int errors)
     }
 }
 
+/* In how many bits two blocks differ. */
+static int bits(const uint8_t *a, const uint8_t *b)
+{
+    int count = 0;
+    for (int n = 0; n < 204; n++)
+        for (int i = 0; i < 8; i++)
+            count += (a[n] >> i & 1) != (b[n] >> i & 1);
+    return count;
+}
+
 static int is_codeword(void *fec, const uint8_t *block)
 {
     uint8_t check[16], copy[188];
@@ -72,15 +82,16 @@ int main(void)
 
     bad = 0;
     for (int i = 0; i < 90000; i++) {
-        uint8_t a[204], b[204], count = 255;
+        uint8_t a[204], b[204], before[204], count[2] = {255, 255};
         codeword(fec, a);
         harm(a, i % 9);
         memcpy(b, a, 204);
+        memcpy(before, a, 204);
         int want = decode_rs_char(fec, a, NULL, 0);
-        uint8_t answer = dvbs_rs_decode(b, 204, &count, 1);
-        bad += answer != 0 || want != count || memcmp(a, b, 204) != 0;
+        uint8_t answer = dvbs_rs_decode(b, 204, count, sizeof count);
+        bad += answer != 0 || want != count[0] || bits(before, a) != count[1] || memcmp(a, b, 204) != 0;
     }
-    printf("libfec, decode, 0 to 8 errors (answer, count, block): 90000 compared, %ld different\n", bad);
+    printf("libfec, decode, 0 to 8 errors (answer, counts, block): 90000 compared, %ld different\n", bad);
     different += bad;
 
     /* Beyond eight errors, random blocks, and blocks with a hidden error among
@@ -102,7 +113,7 @@ int main(void)
         long explained = 0, agreed = 0;
         bad = 0;
         for (int i = 0; i < 40000; i++) {
-            uint8_t a[204], b[204], before[204], count = 255;
+            uint8_t a[204], b[204], before[204], count[2] = {255, 255};
             codeword(fec, a);
             if (kind == 0)
                 harm(a, 9 + i % 12);
@@ -117,9 +128,9 @@ int main(void)
             memcpy(b, a, 204);
             memcpy(before, a, 204);
             int want = decode_rs_char(fec, a, NULL, 0);
-            uint8_t answer = dvbs_rs_decode(b, 204, &count, 1);
-            int untouched = answer == 8 && count == 255 && !memcmp(b, before, 204);
-            if (want >= 0 && is_codeword(fec, a) && answer == 0 && want == count && !memcmp(a, b, 204))
+            uint8_t answer = dvbs_rs_decode(b, 204, count, sizeof count);
+            int untouched = answer == 8 && count[0] == 255 && count[1] == 255 && !memcmp(b, before, 204);
+            if (want >= 0 && is_codeword(fec, a) && answer == 0 && want == count[0] && bits(before, a) == count[1] && !memcmp(a, b, 204))
                 agreed++;
             else if (want < 0 && untouched)
                 agreed++;

@@ -5,7 +5,7 @@
  *
  * interleaved: what is sent at rate 1/2 with the inner code undone (X gives each
  * bit back, the memory being known; Y must then fit). rs_decode writes the
- * counts (255: no codeword) after the blocks, one byte each. */
+ * counts, bytes and bits (255: no codeword), after the blocks, two bytes each. */
 #include "../../include/dvbs.h"
 
 #include <stdio.h>
@@ -63,10 +63,11 @@ int main(int argc, char **argv)
         size_t blocks = in_len / 204;
         memcpy(out, in, 204 * blocks);
         for (size_t n = 0; n < blocks; n++) {
-            out[204 * blocks + n] = 255;
-            dvbs_rs_decode(out + 204 * n, 204, out + 204 * blocks + n, 1);
+            uint8_t *count = out + 204 * blocks + 2 * n;
+            count[0] = count[1] = 255;
+            dvbs_rs_decode(out + 204 * n, 204, count, 2);
         }
-        out_len = 205 * blocks;
+        out_len = 206 * blocks;
     } else if (!strcmp(stage, "interleaved")) {
         send(0);
         unsigned memory = 0;

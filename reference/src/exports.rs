@@ -2,8 +2,8 @@
 //! what the reference says each of them does. Everything that is a matter of
 //! the C functions' edges rather than of the standard is in this file.
 
-/// Seven counts of eight bytes.
-pub const COUNTS_LENGTH: usize = 56;
+/// Eight counts of eight bytes.
+pub const COUNTS_LENGTH: usize = 64;
 
 /// What the reference gives for the same calls.
 pub mod expected {
@@ -25,18 +25,20 @@ pub mod expected {
         reed_solomon::encode(data, room).number()
     }
 
-    /// A block that is not 204 bytes is 3, then a count shorter than 1 is 4.
-    /// The count is written only where the answer is 0.
+    /// A block that is not 204 bytes is 3, then a count shorter than 2 is 4.
+    /// The count, changed bytes and changed bits, is written only where the
+    /// answer is 0.
     pub fn rs_decode(block: &mut [u8], count: &mut [u8]) -> u8 {
         if block.len() != BLOCK_LENGTH {
             return Answer::BlockLength.number();
         }
-        if count.is_empty() {
+        if count.len() < 2 {
             return Answer::ShortRoom.number();
         }
         let (answer, changed) = reed_solomon::decode(block);
         if answer == Answer::Done {
-            count[0] = changed as u8;
+            count[0] = changed.bytes as u8;
+            count[1] = changed.bits as u8;
         }
         answer.number()
     }

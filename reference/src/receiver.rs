@@ -18,11 +18,12 @@ pub struct Counts {
     pub waiting: u64,
     pub outofstep: u64,
     pub changed: u64,
+    pub bits: u64,
 }
 
 impl Counts {
-    pub fn in_order(&self) -> [u64; 7] {
-        [self.taken, self.filling, self.delivered, self.lost, self.waiting, self.outofstep, self.changed]
+    pub fn in_order(&self) -> [u64; 8] {
+        [self.taken, self.filling, self.delivered, self.lost, self.waiting, self.outofstep, self.changed, self.bits]
     }
 }
 
@@ -77,7 +78,8 @@ impl Receiver {
             return Answer::NoCodeword;
         }
         // Accepted, whatever becomes of it: its changes count.
-        self.counts.changed += changed as u64;
+        self.counts.changed += changed.bytes as u64;
+        self.counts.bits += changed.bits as u64;
         let first = ordered[0];
         let place = match self.place {
             None if first == INVERTED_SYNC => 0,
@@ -123,7 +125,7 @@ mod tests {
     fn zeros_are_filling_and_then_waiting() {
         let (answers, _, counts) = run(&[0; 2752]);
         assert_eq!(answers.len(), 13);
-        assert_eq!(counts.in_order(), [13, 11, 0, 0, 2, 0, 0]);
+        assert_eq!(counts.in_order(), [13, 11, 0, 0, 2, 0, 0, 0]);
     }
 
     #[test]
@@ -133,7 +135,7 @@ mod tests {
         let (answers, got, counts) = run(&interleaved_stream(&sent));
         assert_eq!(answers[..11], [Answer::Filling; 11]);
         assert_eq!(got, sent[..39 * 188]);
-        assert_eq!(counts.in_order(), [50, 11, 39, 0, 0, 0, 0]);
+        assert_eq!(counts.in_order(), [50, 11, 39, 0, 0, 0, 0, 0]);
     }
 
     #[test]

@@ -151,14 +151,32 @@ fn evaluate(polynomial: &[u8], at: u8) -> u8 {
     polynomial.iter().rev().fold(0, |sum, &c| multiply(sum, at) ^ c)
 }
 
-/// The codeword within eight bytes of the block and how many bytes it differs
-/// in, or none.
-pub fn nearest_codeword(block: &[u8]) -> Option<([u8; BLOCK_LENGTH], usize)> {
+/// In how many bytes, and in how many bits, two blocks differ.
+#[derive(Clone, Copy, Debug, Default, PartialEq, Eq)]
+pub struct Changed {
+    pub bytes: usize,
+    pub bits: usize,
+}
+
+pub fn changed(came: &[u8], left: &[u8]) -> Changed {
+    let mut changed = Changed::default();
+    for (a, b) in came.iter().zip(left) {
+        changed.bytes += (a != b) as usize;
+        for i in 0..8 {
+            changed.bits += (a >> i & 1 != b >> i & 1) as usize;
+        }
+    }
+    changed
+}
+
+/// The codeword within eight bytes of the block and what differs between them,
+/// or none.
+pub fn nearest_codeword(block: &[u8]) -> Option<([u8; BLOCK_LENGTH], Changed)> {
     let mut repaired = [0; BLOCK_LENGTH];
     repaired.copy_from_slice(block);
     let s = syndromes(block);
     if s == [0; CHECK_LENGTH] {
-        return Some((repaired, 0));
+        return Some((repaired, Changed::default()));
     }
     let (locator, length) = berlekamp_massey(&s);
     if length > CORRECTABLE {
@@ -191,25 +209,25 @@ pub fn nearest_codeword(block: &[u8]) -> Option<([u8; BLOCK_LENGTH], usize)> {
         repaired[n] ^= multiply(power(exponent), quotient);
     }
     // Nothing above is trusted: the result must be a codeword within eight bytes.
-    let changed = (0..BLOCK_LENGTH).filter(|&n| repaired[n] != block[n]).count();
-    if changed <= CORRECTABLE && is_codeword(&repaired) {
+    let changed = changed(block, &repaired);
+    if changed.bytes <= CORRECTABLE && is_codeword(&repaired) {
         Some((repaired, changed))
     } else {
         None
     }
 }
 
-/// Repairs a block in place. The count is given where the answer is Done.
-pub fn decode(block: &mut [u8]) -> (Answer, usize) {
+/// Repairs a block in place. What changed is given where the answer is Done.
+pub fn decode(block: &mut [u8]) -> (Answer, Changed) {
     if block.len() != BLOCK_LENGTH {
-        return (Answer::BlockLength, 0);
+        return (Answer::BlockLength, Changed::default());
     }
     match nearest_codeword(block) {
         Some((codeword, changed)) => {
             block.copy_from_slice(&codeword);
             (Answer::Done, changed)
         }
-        None => (Answer::NoCodeword, 0),
+        None => (Answer::NoCodeword, Changed::default()),
     }
 }
 
@@ -289,10 +307,13 @@ mod tests {
             let mut sent = [0; 204];
             encode(&r.bytes(188), &mut sent);
             let mut block = sent;
+            let mut bits = 0;
             for n in r.places(errors, 204) {
-                block[n] ^= 1 + r.below(255) as u8;
+                let error = 1 + r.below(255) as u8;
+                block[n] ^= error;
+                bits += error.count_ones() as usize;
             }
-            assert_eq!(decode(&mut block), (Answer::Done, errors));
+            assert_eq!(decode(&mut block), (Answer::Done, Changed { bytes: errors, bits }));
             assert_eq!(block, sent);
         }
     }
@@ -308,15 +329,29 @@ mod tests {
             for n in r.places(8, 17) {
                 block[187 + n] = 0;
             }
-            assert_eq!(decode(&mut block), (Answer::Done, 8));
+            // What was cleared comes back: its bits are those of the bytes cleared.
+            let bits = word.iter().zip(&block).map(|(w, b)| (w - b).count_ones() as usize).sum();
+            assert_eq!(decode(&mut block), (Answer::Done, Changed { bytes: 8, bits }));
             assert_eq!(block, word);
             // One more cleared is eight from zero.
             let mut block = word;
             for n in r.places(9, 17) {
                 block[187 + n] = 0;
             }
-            assert_eq!(decode(&mut block), (Answer::Done, 8));
+            let bits = block.iter().map(|b| b.count_ones() as usize).sum();
+            assert_eq!(decode(&mut block), (Answer::Done, Changed { bytes: 8, bits }));
             assert_eq!(block, [0; 204]);
+        }
+    }
+
+    #[test]
+    fn one_byte_changed_has_one_to_eight_bits() {
+        let mut sent = [0; 204];
+        encode(&Xorshift::new(4).bytes(188), &mut sent);
+        for (error, bits) in [(0x01, 1), (0x80, 1), (0x0F, 4), (0xF0, 4), (0xFF, 8)] {
+            let mut block = sent;
+            block[100] ^= error;
+            assert_eq!(decode(&mut block), (Answer::Done, Changed { bytes: 1, bits }));
         }
     }
 

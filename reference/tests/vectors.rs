@@ -37,7 +37,7 @@ fn outer_code() {
         let mut room = [0; 204];
         assert_eq!(reed_solomon::encode(data, &mut room), Answer::Done);
         assert_eq!(room, CODED[204 * n..204 * (n + 1)]);
-        assert_eq!(reed_solomon::decode(&mut room), (Answer::Done, 0));
+        assert_eq!(reed_solomon::decode(&mut room), (Answer::Done, reed_solomon::Changed::default()));
     }
 }
 
@@ -80,5 +80,5 @@ fn receiver() {
         }
     }
     assert_eq!(packets, PACKETS[..29 * 188]);
-    assert_eq!(receiver.counts().in_order(), [40, 11, 29, 0, 0, 0, 0]);
+    assert_eq!(receiver.counts().in_order(), [40, 11, 29, 0, 0, 0, 0, 0]);
 }

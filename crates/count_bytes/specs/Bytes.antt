@@ -11,11 +11,11 @@ unfoldable pub byteAt : ℕ → ℕ → ℕ
 byteAt zero n = n % 256
 byteAt (suc k) n = byteAt k (n / 256)
 
--- the counts in the order of document 01
+-- the counts in the order of document 01, and the bits of document 02
 abbrev pub numbersOf : Counts → List ℕ
-numbersOf c = c .taken ∷ c .filling ∷ c .delivered ∷ c .lost ∷ c .waiting ∷ c .outofstep ∷ c .changed ∷ []
+numbersOf c = c .taken ∷ c .filling ∷ c .delivered ∷ c .lost ∷ c .waiting ∷ c .outofstep ∷ c .changed ∷ c .bits ∷ []
 
 -- each in eight bytes, the lowest first
 unfoldable pub countBytes : Counts → List ℕ
 unfolding listOf byteAt
-countBytes c = listOf 56 (λ i. byteAt (i % 8) (getD (numbersOf c) (i / 8) 0))
+countBytes c = listOf 64 (λ i. byteAt (i % 8) (getD (numbersOf c) (i / 8) 0))

@@ -19,10 +19,10 @@ fn byte_at(n: u64, k: usize) -> u8
     (left % 256) as u8
 }
 
-// Writes the seven counts, each in eight bytes.
+// Writes the eight counts, each in eight bytes.
 pub fn put_counts(counts: Counts, room: &mut [u8])
-    requires { ⌜ 56 ≤ length (now room) ⌝ }
-    ensures { λ _. ⌜ now (room .exit) ≡ countBytes counts ++ drop 56 (now (room .entry)) ⌝ }
+    requires { ⌜ 64 ≤ length (now room) ⌝ }
+    ensures { λ _. ⌜ now (room .exit) ≡ countBytes counts ++ drop 64 (now (room .entry)) ⌝ }
 {
     let numbers = [
         counts.taken,
@@ -32,9 +32,10 @@ pub fn put_counts(counts: Counts, room: &mut [u8])
         counts.waiting,
         counts.outofstep,
         counts.changed,
+        counts.bits,
     ];
     let mut i: usize = 0;
-    while i < 56 {
+    while i < 64 {
         room[i] = byte_at(numbers[i / 8], i % 8);
         i += 1;
     }

@@ -1,4 +1,4 @@
--- What the exported decoder gives: the answer's number, the block, and the count in a lent byte.
+-- What the exported decoder gives: the answer's number, the block, and what was changed in two lent bytes.
 -- Assumes nothing.
 use mathlib.Core.Path.{_≡_}
 use mathlib.Core.List.{List}
@@ -8,13 +8,13 @@ use Rattle.reed_solomon.specs.Decode.{Decodes, decodedNumber}
 use Rattle.reed_solomon.specs.declared.Decoded.{Decoded}
 use Rattle.reed_solomon.specs.declared.Decoded.the-variants.{Corrected, Uncorrectable, BlockLength}
 
--- the count goes into the first byte where the block is accepted; otherwise the lent bytes stay
+-- the numbers of changed bytes and bits go into the first two bytes where the block is accepted; otherwise the lent bytes stay
 abbrev pub countAfter : Decoded → List ℕ → List ℕ
-countAfter (Corrected k) count = set count 0 k
+countAfter (Corrected changed) count = set (set count 0 (changed .bytes)) 1 (changed .bits)
 countAfter Uncorrectable count = count
 countAfter BlockLength count = count
 
--- a decoding of the block, its number and its count
+-- a decoding of the block, its number and its counts
 pub record Answered (came left count after : List ℕ) (number : ℕ) : Type 0 where
   pub answer : Decoded
   pub decodes : Decodes came left answer
@@ -27,8 +27,8 @@ pub record Refused (came left count after : List ℕ) (number wanted : ℕ) : Ty
   pub block-kept : left ≡ came
   pub count-kept : after ≡ count
 
--- 3 for a block that is not 204 bytes, then 4 where no byte is lent for the count, then the decoding
+-- 3 for a block that is not 204 bytes, then 4 where fewer than two bytes are lent for the counts, then the decoding
 pub data DecodeExported (came left count after : List ℕ) (number : ℕ) : Type 0 where
   block-length : (length came ≡ 204 → ⊥) → Refused came left count after number 3 → DecodeExported came left count after number
-  no-room : length came ≡ 204 → length count < 1 → Refused came left count after number 4 → DecodeExported came left count after number
-  answered : length came ≡ 204 → 1 ≤ length count → Answered came left count after number → DecodeExported came left count after number
+  no-room : length came ≡ 204 → length count < 2 → Refused came left count after number 4 → DecodeExported came left count after number
+  answered : length came ≡ 204 → 2 ≤ length count → Answered came left count after number → DecodeExported came left count after number

@@ -42,7 +42,7 @@ pub extern "C" fn dvbs_rs_encode(message: &[u8], room: &mut [u8]) -> u8
     answer.number()
 }
 
-// Decodes a block in place: the number of the answer. Where it is 0, the first byte of count has the number of bytes changed.
+// Decodes a block in place: the number of the answer. Where it is 0, the first two bytes of count have the numbers of bytes and bits changed.
 #[no_mangle]
 pub extern "C" fn dvbs_rs_decode(block: &mut [u8], count: &mut [u8]) -> u8
     ensures { λ r. ⌜ DecodeExported (now (block .entry)) (now (block .exit)) (now (count .entry)) (now (count .exit)) r ⌝ }
@@ -50,13 +50,14 @@ pub extern "C" fn dvbs_rs_decode(block: &mut [u8], count: &mut [u8]) -> u8
     if block.len() != 204 {
         return 3;
     }
-    if count.len() < 1 {
+    if count.len() < 2 {
         return 4;
     }
     let decoded = reed_solomon::decode(block);
     match decoded {
-        Decoded::Corrected(k) => {
-            count[0] = k;
+        Decoded::Corrected(changed) => {
+            count[0] = changed.bytes;
+            count[1] = changed.bits;
             0
         }
         Decoded::Uncorrectable => 8,
@@ -87,7 +88,7 @@ pub extern "C" fn dvbs_receive_run(blocks: &[u8], room: &mut [u8], counts: &mut 
     ensures { λ r. ⌜
         ReceiveRunExported (now (blocks .entry)) (now (room .entry)) (now (room .exit)) (now (counts .entry)) (now (counts .exit)) r ⌝ }
 {
-    if counts.len() < 56 {
+    if counts.len() < 64 {
         return 0;
     }
     let recorded = recording::receive_run(blocks, room);

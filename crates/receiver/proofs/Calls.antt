@@ -11,12 +11,13 @@ use lib.ListN.{length, getD, drop-of-length-le}
 use Rattle.common.proofs.Choice.{both-true}
 use Rattle.answer.specs.Number.{numberOf}
 use Rattle.answer.specs.declared.Answer.{Answer}
-use Rattle.reed_solomon.specs.Code.{differ}
-use Rattle.reed_solomon.specs.Decode.{Decodes}
+use Rattle.reed_solomon.specs.Code.{differ, differBits, changes, noChange}
+use Rattle.reed_solomon.specs.Decode.{Decodes, changedBy}
+use Rattle.reed_solomon.specs.declared.Changed.{Changed}
 use Rattle.reed_solomon.specs.declared.Decoded.{Decoded}
 use Rattle.reed_solomon.specs.declared.Decoded.the-variants.{Corrected, Uncorrectable, BlockLength}
 use Rattle.reed_solomon.proofs.Codewords.{codeword-length}
-use Rattle.reed_solomon.proofs.Laws.{total}
+use Rattle.reed_solomon.proofs.Laws.{FewChanges, total}
 use Rattle.delay_branches.specs.Branch as branch
 use Rattle.delay_branches.specs.Block.{after}
 use Rattle.delay_branches.specs.declared.Branches.{Branches}
@@ -30,7 +31,7 @@ use Rattle.group_sync.proofs.Synchronization.{accepted-step}
 use Rattle.reception_counts.specs.Counts.{countsInRange, outcomeNumber, counted, Room}
 use Rattle.reception_counts.specs.declared.Counts.{Counts}
 use Rattle.reception_counts.proofs.Ranges.{counts-range, counts-room}
-use Rattle.receiver.specs.Receive.{inRange, delayedBlock, repairOf, changedBytes, changedIn, stepOf, stateAfter, roomAfter, refusal, Ready, receiveNumber, receiveState, receiveRoom, Receives}
+use Rattle.receiver.specs.Receive.{inRange, delayedBlock, repairOf, ofAccepted, stepOf, stateAfter, roomAfter, refusal, Ready, receiveNumber, receiveState, receiveRoom, Receives}
 use Rattle.receiver.specs.declared.Receiver.{Receiver}
 
 -- the three parts of a state in range
@@ -50,11 +51,9 @@ pub state-in-range : (s : Receiver) → StateRange s → inRange s ≡ true
 unfolding inRange
 state-in-range s r = simp (r .branches, r .place, r .counts)
 
--- the bytes changed in an accepted block are those in which it differs from what came
-pub changed-accepted : (place : Place) (first : ℕ) (came left : List ℕ) → placeInRange place ≡ true
-    → changedIn (acceptedStep place first .outcome) came left ≡ differ came left
-changed-accepted place first came left h =
-    accepted-step (λ g. changedIn (g .outcome) came left ≡ differ came left) place first (λ p e l. refl) refl refl h
+-- an accepted block is in the sums over the accepted blocks
+pub accepted-whole : (place : Place) (first n : ℕ) → placeInRange place ≡ true → ofAccepted (acceptedStep place first .outcome) n ≡ n
+accepted-whole place first n h = accepted-step (λ g. ofAccepted (g .outcome) n ≡ n) place first (λ p e l. refl) refl refl h
 
 -- ---- a call that no test refuses
 
@@ -71,7 +70,7 @@ module _ (s : Receiver) (block room : List ℕ) (y : Ready s block room) where
 
   -- the call while filling, whatever the block decodes to
   pub filling-call : s .counts .taken < 11 → (a : Answer) (d : Deinterleaver) (n : Counts) (exit : List ℕ)
-      → numberOf a ≡ 9 → d .branches ≡ after Receiving (s .deinterleaver .branches) block → n ≡ counted (s .counts) 9 0 → exit ≡ room
+      → numberOf a ≡ 9 → d .branches ≡ after Receiving (s .deinterleaver .branches) block → n ≡ counted (s .counts) 9 0 0 → exit ≡ room
       → Receives s block room (record { answer = a; receiver = record { deinterleaver = d; sync = s .sync; counts = n } }) exit
   unfolding stateAfter
   filling-call h a d n exit p q e w =
@@ -90,13 +89,13 @@ module _ (s : Receiver) (block room : List ℕ) (y : Ready s block room) where
           (record { deinterleaver = record { branches = b }; sync = s .sync; counts = m })
       state {d} {n} {b} {m} q e = ap₂ (λ (x : Branches) (k : Counts). record { deinterleaver = record { branches = x }; sync = s .sync; counts = k }) q e
 
-  -- the bytes that decoding says it changed are those changed in the block
-  pub changed-is : (left : List ℕ) (decoded : Decoded) → Decodes (delayedBlock s block) left decoded
-      → changedBytes decoded ≡ changedIn (groupStep (s .sync) (repairOf decoded (getD left 0 0)) .outcome) (delayedBlock s block) left
-  changed-is left (Corrected count) d =
-      d .1 .counted ∙ sym (changed-accepted (s .sync .place) (getD left 0 0) (delayedBlock s block) left (state-range s (y .range) .place))
-  changed-is left Uncorrectable d = refl
-  changed-is left BlockLength d = refl
+  -- of each number of changes that decoding tells, the sum over the accepted blocks takes what differs
+  pub changed-is : (f : Changed → ℕ) → f noChange ≡ 0 → (left : List ℕ) (decoded : Decoded) → Decodes (delayedBlock s block) left decoded
+      → f (changedBy decoded) ≡ ofAccepted (groupStep (s .sync) (repairOf decoded (getD left 0 0)) .outcome) (f (changes (delayedBlock s block) left))
+  changed-is f z left (Corrected changed) d =
+      ap f (d .1 .counted) ∙ sym (accepted-whole (s .sync .place) (getD left 0 0) (f (changes (delayedBlock s block) left)) (state-range s (y .range) .place))
+  changed-is f z left Uncorrectable d = z
+  changed-is f z left BlockLength d = z
 
   -- the call after filling
   pub repairing-call : 11 ≤ s .counts .taken → (left : List ℕ) (decoded : Decoded) → Decodes (delayedBlock s block) left decoded
@@ -104,7 +103,7 @@ module _ (s : Receiver) (block room : List ℕ) (y : Ready s block room) where
       → (a : Answer) (d : Deinterleaver) (n : Counts) (exit : List ℕ)
       → numberOf a ≡ outcomeNumber (g .outcome)
       → d .branches ≡ after Receiving (s .deinterleaver .branches) block
-      → n ≡ counted (s .counts) (outcomeNumber (g .outcome)) (changedBytes decoded)
+      → n ≡ counted (s .counts) (outcomeNumber (g .outcome)) (changedBy decoded .bytes) (changedBy decoded .bits)
       → exit ≡ roomAfter (g .outcome) left room
       → Receives s block room (record { answer = a; receiver = record { deinterleaver = d; sync = g .sync; counts = n } }) exit
   unfolding stateAfter
@@ -123,14 +122,19 @@ module _ (s : Receiver) (block room : List ℕ) (y : Ready s block room) where
       whole x = record {
         deinterleaver = record { branches = after Receiving (s .deinterleaver .branches) block };
         sync = x .sync;
-        counts = counted (s .counts) (outcomeNumber (x .outcome)) (changedIn (x .outcome) (delayedBlock s block) left);
+        counts =
+            counted (s .counts) (outcomeNumber (x .outcome))
+            (ofAccepted (x .outcome) (differ (delayedBlock s block) left)) (ofAccepted (x .outcome) (differBits (delayedBlock s block) left));
       }
 
-      changed : counted (s .counts) (outcomeNumber (g .outcome)) (changedBytes decoded)
-          ≡ counted (s .counts) (outcomeNumber (g .outcome)) (changedIn (g .outcome) (delayedBlock s block) left)
-      changed =
-          ap (counted (s .counts) (outcomeNumber (g .outcome)))
-          (changed-is left decoded c ∙ ap (λ (x : GroupStep). changedIn (x .outcome) (delayedBlock s block) left) (sym i))
+      sums : (f : Changed → ℕ) → f noChange ≡ 0 → f (changedBy decoded) ≡ ofAccepted (g .outcome) (f (changes (delayedBlock s block) left))
+      sums f z =
+          changed-is f z left decoded c ∙ ap (λ (x : GroupStep). ofAccepted (x .outcome) (f (changes (delayedBlock s block) left))) (sym i)
+
+      changed : counted (s .counts) (outcomeNumber (g .outcome)) (changedBy decoded .bytes) (changedBy decoded .bits)
+          ≡ counted (s .counts) (outcomeNumber (g .outcome))
+          (ofAccepted (g .outcome) (differ (delayedBlock s block) left)) (ofAccepted (g .outcome) (differBits (delayedBlock s block) left))
+      changed = ap₂ (counted (s .counts) (outcomeNumber (g .outcome))) (sums (λ x. x .bytes) refl) (sums (λ x. x .bits) refl)
 
       state : {d : Deinterleaver} {n : Counts} {b : Branches} {m : Counts} → d .branches ≡ b → n ≡ m
           → _≡_ {A = Receiver} (record { deinterleaver = d; sync = g .sync; counts = n })
@@ -148,18 +152,13 @@ module _ (s : Receiver) (block room : List ℕ) (y : Ready s block room) where
       (refl, ap (λ (l : List ℕ). delayedBlock s block ++ l) (drop-of-length-le d {i = 204} (omega arith)) ∙ append-nil (delayedBlock s block))
 
   -- there is room for the block in the counts
-  pub room-for : (changed : ℕ) → changed ≤ 8 → Room (s .counts) changed
-  room-for changed h = counts-room (s .counts) changed (counts-range (s .counts) (state-range s (y .range) .counts)) (y .more) h
-
--- at most eight bytes are changed
-pub few-changed : (came left : List ℕ) (decoded : Decoded) → Decodes came left decoded → changedBytes decoded ≤ 8
-few-changed came left (Corrected count) d = d .1 .within
-few-changed came left Uncorrectable d = omega arith
-few-changed came left BlockLength d = omega arith
+  pub room-for : (changed : Changed) → FewChanges changed → Room (s .counts) (changed .bytes) (changed .bits)
+  room-for changed f =
+      counts-room (s .counts) (changed .bytes) (changed .bits) (counts-range (s .counts) (state-range s (y .range) .counts)) (y .more) (f .few) (f .most)
 
 -- decoding keeps the length
 pub left-length : (came left : List ℕ) (decoded : Decoded) → Decodes came left decoded → length came ≡ 204 → length left ≡ 204
-left-length came left (Corrected count) d n = codeword-length left (d .1 .codeword)
+left-length came left (Corrected changed) d n = codeword-length left (d .1 .codeword)
 left-length came left Uncorrectable d n = ap length (d .1 .unchanged) ∙ n
 left-length came left BlockLength d n = absurd (d .0 n)
 

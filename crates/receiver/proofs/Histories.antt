@@ -1,6 +1,6 @@
 -- The counts of a state are those of the history of calls, and each block taken is in exactly one of the middle five.
 -- Assumes nothing.
-use mathlib.Core.Path.{_≡_, refl, sym, ap, _∙_}
+use mathlib.Core.Path.{_≡_, refl, sym, ap, ap₂, _∙_}
 use mathlib.Core.List.{List, [], _∷_}
 use mathlib.Core.Logic.{_⊎_, inl, inr}
 use Prim.Native.Nat.{ℕ, _+_, _*_, _<_}
@@ -9,13 +9,14 @@ use native.Mathlib.Omega.{arith}
 use borrow.Author.Tests.{ne-eqb, lt-ltb}
 use lib.Dec.{eqb}
 use Rattle.common.specs.Choice.{pick}
-use Rattle.reed_solomon.specs.Code.{differ}
+use Rattle.reed_solomon.specs.Code.{differ, differBits, changes}
+use Rattle.reed_solomon.specs.declared.Changed.{Changed}
 use Rattle.group_sync.specs.declared.Outcome.{Outcome}
 use Rattle.group_sync.specs.declared.Outcome.the-variants.{Filling, Delivered, Lost, Waiting, OutOfStep}
 use Rattle.reception_counts.specs.Counts.{one, outcomeNumber, counted}
 use Rattle.reception_counts.specs.declared.Counts.{Counts}
-use Rattle.receiver.specs.Receive.{freshReceiver, delayedBlock, changedIn, stepOf, stateAfter, refusal, Ready}
-use Rattle.receiver.specs.Run.{Call, answerOf, after, afterCalls, Event, history, answered, takenBy, takenIn, acceptedBy, changedOver, countsOf}
+use Rattle.receiver.specs.Receive.{freshReceiver, delayedBlock, ofAccepted, stepOf, stateAfter, refusal, Ready}
+use Rattle.receiver.specs.Run.{Call, answerOf, after, afterCalls, Event, history, answered, takenBy, takenIn, acceptedBy, overAccepted, countsOf}
 use Rattle.receiver.specs.declared.Receiver.{Receiver}
 use Rattle.receiver.proofs.Calls.{ready-number, ready-state}
 use Rattle.receiver.proofs.Reached.{Refused, ready-or-refused, refused-state}
@@ -29,12 +30,13 @@ with-event n e = record {
   lost = n .lost + one 8 (e .number);
   waiting = n .waiting + one 10 (e .number);
   outofstep = n .outofstep + one 11 (e .number);
-  changed = n .changed + acceptedBy (e .number) * e .differing;
+  changed = n .changed + acceptedBy (e .number) * e .changed .bytes;
+  bits = n .bits + acceptedBy (e .number) * e .changed .bits;
 }
 
 -- what is told of a call
 abbrev eventOf : Receiver → Call → Event
-eventOf s c = record { number = answerOf s c; differing = differ (delayedBlock s (c .block)) (c .left) }
+eventOf s c = record { number = answerOf s c; changed = changes (delayedBlock s (c .block)) (c .left) }
 
 -- ---- one call
 
@@ -45,12 +47,12 @@ taken-outcome Lost = refl
 taken-outcome Waiting = refl
 taken-outcome OutOfStep = refl
 
-changed-outcome : (o : Outcome) (came left : List ℕ) → changedIn o came left ≡ acceptedBy (outcomeNumber o) * differ came left
-changed-outcome Filling came left = omega arith
-changed-outcome (Delivered p) came left = omega arith
-changed-outcome Lost came left = omega arith
-changed-outcome Waiting came left = omega arith
-changed-outcome OutOfStep came left = omega arith
+accepted-outcome : (o : Outcome) (n : ℕ) → ofAccepted o n ≡ acceptedBy (outcomeNumber o) * n
+accepted-outcome Filling n = omega arith
+accepted-outcome (Delivered p) n = omega arith
+accepted-outcome Lost n = omega arith
+accepted-outcome Waiting n = omega arith
+accepted-outcome OutOfStep n = omega arith
 
 -- a block taken is in exactly one of the middle five
 pub exactly-one : (o : Outcome)
@@ -62,7 +64,7 @@ exactly-one Waiting = refl
 exactly-one OutOfStep = refl
 
 -- a refused call counts nowhere
-refused-event : (n : Counts) (k d : ℕ) → 0 < k → k < 8 → with-event n (record { number = k; differing = d }) ≡ n
+refused-event : (n : Counts) (k : ℕ) (d : Changed) → 0 < k → k < 8 → with-event n (record { number = k; changed = d }) ≡ n
 refused-event n k d h l =
     simp (
       ne-eqb k 0 (λ e. omega arith),
@@ -76,9 +78,10 @@ refused-event n k d h l =
     )
 
 taken-event : (n : Counts) (o : Outcome) (came left : List ℕ)
-    → counted n (outcomeNumber o) (changedIn o came left) ≡ with-event n (record { number = outcomeNumber o; differing = differ came left })
+    → counted n (outcomeNumber o) (ofAccepted o (differ came left)) (ofAccepted o (differBits came left))
+    ≡ with-event n (record { number = outcomeNumber o; changed = changes came left })
 taken-event n o came left =
-    ap (λ (c : ℕ). counted n (outcomeNumber o) c) (changed-outcome o came left)
+    ap₂ (counted n (outcomeNumber o)) (accepted-outcome o (differ came left)) (accepted-outcome o (differBits came left))
     ∙ ap (λ (t : ℕ). record {
       taken = n .taken + t;
       filling = n .filling + one 9 (outcomeNumber o);
@@ -87,6 +90,7 @@ taken-event n o came left =
       waiting = n .waiting + one 10 (outcomeNumber o);
       outofstep = n .outofstep + one 11 (outcomeNumber o);
       changed = n .changed + acceptedBy (outcomeNumber o) * differ came left;
+      bits = n .bits + acceptedBy (outcomeNumber o) * differBits came left;
     }) (sym (taken-outcome o))
 
 pub call-counts : (s : Receiver) (c : Call) → after s c .counts ≡ with-event (s .counts) (eventOf s c)
@@ -100,14 +104,14 @@ call-counts s c = by (ready-or-refused s (c .block) (c .room))
     by (inl y) =
         ap (λ (r : Receiver). r .counts) (ready-state s (c .block) (c .room) y (c .left) (c .decoded))
         ∙ taken-event (s .counts) (stepOf s (c .left) (c .decoded) .outcome) (delayedBlock s (c .block)) (c .left)
-        ∙ ap (λ (k : ℕ). with-event (s .counts) (record { number = k; differing = differ (delayedBlock s (c .block)) (c .left) }))
+        ∙ ap (λ (k : ℕ). with-event (s .counts) (record { number = k; changed = changes (delayedBlock s (c .block)) (c .left) }))
         (sym (ready-number s (c .block) (c .room) y (c .left) (c .decoded)))
     by (inr f) =
         ap (λ (r : Receiver). r .counts) (refused-state s (c .block) (c .room) (c .left) (c .decoded) f)
         ∙ sym
-        (ap (λ (k : ℕ). with-event (s .counts) (record { number = k; differing = differ (delayedBlock s (c .block)) (c .left) }))
+        (ap (λ (k : ℕ). with-event (s .counts) (record { number = k; changed = changes (delayedBlock s (c .block)) (c .left) }))
         (unpicked (refusal s (c .block) (c .room)) (f .some) (outcomeNumber (stepOf s (c .left) (c .decoded) .outcome)))
-        ∙ refused-event (s .counts) (refusal s (c .block) (c .room)) (differ (delayedBlock s (c .block)) (c .left)) (f .some) (f .few))
+        ∙ refused-event (s .counts) (refusal s (c .block) (c .room)) (changes (delayedBlock s (c .block)) (c .left)) (f .some) (f .few))
 
 -- ---- a list of calls
 
@@ -120,7 +124,8 @@ with-history n es = record {
   lost = n .lost + answered 8 es;
   waiting = n .waiting + answered 10 es;
   outofstep = n .outofstep + answered 11 es;
-  changed = n .changed + changedOver es;
+  changed = n .changed + overAccepted (λ c. c .bytes) es;
+  bits = n .bits + overAccepted (λ c. c .bits) es;
 }
 
 event-history : (n : Counts) (e : Event) (es : List Event) → with-history (with-event n e) es ≡ with-history n (e ∷ es)

@@ -4,25 +4,26 @@ use mathlib.Core.Path.{_≡_, refl, sym, subst}
 use mathlib.Core.Bool.{Bool, true, false}
 use mathlib.Core.List.{List, [], _∷_}
 use mathlib.Core.Logic.{_⊎_, inl, inr}
-use Prim.Native.Nat.{ℕ, _≤_, _<_}
+use Prim.Native.Nat.{ℕ, _+_, _≤_, _<_}
 use native.Mathlib.Decide.{decLt, ℕ-discrete}
 use native.Mathlib.Omega.{arith}
 use borrow.Author.Tests.{eq-eqb, ne-eqb, lt-ltb, le-ltb}
 use lib.Dec.{eqb}
 use lib.ListN.{length, getD}
 use Rattle.common.specs.Choice.{pick}
-use Rattle.reed_solomon.specs.Code.{differ}
+use Rattle.reed_solomon.specs.Code.{differ, differBits}
 use Rattle.reed_solomon.specs.Decode.{Decodes}
 use Rattle.reed_solomon.specs.declared.Decoded.{Decoded}
 use Rattle.reed_solomon.specs.declared.Decoded.the-variants.{Corrected, Uncorrectable, BlockLength}
+use Rattle.reed_solomon.proofs.Laws.{few-changes}
 use Rattle.delay_branches.specs.declared.Side.the-variants.{Receiving}
 use Rattle.delay_branches.proofs.Blocks.{Good, good-after}
 use Rattle.interleaver.proofs.Whole.{good-fresh}
 use Rattle.group_sync.specs.Group.{placeInRange, groupStep}
 use Rattle.group_sync.proofs.Synchronization.{accepted-step, sync-in-range}
-use Rattle.reception_counts.specs.Counts.{outcomeNumber, counted}
+use Rattle.reception_counts.specs.Counts.{outcomeNumber, one, counted}
 use Rattle.reception_counts.proofs.Ranges.{CountsRange, counts-in-range, filling-range, lost-range, accepted-range}
-use Rattle.receiver.specs.Receive.{freshReceiver, inRange, delayedBlock, repairOf, changedIn, stateAfter, refusal, Ready, receiveState}
+use Rattle.receiver.specs.Receive.{freshReceiver, inRange, delayedBlock, repairOf, ofAccepted, stateAfter, refusal, Ready, receiveState}
 use Rattle.receiver.specs.Run.{Call, after, Calls, afterCalls}
 use Rattle.receiver.specs.declared.Receiver.{Receiver}
 use Rattle.receiver.proofs.Calls.{state-in-range, ready-state}
@@ -41,7 +42,7 @@ unfolding freshReceiver
 sound-fresh = record {
   branches = good-fresh Receiving;
   place = refl;
-  counts = record { most = omega arith; middle = refl; filled = refl; bytes = omega arith };
+  counts = record { most = omega arith; middle = refl; filled = refl; bytes = omega arith; least = omega arith; eightfold = omega arith };
 }
 
 -- ---- a call is refused, or none of its tests refuses it
@@ -87,16 +88,19 @@ module _ (s : Receiver) (block left : List ℕ) (decoded : Decoded) (g : Sound s
     (d : Decodes (delayedBlock s block) left decoded) where
   counts-after : 11 ≤ s .counts .taken → (decoded : Decoded) → Decodes (delayedBlock s block) left decoded
       → CountsRange (counted (s .counts) (outcomeNumber (groupStep (s .sync) (repairOf decoded (getD left 0 0)) .outcome))
-      (changedIn (groupStep (s .sync) (repairOf decoded (getD left 0 0)) .outcome) (delayedBlock s block) left))
-  counts-after h (Corrected count) d =
-      let w : differ (delayedBlock s block) left ≤ 8 = omega (arith, d .1 .counted, d .1 .within) in
+      (ofAccepted (groupStep (s .sync) (repairOf decoded (getD left 0 0)) .outcome) (differ (delayedBlock s block) left))
+      (ofAccepted (groupStep (s .sync) (repairOf decoded (getD left 0 0)) .outcome) (differBits (delayedBlock s block) left)))
+  counts-after h (Corrected changed) d =
       accepted-step
-      (λ x. CountsRange (counted (s .counts) (outcomeNumber (x .outcome)) (changedIn (x .outcome) (delayedBlock s block) left)))
-      (s .sync .place) (getD left 0 0)
-      (λ p e m. accepted-range (s .counts) 0 (differ (delayedBlock s block) left) (g .counts) h l w refl refl refl)
-      (accepted-range (s .counts) 10 (differ (delayedBlock s block) left) (g .counts) h l w refl refl refl)
-      (accepted-range (s .counts) 11 (differ (delayedBlock s block) left) (g .counts) h l w refl refl refl)
-      (g .place)
+      (λ x. CountsRange (counted (s .counts) (outcomeNumber (x .outcome))
+      (ofAccepted (x .outcome) (differ (delayedBlock s block) left)) (ofAccepted (x .outcome) (differBits (delayedBlock s block) left))))
+      (s .sync .place) (getD left 0 0) (λ p e m. more 0 refl refl refl) (more 10 refl refl refl) (more 11 refl refl refl) (g .place)
+    where
+      more : (number : ℕ) → one 9 number ≡ 0 → one 8 number ≡ 0 → one 0 number + one 10 number + one 11 number ≡ 1
+          → CountsRange (counted (s .counts) number (differ (delayedBlock s block) left) (differBits (delayedBlock s block) left))
+      more number =
+          let w = few-changes (delayedBlock s block) left (Corrected changed) d in
+          accepted-range (s .counts) number (differ (delayedBlock s block) left) (differBits (delayedBlock s block) left) (g .counts) h l (w .few) (w .least) (w .most)
   counts-after h Uncorrectable d = lost-range (s .counts) (g .counts) h l
   counts-after h BlockLength d = lost-range (s .counts) (g .counts) h l
 

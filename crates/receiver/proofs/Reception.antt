@@ -16,6 +16,7 @@ use lib.Seq.{take-at}
 use Rattle.common.specs.Choice.{pick}
 use Rattle.common.specs.Lists.{All, Length, Bytes}
 use Rattle.common.proofs.Entries.{bytes-of, bytes-entries}
+use Rattle.reed_solomon.specs.Code.{noChange}
 use Rattle.reed_solomon.specs.Encode.{encoded, checkBytes}
 use Rattle.reed_solomon.specs.Decode.{Decodes}
 use Rattle.reed_solomon.specs.declared.Decoded.{Decoded}
@@ -129,7 +130,7 @@ none-given s c cs ps a r = ap (λ (k : ℕ). pick (eqb k 0) (take 188 (roomOf s 
 module _ (n : ℕ) (p : List ℕ) (w : Packet p) (s : Receiver) (c : Call) (y : Ready s (c .block) (c .room)) (h : 11 ≤ s .counts .taken)
     (at : PlaceAt n (s .sync .place)) (e : delayedBlock s (c .block) ≡ encoded (randomized (n % 8) p))
     (d : Decodes (delayedBlock s (c .block)) (c .left) (c .decoded)) where
-  same : Same (c .left) (encoded (randomized (n % 8) p)) (c .decoded) (Corrected 0)
+  same : Same (c .left) (encoded (randomized (n % 8) p)) (c .decoded) (Corrected noChange)
   same =
       decodes-codeword (encoded (randomized (n % 8) p)) (c .left) (c .decoded)
       (encoded-codeword (randomized (n % 8) p) (sent-length n p w) (sent-bytes n p w))

@@ -8,7 +8,7 @@ use lib.Dec.{ltb, eqb}
 use lib.ListN.{length, getD, take, drop}
 use Rattle.common.specs.Choice.{pick}
 use Rattle.answer.specs.Number.{numberOf}
-use Rattle.reed_solomon.specs.Code.{differ}
+use Rattle.reed_solomon.specs.Code.{differ, differBits}
 use Rattle.reed_solomon.specs.Decode.{Decodes}
 use Rattle.reed_solomon.specs.declared.Decoded.{Decoded}
 use Rattle.reed_solomon.specs.declared.Decoded.the-variants.{Corrected, Uncorrectable, BlockLength}
@@ -50,15 +50,9 @@ delayedBlock s block = blockOut Receiving (s .deinterleaver .branches) block
 
 -- what the repair made of a block: a codeword, by its first byte, or none
 abbrev pub repairOf : Decoded → ℕ → Repair
-repairOf (Corrected count) first = repair.Accepted first
+repairOf (Corrected changed) first = repair.Accepted first
 repairOf Uncorrectable first = repair.Lost
 repairOf BlockLength first = repair.Lost
-
--- the number of bytes that decoding says it changed
-abbrev pub changedBytes : Decoded → ℕ
-changedBytes (Corrected count) = count
-changedBytes Uncorrectable = 0
-changedBytes BlockLength = 0
 
 -- What a block comes to, and the place after it. While filling, nothing is repaired and the place is untouched.
 -- Decoding the delayed block left these bytes and this answer.
@@ -67,15 +61,15 @@ stepOf s left decoded =
     pick (ltb (s .counts .taken) 11) (record { outcome = Filling; sync = s .sync })
     (groupStep (s .sync) (repairOf decoded (getD left 0 0)))
 
--- the bytes changed in a block, by what it comes to: between the block that came and the codeword left, where it was accepted
-abbrev pub changedIn : Outcome → List ℕ → List ℕ → ℕ
-changedIn Filling came left = 0
-changedIn Lost came left = 0
-changedIn (Delivered place) came left = differ came left
-changedIn Waiting came left = differ came left
-changedIn OutOfStep came left = differ came left
+-- what a block that comes to this adds to a sum over the accepted blocks
+abbrev pub ofAccepted : Outcome → ℕ → ℕ
+ofAccepted Filling n = 0
+ofAccepted Lost n = 0
+ofAccepted (Delivered place) n = n
+ofAccepted Waiting n = n
+ofAccepted OutOfStep n = n
 
--- the state after a block taken
+-- the state after a block taken; the changes are those between the block that came and the codeword left
 unfoldable pub stateAfter : Receiver → List ℕ → List ℕ → Decoded → Receiver
 stateAfter s block left decoded =
     record {
@@ -83,7 +77,8 @@ stateAfter s block left decoded =
       sync = stepOf s left decoded .sync;
       counts =
           counted (s .counts) (outcomeNumber (stepOf s left decoded .outcome))
-          (changedIn (stepOf s left decoded .outcome) (delayedBlock s block) left);
+          (ofAccepted (stepOf s left decoded .outcome) (differ (delayedBlock s block) left))
+          (ofAccepted (stepOf s left decoded .outcome) (differBits (delayedBlock s block) left));
     }
 
 -- the room after a block taken: a packet given is written to its front

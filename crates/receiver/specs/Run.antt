@@ -6,8 +6,9 @@ use Prim.{Unit}
 use lib.Dec.{ltb, eqb}
 use lib.ListN.{length, take}
 use Rattle.common.specs.Choice.{pick}
-use Rattle.reed_solomon.specs.Code.{differ}
+use Rattle.reed_solomon.specs.Code.{changes}
 use Rattle.reed_solomon.specs.Decode.{Decodes}
+use Rattle.reed_solomon.specs.declared.Changed.{Changed}
 use Rattle.reed_solomon.specs.declared.Decoded.{Decoded}
 use Rattle.reception_counts.specs.Counts.{one}
 use Rattle.reception_counts.specs.declared.Counts.{Counts}
@@ -41,14 +42,14 @@ abbrev pub afterCalls : Receiver → List Call → Receiver
 afterCalls s [] = s
 afterCalls s (c ∷ cs) = afterCalls (after s c) cs
 
--- what is told of a call: its answer's number, and in how many bytes the block left differs from the one that came out of the branches
+-- what is told of a call: its answer's number, and in how many bytes and bits the block left differs from the one that came out of the branches
 pub record Event : Type 0 where
   pub number : ℕ
-  pub differing : ℕ
+  pub changed : Changed
 
 abbrev pub history : Receiver → List Call → List Event
 history s [] = []
-history s (c ∷ cs) = record { number = answerOf s c; differing = differ (delayedBlock s (c .block)) (c .left) } ∷ history (after s c) cs
+history s (c ∷ cs) = record { number = answerOf s c; changed = changes (delayedBlock s (c .block)) (c .left) } ∷ history (after s c) cs
 
 -- the packets given, one for each call answered 0
 abbrev pub packetsGiven : Receiver → List Call → List (List ℕ)
@@ -74,10 +75,10 @@ takenIn (e ∷ es) = takenBy (e .number) + takenIn es
 abbrev pub acceptedBy : ℕ → ℕ
 acceptedBy number = one 0 number + one 10 number + one 11 number
 
--- the differing bytes over all accepted blocks
-abbrev pub changedOver : List Event → ℕ
-changedOver [] = 0
-changedOver (e ∷ es) = acceptedBy (e .number) * e .differing + changedOver es
+-- the sum over all accepted blocks of a number of their changes
+abbrev pub overAccepted : (Changed → ℕ) → List Event → ℕ
+overAccepted f [] = 0
+overAccepted f (e ∷ es) = acceptedBy (e .number) * f (e .changed) + overAccepted f es
 
 abbrev pub countsOf : List Event → Counts
 countsOf es = record {
@@ -87,7 +88,8 @@ countsOf es = record {
   lost = answered 8 es;
   waiting = answered 10 es;
   outofstep = answered 11 es;
-  changed = changedOver es;
+  changed = overAccepted (λ c. c .bytes) es;
+  bits = overAccepted (λ c. c .bits) es;
 }
 
 -- ---- what a list of calls shows

@@ -5,7 +5,7 @@ ghost use lib.ListN.{length};
 ghost use Rattle.answer.specs.Number.{numberOf};
 ghost use Rattle.group_sync.specs.Group.{PlaceOf};
 ghost use Rattle.reception_counts.specs.Counts.{outcomeNumber};
-ghost use Rattle.receiver.specs.Receive.{freshReceiver, inRange, repairOf, changedBytes, roomAfter, Ready, Receives};
+ghost use Rattle.receiver.specs.Receive.{freshReceiver, inRange, repairOf, roomAfter, Ready, Receives};
 use answer::Answer;
 use group_sync::GroupSync;
 use group_sync::Outcome;
@@ -36,17 +36,6 @@ fn repair_of(decoded: Decoded, first: u8) -> Repair
         Decoded::Corrected(_) => Repair::Accepted(first),
         Decoded::Uncorrectable => Repair::Lost,
         Decoded::BlockLength => Repair::Lost,
-    }
-}
-
-// How many bytes decoding changed.
-fn changed_bytes(decoded: Decoded) -> u8
-    ensures { λ r. ⌜ r ≡ changedBytes decoded ⌝ }
-{
-    match decoded {
-        Decoded::Corrected(count) => count,
-        Decoded::Uncorrectable => 0,
-        Decoded::BlockLength => 0,
     }
 }
 
@@ -82,7 +71,7 @@ fn take_block(receiver: Receiver, block: &[u8], room: &mut [u8]) -> Received
     let passed = before.deinterleave(block, &mut delayed);
     let deinterleaver = passed.deinterleaver;
     if taken < 11 {
-        let counts = count(counts, Outcome::Filling, 0);
+        let counts = count(counts, Outcome::Filling, 0, 0);
         return Received {
             answer: Answer::Filling,
             receiver: Receiver {
@@ -96,8 +85,10 @@ fn take_block(receiver: Receiver, block: &[u8], room: &mut [u8]) -> Received
     let step = sync.step(repair_of(decoded, delayed[0]));
     let outcome = step.outcome;
     let next = step.sync;
-    let changed = changed_bytes(decoded);
-    let counts = count(counts, outcome, changed as u64);
+    let changed = decoded.changed();
+    let bytes = changed.bytes;
+    let bits = changed.bits;
+    let counts = count(counts, outcome, bytes as u64, bits as u64);
     let answer = deliver(outcome, &delayed, room);
     Received {
         answer,

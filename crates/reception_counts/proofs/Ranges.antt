@@ -9,12 +9,14 @@ use Rattle.common.proofs.Choice.{both-true}
 use Rattle.reception_counts.specs.Counts.{middleFive, acceptedBlocks, countsInRange, one, counted, Room}
 use Rattle.reception_counts.specs.declared.Counts.{Counts}
 
--- the four ranges, each by itself
+-- the ranges, each by itself
 pub record CountsRange (n : Counts) : Type 0 where
   pub most : n .taken ≤ 4294967295
   pub middle : middleFive n ≡ n .taken
   pub filled : n .filling ≡ min (n .taken) 11
   pub bytes : n .changed ≤ 8 * acceptedBlocks n
+  pub least : n .changed ≤ n .bits
+  pub eightfold : n .bits ≤ 8 * n .changed
 
 module _ (n : Counts) where
   pub counts-range : countsInRange n ≡ true → CountsRange n
@@ -23,11 +25,28 @@ module _ (n : Counts) where
       let a = both-true _ _ e in
       let b = both-true _ _ (a .1) in
       let f = both-true _ _ (b .1) in
-      record { most = leb-true _ _ (a .0); middle = eqb-true _ _ (b .0); filled = eqb-true _ _ (f .0); bytes = leb-true _ _ (f .1) }
+      let c = both-true _ _ (f .1) in
+      let l = both-true _ _ (c .1) in
+      record {
+        most = leb-true _ _ (a .0);
+        middle = eqb-true _ _ (b .0);
+        filled = eqb-true _ _ (f .0);
+        bytes = leb-true _ _ (c .0);
+        least = leb-true _ _ (l .0);
+        eightfold = leb-true _ _ (l .1);
+      }
 
   pub counts-in-range : CountsRange n → countsInRange n ≡ true
   unfolding countsInRange
-  counts-in-range r = simp (le-leb _ _ (r .most), eq-eqb _ _ (r .middle), eq-eqb _ _ (r .filled), le-leb _ _ (r .bytes))
+  counts-in-range r =
+      simp (
+        le-leb _ _ (r .most),
+        eq-eqb _ _ (r .middle),
+        eq-eqb _ _ (r .filled),
+        le-leb _ _ (r .bytes),
+        le-leb _ _ (r .least),
+        le-leb _ _ (r .eightfold),
+      )
 
   -- a test that fails
   pub sum-fails : (middleFive n ≡ n .taken → ⊥) → n .taken ≤ 4294967295 → false ≡ countsInRange n
@@ -35,35 +54,63 @@ module _ (n : Counts) where
   sum-fails e h = simp (le-leb _ _ h, ne-eqb _ _ e)
 
   -- room for a block more
-  pub counts-room : (changed : ℕ) → CountsRange n → n .taken < 4294967295 → changed ≤ 8 → Room n changed
-  counts-room changed r l h =
+  pub counts-room : (changed bits : ℕ) → CountsRange n → n .taken < 4294967295 → changed ≤ 8 → bits ≤ 8 * changed → Room n changed bits
+  counts-room changed bits r l h k =
       let m = r .middle in
       let b = r .bytes in
-      record { taken = l; middle = m; bytes = omega arith; few = h }
+      record { taken = l; middle = m; bytes = omega arith; eightfold = r .eightfold; few = h; few-bits = k }
 
 -- ---- a block more
 
 -- while filling
-pub filling-range : (n : Counts) → CountsRange n → n .taken < 11 → CountsRange (counted n 9 0)
+pub filling-range : (n : Counts) → CountsRange n → n .taken < 11 → CountsRange (counted n 9 0 0)
 filling-range n r h =
     let m = r .middle in
     let f = r .filled in
     let b = r .bytes in
-    record { most = omega arith; middle = omega arith; filled = omega arith; bytes = omega arith }
+    let c = r .least in
+    let e = r .eightfold in
+    record {
+      most = omega arith;
+      middle = omega arith;
+      filled = omega arith;
+      bytes = omega arith;
+      least = omega arith;
+      eightfold = omega arith;
+    }
 
 -- a block that was lost
-pub lost-range : (n : Counts) → CountsRange n → 11 ≤ n .taken → n .taken < 4294967295 → CountsRange (counted n 8 0)
+pub lost-range : (n : Counts) → CountsRange n → 11 ≤ n .taken → n .taken < 4294967295 → CountsRange (counted n 8 0 0)
 lost-range n r h l =
     let m = r .middle in
     let f = r .filled in
     let b = r .bytes in
-    record { most = omega arith; middle = omega arith; filled = omega arith; bytes = omega arith }
+    let c = r .least in
+    let e = r .eightfold in
+    record {
+      most = omega arith;
+      middle = omega arith;
+      filled = omega arith;
+      bytes = omega arith;
+      least = omega arith;
+      eightfold = omega arith;
+    }
 
--- a block that was accepted: in one of these counts, and at most eight bytes more
-pub accepted-range : (n : Counts) (number changed : ℕ) → CountsRange n → 11 ≤ n .taken → n .taken < 4294967295 → changed ≤ 8
-    → one 9 number ≡ 0 → one 8 number ≡ 0 → one 0 number + one 10 number + one 11 number ≡ 1 → CountsRange (counted n number changed)
-accepted-range n number changed r h l w x y z =
+-- a block that was accepted: in one of these counts, with at most eight bytes more and from one to eight bits in each of them
+pub accepted-range : (n : Counts) (number changed bits : ℕ) → CountsRange n → 11 ≤ n .taken → n .taken < 4294967295
+    → changed ≤ 8 → changed ≤ bits → bits ≤ 8 * changed
+    → one 9 number ≡ 0 → one 8 number ≡ 0 → one 0 number + one 10 number + one 11 number ≡ 1 → CountsRange (counted n number changed bits)
+accepted-range n number changed bits r h l w u v x y z =
     let m = r .middle in
     let f = r .filled in
     let b = r .bytes in
-    record { most = omega arith; middle = omega arith; filled = omega arith; bytes = omega arith }
+    let c = r .least in
+    let e = r .eightfold in
+    record {
+      most = omega arith;
+      middle = omega arith;
+      filled = omega arith;
+      bytes = omega arith;
+      least = omega arith;
+      eightfold = omega arith;
+    }

@@ -1,6 +1,6 @@
 -- The counts of a receiver: document 01, "Receiver". Of its words, taken counts the blocks received, filling those received before the
 -- deinterleaver is full, delivered the packets given, lost the uncorrectable blocks, waiting the codewords before group synchronization,
--- outofstep the codewords at which it is lost, and changed the bytes corrected.
+-- outofstep the codewords at which it is lost, changed the bytes corrected, and bits the bits of them.
 -- Assumes nothing.
 use mathlib.Core.Bool.{Bool, false}
 use mathlib.Core.Path.{_≡_}
@@ -12,7 +12,7 @@ use Rattle.group_sync.specs.declared.Outcome.the-variants.{Filling, Delivered, 
 use Rattle.reception_counts.specs.declared.Counts.{Counts}
 
 abbrev pub zeroCounts : Counts
-zeroCounts = record { taken = 0; filling = 0; delivered = 0; lost = 0; waiting = 0; outofstep = 0; changed = 0 }
+zeroCounts = record { taken = 0; filling = 0; delivered = 0; lost = 0; waiting = 0; outofstep = 0; changed = 0; bits = 0 }
 
 -- the blocks that are in one of the middle five counts
 abbrev pub middleFive : Counts → ℕ
@@ -23,12 +23,16 @@ abbrev pub acceptedBlocks : Counts → ℕ
 acceptedBlocks n = n .delivered + n .waiting + n .outofstep
 
 -- the ranges of document 01: taken at most 4,294,967,295, the middle five add up to it, filling is the smaller of taken and 11,
--- and at most eight bytes were changed in each accepted block
+-- and at most eight bytes were changed in each accepted block; and of document 02: from one to eight bits in each changed byte
 unfoldable pub countsInRange : Counts → Bool
 countsInRange n =
     pick (leb (n .taken) 4294967295)
     (pick (eqb (middleFive n) (n .taken))
-    (pick (eqb (n .filling) (min (n .taken) 11)) (leb (n .changed) (8 * acceptedBlocks n)) false)
+    (pick (eqb (n .filling) (min (n .taken) 11))
+    (pick (leb (n .changed) (8 * acceptedBlocks n))
+    (pick (leb (n .changed) (n .bits)) (leb (n .bits) (8 * n .changed)) false)
+    false)
+    false)
     false)
     false
 
@@ -44,9 +48,9 @@ outcomeNumber OutOfStep = 11
 abbrev pub one : ℕ → ℕ → ℕ
 one k number = pick (eqb number k) 1 0
 
--- the counts after a block taken, with its answer's number and the bytes changed in it
-abbrev pub counted : Counts → ℕ → ℕ → Counts
-counted n number changed = record {
+-- the counts after a block taken, with its answer's number and the bytes and bits changed in it
+abbrev pub counted : Counts → ℕ → ℕ → ℕ → Counts
+counted n number changed bits = record {
   taken = n .taken + 1;
   filling = n .filling + one 9 number;
   delivered = n .delivered + one 0 number;
@@ -54,11 +58,14 @@ counted n number changed = record {
   waiting = n .waiting + one 10 number;
   outofstep = n .outofstep + one 11 number;
   changed = n .changed + changed;
+  bits = n .bits + bits;
 }
 
--- another block can be counted, with so many bytes changed, and no count wraps
-pub record Room (n : Counts) (changed : ℕ) : Type 0 where
+-- another block can be counted, with so many bytes and bits changed, and no count wraps
+pub record Room (n : Counts) (changed bits : ℕ) : Type 0 where
   pub taken : n .taken < 4294967295
   pub middle : middleFive n ≡ n .taken
   pub bytes : n .changed ≤ 8 * n .taken
+  pub eightfold : n .bits ≤ 8 * n .changed
   pub few : changed ≤ 8
+  pub few-bits : bits ≤ 8 * changed

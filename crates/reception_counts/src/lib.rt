@@ -4,7 +4,7 @@ ghost use Prim.Native.Nat.{_+_, min};
 ghost use Rattle.reception_counts.specs.Counts.{Room, zeroCounts, countsInRange, outcomeNumber, counted};
 use group_sync::Outcome;
 
-// How many blocks were taken, what each of them came to, and how many bytes were changed in the accepted ones.
+// How many blocks were taken, what each of them came to, and how many bytes and bits were changed in the accepted ones.
 pub struct Counts {
     pub taken: u64,
     pub filling: u64,
@@ -13,6 +13,7 @@ pub struct Counts {
     pub waiting: u64,
     pub outofstep: u64,
     pub changed: u64,
+    pub bits: u64,
 }
 
 impl Counts {
@@ -30,6 +31,7 @@ impl Counts {
             waiting: 0,
             outofstep: 0,
             changed: 0,
+            bits: 0,
         }
     }
 
@@ -44,6 +46,7 @@ impl Counts {
         let waiting = self.waiting;
         let outofstep = self.outofstep;
         let changed = self.changed;
+        let bits = self.bits;
         if taken > Counts::MOST {
             return false;
         }
@@ -68,7 +71,13 @@ impl Counts {
         if filling != least(taken, 11) {
             return false;
         }
-        changed <= 8 * (delivered + waiting + outofstep)
+        if changed > 8 * (delivered + waiting + outofstep) {
+            return false;
+        }
+        if changed > bits {
+            return false;
+        }
+        bits <= 8 * changed
     }
 }
 
@@ -78,14 +87,15 @@ fn least(a: u64, b: u64) -> u64
     if a < b { a } else { b }
 }
 
-// The counts after a block that came to this, with so many bytes changed.
-pub fn count(counts: Counts, outcome: Outcome, changed: u64) -> Counts
-    requires { ⌜ Room counts changed ⌝ }
-    ensures { λ r. ⌜ r ≡ counted counts (outcomeNumber outcome) changed ⌝ }
+// The counts after a block that came to this, with so many bytes and bits changed.
+pub fn count(counts: Counts, outcome: Outcome, changed: u64, bits: u64) -> Counts
+    requires { ⌜ Room counts changed bits ⌝ }
+    ensures { λ r. ⌜ r ≡ counted counts (outcomeNumber outcome) changed bits ⌝ }
 {
     let mut next = counts;
     next.taken = next.taken + 1;
     next.changed = next.changed + changed;
+    next.bits = next.bits + bits;
     match outcome {
         Outcome::Filling => {
             next.filling = next.filling + 1;

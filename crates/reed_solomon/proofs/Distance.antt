@@ -7,10 +7,10 @@ use Prim.{tt}
 use native.Mathlib.Decide.{ℕ-discrete, decLt}
 use native.Mathlib.Omega.{arith}
 use borrow.Author.Tests.{eq-eqb, ne-eqb}
-use lib.Dec.{eqb}
+use lib.Bits.{bitXor, xor-comm, xor-zero-r, xor-self}
 use lib.ListN.{length, length-reverse}
-use Rattle.common.specs.Choice.{pick}
 use Rattle.common.specs.Lists.{Bytes}
+use Rattle.common.proofs.Xor.{xor-undo}
 use Rattle.algebra.specs.Field.{ops}
 use Rattle.algebra.specs.Polynomial.{eval, plus}
 use Rattle.algebra.proofs.Ring.{add-eq-zero, eq-of-add, add-self}
@@ -18,17 +18,14 @@ use Rattle.algebra.proofs.Polynomial.{Zero, equal-of-zero, eval-plus, length-pl
 use Rattle.algebra.proofs.Syndromes.{Term, AllZero, keep, support, weight, syndrome, vandermonde-weight}
 use Rattle.algebra.proofs.Terms.{terms, distinct-terms, word-syndrome}
 use Rattle.galois.proofs.Instance.{bytes, byte, byte-inj, powers-differ}
-use Rattle.reed_solomon.specs.Code.{Codeword, differ}
+use Rattle.reed_solomon.specs.Code.{Codeword, unequal, distance, differ, changes}
 use Rattle.reed_solomon.specs.Decode.{Accepted}
+use Rattle.reed_solomon.specs.declared.Changed.{Changed}
 use Rattle.byte_lanes.specs.Lanes.{elements, word, point}
 use Rattle.byte_lanes.proofs.Words.{length-word, elements-inj, bytes-reverse}
 use Rattle.reed_solomon.proofs.Codewords.{codeword-length, codeword-bytes, codeword-syndromes}
 
 -- ---- the distance
-
--- 0 where two bytes are equal, else 1
-abbrev pub unequal : ℕ → ℕ → ℕ
-unequal x y = pick (eqb x y) 0 1
 
 pub unequal-same : (x y : ℕ) → x ≡ y → unequal x y ≡ 0
 unequal-same x y e = simp (eq-eqb x y e)
@@ -36,12 +33,28 @@ unequal-same x y e = simp (eq-eqb x y e)
 pub unequal-other : (x y : ℕ) → (x ≡ y → ⊥) → unequal x y ≡ 1
 unequal-other x y n = simp (ne-eqb x y n)
 
+xor-none : (x e : ℕ) → x ≡ bitXor x e → e ≡ 0
+xor-none x e h = sym (xor-undo e x) ∙ ap (λ (k : ℕ). bitXor k x) (xor-comm e x ∙ sym h) ∙ xor-self x
+
+-- an error takes a number as far from itself as the error is from zero
+pub unequal-xor : (x e : ℕ) → unequal x (bitXor x e) ≡ unequal e 0
+unequal-xor x e = go (ℕ-discrete e 0)
+  where
+    go : Dec (e ≡ 0) → unequal x (bitXor x e) ≡ unequal e 0
+    go (yes z) = unequal-same x (bitXor x e) (sym (ap (bitXor x) z ∙ xor-zero-r x)) ∙ sym (unequal-same e 0 z)
+    go (no z) = unequal-other x (bitXor x e) (λ h. z (xor-none x e h)) ∙ sym (unequal-other e 0 z)
+
+-- a list is not apart from itself, where its elements are not
+pub distance-none : (d : ℕ → ℕ → ℕ) → ((x : ℕ) → d x x ≡ 0) → (a : List ℕ) → distance d a a ≡ 0
+unfolding distance
+distance-none d none [] = refl
+distance-none d none (x ∷ a) = omega (arith, none x, distance-none d none a)
+
 pub differ-none : (a : List ℕ) → differ a a ≡ 0
 unfolding differ
-differ-none [] = refl
-differ-none (x ∷ a) = ap₂ _+_ (unequal-same x x refl) (differ-none a)
+differ-none a = distance-none unequal (λ x. unequal-same x x refl) a
 
-unequal-le : (x y : ℕ) → unequal x y ≤ 1
+pub unequal-le : (x y : ℕ) → unequal x y ≤ 1
 unequal-le x y = go (ℕ-discrete x y)
   where
     go : Dec (x ≡ y) → unequal x y ≤ 1
@@ -49,7 +62,7 @@ unequal-le x y = go (ℕ-discrete x y)
     go (no n) = omega (arith, unequal-other x y n)
 
 pub differ-le : (a b : List ℕ) → differ a b ≤ length a
-unfolding differ
+unfolding differ distance
 differ-le [] b = omega arith
 differ-le (x ∷ a) [] = omega arith
 differ-le (x ∷ a) (y ∷ b) = omega (arith, unequal-le x y, differ-le a b)
@@ -62,7 +75,7 @@ unequal-sym x y = go (ℕ-discrete x y)
     go (no n) = unequal-other x y n ∙ sym (unequal-other y x (λ e. n (sym e)))
 
 pub differ-sym : (a b : List ℕ) → differ a b ≡ differ b a
-unfolding differ
+unfolding differ distance
 differ-sym [] [] = refl
 differ-sym [] (y ∷ b) = refl
 differ-sym (x ∷ a) [] = refl
@@ -78,25 +91,25 @@ unequal-triangle x y z = go (ℕ-discrete x y) (ℕ-discrete y z) (ℕ-discrete 
     go (yes p) (yes q) (no r) = absurd (r (p ∙ q))
 
 pub differ-triangle : (a b c : List ℕ) → length a ≡ length b → length b ≡ length c → differ a c ≤ differ a b + differ b c
-unfolding differ
+unfolding differ distance
 differ-triangle [] b c h k = omega arith
 differ-triangle (x ∷ a) [] c h k = absurd (omega arith)
 differ-triangle (x ∷ a) (y ∷ b) [] h k = absurd (omega arith)
 differ-triangle (x ∷ a) (y ∷ b) (z ∷ c) h k = omega (arith, unequal-triangle x y z, differ-triangle a b c (omega arith) (omega arith))
 
 pub differ-append : (a b c d : List ℕ) → length a ≡ length b → differ (a ++ c) (b ++ d) ≡ differ a b + differ c d
-unfolding differ
+unfolding differ distance
 differ-append [] [] c d h = omega arith
 differ-append [] (y ∷ b) c d h = absurd (omega arith)
 differ-append (x ∷ a) [] c d h = absurd (omega arith)
 differ-append (x ∷ a) (y ∷ b) c d h = omega (arith, differ-append a b c d (omega arith))
 
 differ-one : (x y : ℕ) → differ (x ∷ []) (y ∷ []) ≡ unequal x y
-unfolding differ
+unfolding differ distance
 differ-one x y = omega arith
 
 pub differ-reverse : (a b : List ℕ) → length a ≡ length b → differ (reverse a) (reverse b) ≡ differ a b
-unfolding differ
+unfolding differ distance
 differ-reverse [] [] h = refl
 differ-reverse [] (y ∷ b) h = absurd (omega arith)
 differ-reverse (x ∷ a) [] h = absurd (omega arith)
@@ -115,7 +128,7 @@ keep-count p q x E hp hq (no n) = omega (arith, unequal-other p q (λ e. n (add-
 
 pub weight-differ : (x : Fin 256) (a b : List ℕ) → length a ≡ length b → Bytes a → Bytes b
     → weight bytes (terms bytes (byte 2) x (plus (ops bytes) (elements a) (elements b))) ≡ differ a b
-unfolding differ plus terms support
+unfolding differ distance plus terms support
 weight-differ x [] [] h ha hb = refl
 weight-differ x [] (q ∷ b) h ha hb = absurd (omega arith)
 weight-differ x (p ∷ a) [] h ha hb = absurd (omega arith)
@@ -170,11 +183,12 @@ same-codeword a b ca cb h =
     (λ j l. errors-syndrome a b na nb ha hb j ∙ ap₂ (bytes .add) (codeword-syndromes a ca j l) (codeword-syndromes b cb j l) ∙ add-self bytes (bytes .𝟘)))))
 
 -- a codeword within eight bytes is the only one, so that it is accepted
-pub accepted : (came left : List ℕ) (count : ℕ) → length came ≡ 204 → Codeword left → count ≡ differ came left → count ≤ 8 → Accepted came left count
-accepted came left count n c e h =
-    record { codeword = c; counted = e; within = h; nearest = λ d cd ne. go d cd ne (decLt count (differ came d)) }
+pub accepted : (came left : List ℕ) (changed : Changed) → length came ≡ 204 → Codeword left → changed ≡ changes came left → differ came left ≤ 8
+    → Accepted came left changed
+accepted came left changed n c e h =
+    record { codeword = c; counted = e; within = h; nearest = λ d cd ne. go d cd ne (decLt (differ came left) (differ came d)) }
   where
-    go : (d : List ℕ) → Codeword d → (d ≡ left → ⊥) → Dec (count < differ came d) → count < differ came d
+    go : (d : List ℕ) → Codeword d → (d ≡ left → ⊥) → Dec (differ came left < differ came d) → differ came left < differ came d
     go d cd ne (yes l) = l
     go d cd ne (no l) =
         absurd (ne (same-codeword d left cd c

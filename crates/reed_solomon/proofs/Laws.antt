@@ -1,19 +1,22 @@
--- Laws of decoding for callers: it is total and unique, a codeword decodes to itself, and a block within eight bytes of a codeword decodes to that codeword.
+-- Laws of decoding for callers: it is total and unique, a codeword decodes to itself, a block within eight bytes of a codeword decodes to that codeword,
+-- and what it tells that it changed is what differs.
 -- Assumes nothing.
 use mathlib.Core.Path.{_≡_, refl, sym, ap, _∙_, subst}
 use mathlib.Core.List.{List}
-use Prim.Native.Nat.{ℕ, zero, suc, _≤_, _<_}
+use Prim.Native.Nat.{ℕ, zero, suc, _*_, _≤_, _<_}
 use native.Mathlib.Decide.{ℕ-discrete, decLe, decLt}
 use native.Mathlib.Nat.{not-suc-le-zero}
 use native.Mathlib.Omega.{arith}
 use lib.ListN.{length}
 use Rattle.galois.proofs.Instance.{bytes}
-use Rattle.reed_solomon.specs.Code.{Codeword, differ}
-use Rattle.reed_solomon.specs.Decode.{Accepted, Rejected, Decodes}
+use Rattle.reed_solomon.specs.Code.{Codeword, differ, changes, noChange}
+use Rattle.reed_solomon.specs.Decode.{Accepted, Rejected, Decodes, changedBy}
+use Rattle.reed_solomon.specs.declared.Changed.{Changed}
 use Rattle.reed_solomon.specs.declared.Decoded.{Decoded}
 use Rattle.reed_solomon.specs.declared.Decoded.the-variants.{Corrected, Uncorrectable, BlockLength}
 use Rattle.reed_solomon.proofs.Codewords.{blockSyndrome, codeword-of, codeword-length, codeword-bytes, codeword-syndromes}
 use Rattle.reed_solomon.proofs.Distance.{differ-none, differ-sym, differ-triangle, same-codeword, accepted}
+use Rattle.reed_solomon.proofs.BitDistance.{bits-least, bits-eightfold, changes-none}
 use Rattle.reed_solomon.proofs.FiniteSearch.{Found, list-search}
 
 -- ---- unique: decoding depends on the block alone
@@ -22,18 +25,18 @@ pub record Same (left left′ : List ℕ) (r r′ : Decoded) : Type 0 where
   pub block : left ≡ left′
   pub answer : r ≡ r′
 
-accepted-once : (came a b : List ℕ) (j k : ℕ) → length came ≡ 204 → Accepted came a j → Accepted came b k → a ≡ b
+accepted-once : (came a b : List ℕ) (j k : Changed) → length came ≡ 204 → Accepted came a j → Accepted came b k → a ≡ b
 accepted-once came a b j k n p q =
     same-codeword a b (p .codeword) (q .codeword)
-    (omega (arith, differ-triangle a came b (codeword-length a (p .codeword) ∙ sym n) (n ∙ sym (codeword-length b (q .codeword))), differ-sym a came, p .counted, q .counted, p .within, q .within))
+    (omega (arith, differ-triangle a came b (codeword-length a (p .codeword) ∙ sym n) (n ∙ sym (codeword-length b (q .codeword))), differ-sym a came, p .within, q .within))
 
-accepted-not : (came a b : List ℕ) (k : ℕ) → Accepted came a k → Rejected came b → ⊥
-accepted-not came a b k p q = omega (arith, q .far a (p .codeword), p .counted, p .within)
+accepted-not : (came a b : List ℕ) (k : Changed) → Accepted came a k → Rejected came b → ⊥
+accepted-not came a b k p q = omega (arith, q .far a (p .codeword), p .within)
 
 pub unique : (came left left′ : List ℕ) (r r′ : Decoded) → Decodes came left r → Decodes came left′ r′ → Same left left′ r r′
 unique came a b (Corrected j) (Corrected k) p q =
     let e = accepted-once came a b j k (p .0) (p .1) (q .1) in
-    record { block = e; answer = ap Corrected (p .1 .counted ∙ ap (differ came) e ∙ sym (q .1 .counted)) }
+    record { block = e; answer = ap Corrected (p .1 .counted ∙ ap (λ (l : List ℕ). changes came l) e ∙ sym (q .1 .counted)) }
 unique came a b (Corrected j) Uncorrectable p q = absurd (accepted-not came a b j (p .1) (q .1))
 unique came a b (Corrected j) BlockLength p q = absurd (q .0 (p .0))
 unique came a b Uncorrectable (Corrected k) p q = absurd (accepted-not came b a k (q .1) (p .1))
@@ -45,17 +48,42 @@ unique came a b BlockLength BlockLength p q = record { block = p .1 ∙ sym (q .
 
 -- ---- a codeword within eight bytes
 
-pub near : (came c : List ℕ) → length came ≡ 204 → Codeword c → differ came c ≤ 8 → Decodes came c (Corrected (differ came c))
-near came c n w h = (n, accepted came c (differ came c) n w refl h)
+pub near : (came c : List ℕ) → length came ≡ 204 → Codeword c → differ came c ≤ 8 → Decodes came c (Corrected (changes came c))
+near came c n w h = (n, accepted came c (changes came c) n w refl h)
 
 -- a block within eight bytes of a codeword decodes to it
-pub decodes-near : (came c left : List ℕ) (r : Decoded) → length came ≡ 204 → Codeword c → differ came c ≤ 8 → Decodes came left r → Same left c r (Corrected (differ came c))
-decodes-near came c left r n w h d = unique came left c r (Corrected (differ came c)) d (near came c n w h)
+pub decodes-near : (came c left : List ℕ) (r : Decoded) → length came ≡ 204 → Codeword c → differ came c ≤ 8 → Decodes came left r → Same left c r (Corrected (changes came c))
+decodes-near came c left r n w h d = unique came left c r (Corrected (changes came c)) d (near came c n w h)
 
--- a codeword decodes to itself, with count 0
-pub decodes-codeword : (c left : List ℕ) (r : Decoded) → Codeword c → Decodes c left r → Same left c r (Corrected 0)
+-- a codeword decodes to itself, with nothing changed
+pub decodes-codeword : (c left : List ℕ) (r : Decoded) → Codeword c → Decodes c left r → Same left c r (Corrected noChange)
 decodes-codeword c left r w d =
-    unique c left c r (Corrected 0) d (codeword-length c w, accepted c c 0 (codeword-length c w) w (sym (differ-none c)) (omega arith))
+    unique c left c r (Corrected noChange) d (codeword-length c w, accepted c c noChange (codeword-length c w) w (sym (changes-none c)) (omega (arith, differ-none c)))
+
+-- ---- what is changed
+
+-- whatever decoding answers, what it tells that it changed is what differs between the block that came and the one left
+pub tells-changes : (came left : List ℕ) (r : Decoded) → Decodes came left r → changedBy r ≡ changes came left
+tells-changes came left (Corrected k) d = d .1 .counted
+tells-changes came left Uncorrectable d = sym (changes-none came) ∙ ap (λ (l : List ℕ). changes came l) (sym (d .1 .unchanged))
+tells-changes came left BlockLength d = sym (changes-none came) ∙ ap (λ (l : List ℕ). changes came l) (sym (d .1))
+
+-- at most eight bytes, and from one to eight bits in each of them
+pub record FewChanges (changed : Changed) : Type 0 where
+  pub few : changed .bytes ≤ 8
+  pub least : changed .bytes ≤ changed .bits
+  pub most : changed .bits ≤ 8 * changed .bytes
+
+pub few-changes : (came left : List ℕ) (r : Decoded) → Decodes came left r → FewChanges (changes came left)
+few-changes came left r d = record { few = few r d; least = bits-least came left; most = bits-eightfold came left }
+  where
+    kept : left ≡ came → differ came left ≤ 8
+    kept e = omega (arith, ap (differ came) e ∙ differ-none came)
+
+    few : (r : Decoded) → Decodes came left r → differ came left ≤ 8
+    few (Corrected k) d = d .1 .within
+    few Uncorrectable d = kept (d .1 .unchanged)
+    few BlockLength d = kept (d .1)
 
 -- ---- total
 
@@ -102,7 +130,7 @@ module _ (came : List ℕ) where
       go (yes f) =
           record {
             left = f .list;
-            answer = Corrected (differ came (f .list));
+            answer = Corrected (changes came (f .list));
             decodes = near came (f .list) n (codeword-of (f .list) (f .size) (f .small) (f .holds .1)) (f .holds .0);
           }
       go (no f) =

@@ -1,5 +1,6 @@
 pub mod Codewords
 pub mod Distance
+pub mod BitDistance
 pub mod LongDivision
 pub mod WordDivision
 pub mod PowerRuns

@@ -7,6 +7,7 @@ use Prim.Native.Nat.{ℕ, _+_, _≤_, _<_, Fin}
 use native.Mathlib.Decide.{decLt, ℕ-discrete}
 use native.Mathlib.Omega.{arith}
 use borrow.Author.Tests.{eq-eqb, ne-eqb}
+use lib.Bits.{bitXor}
 use lib.ListN.{length, getD, take, drop, length-drop, take-append-drop, List·getD-eq-default}
 use lib.Seq.{length-take-le, getD-take}
 use Rattle.common.specs.Lists.{All, Bytes}
@@ -18,18 +19,19 @@ use Rattle.algebra.specs.Polynomial.{power}
 use Rattle.algebra.proofs.Ring.{add-comm, add-self, zero-add, mul-zero}
 use Rattle.algebra.proofs.Syndromes.{syndrome}
 use Rattle.galois.proofs.Instance.{bytes, byte, byte-zero}
-use Rattle.reed_solomon.specs.Code.{Codeword, differ}
+use Rattle.reed_solomon.specs.Code.{Codeword, unequal, unequalBits, distance, differ, differBits, noChange}
 use Rattle.reed_solomon.specs.Encode.{checkBytes}
 use Rattle.reed_solomon.specs.Decode.{Accepted, Rejected}
 use Rattle.byte_lanes.specs.Lanes.{point, Powers}
-use Rattle.reed_solomon.specs.Steps.{residueOf, allZero, SyndromesOf}
+use Rattle.reed_solomon.specs.Steps.{residueOf, allZero, SyndromesOf, weighed}
 use Rattle.error_locator.specs.Locator.{Located}
 use Rattle.error_correction.specs.Correction.{Evaluated, zerosOf, FoundRoots, RootProduct, errorValue, ErrorValues, termsOf, Explained, correctedBy, changedIn}
 use Rattle.reed_solomon.proofs.Codewords.{blockSyndrome, codeword-of, generator-root}
-use Rattle.reed_solomon.proofs.Distance.{differ-none, accepted}
+use Rattle.reed_solomon.proofs.Distance.{unequal-same, unequal-xor, differ-none, accepted}
+use Rattle.reed_solomon.proofs.BitDistance.{bits-same, bits-xor, changes-none}
 use Rattle.reed_solomon.proofs.LongDivision.{high, high-nil, high-cons, high-append, high-plus, high-check, check-remainder}
 use Rattle.reed_solomon.proofs.Completeness.{degreeTerms, roots-vanish, roots-distinct, roots-few, found}
-use Rattle.reed_solomon.proofs.Soundness.{corrected-length, corrected-bytes, corrected-value, corrected-differ, terms-cut, terms-by-degree, distinct-unmap}
+use Rattle.reed_solomon.proofs.Soundness.{corrected-length, corrected-bytes, corrected-value, corrected-distance, terms-cut, terms-by-degree, distinct-unmap}
 use Rattle.error_correction.proofs.ErrorTerms.{changed-le}
 
 -- ---- the residue
@@ -59,11 +61,17 @@ module _ (came : List ℕ) (n : length came ≡ 204) where
       go (no e) r = false-true (rw (ne-eqb y 0 e) at h)
 
   -- a block whose residue is zero is a codeword already
-  pub clean : Bytes came → allZero (residueOf came) ≡ true → Accepted came came 0
+  pub clean : Bytes came → allZero (residueOf came) ≡ true → Accepted came came noChange
   clean b h =
-      accepted came came 0 n (codeword-of came n b (λ j l. sym (residue-value j l) ∙ zero-value (point j) (residueOf came) h)) (sym (differ-none came)) (omega arith)
+      accepted came came noChange n (codeword-of came n b (λ j l. sym (residue-value j l) ∙ zero-value (point j) (residueOf came) h)) (sym (changes-none came)) (omega (arith, differ-none came))
 
 -- ---- the search for errors
+
+-- the errors that are not zero, counted by the step that takes them away
+changed-weighed : (es : List ℕ) → changedIn es ≡ weighed unequal es
+unfolding changedIn weighed
+changed-weighed [] = refl
+changed-weighed (e ∷ es) = ap (λ (n : ℕ). unequal e 0 + n) (changed-weighed es)
 
 -- what the steps have found
 pub record Decoding (came x s q v degrees places : List ℕ) (count : ℕ) (p values : List ℕ) : Type 0 where
@@ -133,22 +141,31 @@ module _ {came x s q v degrees places : List ℕ} {count : ℕ} {p values : List
       small i (no h) =
           subst (λ (k : ℕ). k < 256) (sym (List·getD-eq-default es 0 {n = i} (omega (arith, length-take-le count values (omega (arith, few)))))) (omega arith)
 
-  -- explained: what is left is a codeword, and the count is true
-  pub repaired : (left : List ℕ) (k : ℕ) → Explained places values s true → left ≡ correctedBy came (take count degrees) es → k ≡ changedIn es → Accepted came left k
-  repaired left k f e g =
-      subst (λ (l : List ℕ). Accepted came l k) (sym whole)
-      (accepted came done k n
+  -- explained: what is left is a codeword, and the counts are true
+  pub repaired : (left : List ℕ) (k m : ℕ) → Explained places values s true → left ≡ correctedBy came (take count degrees) es
+      → k ≡ changedIn es → m ≡ weighed (unequalBits 8) es → Accepted came left (record { bytes = k; bits = m })
+  unfolding differ differBits
+  repaired left k m f e g i =
+      subst (λ (l : List ℕ). Accepted came l (record { bytes = k; bits = m })) (sym whole)
+      (accepted came done (record { bytes = k; bits = m }) n
       (codeword-of done (corrected-length came (zerosOf v) es ∙ n) (corrected-bytes came (zerosOf v) es n b es-bytes)
       (λ j l. corrected-value j came (zerosOf v) es n in-range es-length
       ∙ ap (λ (u : Fin 256). bytes .add (blockSyndrome came j) u) (sym (lanes j) ∙ f .each j l ∙ syndromes j l) ∙ add-self bytes (blockSyndrome came j)))
-      (g ∙ sym (corrected-differ came (zerosOf v) es n in-range (distinct-unmap point (zerosOf v) (roots-distinct q v lq lv ev)) es-length ∙ ap (λ (m : ℕ). m + changedIn es) (differ-none came) ∙ omega arith))
-      (omega (arith, changed-le es, es-length, fr .number, few)))
+      (ap₂ (λ (x y : ℕ). record { bytes = x; bits = y }) (g ∙ changed-weighed es ∙ sym hamming) (i ∙ sym (apart (unequalBits 8) (bits-same 8) (bits-xor 8))))
+      (omega (arith, hamming, changed-weighed es, changed-le es, es-length, fr .number, few)))
     where
       done : List ℕ
       done = correctedBy came (zerosOf v) es
 
       whole : left ≡ correctedBy came (zerosOf v) es
       whole = e ∙ ap (λ (ds : List ℕ). correctedBy came ds es) (fr .listed)
+
+      apart : (d : ℕ → ℕ → ℕ) → ((x : ℕ) → d x x ≡ 0) → ((x y : ℕ) → d x (bitXor x y) ≡ d y 0) → distance d came done ≡ weighed d es
+      apart d none one =
+          corrected-distance d none one came (zerosOf v) es n in-range (distinct-unmap point (zerosOf v) (roots-distinct q v lq lv ev)) es-length
+
+      hamming : distance unequal came done ≡ weighed unequal es
+      hamming = apart unequal (λ x. unequal-same x x refl) unequal-xor
 
   -- the degrees are those of a block
   pub degrees-range : (l : ℕ) → l < count → getD degrees l 0 < 204

@@ -1,18 +1,15 @@
--- What the decoder leaves: the errors taken away change the block's values at the roots by the syndromes of the errors, and its bytes where an error is not zero.
+-- What the decoder leaves: the errors taken away change the block's values at the roots by the syndromes of the errors, and take it as far from what came as the errors are from zero.
 -- Assumes nothing.
 use mathlib.Core.Path.{_≡_, refl, sym, ap, ap₂, _∙_}
 use mathlib.Core.List.{List, [], _∷_, map}
 use Prim.Native.Nat.{ℕ, zero, suc, _+_, _-_, _≤_, _<_, Fin}
 use Prim.{tt}
-use native.Mathlib.Decide.{ℕ-discrete}
 use native.Mathlib.Nat.{not-suc-le-zero, le-of-suc-le-suc}
 use native.Mathlib.Omega.{arith}
-use borrow.Author.Tests.{eq-eqb}
-use lib.Bits.{bitXor, xor-lt, xor-comm, xor-zero-r, xor-self}
+use lib.Bits.{bitXor, xor-lt}
 use lib.ListN.{length, getD, take, set, length-set}
 use lib.Seq.{getD-set-other}
 use Rattle.common.specs.Lists.{All, Bytes}
-use Rattle.common.proofs.Xor.{xor-undo}
 use Rattle.algebra.specs.Field.{Field, ops}
 use Rattle.algebra.specs.Polynomial.{power}
 use Rattle.common.proofs.Lists.{All-at}
@@ -21,10 +18,11 @@ use Rattle.algebra.proofs.Ring.{ring, zero-mul, add-zero as field-add-zero}
 use Rattle.algebra.proofs.Syndromes.{Term, syndrome}
 use Rattle.algebra.proofs.Terms.{power-swap}
 use Rattle.galois.proofs.Instance.{bytes, byte, byte-zero, byte-add, byte-power}
-use Rattle.reed_solomon.specs.Code.{differ}
+use Rattle.reed_solomon.specs.Code.{distance}
+use Rattle.reed_solomon.specs.Steps.{weighed}
 use Rattle.byte_lanes.specs.Lanes.{point, Powers}
-use Rattle.error_correction.specs.Correction.{termsOf, correctedBy, changedIn}
-use Rattle.reed_solomon.proofs.Distance.{unequal, unequal-same, unequal-other}
+use Rattle.error_correction.specs.Correction.{termsOf, correctedBy}
+use Rattle.reed_solomon.proofs.Distance.{distance-none}
 use Rattle.reed_solomon.proofs.LongDivision.{high, high-cons}
 use Rattle.reed_solomon.proofs.Completeness.{degreeTerms}
 
@@ -108,26 +106,7 @@ corrected-value j b (d ∷ ds) (e ∷ es) n h m =
     place : power (ops bytes) (point j) (length b - 1 - (203 - d)) ≡ power (ops bytes) (point d) j
     place = ap (power (ops bytes) (point j)) degree ∙ power-swap bytes (byte 2) j d
 
--- ---- in how many bytes
-
-differ-set : (a b : List ℕ) (k v : ℕ) → length a ≡ length b → k < length b → getD b k 0 ≡ getD a k 0
-    → differ a (set b k v) ≡ differ a b + unequal (getD a k 0) v
-unfolding differ
-differ-set [] [] k v n h e = absurd (not-suc-le-zero h)
-differ-set [] (y ∷ b) k v n h e = absurd (omega arith)
-differ-set (x ∷ a) [] k v n h e = absurd (omega arith)
-differ-set (x ∷ a) (y ∷ b) zero v n h e = rw (eq-eqb x y (sym e)) (omega arith)
-differ-set (x ∷ a) (y ∷ b) (suc k) v n h e = omega (arith, differ-set a b k v (omega arith) (le-of-suc-le-suc h) e)
-
-xor-none : (x e : ℕ) → x ≡ bitXor x e → e ≡ 0
-xor-none x e h = sym (xor-undo e x) ∙ ap (λ (k : ℕ). bitXor k x) (xor-comm e x ∙ sym h) ∙ xor-self x
-
-changed-one : (x e : ℕ) → unequal x (bitXor x e) ≡ unequal e 0
-changed-one x e = go (ℕ-discrete e 0)
-  where
-    go : Dec (e ≡ 0) → unequal x (bitXor x e) ≡ unequal e 0
-    go (yes z) = unequal-same x (bitXor x e) (sym (ap (bitXor x) z ∙ xor-zero-r x)) ∙ sym (unequal-same e 0 z)
-    go (no z) = unequal-other x (bitXor x e) (λ h. z (xor-none x e h)) ∙ sym (unequal-other e 0 z)
+-- ---- how far from what came
 
 -- at the degrees of the list the two blocks agree
 abbrev Agree : List ℕ → List ℕ → List ℕ → Type 0
@@ -140,27 +119,39 @@ agree-set a b d v (k ∷ ds) l h w g = (
   agree-set a b d v ds l (h .1) (w .1) (g .1),
 )
 
-corrected-from : (a b ds es : List ℕ) → length a ≡ 204 → length b ≡ 204 → All (λ d. d < 204) ds → Distinct ds → Agree a b ds → length es ≡ length ds
-    → differ a (correctedBy b ds es) ≡ differ a b + changedIn es
-unfolding correctedBy changedIn
-corrected-from a b [] [] na nb h w g m = omega arith
-corrected-from a b [] (e ∷ es) na nb h w g m = absurd (omega arith)
-corrected-from a b (d ∷ ds) [] na nb h w g m = absurd (omega arith)
-corrected-from a b (d ∷ ds) (e ∷ es) na nb h w g m =
-    corrected-from a (set b (203 - d) (bitXor (getD b (203 - d) 0) e)) ds es na (length-set b (203 - d) (bitXor (getD b (203 - d) 0) e) ∙ nb) (h .1) (w .1)
-    (agree-set a b d (bitXor (getD b (203 - d) 0) e) ds (h .0) (h .1) (w .0) (g .1)) (omega arith)
-    ∙ omega (arith, differ-set a b (203 - d) (bitXor (getD b (203 - d) 0) e) (na ∙ sym nb) (omega arith) (g .0), one)
-  where
-    one : unequal (getD a (203 - d) 0) (bitXor (getD b (203 - d) 0) e) ≡ unequal e 0
-    one = ap (λ (x : ℕ). unequal (getD a (203 - d) 0) (bitXor x e)) (g .0) ∙ changed-one (getD a (203 - d) 0) e
-
 agree-self : (a ds : List ℕ) → Agree a a ds
 agree-self a [] = tt
 agree-self a (d ∷ ds) = (refl, agree-self a ds)
 
-pub corrected-differ : (a ds es : List ℕ) → length a ≡ 204 → All (λ d. d < 204) ds → Distinct ds → length es ≡ length ds
-    → differ a (correctedBy a ds es) ≡ differ a a + changedIn es
-corrected-differ a ds es n h w m = corrected-from a a ds es n n h w (agree-self a ds) m
+-- where equal bytes are not apart, and an error takes a byte as far from itself as the error is from zero
+module _ (d : ℕ → ℕ → ℕ) (none : (x : ℕ) → d x x ≡ 0) (one : (x e : ℕ) → d x (bitXor x e) ≡ d e 0) where
+  distance-set : (a b : List ℕ) (k v : ℕ) → length a ≡ length b → k < length b → getD b k 0 ≡ getD a k 0
+      → distance d a (set b k v) ≡ distance d a b + d (getD a k 0) v
+  unfolding distance
+  distance-set [] [] k v n h e = absurd (not-suc-le-zero h)
+  distance-set [] (y ∷ b) k v n h e = absurd (omega arith)
+  distance-set (x ∷ a) [] k v n h e = absurd (omega arith)
+  distance-set (x ∷ a) (y ∷ b) zero v n h e = omega (arith, ap (d x) e ∙ none x)
+  distance-set (x ∷ a) (y ∷ b) (suc k) v n h e = omega (arith, distance-set a b k v (omega arith) (le-of-suc-le-suc h) e)
+
+  corrected-from : (a b ds es : List ℕ) → length a ≡ 204 → length b ≡ 204 → All (λ d. d < 204) ds → Distinct ds → Agree a b ds → length es ≡ length ds
+      → distance d a (correctedBy b ds es) ≡ distance d a b + weighed d es
+  unfolding correctedBy weighed
+  corrected-from a b [] [] na nb h w g m = omega arith
+  corrected-from a b [] (e ∷ es) na nb h w g m = absurd (omega arith)
+  corrected-from a b (k ∷ ds) [] na nb h w g m = absurd (omega arith)
+  corrected-from a b (k ∷ ds) (e ∷ es) na nb h w g m =
+      corrected-from a (set b (203 - k) (bitXor (getD b (203 - k) 0) e)) ds es na (length-set b (203 - k) (bitXor (getD b (203 - k) 0) e) ∙ nb) (h .1) (w .1)
+      (agree-set a b k (bitXor (getD b (203 - k) 0) e) ds (h .0) (h .1) (w .0) (g .1)) (omega arith)
+      ∙ omega (arith, distance-set a b (203 - k) (bitXor (getD b (203 - k) 0) e) (na ∙ sym nb) (omega arith) (g .0), here)
+    where
+      here : d (getD a (203 - k) 0) (bitXor (getD b (203 - k) 0) e) ≡ d e 0
+      here = ap (λ (x : ℕ). d (getD a (203 - k) 0) (bitXor x e)) (g .0) ∙ one (getD a (203 - k) 0) e
+
+  -- what is left is as far from what came as the errors are from zero
+  pub corrected-distance : (a ds es : List ℕ) → length a ≡ 204 → All (λ d. d < 204) ds → Distinct ds → length es ≡ length ds
+      → distance d a (correctedBy a ds es) ≡ weighed d es
+  corrected-distance a ds es n h w m = corrected-from a a ds es n n h w (agree-self a ds) m ∙ omega (arith, distance-none d none a)
 
 -- ---- sixteen lanes, of which the values from place n on are zero
 

@@ -1,15 +1,16 @@
--- The outer code RS(204,188) of EN 300 421, 4.4.2: the generator polynomial, codewords, and in how many bytes two blocks differ.
+-- The outer code RS(204,188) of EN 300 421, 4.4.2: the generator polynomial, codewords, and in how many bytes and bits two blocks differ.
 -- Polynomials are lists of coefficients over GF(256), the lowest first.
 -- Assumes nothing.
 use mathlib.Core.Path.{_≡_}
 use mathlib.Core.List.{List, [], _∷_, reverse}
-use Prim.Native.Nat.{ℕ, zero, suc, _+_}
+use Prim.Native.Nat.{ℕ, zero, suc, _+_, _/_, _%_}
 use lib.Dec.{eqb}
 use lib.ListN.{length}
 use Rattle.common.specs.Choice.{pick}
 use Rattle.common.specs.Lists.{Bytes}
 use Rattle.algebra.specs.Polynomial.{product}
 use Rattle.galois.specs.Field256.{numbers, pow}
+use Rattle.reed_solomon.specs.declared.Changed.{Changed}
 
 -- the product of the n factors x + 02^i, i from 0 to n - 1
 unfoldable pub factors : ℕ → List ℕ
@@ -31,8 +32,36 @@ pub record Codeword (block : List ℕ) : Type 0 where
   pub in-field : Bytes factor
   pub divides : polynomial block ≡ product numbers generator factor
 
+-- ---- how far two blocks are apart
+
+-- 0 where two numbers are equal, else 1
+abbrev pub unequal : ℕ → ℕ → ℕ
+unequal x y = pick (eqb x y) 0 1
+
+-- In how many bits two numbers of n bits are unequal, from the lowest bit up. The highest is what n - 1 halvings leave: of a byte, which
+-- has eight bits, the top bit. So unequal numbers have an unequal bit, also where they are no bytes.
+unfoldable pub unequalBits : ℕ → ℕ → ℕ → ℕ
+unequalBits zero x y = 0
+unequalBits (suc zero) x y = unequal x y
+unequalBits (suc (suc n)) x y = unequal (x % 2) (y % 2) + unequalBits (suc n) (x / 2) (y / 2)
+
+-- the sum over the places of two lists of one length of how far their elements are apart
+unfoldable pub distance : (ℕ → ℕ → ℕ) → List ℕ → List ℕ → ℕ
+distance d [] b = 0
+distance d (x ∷ a) [] = 0
+distance d (x ∷ a) (y ∷ b) = d x y + distance d a b
+
 -- in how many places two blocks of one length have unequal bytes: their Hamming distance
 unfoldable pub differ : List ℕ → List ℕ → ℕ
-differ [] b = 0
-differ (x ∷ a) [] = 0
-differ (x ∷ a) (y ∷ b) = pick (eqb x y) 0 1 + differ a b
+differ a b = distance unequal a b
+
+-- in how many bits two blocks of one length are unequal
+unfoldable pub differBits : List ℕ → List ℕ → ℕ
+differBits a b = distance (unequalBits 8) a b
+
+-- what is changed where one block is left in the place of another: how many bytes, and how many bits of them
+abbrev pub changes : List ℕ → List ℕ → Changed
+changes came left = record { bytes = differ came left; bits = differBits came left }
+
+abbrev pub noChange : Changed
+noChange = record { bytes = 0; bits = 0 }

@@ -4,17 +4,18 @@ use mathlib.Core.Path.{_≡_}
 use mathlib.Core.List.{List}
 use Prim.Native.Nat.{ℕ, _≤_, _<_}
 use lib.ListN.{length}
-use Rattle.reed_solomon.specs.Code.{Codeword, differ}
+use Rattle.reed_solomon.specs.Code.{Codeword, differ, changes, noChange}
+use Rattle.reed_solomon.specs.declared.Changed.{Changed}
 use Rattle.reed_solomon.specs.declared.Decoded.{Decoded}
 use Rattle.reed_solomon.specs.declared.Decoded.the-variants.{Corrected, Uncorrectable, BlockLength}
 
--- accepted: what is left is a codeword, the count is in how many bytes it differs from what came, at most eight,
--- and every other codeword differs from what came in more
-pub record Accepted (came left : List ℕ) (count : ℕ) : Type 0 where
+-- accepted: what is left is a codeword, what is told changed is in how many bytes and bits it differs from what came,
+-- at most eight bytes, and every other codeword differs from what came in more
+pub record Accepted (came left : List ℕ) (changed : Changed) : Type 0 where
   pub codeword : Codeword left
-  pub counted : count ≡ differ came left
-  pub within : count ≤ 8
-  pub nearest : (c : List ℕ) → Codeword c → (c ≡ left → ⊥) → count < differ came c
+  pub counted : changed ≡ changes came left
+  pub within : differ came left ≤ 8
+  pub nearest : (c : List ℕ) → Codeword c → (c ≡ left → ⊥) → differ came left < differ came c
 
 -- not accepted: no codeword is within eight bytes, and what is left is what came
 pub record Rejected (came left : List ℕ) : Type 0 where
@@ -22,12 +23,18 @@ pub record Rejected (came left : List ℕ) : Type 0 where
   pub far : (c : List ℕ) → Codeword c → 8 < differ came c
 
 abbrev pub Decodes : List ℕ → List ℕ → Decoded → Type 0
-Decodes came left (Corrected count) = (length came ≡ 204) × Accepted came left count
+Decodes came left (Corrected changed) = (length came ≡ 204) × Accepted came left changed
 Decodes came left Uncorrectable = (length came ≡ 204) × Rejected came left
 Decodes came left BlockLength = (length came ≡ 204 → ⊥) × (left ≡ came)
 
 -- the number that document 01 gives the answer
 abbrev pub decodedNumber : Decoded → ℕ
-decodedNumber (Corrected count) = 0
+decodedNumber (Corrected changed) = 0
 decodedNumber Uncorrectable = 8
 decodedNumber BlockLength = 3
+
+-- what decoding tells that it changed: nothing where it answers with a refusal
+abbrev pub changedBy : Decoded → Changed
+changedBy (Corrected changed) = changed
+changedBy Uncorrectable = noChange
+changedBy BlockLength = noChange

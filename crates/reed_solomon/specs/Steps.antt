@@ -66,3 +66,10 @@ allZero (x ∷ l) = pick (eqb x 0) (allZero l) false
 -- the values of a list, the highest coefficient first, at the sixteen roots
 pub record SyndromesOf (l s : List ℕ) : Type 0 where
   pub each : (j : ℕ) → j < 16 → byte (getD s j 0) ≡ eval (ops bytes) (word l) (point j)
+
+-- ---- the errors
+
+-- the sum of how far the errors are from zero
+unfoldable pub weighed : (ℕ → ℕ → ℕ) → List ℕ → ℕ
+weighed d [] = 0
+weighed d (e ∷ es) = d e 0 + weighed d es

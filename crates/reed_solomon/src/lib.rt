@@ -3,11 +3,12 @@ ghost use mathlib.Core.Path.{_≡_};
 ghost use Rattle.answer.specs.Number.{numberOf};
 ghost use lib.ListN.{length};
 ghost use Rattle.reed_solomon.specs.Encode.{encodeNumber, encodeRoom};
-ghost use Rattle.reed_solomon.specs.Decode.{Decodes};
+ghost use Rattle.reed_solomon.specs.Decode.{Decodes, changedBy};
 ghost use Rattle.reed_solomon.specs.Steps.{residueOf};
 use answer::Answer;
 
 mod division;
+mod error_bits;
 mod syndromes;
 
 // The sixteen coefficients of the generator polynomial below x^16, from x^15 down.
@@ -30,14 +31,33 @@ pub const GENERATOR: [u8; 16] = [
     0x3B,
 ];
 
+// What decoding changed in a block: how many bytes, and how many bits of them.
+pub struct Changed {
+    pub bytes: u8,
+    pub bits: u8,
+}
+
 // What decoding a block answers. specs/Decode.antt gives each case the number of document 01.
 pub enum Decoded {
-    // The block is now the codeword within eight bytes; the count says how many bytes were changed.
-    Corrected(u8),
+    // The block is now the codeword within eight bytes, and this was changed.
+    Corrected(Changed),
     // No codeword is within eight bytes. The block is as it came.
     Uncorrectable,
     // The block is not 204 bytes, and as it came.
     BlockLength,
+}
+
+impl Decoded {
+    // What was changed, which is nothing in a block that is left as it came.
+    pub fn changed(self) -> Changed
+        ensures { λ r. ⌜ r ≡ changedBy self ⌝ }
+    {
+        match self {
+            Decoded::Corrected(changed) => changed,
+            Decoded::Uncorrectable => Changed { bytes: 0, bits: 0 },
+            Decoded::BlockLength => Changed { bytes: 0, bits: 0 },
+        }
+    }
 }
 
 // Writes the 188 bytes of the message and the sixteen that make the block a codeword.
@@ -76,8 +96,9 @@ fn repair(block: &mut [u8], residue: [u8; 16]) -> Decoded
     if !error_correction::explains(places, values, &s) {
         return Decoded::Uncorrectable;
     }
-    let changed = error_correction::correct(block, degrees, values, count);
-    Decoded::Corrected(changed)
+    let bits = error_bits::set_bits(values, count);
+    let bytes = error_correction::correct(block, degrees, values, count);
+    Decoded::Corrected(Changed { bytes, bits })
 }
 
 // Leaves the codeword within eight bytes of the block, if there is one. A clean block costs the division alone.
@@ -89,7 +110,7 @@ pub fn decode(block: &mut [u8]) -> Decoded
     }
     let residue = division::residue(block);
     if division::is_zero(residue) {
-        return Decoded::Corrected(0);
+        return Decoded::Corrected(Changed { bytes: 0, bits: 0 });
     }
     repair(block, residue)
 }

@@ -63,8 +63,8 @@ fn tallied(
     left: &[u8],
 ) -> Tally {
     match decoded {
-        Decoded::Corrected(k) => {
-            if k as usize == n && check::same(left, sent) {
+        Decoded::Corrected(changed) => {
+            if changed.bytes as usize == n && check::same(left, sent) {
                 return Tally {
                     corrected: more(tally.corrected),
                     refused: tally.refused,

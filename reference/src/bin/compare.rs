@@ -106,7 +106,7 @@ fn rs_encode(s: &mut Score, data: &[u8], room: Vec<u8>) {
     s.same(&inputs, &[("answer", &[want]), ("room", &a)], &[("answer", &[got]), ("room", &b)]);
 }
 
-fn rs_decode(s: &mut Score, block: &[u8], count: Vec<u8>) -> (u8, u8) {
+fn rs_decode(s: &mut Score, block: &[u8], count: Vec<u8>) -> (u8, Vec<u8>) {
     let (mut a, mut b) = (block.to_vec(), block.to_vec());
     let (mut m, mut n) = (count.clone(), count);
     let want = expected::rs_decode(&mut a, &mut m);
@@ -121,7 +121,7 @@ fn rs_decode(s: &mut Score, block: &[u8], count: Vec<u8>) -> (u8, u8) {
         &[("answer", &[want]), ("count", &m), ("block", &a)],
         &[("answer", &[got]), ("count", &n), ("block", &b)],
     );
-    (want, m.first().copied().unwrap_or(0))
+    (want, m)
 }
 
 fn send_run(s: &mut Score, rate: u8, packets: &[u8], room: Vec<u8>, answer: Vec<u8>) -> (u8, u64) {
@@ -138,7 +138,7 @@ fn send_run(s: &mut Score, rate: u8, packets: &[u8], room: Vec<u8>, answer: Vec<
     (m.first().copied().unwrap_or(0), want)
 }
 
-fn receive_run(s: &mut Score, blocks: &[u8], room: Vec<u8>, counts: Vec<u8>) -> (Vec<u8>, [u64; 7]) {
+fn receive_run(s: &mut Score, blocks: &[u8], room: Vec<u8>, counts: Vec<u8>) -> (Vec<u8>, [u64; 8]) {
     let (mut a, mut b) = (room.clone(), room);
     let (mut m, mut n) = (counts.clone(), counts);
     let want = expected::receive_run(blocks, &mut a, &mut m);
@@ -149,14 +149,14 @@ fn receive_run(s: &mut Score, blocks: &[u8], room: Vec<u8>, counts: Vec<u8>) -> 
         &[("bytes", &want.to_le_bytes()), ("counts", &m), ("room", &a)],
         &[("bytes", &got.to_le_bytes()), ("counts", &n), ("room", &b)],
     );
-    let mut seven = [0; 7];
+    let mut eight = [0; 8];
     if m.len() >= COUNTS_LENGTH {
-        for (count, bytes) in seven.iter_mut().zip(m.chunks_exact(8)) {
+        for (count, bytes) in eight.iter_mut().zip(m.chunks_exact(8)) {
             *count = u64::from_le_bytes(bytes.try_into().unwrap());
         }
     }
     a.truncate(want as usize);
-    (a, seven)
+    (a, eight)
 }
 
 // Inputs.
@@ -205,7 +205,7 @@ fn times(a: u8, by: u8) -> u8 {
 
 /// A count before the call that no answer gives.
 fn count_before(r: &mut Xorshift) -> Vec<u8> {
-    let length = if r.below(4) == 0 { 1 + r.below(20) } else { 1 };
+    let length = if r.below(4) == 0 { 2 + r.below(20) } else { 2 };
     vec![0xA5; length]
 }
 
@@ -265,14 +265,16 @@ fn stage_kinds(s: &mut Score) {
 fn decode_kinds(s: &mut Score) {
     let mut seen = [0u64; 10];
     s.kind("rs_decode: 0 to 20 errors anywhere", 126_000, |s, r, case| {
-        let mut block = codeword(r);
+        let sent = codeword(r);
+        let mut block = sent.clone();
         harm(r, &mut block, case as usize % 21, 0, 204);
         let before = count_before(r);
         let (answer, count) = rs_decode(s, &block, before);
         if case % 21 <= 8 {
-            assert_eq!((answer, count as u64), (0, case % 21));
+            let bits = sent.iter().zip(&block).map(|(a, b)| (a ^ b).count_ones()).sum::<u32>() as u8;
+            assert_eq!((answer, &count[..2]), (0, &[(case % 21) as u8, bits][..]));
         }
-        seen[if answer == 0 { count as usize } else { 9 }] += 1;
+        seen[if answer == 0 { count[0] as usize } else { 9 }] += 1;
     });
     if seen != [0; 10] {
         println!("  count 0 to 8, then no codeword: {seen:?}");
@@ -355,10 +357,12 @@ fn decode_kinds(s: &mut Score) {
             }
         }
         assert_eq!(left, 0);
-        assert_eq!(rs_decode(s, &block, vec![0xA5]), (0, 8));
-        // The other nine cleared: eight from the zero block.
+        // The other nine cleared: eight from the zero block. Either way the bits
+        // of the same eight bytes are changed.
         let rest: Vec<u8> = block.iter().zip(&whole).map(|(b, w)| b ^ w).collect();
-        assert_eq!(rs_decode(s, &rest, vec![0xA5]), (0, 8));
+        let bits = rest.iter().map(|b| b.count_ones()).sum::<u32>() as u8;
+        assert_eq!(rs_decode(s, &block, vec![0xA5; 2]), (0, vec![8, bits]));
+        assert_eq!(rs_decode(s, &rest, vec![0xA5; 2]), (0, vec![8, bits]));
     });
     let mut refused = 0u64;
     s.kind("rs_decode: errors among the 51 bytes never sent", 30_000, |s, r, case| {
@@ -405,12 +409,12 @@ fn decode_kinds(s: &mut Score) {
         println!("  within eight of a codeword all the same: {accepted}");
     }
     s.kind("rs_decode: refusals", 410, |s, r, case| {
-        for count in [0, 1, 2] {
+        for count in [0, 1, 2, 3] {
             let block = r.bytes(case as usize);
             rs_decode(s, &block, vec![0xA5; count]);
         }
         let block = codeword(r);
-        rs_decode(s, &block, vec![0xA5; case as usize % 3]);
+        rs_decode(s, &block, vec![0xA5; case as usize % 4]);
     });
 }
 
@@ -497,8 +501,8 @@ fn stream_of(blocks: &[Vec<u8>]) -> Vec<u8> {
 }
 
 fn receive_kinds(s: &mut Score) {
-    let mut total = [0u64; 7];
-    let mut add = |seven: [u64; 7]| total.iter_mut().zip(seven).for_each(|(t, c)| *t += c);
+    let mut total = [0u64; 8];
+    let mut add = |eight: [u64; 8]| total.iter_mut().zip(eight).for_each(|(t, c)| *t += c);
     let room_for = |r: &mut Xorshift, stream: &[u8]| room_of(r, stream.len() / 204 * 188);
 
     s.kind("receive_run: unharmed", 80, |s, r, case| {
@@ -508,19 +512,19 @@ fn receive_kinds(s: &mut Score) {
         let rest = r.below(204);
         stream.extend(r.bytes(rest));
         let room = room_for(r, &stream);
-        let (got, seven) = receive_run(s, &stream, room, vec![0xA5; 56 + case as usize % 3]);
+        let (got, eight) = receive_run(s, &stream, room, vec![0xA5; COUNTS_LENGTH + case as usize % 3]);
         assert_eq!(got, p[..188 * count.saturating_sub(11)]);
-        add(seven);
+        add(eight);
     });
     s.kind("receive_run: rest of 0 to 203 bytes", 204, |s, r, case| {
         let p = packets(r, 14);
         let mut stream = interleaved_stream(&p);
         stream.truncate(13 * 204 + case as usize);
         let room = room_for(r, &stream);
-        add(receive_run(s, &stream, room, vec![0xA5; 56]).1);
+        add(receive_run(s, &stream, room, vec![0xA5; COUNTS_LENGTH]).1);
         // And no whole block at all.
         let room = room_of(r, 0);
-        add(receive_run(s, &stream[..case as usize], room, vec![0xA5; 56]).1);
+        add(receive_run(s, &stream[..case as usize], room, vec![0xA5; COUNTS_LENGTH]).1);
     });
     s.kind("receive_run: harmed bytes", 160, |s, r, case| {
         let count = 20 + r.below(120);
@@ -540,7 +544,7 @@ fn receive_kinds(s: &mut Score) {
             stream[low..high].iter_mut().for_each(|byte| *byte = r.byte());
         }
         let room = room_for(r, &stream);
-        add(receive_run(s, &stream, room, vec![0xA5; 56]).1);
+        add(receive_run(s, &stream, room, vec![0xA5; COUNTS_LENGTH]).1);
     });
     s.kind("receive_run: from inside a group", 120, |s, r, case| {
         let count = 24 + r.below(60);
@@ -548,7 +552,7 @@ fn receive_kinds(s: &mut Score) {
         let stream = interleaved_stream(&p);
         let from = case as usize % 24;
         let room = room_for(r, &stream[204 * from..]);
-        add(receive_run(s, &stream[204 * from..], room, vec![0xA5; 56]).1);
+        add(receive_run(s, &stream[204 * from..], room, vec![0xA5; COUNTS_LENGTH]).1);
     });
     s.kind("receive_run: blocks dropped, doubled or strange", 160, |s, r, case| {
         // Cut before the delays, so that the blocks stay codewords and the
@@ -581,7 +585,7 @@ fn receive_kinds(s: &mut Score) {
             stream.drain(at..at + 204);
         }
         let room = room_for(r, &stream);
-        add(receive_run(s, &stream, room, vec![0xA5; 56]).1);
+        add(receive_run(s, &stream, room, vec![0xA5; COUNTS_LENGTH]).1);
     });
     s.kind("receive_run: sync bytes at random", 200, |s, r, _| {
         // Every packet begins B8 or 47 or neither, some blocks beyond repair:
@@ -603,7 +607,7 @@ fn receive_kinds(s: &mut Score) {
             .collect();
         let stream = stream_of(&blocks);
         let room = room_for(r, &stream);
-        add(receive_run(s, &stream, room, vec![0xA5; 56]).1);
+        add(receive_run(s, &stream, room, vec![0xA5; COUNTS_LENGTH]).1);
     });
     s.kind("receive_run: anything", 200, |s, r, case| {
         let length = r.below(8000);
@@ -614,7 +618,7 @@ fn receive_kinds(s: &mut Score) {
             _ => r.bytes(length),
         };
         let room = room_for(r, &stream);
-        add(receive_run(s, &stream, room, vec![0xA5; 56]).1);
+        add(receive_run(s, &stream, room, vec![0xA5; COUNTS_LENGTH]).1);
     });
     s.kind("receive_run: long recordings", 8, |s, r, case| {
         let p = packets(r, 1500);
@@ -628,13 +632,13 @@ fn receive_kinds(s: &mut Score) {
         let rest = r.below(204);
         stream.extend(r.bytes(rest));
         let room = room_for(r, &stream);
-        add(receive_run(s, &stream, room, vec![0xA5; 56]).1);
+        add(receive_run(s, &stream, room, vec![0xA5; COUNTS_LENGTH]).1);
     });
     s.kind("receive_run: refusals", 60, |s, r, case| {
         let count = case as usize % 30;
         let p = packets(r, count);
         let stream = interleaved_stream(&p);
-        for counts in [0, 1, 55, 56, 57] {
+        for counts in [0, 1, 56, 63, 64, 65] {
             receive_run(s, &stream, r.bytes(188 * count), vec![0xA5; counts]);
             if count > 0 {
                 receive_run(s, &stream, r.bytes(188 * count - 1), vec![0xA5; counts]);
@@ -642,8 +646,8 @@ fn receive_kinds(s: &mut Score) {
             receive_run(s, &stream, vec![], vec![0xA5; counts]);
         }
     });
-    if total != [0; 7] {
-        println!("  taken, filling, delivered, lost, waiting, outofstep, changed: {total:?}");
+    if total != [0; 8] {
+        println!("  taken, filling, delivered, lost, waiting, outofstep, changed, bits: {total:?}");
         if s.only_kind.is_none() {
             // Every branch of the receiver was visited many times.
             assert!(total.iter().all(|&count| count >= 500), "{total:?}");

@@ -13,31 +13,31 @@ use borrow.Author.Needs.{needs}
 use Rattle.count_bytes.proofs.put_counts.Statement.{statement}
 use Rattle.count_bytes.proofs.put_counts.Tie as tie
 
--- the bytes of seven numbers
+-- the bytes of eight numbers
 abbrev bytesOf : List ℕ → List ℕ
-bytesOf numbers = listOf 56 (λ i. byteAt (i % 8) (getD numbers (i / 8) 0))
+bytesOf numbers = listOf 64 (λ i. byteAt (i % 8) (getD numbers (i / 8) 0))
 
-bytes-length : (numbers : List ℕ) → length (bytesOf numbers) ≡ 56
-bytes-length numbers = length-listOf 56 (λ i. byteAt (i % 8) (getD numbers (i / 8) 0))
+bytes-length : (numbers : List ℕ) → length (bytesOf numbers) ≡ 64
+bytes-length numbers = length-listOf 64 (λ i. byteAt (i % 8) (getD numbers (i / 8) 0))
 
 abbrev Inv-loop : tie.InvT-loop
 Inv-loop room₀ numbers i₀ room i = Written 0 room₀ (bytesOf numbers) room i
 
 abbrev μ-loop : tie.MeasureT-loop
-μ-loop room₀ numbers i₀ room i = 56 - i
+μ-loop room₀ numbers i₀ room i = 64 - i
 
-start : (room numbers : List ℕ) → 56 ≤ length room → Written 0 room (bytesOf numbers) room 0
+start : (room numbers : List ℕ) → 64 ≤ length room → Written 0 room (bytesOf numbers) room 0
 start room numbers h = written-none (omega (arith, bytes-length numbers))
 
-more : (room₀ numbers room : List ℕ) (i v : ℕ) → Written 0 room₀ (bytesOf numbers) room i → i < 56 → v ≡ byteAt (i % 8) (getD numbers (i / 8) 0)
+more : (room₀ numbers room : List ℕ) (i v : ℕ) → Written 0 room₀ (bytesOf numbers) room i → i < 64 → v ≡ byteAt (i % 8) (getD numbers (i / 8) 0)
     → Written 0 room₀ (bytesOf numbers) (set room i v) (i + 1)
 more room₀ numbers room i v w h e =
-    written-next w v (omega (arith, bytes-length numbers)) (e ∙ sym (getD-listOf 56 (λ i. byteAt (i % 8) (getD numbers (i / 8) 0)) 0 i h))
+    written-next w v (omega (arith, bytes-length numbers)) (e ∙ sym (getD-listOf 64 (λ i. byteAt (i % 8) (getD numbers (i / 8) 0)) 0 i h))
 
-finish : (room₀ numbers room : List ℕ) (i : ℕ) → Written 0 room₀ (bytesOf numbers) room i → 56 ≤ i → room ≡ bytesOf numbers ++ drop 56 room₀
+finish : (room₀ numbers room : List ℕ) (i : ℕ) → Written 0 room₀ (bytesOf numbers) room i → 64 ≤ i → room ≡ bytesOf numbers ++ drop 64 room₀
 finish room₀ numbers room i w h =
-    let e : 56 ≡ i = omega (arith, w .within, bytes-length numbers) in
-    let f : 0 + i ≡ 56 = omega arith in
+    let e : 64 ≡ i = omega (arith, w .within, bytes-length numbers) in
+    let f : 0 + i ≡ 64 = omega arith in
     written-all w (bytes-length numbers ∙ e) ∙ ap (λ (k : ℕ). bytesOf numbers ++ drop k room₀) f
 
 loop-holds : tie.Need-loop-holds Inv-loop μ-loop

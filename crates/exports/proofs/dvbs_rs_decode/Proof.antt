@@ -22,6 +22,9 @@ enum-known-decoded c = search needs
 slice-write-count : tie.Need-slice-write-count
 slice-write-count c = search needs
 
+slice-write-count-2 : tie.Need-slice-write-count-2
+slice-write-count-2 c = search needs
+
 enum-told : tie.Need-enum-told
 enum-told c = search needs
 
@@ -82,6 +85,7 @@ dvbs-rs-decode-spec =
     decode-requires
     enum-known-decoded
     slice-write-count
+    slice-write-count-2
     enum-told
     enum-told-2
     same-length

@@ -2,10 +2,13 @@
 -- Assumes nothing.
 use mathlib.Core.Path.{refl, sym, ap, _∙_, subst}
 use native.Mathlib.Omega.{arith}
-use Prim.Native.Nat.{ℕ, _≤_}
+use Prim.Native.Nat.{ℕ}
 use mathlib.Core.List.{List}
 use lib.ListN.{replicate}
+use Rattle.reed_solomon.specs.Code.{noChange}
 use Rattle.reed_solomon.specs.Decode.{Decodes}
+use Rattle.reed_solomon.specs.declared.Changed.{Changed}
+use Rattle.reed_solomon.proofs.Laws.{tells-changes, FewChanges, few-changes}
 use Rattle.delay_branches.specs.declared.Side.the-variants.{Receiving}
 use Rattle.delay_branches.proofs.Blocks.{length-out}
 use Rattle.group_sync.specs.Group.{groupStep, PlaceOf}
@@ -13,7 +16,7 @@ use Rattle.group_sync.specs.declared.GroupStep.{GroupStep}
 use Rattle.group_sync.proofs.Synchronization.{outcome-place}
 use Rattle.reception_counts.specs.Counts.{outcomeNumber, counted}
 use Rattle.receiver.specs.Receive.{delayedBlock}
-use Rattle.receiver.proofs.Calls.{state-range, filling-call, repairing-call, deinterleaves, room-for, few-changed, left-length}
+use Rattle.receiver.proofs.Calls.{state-range, filling-call, repairing-call, deinterleaves, room-for, left-length}
 use borrow.Author.Needs.{needs}
 use Rattle.receiver.proofs.take_block.Statement.{statement}
 use Rattle.receiver.proofs.take_block.Tie as tie
@@ -27,7 +30,7 @@ deinterleave-requires c κs = search needs
 count-requires : tie.Need-count-requires
 count-requires c κs =
     let s = c .before .before .before .before .before .before .before .before .before .before in
-    room-for (s .args .receiver) (s .args .block .now) (s .args .room .now) (s .pre) 0 (omega arith)
+    room-for (s .args .receiver) (s .args .block .now) (s .args .room .now) (s .pre) noChange (record { few = omega arith; least = omega arith; most = omega arith })
 
 returns : tie.Need-returns
 returns c =
@@ -53,11 +56,14 @@ repair-of-requires c κs = search needs
 step-requires : tie.Need-step-requires
 step-requires c κs = search needs
 
-changed-bytes-requires : tie.Need-changed-bytes-requires
-changed-bytes-requires c κs = search needs
+changed-requires : tie.Need-changed-requires
+changed-requires c κs = search needs
 
 cast-count : tie.Need-cast-count
 cast-count c = search needs
+
+cast-count-2 : tie.Need-cast-count-2
+cast-count-2 c = search needs
 
 -- what the block that the branches give decodes to
 decodes : (c : tie.After-decode)
@@ -75,7 +81,8 @@ count-requires-2 c κs =
     let s = c .before .before .before .before .before .before .before .before .before .before .before .before .before .before .before .before .before in
     let e = c .before .before .before .before .before in
     room-for (s .args .receiver) (s .args .block .now) (s .args .room .now) (s .pre) _
-    (subst (λ (n : ℕ). n ≤ 8) (sym (c .changed-bytes .ensures)) (few-changed (delayedBlock (s .args .receiver) (s .args .block .now)) (e .decode .last .0) (e .decode .result) (decodes e)))
+    (subst FewChanges (sym (c .changed .ensures ∙ tells-changes _ (e .decode .last .0) (e .decode .result) (decodes e)))
+    (few-changes (delayedBlock (s .args .receiver) (s .args .block .now)) (e .decode .last .0) (e .decode .result) (decodes e)))
 
 slice-aggregate-deliver : tie.Need-slice-aggregate-deliver
 slice-aggregate-deliver c = search needs
@@ -107,7 +114,7 @@ returns-2 c =
     repairing-call (a .receiver) (a .block .now) (a .room .now) (s .pre) (c .before .before .before .before .before .before .before .before .before .before .before .before .before .if1 .left) (e .decode .last .0) (e .decode .result) (decodes e)
     (k .result) (k .ensures ∙ ap (groupStep (a .receiver .sync)) (c .before .before .before .before .before .before .before .before .before .repair-of .ensures)) _ (d .result .deinterleaver) (c .before .before .before .before .before .count2 .result) _
     (v .0) (d .ensures .1 ∙ i .0)
-    (c .before .before .before .before .before .count2 .ensures ∙ ap (counted (a .receiver .counts) (outcomeNumber (k .result .outcome))) (c .before .before .before .before .before .before .changed-bytes .ensures)) (v .1)
+    (c .before .before .before .before .before .count2 .ensures ∙ ap (λ (x : Changed). counted (a .receiver .counts) (outcomeNumber (k .result .outcome)) (x .bytes) (x .bits)) (c .before .before .before .before .before .before .changed .ensures)) (v .1)
 
 pub take-block-spec : {M : Type 1} → statement M
 take-block-spec =
@@ -122,8 +129,9 @@ take-block-spec =
     array-read-repair-of
     repair-of-requires
     step-requires
-    changed-bytes-requires
+    changed-requires
     cast-count
+    cast-count-2
     count-requires-2
     slice-aggregate-deliver
     deliver-requires

@@ -79,9 +79,12 @@ returns c =
     let e = c .before .before .before in
     (e .before .before .before .before .before .before .before .before .before .before .before .before .before .before .pre .0, rejected (steps e) (flag-false (Explained (e .before .before .before .before .find-roots .result .places) (e .error-values .result) (e .before .before .before .before .before .before .before .before .before .before .syndromes .result)) (c .before .explains .result) (c .if1 .taken) (c .before .explains .ensures)))
 
+set-bits-requires : tie.Need-set-bits-requires
+set-bits-requires c κs = few-found (c .before .before .before .before .before .before .before)
+
 correct-requires : tie.Need-correct-requires
 correct-requires c κs =
-    let e = c .before .before .before .before in
+    let e = c .before .before .before .before .before in
     (e .before .before .before .before .before .before .before .before .before .before .before .before .before .before .pre .0, few-found (e .before .before .before .before), degrees-range (steps e))
 
 same-length : tie.Need-same-length
@@ -89,10 +92,10 @@ same-length c = search needs
 
 returns-2 : tie.Need-returns-2
 returns-2 c =
-    let e = c .before .before .before .before .before .before .before in (
+    let e = c .before .before .before .before .before .before .before .before in (
       e .before .before .before .before .before .before .before .before .before .before .before .before .before .before .pre .0,
-      repaired (steps e) _ _ (flag-true (Explained (e .before .before .before .before .find-roots .result .places) (e .error-values .result) (e .before .before .before .before .before .before .before .before .before .before .syndromes .result)) (c .before .before .before .before .before .explains .result) (c .before .before .before .before .if1 .left) (c .before .before .before .before .before .explains .ensures))
-          (c .before .before .correct .ensures .1) (c .before .before .correct .ensures .0),
+      repaired (steps e) _ _ _ (flag-true (Explained (e .before .before .before .before .find-roots .result .places) (e .error-values .result) (e .before .before .before .before .before .before .before .before .before .before .syndromes .result)) (c .before .before .before .before .before .before .explains .result) (c .before .before .before .before .before .if1 .left) (c .before .before .before .before .before .before .explains .ensures))
+          (c .before .before .correct .ensures .1) (c .before .before .correct .ensures .0) (c .before .before .before .before .set-bits .ensures),
     )
 
 pub repair-spec : {M : Type 1} → statement M
@@ -110,6 +113,7 @@ repair-spec =
     slice-aggregate-explains
     explains-requires
     returns
+    set-bits-requires
     correct-requires
     same-length
     returns-2)
