@@ -32,6 +32,14 @@ abbrev pub placeInRange : Place → Bool
 placeInRange NotKnown = true
 placeInRange (Known p) = ltb p 8
 
+-- the numbers of a state are in their ranges
+abbrev pub syncInRange : GroupSync → Bool
+syncInRange s = placeInRange (s .place)
+
+-- no group start was seen
+abbrev pub freshSync : GroupSync
+freshSync = record { place = NotKnown }
+
 -- an outcome, and the place after it
 abbrev pub step : Outcome → Place → GroupStep
 step outcome place = record { outcome = outcome; sync = record { place = place } }

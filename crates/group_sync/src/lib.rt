@@ -1,6 +1,6 @@
 // How the receiver keeps step with the groups of eight packets: EN 300 421, 4.4.1, inverts the sync byte of the first packet of each group.
 ghost use mathlib.Core.Path.{_≡_};
-ghost use Rattle.group_sync.specs.Group.{dueByte, placeAfter, knownAfter, acceptedStep, groupStep, placeInRange};
+ghost use Rattle.group_sync.specs.Group.{dueByte, placeAfter, knownAfter, acceptedStep, groupStep, syncInRange, freshSync};
 
 // The place of the next packet in its group of eight, 0 to 7: document 01's group place.
 pub enum Place {
@@ -108,7 +108,7 @@ impl GroupSync {
     pub const GROUP_LENGTH: u8 = 8;
 
     pub fn new() -> GroupSync
-        ensures { λ r. ⌜ r .place ≡ Place.NotKnown ⌝ }
+        ensures { λ r. ⌜ r ≡ freshSync ⌝ }
     {
         let place = Place::NotKnown;
         GroupSync { place }
@@ -116,7 +116,7 @@ impl GroupSync {
 
     // Whether the place is not known, or 0 to 7.
     pub fn in_range(self) -> bool
-        ensures { λ r. ⌜ r ≡ placeInRange (self .place) ⌝ }
+        ensures { λ r. ⌜ r ≡ syncInRange self ⌝ }
     {
         let place = self.place;
         match place {

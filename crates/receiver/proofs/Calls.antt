@@ -23,10 +23,11 @@ use Rattle.delay_branches.specs.declared.Branches.{Branches}
 use Rattle.delay_branches.specs.declared.Side.the-variants.{Receiving}
 use Rattle.interleaver.specs.Call.{passBranches, passRoom}
 use Rattle.interleaver.specs.declared.Deinterleaver.{Deinterleaver}
-use Rattle.group_sync.specs.Group.{placeInRange, acceptedStep, groupStep}
-use Rattle.group_sync.specs.declared.Place.{Place}
+use Rattle.group_sync.specs.Group.{syncInRange, groupStep}
+use Rattle.group_sync.specs.declared.Repair.the-variants as repair
+use Rattle.group_sync.specs.declared.GroupSync.{GroupSync}
 use Rattle.group_sync.specs.declared.GroupStep.{GroupStep}
-use Rattle.group_sync.proofs.Synchronization.{accepted-step}
+use Rattle.group_sync.proofs.Synchronization.{accepted-outcome}
 use Rattle.reception_counts.specs.Counts.{countsInRange, outcomeNumber, counted, Room}
 use Rattle.reception_counts.specs.declared.Counts.{Counts}
 use Rattle.reception_counts.proofs.Ranges.{counts-range, counts-room}
@@ -36,7 +37,7 @@ use Rattle.receiver.specs.declared.Receiver.{Receiver}
 -- the three parts of a state in range
 pub record StateRange (s : Receiver) : Type 0 where
   pub branches : branch.inRange Receiving (s .deinterleaver .branches) ≡ true
-  pub place : placeInRange (s .sync .place) ≡ true
+  pub sync : syncInRange (s .sync) ≡ true
   pub counts : countsInRange (s .counts) ≡ true
 
 pub state-range : (s : Receiver) → inRange s ≡ true → StateRange s
@@ -44,17 +45,16 @@ unfolding inRange
 state-range s e =
     let a = both-true _ _ e in
     let b = both-true _ _ (a .1) in
-    record { branches = a .0; place = b .0; counts = b .1 }
+    record { branches = a .0; sync = b .0; counts = b .1 }
 
 pub state-in-range : (s : Receiver) → StateRange s → inRange s ≡ true
 unfolding inRange
-state-in-range s r = simp (r .branches, r .place, r .counts)
+state-in-range s r = simp (r .branches, r .sync, r .counts)
 
 -- the bytes changed in an accepted block are those in which it differs from what came
-pub changed-accepted : (place : Place) (first : ℕ) (came left : List ℕ) → placeInRange place ≡ true
-    → changedIn (acceptedStep place first .outcome) came left ≡ differ came left
-changed-accepted place first came left h =
-    accepted-step (λ g. changedIn (g .outcome) came left ≡ differ came left) place first (λ p e l. refl) refl refl h
+pub changed-accepted : (s : GroupSync) (first : ℕ) (came left : List ℕ) → syncInRange s ≡ true
+    → changedIn (groupStep s (repair.Accepted first) .outcome) came left ≡ differ came left
+changed-accepted s first came left h = accepted-outcome (λ o. changedIn o came left ≡ differ came left) s first (λ p l. refl) refl refl h
 
 -- ---- a call that no test refuses
 
@@ -94,7 +94,7 @@ module _ (s : Receiver) (block room : List ℕ) (y : Ready s block room) where
   pub changed-is : (left : List ℕ) (decoded : Decoded) → Decodes (delayedBlock s block) left decoded
       → changedBytes decoded ≡ changedIn (groupStep (s .sync) (repairOf decoded (getD left 0 0)) .outcome) (delayedBlock s block) left
   changed-is left (Corrected count) d =
-      d .1 .counted ∙ sym (changed-accepted (s .sync .place) (getD left 0 0) (delayedBlock s block) left (state-range s (y .range) .place))
+      d .1 .counted ∙ sym (changed-accepted (s .sync) (getD left 0 0) (delayedBlock s block) left (state-range s (y .range) .sync))
   changed-is left Uncorrectable d = refl
   changed-is left BlockLength d = refl
 

@@ -18,8 +18,8 @@ use Rattle.reed_solomon.specs.declared.Decoded.the-variants.{Corrected, Uncorre
 use Rattle.delay_branches.specs.declared.Side.the-variants.{Receiving}
 use Rattle.delay_branches.proofs.Blocks.{Good, good-after}
 use Rattle.interleaver.proofs.Whole.{good-fresh}
-use Rattle.group_sync.specs.Group.{placeInRange, groupStep}
-use Rattle.group_sync.proofs.Synchronization.{accepted-step, sync-in-range}
+use Rattle.group_sync.specs.Group.{syncInRange, groupStep}
+use Rattle.group_sync.proofs.Synchronization.{accepted-outcome, sync-in-range}
 use Rattle.reception_counts.specs.Counts.{outcomeNumber, counted}
 use Rattle.reception_counts.proofs.Ranges.{CountsRange, counts-in-range, filling-range, lost-range, accepted-range}
 use Rattle.receiver.specs.Receive.{freshReceiver, inRange, delayedBlock, repairOf, changedIn, stateAfter, refusal, Ready, receiveState}
@@ -30,17 +30,17 @@ use Rattle.receiver.proofs.Calls.{state-in-range, ready-state}
 -- what every reached state has
 pub record Sound (s : Receiver) : Type 0 where
   pub branches : Good Receiving (s .deinterleaver .branches)
-  pub place : placeInRange (s .sync .place) ≡ true
+  pub sync : syncInRange (s .sync) ≡ true
   pub counts : CountsRange (s .counts)
 
 pub sound-range : (s : Receiver) → Sound s → inRange s ≡ true
-sound-range s g = state-in-range s (record { branches = g .branches .range; place = g .place; counts = counts-in-range (s .counts) (g .counts) })
+sound-range s g = state-in-range s (record { branches = g .branches .range; sync = g .sync; counts = counts-in-range (s .counts) (g .counts) })
 
 pub sound-fresh : Sound freshReceiver
 unfolding freshReceiver
 sound-fresh = record {
   branches = good-fresh Receiving;
-  place = refl;
+  sync = refl;
   counts = record { most = omega arith; middle = refl; filled = refl; bytes = omega arith };
 }
 
@@ -90,13 +90,13 @@ module _ (s : Receiver) (block left : List ℕ) (decoded : Decoded) (g : Sound s
       (changedIn (groupStep (s .sync) (repairOf decoded (getD left 0 0)) .outcome) (delayedBlock s block) left))
   counts-after h (Corrected count) d =
       let w : differ (delayedBlock s block) left ≤ 8 = omega (arith, d .1 .counted, d .1 .within) in
-      accepted-step
-      (λ x. CountsRange (counted (s .counts) (outcomeNumber (x .outcome)) (changedIn (x .outcome) (delayedBlock s block) left)))
-      (s .sync .place) (getD left 0 0)
-      (λ p e m. accepted-range (s .counts) 0 (differ (delayedBlock s block) left) (g .counts) h l w refl refl refl)
+      accepted-outcome
+      (λ o. CountsRange (counted (s .counts) (outcomeNumber o) (changedIn o (delayedBlock s block) left)))
+      (s .sync) (getD left 0 0)
+      (λ p m. accepted-range (s .counts) 0 (differ (delayedBlock s block) left) (g .counts) h l w refl refl refl)
       (accepted-range (s .counts) 10 (differ (delayedBlock s block) left) (g .counts) h l w refl refl refl)
       (accepted-range (s .counts) 11 (differ (delayedBlock s block) left) (g .counts) h l w refl refl refl)
-      (g .place)
+      (g .sync)
   counts-after h Uncorrectable d = lost-range (s .counts) (g .counts) h l
   counts-after h BlockLength d = lost-range (s .counts) (g .counts) h l
 
@@ -107,14 +107,14 @@ module _ (s : Receiver) (block left : List ℕ) (decoded : Decoded) (g : Sound s
       by : Dec (s .counts .taken < 11) → Sound (stateAfter s block left decoded)
       by (yes h) = record {
         branches = good-after Receiving (s .deinterleaver .branches) block (g .branches);
-        place = simp (lt-ltb _ _ h) (g .place);
+        sync = simp (lt-ltb _ _ h) (g .sync);
         counts = simp (lt-ltb _ _ h) (filling-range (s .counts) (g .counts) h);
       }
       by (no h) =
           let k : 11 ≤ s .counts .taken = omega arith in
           record {
             branches = good-after Receiving (s .deinterleaver .branches) block (g .branches);
-            place = simp (le-ltb _ _ k) (sync-in-range (s .sync) (repairOf decoded (getD left 0 0)) (g .place));
+            sync = simp (le-ltb _ _ k) (sync-in-range (s .sync) (repairOf decoded (getD left 0 0)) (g .sync));
             counts = simp (le-ltb _ _ k) (counts-after k decoded d);
           }
 

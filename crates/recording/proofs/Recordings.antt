@@ -74,7 +74,7 @@ module _ (s : Receiver) (c : Call) (d : Decodes (delayedBlock s (c .block)) (c .
       by (yes h) = simp (lt-ltb _ _ h) tt
       by (no h) =
           let k : 11 ≤ s .counts .taken = omega arith in
-          simp (le-ltb _ _ k) (outcome-place (s .sync) (repairOf (c .decoded) (getD (c .left) 0 0)) (state-range s (y .range) .place))
+          simp (le-ltb _ _ k) (outcome-place (s .sync) (repairOf (c .decoded) (getD (c .left) 0 0)) (state-range s (y .range) .sync))
 
   call-filled : Filled (answerOf s c) (c .room) (roomOf s c)
   call-filled = by (ready-or-refused s (c .block) (c .room))
