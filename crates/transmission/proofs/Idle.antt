@@ -12,10 +12,11 @@ use lib.Seq.{take-at, drop-at, getD-at}
 use Rattle.common.specs.Lists.{All, Bytes, Length}
 use Rattle.randomizer.specs.Stream.{Packet}
 use Rattle.randomizer.proofs.Whole.{packet-lengths}
+use Rattle.interleaver.proofs.Blocks.{length-flatten}
 use Rattle.puncturing.specs.Mode.{modeOf}
 use Rattle.puncturing.specs.Step.{patternLength, symbolsIn}
 use Rattle.sender.specs.Standard.{onAir}
-use Rattle.sender.proofs.Counts.{length-flatten, length-on-air}
+use Rattle.sender.proofs.Counts.{length-on-air}
 use Rattle.sender.proofs.Distinct.{same-bits}
 use Rattle.transmission.specs.Run.{packetsOf, synced, runSymbols, runNumber, Runs}
 use Rattle.transmission.proofs.Buffers.{packets-none, packets-more}
