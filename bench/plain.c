@@ -335,7 +335,7 @@ uint64_t PLAIN(receive_run)(const uint8_t *blocks, size_t blocks_len, uint8_t *r
     uint64_t tally[8] = {0}, written = 0;
     struct branches branches;
     memset(&branches, 0, sizeof branches);
-    int place = -1;
+    int place = -1, missed = 0;
     for (size_t b = 0; b < count; b++) {
         uint8_t block[BLOCK];
         pass(&branches, 1, blocks + BLOCK * b, block);
@@ -353,17 +353,19 @@ uint64_t PLAIN(receive_run)(const uint8_t *blocks, size_t blocks_len, uint8_t *r
         }
         tally[CHANGED] += (uint64_t)changed;
         tally[BITS] += (uint64_t)bits;
-        if (place < 0) {
-            if (block[0] != 0xb8) {
-                tally[WAITING]++;
-                continue;
-            }
+        if (block[0] == 0xb8) {
             place = 0;
-        } else if (block[0] != (place ? 0x47 : 0xb8)) {
+        } else if (place < 0) {
+            tally[WAITING]++;
+            continue;
+        } else if (block[0] != 0x47 || place == 0) {
             tally[OUTOFSTEP]++;
-            place = -1;
+            int forgiven = block[0] != 0x47 && !missed;
+            place = forgiven ? (place + 1) % GROUP : -1;
+            missed = forgiven;
             continue;
         }
+        missed = 0;
         mask((unsigned)place, 0x47, block, room + written);
         written += PACKET;
         tally[DELIVERED]++;

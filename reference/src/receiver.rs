@@ -1,5 +1,5 @@
-//! The block receiver of document 01: delays, repair, group place, derandomizing,
-//! and the counts of a pass.
+//! The block receiver of document 01: delays, repair, group place (as document 02
+//! amends it under P4), derandomizing, and the counts of a pass.
 
 use crate::answer::Answer;
 use crate::interleaver::Branches;
@@ -30,12 +30,14 @@ impl Counts {
 pub struct Receiver {
     branches: Branches,
     place: Option<usize>,
+    /// The mark: the last block that was not lost began with neither sync byte.
+    odd: bool,
     counts: Counts,
 }
 
 impl Receiver {
     pub fn fresh() -> Self {
-        Receiver { branches: Branches::deinterleaver(), place: None, counts: Counts::default() }
+        Receiver { branches: Branches::deinterleaver(), place: None, odd: false, counts: Counts::default() }
     }
 
     pub fn counts(&self) -> Counts {
@@ -74,24 +76,38 @@ impl Receiver {
         }
         let (answer, changed) = reed_solomon::decode(&mut ordered);
         if answer == Answer::NoCodeword {
+            // Lost blocks don't count either way: the mark stays.
             self.place = self.place.map(|place| (place + 1) % GROUP_LENGTH);
             return Answer::NoCodeword;
         }
         // Accepted, whatever becomes of it: its changes count.
         self.counts.changed += changed.bytes as u64;
         self.counts.bits += changed.bits as u64;
-        let first = ordered[0];
-        let place = match self.place {
-            None if first == INVERTED_SYNC => 0,
-            None => return Answer::Waiting,
-            Some(place) if first == if place == 0 { INVERTED_SYNC } else { SYNC } => place,
-            Some(_) => {
-                self.place = None;
-                return Answer::OutOfStep;
+        match (ordered[0], self.place) {
+            // B8 is place 0, due or not.
+            (INVERTED_SYNC, _) => self.give(0, &ordered, room),
+            (_, None) => Answer::Waiting,
+            (SYNC, Some(place)) if place > 0 => self.give(place, &ordered, room),
+            (SYNC, Some(_)) => self.lose_place(),
+            (_, Some(_)) if self.odd => self.lose_place(),
+            (_, Some(place)) => {
+                self.place = Some((place + 1) % GROUP_LENGTH);
+                self.odd = true;
+                Answer::OutOfStep
             }
-        };
+        }
+    }
+
+    fn give(&mut self, place: usize, ordered: &[u8], room: &mut [u8]) -> Answer {
         self.place = Some((place + 1) % GROUP_LENGTH);
+        self.odd = false;
         randomizer::derandomize(place as u8, &ordered[..PACKET_LENGTH], room)
+    }
+
+    fn lose_place(&mut self) -> Answer {
+        self.place = None;
+        self.odd = false;
+        Answer::OutOfStep
     }
 }
 
@@ -149,24 +165,55 @@ mod tests {
         assert_eq!(got, sent[8 * 188..49 * 188]);
     }
 
-    #[test]
-    fn a_group_start_before_its_time_is_out_of_step_and_forgotten() {
-        // Codewords by hand, through the sender's delays: B8, 47, B8, 47, B8.
+    /// What a fresh receiver answers for codewords with these first bytes, after
+    /// filling. None stands for a block beyond repair.
+    fn answers_for(first_bytes: &[Option<u8>]) -> Vec<u8> {
         let mut stream = Vec::new();
         let mut branches = Branches::interleaver();
-        for n in 0..16 {
-            let mut data = [0; 188];
-            data[0] = if n < 5 && n % 2 == 0 { 0xB8 } else { 0x47 };
-            let (mut coded, mut block) = ([0; 204], [0; 204]);
+        for n in 0..first_bytes.len() + 11 {
+            let (mut data, mut coded, mut block) = ([0; 188], [0; 204], [0; 204]);
+            data[0] = first_bytes.get(n).copied().flatten().unwrap_or(0);
             reed_solomon::encode(&data, &mut coded);
+            if first_bytes.get(n) == Some(&None) {
+                (1..=20).for_each(|k| coded[k] = k as u8);
+            }
             branches.pass(&coded, &mut block);
             stream.extend(block);
         }
-        let (answers, _, _) = run(&stream);
-        assert_eq!(
-            answers[11..],
-            [Answer::Done, Answer::Done, Answer::OutOfStep, Answer::Waiting, Answer::Done]
-        );
+        run(&stream).0[11..].iter().map(|answer| answer.number()).collect()
+    }
+
+    const B8: Option<u8> = Some(INVERTED_SYNC);
+    const S: Option<u8> = Some(SYNC);
+    const ODD: Option<u8> = Some(0x12);
+    const LOST: Option<u8> = None;
+
+    #[test]
+    fn a_group_start_before_its_time_restarts_the_group() {
+        assert_eq!(answers_for(&[B8, S, B8, S, S, S, S, S, S, S, B8, S]), [0; 12]);
+        // From the restart on, place 0 is eight blocks later.
+        assert_eq!(answers_for(&[B8, S, B8, S, S, S, S, S, S, S, S, S]), [0, 0, 0, 0, 0, 0, 0, 0, 0, 0, 11, 10]);
+    }
+
+    #[test]
+    fn one_odd_block_costs_itself() {
+        assert_eq!(answers_for(&[B8, S, ODD, S, S, S, S, S, B8, S]), [0, 0, 11, 0, 0, 0, 0, 0, 0, 0]);
+        assert_eq!(answers_for(&[B8, S, S, S, S, S, S, S, ODD, S]), [0, 0, 0, 0, 0, 0, 0, 0, 11, 0]);
+        assert_eq!(answers_for(&[B8, ODD, S, ODD, S, ODD, B8, ODD]), [0, 11, 0, 11, 0, 11, 0, 11]);
+    }
+
+    #[test]
+    fn a_second_odd_block_loses_the_place() {
+        assert_eq!(answers_for(&[B8, ODD, ODD, S, S, B8, S]), [0, 11, 11, 10, 10, 0, 0]);
+        assert_eq!(answers_for(&[B8, ODD, LOST, LOST, ODD, S]), [0, 11, 8, 8, 11, 10]);
+        // The mark is gone with the place.
+        assert_eq!(answers_for(&[B8, ODD, ODD, B8, ODD, S]), [0, 11, 11, 0, 11, 0]);
+    }
+
+    #[test]
+    fn a_plain_sync_byte_at_place_0_loses_the_place() {
+        assert_eq!(answers_for(&[B8, S, S, S, S, S, S, S, S, S]), [0, 0, 0, 0, 0, 0, 0, 0, 11, 10]);
+        assert_eq!(answers_for(&[B8, S, S, S, S, S, S, ODD, S, S]), [0, 0, 0, 0, 0, 0, 0, 11, 11, 10]);
     }
 
     #[test]

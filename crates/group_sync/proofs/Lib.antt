@@ -1,1 +1,3 @@
 pub mod Synchronization
+pub mod Streams
+pub mod AsBefore

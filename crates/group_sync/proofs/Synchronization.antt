@@ -9,12 +9,16 @@ use native.Mathlib.Omega.{arith}
 use borrow.Author.Tests.{ltb-true, lt-ltb, le-ltb}
 use lib.Dec.{eqb, ltb}
 use Rattle.common.specs.Choice.{pick}
-use Rattle.group_sync.specs.Group.{dueByte, placeAfter, knownAfter, placeInRange, acceptedStep, groupStep, step, PlaceOf}
+use Rattle.common.proofs.Choice.{both-true}
+use Rattle.group_sync.specs.Group.{placeAfter, knownAfter, placeInRange, syncInRange, firstByte, step, oddStep, searching, startDue, packetDue, acceptedStep, groupStep, PlaceOf}
 use Rattle.group_sync.specs.declared.Place.{Place}
 use Rattle.group_sync.specs.declared.Place.the-variants.{NotKnown, Known}
+use Rattle.group_sync.specs.declared.FirstByte.{FirstByte}
+use Rattle.group_sync.specs.declared.FirstByte.the-variants.{InvertedSync, Sync, Neither}
 use Rattle.group_sync.specs.declared.Repair.{Repair}
 use Rattle.group_sync.specs.declared.Repair.the-variants as repair
-use Rattle.group_sync.specs.declared.Outcome.the-variants.{Delivered, Lost, Waiting, OutOfStep}
+use Rattle.group_sync.specs.declared.Outcome.{Outcome}
+use Rattle.group_sync.specs.declared.Outcome.the-variants.{Delivered, Waiting, OutOfStep}
 use Rattle.group_sync.specs.declared.GroupSync.{GroupSync}
 use Rattle.group_sync.specs.declared.GroupStep.{GroupStep}
 
@@ -23,33 +27,64 @@ picked : (P : GroupStep → Type 0) (t : Bool) (a b : GroupStep) → P a → P b
 picked P true a b x y = x
 picked P false a b x y = y
 
--- every codeword is delivered, waited over or out of step
-pub accepted-step : (P : GroupStep → Type 0) (place : Place) (first : ℕ)
-    → ((p : ℕ) → placeInRange place ≡ true → p ≤ 7 → P (step (Delivered p) (Known (placeAfter p)))) → P (step Waiting NotKnown) → P (step OutOfStep NotKnown)
-    → placeInRange place ≡ true → P (acceptedStep place first)
-accepted-step P NotKnown first d w o h = picked P (eqb first 0xB8) (step (Delivered 0) (Known 1)) (step Waiting NotKnown) (d 0 refl (omega arith)) w
-accepted-step P (Known p) first d w o h =
-    picked P (eqb first (dueByte p)) (step (Delivered p) (Known (placeAfter p))) (step OutOfStep NotKnown)
-    (d p h (let l = ltb-true p 8 h in omega arith)) o
+-- ---- every line of the table
 
--- the places stay in range
-pub after-small : (p : ℕ) → p ≤ 7 → ltb (placeAfter p) 8 ≡ true
+module _ (P : GroupStep → Type 0) (given : (p : ℕ) → p ≤ 7 → P (step (Delivered p) (Known (placeAfter p)) 0)) (waits : P (step Waiting NotKnown 0))
+    (forgiven : (p : ℕ) → p ≤ 7 → P (step OutOfStep (Known (placeAfter p)) 1)) (fails : P (step OutOfStep NotKnown 0)) where
+  odd-lines : (p missed : ℕ) → p ≤ 7 → P (oddStep p missed)
+  odd-lines p missed h = picked P (eqb missed 0) (step OutOfStep (Known (placeAfter p)) 1) (step OutOfStep NotKnown 0) (forgiven p h) fails
+
+  searching-lines : (first : FirstByte) → P (searching first)
+  searching-lines InvertedSync = given 0 (omega arith)
+  searching-lines Sync = waits
+  searching-lines Neither = waits
+
+  start-lines : (missed : ℕ) (first : FirstByte) → P (startDue missed first)
+  start-lines missed InvertedSync = given 0 (omega arith)
+  start-lines missed Sync = fails
+  start-lines missed Neither = odd-lines 0 missed (omega arith)
+
+  packet-lines : (p missed : ℕ) (first : FirstByte) → p ≤ 7 → P (packetDue p missed first)
+  packet-lines p missed InvertedSync h = given 0 (omega arith)
+  packet-lines p missed Sync h = given p h
+  packet-lines p missed Neither h = odd-lines p missed h
+
+  accepted-lines : (place : Place) (missed : ℕ) (first : FirstByte) → placeInRange place missed ≡ true → P (acceptedStep place missed first)
+  accepted-lines NotKnown missed first h = searching-lines first
+  accepted-lines (Known p) missed first h =
+      picked P (eqb p 0) (startDue missed first) (packetDue p missed first) (start-lines missed first)
+      (packet-lines p missed first (let l = ltb-true p 8 (both-true _ _ h .0) in omega arith))
+
+-- ---- the ranges
+
+after-small : (p : ℕ) → p ≤ 7 → ltb (placeAfter p) 8 ≡ true
 after-small p h = by (decLt p 7)
   where
     by : Dec (p < 7) → ltb (placeAfter p) 8 ≡ true
     by (yes l) = rw (lt-ltb p 7 l) (lt-ltb (p + 1) 8 (omega arith))
     by (no l) = rw (le-ltb p 7 (omega arith))
 
-known-in-range : (place : Place) → placeInRange place ≡ true → placeInRange (knownAfter place) ≡ true
-known-in-range NotKnown h = refl
-known-in-range (Known p) h = after-small p (let l = ltb-true p 8 h in omega arith)
+lost-in-range : (place : Place) (missed : ℕ) → placeInRange place missed ≡ true → placeInRange (knownAfter place) missed ≡ true
+lost-in-range NotKnown missed h = h
+lost-in-range (Known p) missed h =
+    let t = both-true _ _ h in
+    rw (after-small p (let l = ltb-true p 8 (t .0) in omega arith)) (t .1)
 
-pub sync-in-range : (s : GroupSync) (r : Repair) → placeInRange (s .place) ≡ true → placeInRange (groupStep s r .sync .place) ≡ true
-sync-in-range s repair.Lost h = known-in-range (s .place) h
+-- ---- what the receiver builds on
+
+-- a step keeps the state in its ranges
+pub sync-in-range : (s : GroupSync) (r : Repair) → syncInRange s ≡ true → syncInRange (groupStep s r .sync) ≡ true
+sync-in-range s repair.Lost h = lost-in-range (s .place) (s .missed) h
 sync-in-range s (repair.Accepted first) h =
-    accepted-step (λ g. placeInRange (g .sync .place) ≡ true) (s .place) first (λ p e l. after-small p l) refl refl h
+    accepted-lines (λ g. syncInRange (g .sync) ≡ true) (λ p l. rw (after-small p l)) refl (λ p l. rw (after-small p l)) refl
+    (s .place) (s .missed) (firstByte first) h
+
+-- an accepted block is delivered at a place of a group, waited over or out of step
+pub accepted-outcome : (P : Outcome → Type 0) (s : GroupSync) (first : ℕ) → ((p : ℕ) → p ≤ 7 → P (Delivered p)) → P Waiting → P OutOfStep
+    → syncInRange s ≡ true → P (groupStep s (repair.Accepted first) .outcome)
+accepted-outcome P s first d w o h = accepted-lines (λ g. P (g .outcome)) d w (λ p l. o) o (s .place) (s .missed) (firstByte first) h
 
 -- a packet given has a place of a group
-pub outcome-place : (s : GroupSync) (r : Repair) → placeInRange (s .place) ≡ true → PlaceOf (groupStep s r .outcome)
+pub outcome-place : (s : GroupSync) (r : Repair) → syncInRange s ≡ true → PlaceOf (groupStep s r .outcome)
 outcome-place s repair.Lost h = tt
-outcome-place s (repair.Accepted first) h = accepted-step (λ g. PlaceOf (g .outcome)) (s .place) first (λ p e l. l) tt tt h
+outcome-place s (repair.Accepted first) h = accepted-outcome PlaceOf s first (λ p l. l) tt tt h

@@ -1,6 +1,6 @@
 // How the receiver keeps step with the groups of eight packets: EN 300 421, 4.4.1, inverts the sync byte of the first packet of each group.
 ghost use mathlib.Core.Path.{_≡_};
-ghost use Rattle.group_sync.specs.Group.{dueByte, placeAfter, knownAfter, acceptedStep, groupStep, placeInRange};
+ghost use Rattle.group_sync.specs.Group.{placeAfter, knownAfter, firstByte, step, oddStep, searching, startDue, packetDue, acceptedStep, groupStep, syncInRange, freshSync};
 
 // The place of the next packet in its group of eight, 0 to 7: document 01's group place.
 pub enum Place {
@@ -30,9 +30,20 @@ pub enum Outcome {
     OutOfStep,
 }
 
+// What the first byte of a packet says of its place.
+pub enum FirstByte {
+    // B8: the sync byte of the first packet of a group, inverted.
+    InvertedSync,
+    // 47: the sync byte of the other seven.
+    Sync,
+    Neither,
+}
+
 // Group synchronization.
 pub struct GroupSync {
     pub place: Place,
+    // How many blocks since the last sync byte in its place had neither sync byte first: 0 or 1, document 02's mark.
+    pub missed: u8,
 }
 
 // An outcome, and the synchronization after it.
@@ -41,11 +52,16 @@ pub struct GroupStep {
     pub sync: GroupSync,
 }
 
-// The sync byte that is due at a place.
-fn due_byte(place: u8) -> u8
-    ensures { λ r. ⌜ r ≡ dueByte place ⌝ }
+fn first_byte(first: u8) -> FirstByte
+    ensures { λ r. ⌜ r ≡ firstByte first ⌝ }
 {
-    if place == 0 { 0xB8 } else { 0x47 }
+    if first == 0xB8 {
+        return FirstByte::InvertedSync;
+    }
+    if first == 0x47 {
+        return FirstByte::Sync;
+    }
+    FirstByte::Neither
 }
 
 // The place after a place.
@@ -59,48 +75,68 @@ fn place_after(place: u8) -> u8
     }
 }
 
-// A codeword while the place is not known.
-fn found(first: u8) -> GroupStep
-    ensures { λ r. ⌜ r ≡ acceptedStep Place.NotKnown first ⌝ }
+fn stepped(outcome: Outcome, place: Place, missed: u8) -> GroupStep
+    ensures { λ r. ⌜ r ≡ step outcome place missed ⌝ }
 {
-    if first == 0xB8 {
-        let sync = GroupSync {
-            place: Place::Known(1),
-        };
-        return GroupStep {
-            outcome: Outcome::Delivered(0),
-            sync,
-        };
+    let sync = GroupSync { place, missed };
+    GroupStep { outcome, sync }
+}
+
+// A codeword with neither sync byte first, at a place that is known.
+fn odd(place: u8, missed: u8) -> GroupStep
+    ensures { λ r. ⌜ r ≡ oddStep place missed ⌝ }
+{
+    if missed == 0 {
+        return stepped(Outcome::OutOfStep, Place::Known(place_after(place)), 1);
     }
-    let sync = GroupSync {
-        place: Place::NotKnown,
-    };
-    GroupStep {
-        outcome: Outcome::Waiting,
-        sync,
+    stepped(Outcome::OutOfStep, Place::NotKnown, 0)
+}
+
+// A codeword while the place is not known.
+fn found(first: FirstByte) -> GroupStep
+    ensures { λ r. ⌜ r ≡ searching first ⌝ }
+{
+    match first {
+        FirstByte::InvertedSync => stepped(Outcome::Delivered(0), Place::Known(1), 0),
+        FirstByte::Sync => stepped(Outcome::Waiting, Place::NotKnown, 0),
+        FirstByte::Neither => stepped(Outcome::Waiting, Place::NotKnown, 0),
+    }
+}
+
+// A codeword where the start of a group is due.
+fn start_due(missed: u8, first: FirstByte) -> GroupStep
+    ensures { λ r. ⌜ r ≡ startDue missed first ⌝ }
+{
+    match first {
+        FirstByte::InvertedSync => stepped(Outcome::Delivered(0), Place::Known(1), 0),
+        FirstByte::Sync => stepped(Outcome::OutOfStep, Place::NotKnown, 0),
+        FirstByte::Neither => odd(0, missed),
+    }
+}
+
+// A codeword where another packet of a group is due.
+fn packet_due(place: u8, missed: u8, first: FirstByte) -> GroupStep
+    ensures { λ r. ⌜ r ≡ packetDue place missed first ⌝ }
+{
+    match first {
+        FirstByte::InvertedSync => stepped(Outcome::Delivered(0), Place::Known(1), 0),
+        FirstByte::Sync => stepped(
+            Outcome::Delivered(place),
+            Place::Known(place_after(place)),
+            0,
+        ),
+        FirstByte::Neither => odd(place, missed),
     }
 }
 
 // A codeword at a place that is known.
-fn expected(place: u8, first: u8) -> GroupStep
-    ensures { λ r. ⌜ r ≡ acceptedStep (Place.Known place) first ⌝ }
+fn expected(place: u8, missed: u8, first: FirstByte) -> GroupStep
+    ensures { λ r. ⌜ r ≡ acceptedStep (Place.Known place) missed first ⌝ }
 {
-    if first == due_byte(place) {
-        let sync = GroupSync {
-            place: Place::Known(place_after(place)),
-        };
-        return GroupStep {
-            outcome: Outcome::Delivered(place),
-            sync,
-        };
+    if place == 0 {
+        return start_due(missed, first);
     }
-    let sync = GroupSync {
-        place: Place::NotKnown,
-    };
-    GroupStep {
-        outcome: Outcome::OutOfStep,
-        sync,
-    }
+    packet_due(place, missed, first)
 }
 
 impl GroupSync {
@@ -108,45 +144,52 @@ impl GroupSync {
     pub const GROUP_LENGTH: u8 = 8;
 
     pub fn new() -> GroupSync
-        ensures { λ r. ⌜ r .place ≡ Place.NotKnown ⌝ }
+        ensures { λ r. ⌜ r ≡ freshSync ⌝ }
     {
         let place = Place::NotKnown;
-        GroupSync { place }
+        GroupSync { place, missed: 0 }
     }
 
-    // Whether the place is not known, or 0 to 7.
+    // Whether the place is not known and nothing is missed, or the place is 0 to 7 and at most one is.
     pub fn in_range(self) -> bool
-        ensures { λ r. ⌜ r ≡ placeInRange (self .place) ⌝ }
+        ensures { λ r. ⌜ r ≡ syncInRange self ⌝ }
     {
         let place = self.place;
+        let missed = self.missed;
         match place {
-            Place::NotKnown => true,
-            Place::Known(p) => p < GroupSync::GROUP_LENGTH,
+            Place::NotKnown => missed < 1,
+            Place::Known(p) => {
+                if p < GroupSync::GROUP_LENGTH {
+                    missed < 2
+                } else {
+                    false
+                }
+            }
         }
     }
 
-    // The place after a block that was lost or gave its packet.
-    fn moved(self) -> GroupSync
-        ensures { λ r. ⌜ r .place ≡ knownAfter (self .place) ⌝ }
+    // After a block that was lost: a place that is known goes on, and what is missed stays.
+    fn moved(self) -> GroupStep
+        ensures { λ r. ⌜ r ≡ step Outcome.Lost (knownAfter (self .place)) (self .missed) ⌝ }
     {
         let place = self.place;
+        let missed = self.missed;
         match place {
-            Place::NotKnown => self,
-            Place::Known(p) => {
-                let place = Place::Known(place_after(p));
-                GroupSync { place }
-            }
+            Place::NotKnown => stepped(Outcome::Lost, Place::NotKnown, missed),
+            Place::Known(p) => stepped(Outcome::Lost, Place::Known(place_after(p)), missed),
         }
     }
 
     // A codeword with this first byte.
     fn accepted(self, first: u8) -> GroupStep
-        ensures { λ r. ⌜ r ≡ acceptedStep (self .place) first ⌝ }
+        ensures { λ r. ⌜ r ≡ acceptedStep (self .place) (self .missed) (firstByte first) ⌝ }
     {
         let place = self.place;
+        let missed = self.missed;
+        let byte = first_byte(first);
         match place {
-            Place::NotKnown => found(first),
-            Place::Known(p) => expected(p, first),
+            Place::NotKnown => found(byte),
+            Place::Known(p) => expected(p, missed, byte),
         }
     }
 
@@ -155,13 +198,7 @@ impl GroupSync {
         ensures { λ r. ⌜ r ≡ groupStep self repair ⌝ }
     {
         match repair {
-            Repair::Lost => {
-                let sync = self.moved();
-                GroupStep {
-                    outcome: Outcome::Lost,
-                    sync,
-                }
-            }
+            Repair::Lost => self.moved(),
             Repair::Accepted(first) => self.accepted(first),
         }
     }

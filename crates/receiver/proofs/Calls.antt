@@ -24,10 +24,11 @@ use Rattle.delay_branches.specs.declared.Branches.{Branches}
 use Rattle.delay_branches.specs.declared.Side.the-variants.{Receiving}
 use Rattle.interleaver.specs.Call.{passBranches, passRoom}
 use Rattle.interleaver.specs.declared.Deinterleaver.{Deinterleaver}
-use Rattle.group_sync.specs.Group.{placeInRange, acceptedStep, groupStep}
-use Rattle.group_sync.specs.declared.Place.{Place}
+use Rattle.group_sync.specs.Group.{syncInRange, groupStep}
+use Rattle.group_sync.specs.declared.Repair.the-variants as repair
+use Rattle.group_sync.specs.declared.GroupSync.{GroupSync}
 use Rattle.group_sync.specs.declared.GroupStep.{GroupStep}
-use Rattle.group_sync.proofs.Synchronization.{accepted-step}
+use Rattle.group_sync.proofs.Synchronization.{accepted-outcome}
 use Rattle.reception_counts.specs.Counts.{countsInRange, outcomeNumber, counted, Room}
 use Rattle.reception_counts.specs.declared.Counts.{Counts}
 use Rattle.reception_counts.proofs.Ranges.{counts-range, counts-room}
@@ -37,7 +38,7 @@ use Rattle.receiver.specs.declared.Receiver.{Receiver}
 -- the three parts of a state in range
 pub record StateRange (s : Receiver) : Type 0 where
   pub branches : branch.inRange Receiving (s .deinterleaver .branches) ≡ true
-  pub place : placeInRange (s .sync .place) ≡ true
+  pub sync : syncInRange (s .sync) ≡ true
   pub counts : countsInRange (s .counts) ≡ true
 
 pub state-range : (s : Receiver) → inRange s ≡ true → StateRange s
@@ -45,15 +46,15 @@ unfolding inRange
 state-range s e =
     let a = both-true _ _ e in
     let b = both-true _ _ (a .1) in
-    record { branches = a .0; place = b .0; counts = b .1 }
+    record { branches = a .0; sync = b .0; counts = b .1 }
 
 pub state-in-range : (s : Receiver) → StateRange s → inRange s ≡ true
 unfolding inRange
-state-in-range s r = simp (r .branches, r .place, r .counts)
+state-in-range s r = simp (r .branches, r .sync, r .counts)
 
 -- an accepted block is in the sums over the accepted blocks
-pub accepted-whole : (place : Place) (first n : ℕ) → placeInRange place ≡ true → ofAccepted (acceptedStep place first .outcome) n ≡ n
-accepted-whole place first n h = accepted-step (λ g. ofAccepted (g .outcome) n ≡ n) place first (λ p e l. refl) refl refl h
+pub accepted-whole : (s : GroupSync) (first n : ℕ) → syncInRange s ≡ true → ofAccepted (groupStep s (repair.Accepted first) .outcome) n ≡ n
+accepted-whole s first n h = accepted-outcome (λ o. ofAccepted o n ≡ n) s first (λ p l. refl) refl refl h
 
 -- ---- a call that no test refuses
 
@@ -93,7 +94,7 @@ module _ (s : Receiver) (block room : List ℕ) (y : Ready s block room) where
   pub changed-is : (f : Changed → ℕ) → f noChange ≡ 0 → (left : List ℕ) (decoded : Decoded) → Decodes (delayedBlock s block) left decoded
       → f (changedBy decoded) ≡ ofAccepted (groupStep (s .sync) (repairOf decoded (getD left 0 0)) .outcome) (f (changes (delayedBlock s block) left))
   changed-is f z left (Corrected changed) d =
-      ap f (d .1 .counted) ∙ sym (accepted-whole (s .sync .place) (getD left 0 0) (f (changes (delayedBlock s block) left)) (state-range s (y .range) .place))
+      ap f (d .1 .counted) ∙ sym (accepted-whole (s .sync) (getD left 0 0) (f (changes (delayedBlock s block) left)) (state-range s (y .range) .sync))
   changed-is f z left Uncorrectable d = z
   changed-is f z left BlockLength d = z
 

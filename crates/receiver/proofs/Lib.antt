@@ -1,5 +1,7 @@
 pub mod Calls
 pub mod Reached
 pub mod Histories
+pub mod Outcomes
+pub mod Decoding
 pub mod Reception
 pub mod Idle

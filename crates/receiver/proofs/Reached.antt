@@ -19,8 +19,8 @@ use Rattle.reed_solomon.proofs.Laws.{few-changes}
 use Rattle.delay_branches.specs.declared.Side.the-variants.{Receiving}
 use Rattle.delay_branches.proofs.Blocks.{Good, good-after}
 use Rattle.interleaver.proofs.Whole.{good-fresh}
-use Rattle.group_sync.specs.Group.{placeInRange, groupStep}
-use Rattle.group_sync.proofs.Synchronization.{accepted-step, sync-in-range}
+use Rattle.group_sync.specs.Group.{syncInRange, groupStep}
+use Rattle.group_sync.proofs.Synchronization.{accepted-outcome, sync-in-range}
 use Rattle.reception_counts.specs.Counts.{outcomeNumber, one, counted}
 use Rattle.reception_counts.proofs.Ranges.{CountsRange, counts-in-range, filling-range, lost-range, accepted-range}
 use Rattle.receiver.specs.Receive.{freshReceiver, inRange, delayedBlock, repairOf, ofAccepted, stateAfter, refusal, Ready, receiveState}
@@ -31,17 +31,17 @@ use Rattle.receiver.proofs.Calls.{state-in-range, ready-state}
 -- what every reached state has
 pub record Sound (s : Receiver) : Type 0 where
   pub branches : Good Receiving (s .deinterleaver .branches)
-  pub place : placeInRange (s .sync .place) ≡ true
+  pub sync : syncInRange (s .sync) ≡ true
   pub counts : CountsRange (s .counts)
 
 pub sound-range : (s : Receiver) → Sound s → inRange s ≡ true
-sound-range s g = state-in-range s (record { branches = g .branches .range; place = g .place; counts = counts-in-range (s .counts) (g .counts) })
+sound-range s g = state-in-range s (record { branches = g .branches .range; sync = g .sync; counts = counts-in-range (s .counts) (g .counts) })
 
 pub sound-fresh : Sound freshReceiver
 unfolding freshReceiver
 sound-fresh = record {
   branches = good-fresh Receiving;
-  place = refl;
+  sync = refl;
   counts = record { most = omega arith; middle = refl; filled = refl; bytes = omega arith; least = omega arith; eightfold = omega arith };
 }
 
@@ -91,10 +91,10 @@ module _ (s : Receiver) (block left : List ℕ) (decoded : Decoded) (g : Sound s
       (ofAccepted (groupStep (s .sync) (repairOf decoded (getD left 0 0)) .outcome) (differ (delayedBlock s block) left))
       (ofAccepted (groupStep (s .sync) (repairOf decoded (getD left 0 0)) .outcome) (differBits (delayedBlock s block) left)))
   counts-after h (Corrected changed) d =
-      accepted-step
-      (λ x. CountsRange (counted (s .counts) (outcomeNumber (x .outcome))
-      (ofAccepted (x .outcome) (differ (delayedBlock s block) left)) (ofAccepted (x .outcome) (differBits (delayedBlock s block) left))))
-      (s .sync .place) (getD left 0 0) (λ p e m. more 0 refl refl refl) (more 10 refl refl refl) (more 11 refl refl refl) (g .place)
+      accepted-outcome
+      (λ o. CountsRange (counted (s .counts) (outcomeNumber o)
+      (ofAccepted o (differ (delayedBlock s block) left)) (ofAccepted o (differBits (delayedBlock s block) left))))
+      (s .sync) (getD left 0 0) (λ p m. more 0 refl refl refl) (more 10 refl refl refl) (more 11 refl refl refl) (g .sync)
     where
       more : (number : ℕ) → one 9 number ≡ 0 → one 8 number ≡ 0 → one 0 number + one 10 number + one 11 number ≡ 1
           → CountsRange (counted (s .counts) number (differ (delayedBlock s block) left) (differBits (delayedBlock s block) left))
@@ -111,14 +111,14 @@ module _ (s : Receiver) (block left : List ℕ) (decoded : Decoded) (g : Sound s
       by : Dec (s .counts .taken < 11) → Sound (stateAfter s block left decoded)
       by (yes h) = record {
         branches = good-after Receiving (s .deinterleaver .branches) block (g .branches);
-        place = simp (lt-ltb _ _ h) (g .place);
+        sync = simp (lt-ltb _ _ h) (g .sync);
         counts = simp (lt-ltb _ _ h) (filling-range (s .counts) (g .counts) h);
       }
       by (no h) =
           let k : 11 ≤ s .counts .taken = omega arith in
           record {
             branches = good-after Receiving (s .deinterleaver .branches) block (g .branches);
-            place = simp (le-ltb _ _ k) (sync-in-range (s .sync) (repairOf decoded (getD left 0 0)) (g .place));
+            sync = simp (le-ltb _ _ k) (sync-in-range (s .sync) (repairOf decoded (getD left 0 0)) (g .sync));
             counts = simp (le-ltb _ _ k) (counts-after k decoded d);
           }
 

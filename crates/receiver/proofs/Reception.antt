@@ -1,211 +1,123 @@
--- Demand 2, receiving: a fresh receiver given the interleaved blocks of a fresh sender answers 9 for the first eleven,
--- and then 0 with the packets in order, all but the last eleven.
+-- Demand 2, receiving, in its general form: a receiver fresh at any block of a fresh sender answers 9 for the first eleven,
+-- 10 until the first block that starts a group, and from there gives every packet. Also what one block with neither sync byte costs.
 -- Assumes nothing.
 use mathlib.Core.Path.{_≡_, refl, sym, ap, ap₂, _∙_, subst}
-use mathlib.Core.List.{List, [], _∷_, _++_, map}
-use mathlib.Core.Logic.{_⊎_, inl, inr}
+use mathlib.Core.List.{List, [], _∷_, _++_, map, flatten}
 use Prim.Native.Nat.{ℕ, zero, suc, _+_, _-_, _%_, _≤_, _<_}
 use Prim.{tt}
 use native.Mathlib.Nat.{not-suc-le-zero}
-use native.Mathlib.Decide.{decLt}
 use native.Mathlib.Omega.{arith}
-use borrow.Author.Tests.{lt-ltb, le-ltb, eq-eqb}
-use lib.Dec.{eqb}
-use lib.ListN.{length, getD, take, drop, replicate, List·getD-append}
-use lib.Seq.{take-at}
-use Rattle.common.specs.Choice.{pick}
-use Rattle.common.specs.Lists.{All, Length, Bytes}
-use Rattle.common.proofs.Entries.{bytes-of, bytes-entries}
-use Rattle.reed_solomon.specs.Code.{noChange}
-use Rattle.reed_solomon.specs.Encode.{encoded, checkBytes}
-use Rattle.reed_solomon.specs.Decode.{Decodes}
-use Rattle.reed_solomon.specs.declared.Decoded.{Decoded}
-use Rattle.reed_solomon.specs.declared.Decoded.the-variants.{Corrected}
-use Rattle.reed_solomon.proofs.LongDivision.{encoded-codeword, encoded-length}
-use Rattle.reed_solomon.proofs.Laws.{Same, decodes-codeword}
-use Rattle.randomizer.specs.Packet.{randomized, derandomized}
+use lib.ListN.{length, getD, take, drop, replicate, take-append-drop, length-drop}
+use lib.Seq.{take-nil, take-all, getD-drop, drop-drop}
+use Rattle.common.specs.Lists.{All, Length}
+use Rattle.common.proofs.Lists.{All-at}
+use Rattle.reed_solomon.specs.Code.{differ}
+use Rattle.reed_solomon.specs.Encode.{encoded}
+use Rattle.reed_solomon.proofs.Distance.{differ-none}
+use Rattle.reed_solomon.proofs.LongDivision.{encoded-length}
+use Rattle.randomizer.specs.Packet.{randomized}
 use Rattle.randomizer.specs.Stream.{Packet, randomizedFrom, randomizedStream}
 use Rattle.randomizer.proofs.Whole.{packet-lengths, randomized-stream}
-use Rattle.randomizer.proofs.Laws.{length-randomized, first-byte, bytes-randomized, back}
-use Rattle.delay_branches.specs.Block as block
 use Rattle.delay_branches.specs.Block.{fresh}
 use Rattle.delay_branches.specs.declared.Side.the-variants.{Sending, Receiving}
-use Rattle.delay_branches.specs.declared.Branches.{Branches}
-use Rattle.interleaver.specs.Stream.{run, interleaved, zeroBlock, elevenLate}
-use Rattle.interleaver.proofs.Whole.{run-delayed}
-use Rattle.interleaver.proofs.Streams.{length-delayed, delayed-lengths, both-sides}
-use Rattle.group_sync.specs.Group.{dueByte, placeAfter, acceptedStep, groupStep, step}
-use Rattle.group_sync.specs.declared.Place.{Place}
-use Rattle.group_sync.specs.declared.Place.the-variants.{NotKnown, Known}
-use Rattle.group_sync.specs.declared.Outcome.the-variants.{Filling, Delivered}
-use Rattle.group_sync.specs.declared.GroupStep.{GroupStep}
+use Rattle.interleaver.specs.Stream.{run, interleaved}
+use Rattle.interleaver.specs.Gathered.{gathered}
+use Rattle.interleaver.proofs.Whole.{length-run}
+use Rattle.interleaver.proofs.Streams.{length-delayed, delayed-lengths}
+use Rattle.interleaver.proofs.Blocks.{length-flatten, flatten-join, All-take, All-drop}
+use Rattle.interleaver.proofs.Gathering.{gathered-front, run-gathered, sent-gathered}
+use Rattle.group_sync.specs.Group.{freshSync, knownSync}
+use Rattle.group_sync.specs.Stream.{outcomes, sentFrom, deliveredFrom, beforeGroup}
+use Rattle.group_sync.specs.declared.Place.the-variants.{NotKnown}
+use Rattle.group_sync.specs.declared.Repair.{Repair}
+use Rattle.group_sync.specs.declared.Repair.the-variants as repair
+use Rattle.group_sync.specs.declared.Outcome.{Outcome}
+use Rattle.group_sync.specs.declared.Outcome.the-variants.{Filling, Waiting, OutOfStep}
+use Rattle.group_sync.specs.declared.GroupSync.{GroupSync}
+use Rattle.group_sync.proofs.Streams as streams
+use Rattle.group_sync.proofs.AsBefore as before
 use Rattle.reception_counts.specs.Counts.{outcomeNumber}
-use Rattle.receiver.specs.Receive.{freshReceiver, delayedBlock, repairOf, stepOf, stateAfter, roomAfter, Ready}
-use Rattle.receiver.specs.Run.{Call, answerOf, after, roomOf, Calls, packetsGiven, blocksOf, answers, Roomy}
+use Rattle.receiver.specs.Receive.{freshReceiver}
+use Rattle.receiver.specs.Run.{Call, Calls, packetsGiven, blocksOf, answers, Roomy}
+use Rattle.receiver.specs.Begun.{lefts, repairs, packetsOf, ComeTo, filledFirst, BegunAt}
 use Rattle.receiver.specs.declared.Receiver.{Receiver}
-use Rattle.receiver.proofs.Calls.{ready-number, ready-state, ready-room}
-use Rattle.receiver.proofs.Reached.{Sound, sound-range, sound-call, sound-fresh}
+use Rattle.receiver.proofs.Reached.{sound-fresh}
+use Rattle.receiver.proofs.Outcomes.{Unrefused, come-to, filled-come-to}
+use Rattle.receiver.proofs.Decoding.{sent-length, sent-bytes, coded-back, Nears, nears-of, Repaired, repaired-after}
 
--- ---- the place
+-- ---- as before
 
--- before packet n of the stream: not known before the first one
-abbrev pub PlaceAt : ℕ → Place → Type 0
-PlaceAt n place = ((n ≡ 0) × (place ≡ NotKnown)) ⊎ (place ≡ Known (n % 8))
+-- where every block after the first eleven is lost or in order, the calls come to what they came to by the rule before document 02, P4
+pub in-order-as-before : (m : ℕ) (cs : List Call) → Unrefused freshReceiver cs → before.InOrder m (repairs (drop 11 cs))
+    → ComeTo freshReceiver cs (filledFirst 11 cs (before.outcomesBefore NotKnown (repairs (drop 11 cs))))
+unfolding freshReceiver
+in-order-as-before m cs u o =
+    subst (λ (x : List Outcome). ComeTo freshReceiver cs (filledFirst 11 cs x)) (before.as-before m (repairs (drop 11 cs)) o)
+    (filled-come-to 11 cs freshReceiver u refl)
 
-next-place : (n : ℕ) → placeAfter (n % 8) ≡ (n + 1) % 8
-next-place n = by (decLt (n % 8) 7)
-  where
-    by : Dec (n % 8 < 7) → placeAfter (n % 8) ≡ (n + 1) % 8
-    by (yes h) = simp (lt-ltb (n % 8) 7 h) (omega arith)
-    by (no h) = simp (le-ltb (n % 8) 7 (omega arith)) (omega arith)
+-- ---- the answers
 
--- packet n is given
-in-step : (n : ℕ) (place : Place) → PlaceAt n place → acceptedStep place (dueByte (n % 8)) ≡ step (Delivered (n % 8)) (Known ((n + 1) % 8))
-in-step n place (inl p) =
-    let z : n % 8 ≡ 0 = (let e = p .0 in omega arith) in
-    let y : (n + 1) % 8 ≡ 1 = (let e = p .0 in omega arith) in
-    rw (p .1, z, y)
-in-step n place (inr p) = rw (p, eq-eqb (dueByte (n % 8)) (dueByte (n % 8)) refl, next-place n)
+-- the outcomes of a fresh receiver's calls: k filling, w waited over, m given
+abbrev from : ℕ → ℕ → ℕ → ℕ → List Outcome
+from k w n m = replicate k Filling ++ (replicate w Waiting ++ deliveredFrom n m)
 
--- ---- one packet
+filled-take : (k n : ℕ) (os : List Outcome) → take n (replicate k Filling) ++ take (n - k) os ≡ take n (replicate k Filling ++ os)
+filled-take zero n os =
+    let e : n - 0 ≡ n = omega arith in
+    ap₂ (λ (x : List Outcome) (i : ℕ). x ++ take i os) (take-nil n) e
+filled-take (suc k) zero os = let e : 0 - suc k ≡ 0 = omega arith in ap (λ (i : ℕ). take i os) e
+filled-take (suc k) (suc n) os =
+    let e : suc n - suc k ≡ n - k = omega arith in
+    ap (λ (i : ℕ). take (suc n) (replicate (suc k) Filling) ++ take i os) e ∙ ap (λ (x : List Outcome). Filling ∷ x) (filled-take k n os)
 
-module _ (n : ℕ) (p : List ℕ) (w : Packet p) where
-  abbrev sent : List ℕ
-  sent = randomized (n % 8) p
+numbers : (k w i n m : ℕ) → map outcomeNumber (take n (from k w i m)) ≡ take n (replicate k 9 ++ replicate w 10 ++ replicate m 0)
+numbers k w i zero m = refl
+numbers (suc k) w i (suc n) m = ap (λ (x : List ℕ). 9 ∷ x) (numbers k w i n m)
+numbers zero (suc w) i (suc n) m = ap (λ (x : List ℕ). 10 ∷ x) (numbers zero w i n m)
+numbers zero zero i (suc n) zero = refl
+numbers zero zero i (suc n) (suc m) = ap (λ (x : List ℕ). 0 ∷ x) (numbers zero zero (i + 1) n m)
 
-  small : n % 8 ≤ 7
-  small = omega arith
+-- ---- the packets
 
-  sent-length : length sent ≡ 188
-  sent-length = length-randomized (n % 8) p small (w .size)
+packets-filled : (k : ℕ) (cs : List Call) (os : List Outcome) → packetsOf (filledFirst k cs os) (lefts cs) ≡ packetsOf os (lefts (drop k cs))
+packets-filled zero cs os = ap (λ (x : List Outcome). packetsOf (x ++ os) (lefts cs)) (take-nil (length cs))
+packets-filled (suc k) [] os = refl
+packets-filled (suc k) (c ∷ cs) os = packets-filled k cs os
 
-  sent-bytes : Bytes sent
-  sent-bytes = bytes-of (randomized (n % 8) p) (bytes-randomized (n % 8) p small (w .size) (bytes-entries p (w .bytes)))
+packets-given : (n j m : ℕ) (ps : List (List ℕ)) → All Packet ps → j ≤ m
+    → packetsOf (take j (deliveredFrom n m)) (take j (map encoded (randomizedFrom n ps))) ≡ take j ps
+unfolding randomizedFrom
+packets-given n zero m ps ws h = refl
+packets-given n (suc j) zero ps ws h = absurd (not-suc-le-zero h)
+packets-given n (suc j) (suc m) [] ws h = refl
+packets-given n (suc j) (suc m) (p ∷ ps) ws h =
+    ap₂ (λ (x : List ℕ) (xs : List (List ℕ)). x ∷ xs) (coded-back n p (ws .0)) (packets-given (n + 1) j m ps (ws .1) (omega arith))
 
-  -- the coded packet begins with the sync byte that is due, and gives the packet back
-  coded-first : getD (encoded sent) 0 0 ≡ dueByte (n % 8)
-  coded-first =
-      List·getD-append sent (checkBytes sent) 0 0 (let e = sent-length in omega arith) ∙ first-byte (n % 8) p small (w .size) (w .sync)
+packets-late : (w n j m : ℕ) (ps : List (List ℕ)) → All Packet ps → j ≤ m
+    → packetsOf (take j (replicate w Waiting ++ deliveredFrom (n + w) m)) (take j (map encoded (randomizedFrom n ps))) ≡ take (j - w) (drop w ps)
+unfolding randomizedFrom
+packets-late zero n j m ps ws h =
+    let e : n + 0 ≡ n = omega arith in
+    let f : j ≡ j - 0 = omega arith in
+    ap (λ (i : ℕ). packetsOf (take j (deliveredFrom i m)) (take j (map encoded (randomizedFrom n ps)))) e
+    ∙ packets-given n j m ps ws h ∙ ap (λ (i : ℕ). take i ps) f
+packets-late (suc w) n zero m ps ws h = let f : 0 ≡ 0 - suc w = omega arith in ap (λ (i : ℕ). take i (drop (suc w) ps)) f
+packets-late (suc w) n (suc j) m [] ws h = sym (take-nil (suc j - suc w))
+packets-late (suc w) n (suc j) m (p ∷ ps) ws h =
+    let e : n + suc w ≡ n + 1 + w = omega arith in
+    let f : j - w ≡ suc j - suc w = omega arith in
+    ap (λ (i : ℕ). packetsOf (take j (replicate w Waiting ++ deliveredFrom i m)) (take j (map encoded (randomizedFrom (n + 1) ps)))) e
+    ∙ packets-late w (n + 1) j m ps (ws .1) (omega arith) ∙ ap (λ (i : ℕ). take i (drop w ps)) f
 
-  coded-back : derandomized (n % 8) (take 188 (encoded sent)) ≡ p
-  coded-back = ap (derandomized (n % 8)) (take-at sent (checkBytes sent) 188 sent-length) ∙ back (n % 8) p small (w .size) (w .sync)
+-- ---- the coded packets
 
--- ---- a call that no test refuses
-
-module _ (s : Receiver) (c : Call) (y : Ready s (c .block) (c .room)) where
-  state-is : after s c ≡ stateAfter s (c .block) (c .left) (c .decoded)
-  state-is = ready-state s (c .block) (c .room) y (c .left) (c .decoded)
-
-  branches-after : after s c .deinterleaver .branches ≡ block.after Receiving (s .deinterleaver .branches) (c .block)
-  unfolding stateAfter
-  branches-after = ap (λ (r : Receiver). r .deinterleaver .branches) state-is
-
-  taken-after : after s c .counts .taken ≡ s .counts .taken + 1
-  unfolding stateAfter
-  taken-after = ap (λ (r : Receiver). r .counts .taken) state-is
-
-  module _ (g : GroupStep) (o : stepOf s (c .left) (c .decoded) ≡ g) where
-    answer-is : answerOf s c ≡ outcomeNumber (g .outcome)
-    answer-is = ready-number s (c .block) (c .room) y (c .left) (c .decoded) ∙ ap (λ (x : GroupStep). outcomeNumber (x .outcome)) o
-
-    place-after : after s c .sync .place ≡ g .sync .place
-    unfolding stateAfter
-    place-after = ap (λ (r : Receiver). r .sync .place) state-is ∙ ap (λ (x : GroupStep). x .sync .place) o
-
-    room-is : roomOf s c ≡ roomAfter (g .outcome) (c .left) (c .room)
-    room-is = ready-room s (c .block) (c .room) y (c .left) (c .decoded) ∙ ap (λ (x : GroupStep). roomAfter (x .outcome) (c .left) (c .room)) o
-
--- the packets given, where a call gives one or none
-one-given : (s : Receiver) (c : Call) (cs : List Call) (p : List ℕ) (ps : List (List ℕ)) → answerOf s c ≡ 0 → take 188 (roomOf s c) ≡ p
-    → packetsGiven (after s c) cs ≡ ps → packetsGiven s (c ∷ cs) ≡ p ∷ ps
-one-given s c cs p ps a e r =
-    ap (λ (k : ℕ). pick (eqb k 0) (take 188 (roomOf s c) ∷ []) [] ++ packetsGiven (after s c) cs) a ∙ ap₂ (λ (x : List ℕ) (xs : List (List ℕ)). x ∷ xs) e r
-
-none-given : (s : Receiver) (c : Call) (cs : List Call) (ps : List (List ℕ)) → answerOf s c ≡ 9
-    → packetsGiven (after s c) cs ≡ ps → packetsGiven s (c ∷ cs) ≡ ps
-none-given s c cs ps a r = ap (λ (k : ℕ). pick (eqb k 0) (take 188 (roomOf s c) ∷ []) [] ++ packetsGiven (after s c) cs) a ∙ r
-
--- ---- a coded packet is given
-
-module _ (n : ℕ) (p : List ℕ) (w : Packet p) (s : Receiver) (c : Call) (y : Ready s (c .block) (c .room)) (h : 11 ≤ s .counts .taken)
-    (at : PlaceAt n (s .sync .place)) (e : delayedBlock s (c .block) ≡ encoded (randomized (n % 8) p))
-    (d : Decodes (delayedBlock s (c .block)) (c .left) (c .decoded)) where
-  same : Same (c .left) (encoded (randomized (n % 8) p)) (c .decoded) (Corrected noChange)
-  same =
-      decodes-codeword (encoded (randomized (n % 8) p)) (c .left) (c .decoded)
-      (encoded-codeword (randomized (n % 8) p) (sent-length n p w) (sent-bytes n p w))
-      (subst (λ (x : List ℕ). Decodes x (c .left) (c .decoded)) e d)
-
-  given-step : stepOf s (c .left) (c .decoded) ≡ step (Delivered (n % 8)) (Known ((n + 1) % 8))
-  given-step =
-      simp (le-ltb _ _ h)
-      (ap₂ (λ (r : Decoded) (x : ℕ). groupStep (s .sync) (repairOf r x)) (same .answer) (ap (λ (x : List ℕ). getD x 0 0) (same .block) ∙ coded-first n p w)
-      ∙ in-step n (s .sync .place) at)
-
-  given-packet : take 188 (roomOf s c) ≡ p
-  given-packet =
-      ap (take 188)
-      (room-is s c y (step (Delivered (n % 8)) (Known ((n + 1) % 8))) given-step
-      ∙ ap (λ (x : List ℕ). derandomized (n % 8) (take 188 x) ++ drop 188 (c .room)) (same .block)
-      ∙ ap (λ (x : List ℕ). x ++ drop 188 (c .room)) (coded-back n p w))
-      ∙ take-at p (drop 188 (c .room)) 188 (w .size)
-
--- ---- the packets, one after the other
-
-delivering : (n : ℕ) (ps : List (List ℕ)) (cs : List Call) (s : Receiver) → Sound s → 11 ≤ s .counts .taken → s .counts .taken + length cs ≤ 4294967295
-    → PlaceAt n (s .sync .place) → All Packet ps → All (Length 204) (blocksOf cs) → All Roomy cs → Calls s cs → length cs ≤ length ps
-    → run Receiving (s .deinterleaver .branches) (blocksOf cs) ≡ take (length cs) (map encoded (randomizedFrom n ps))
-    → (answers s cs ≡ take (length cs) (replicate (length ps) 0)) × (packetsGiven s cs ≡ take (length cs) ps)
-unfolding run randomizedFrom
-delivering n ps [] s g h l at ws bs rs ds k q = (refl, refl)
-delivering n [] (c ∷ cs) s g h l at ws bs rs ds k q = absurd (not-suc-le-zero k)
-delivering n (p ∷ ps) (c ∷ cs) s g h l at ws bs rs ds k q =
-    let y : Ready s (c .block) (c .room) = record { range = sound-range s g; size = bs .0; enough = rs .0; more = omega arith } in
-    let e : delayedBlock s (c .block) ≡ encoded (randomized (n % 8) p) = cc in
-    let t : run Receiving (block.after Receiving (s .deinterleaver .branches) (c .block)) (blocksOf cs) ≡ take (length cs) (map encoded (randomizedFrom (n + 1) ps)) = cc in
-    let o = given-step n p (ws .0) s c y h at e (ds .0) in
-    let m : after s c .counts .taken ≡ s .counts .taken + 1 = taken-after s c y in
-    let r =
-    delivering (n + 1) ps cs (after s c) (sound-call s c g (ds .0)) (omega arith) (omega arith) (inr (place-after s c y _ o)) (ws .1) (bs .1) (rs .1) (ds .1)
-    (omega arith) (ap (λ (b : Branches). run Receiving b (blocksOf cs)) (branches-after s c y) ∙ t) in (
-      ap₂ (λ (x : ℕ) (xs : List ℕ). x ∷ xs) (answer-is s c y _ o) (r .0),
-      one-given s c cs p (take (length cs) ps) (answer-is s c y _ o) (given-packet n p (ws .0) s c y h at e (ds .0)) (r .1),
-    )
-
--- ---- the first eleven
-
-filling-step : (s : Receiver) (c : Call) → s .counts .taken < 11 → stepOf s (c .left) (c .decoded) ≡ record { outcome = Filling; sync = s .sync }
-filling-step s c h = simp (lt-ltb _ _ h)
-
--- k blocks of zeros are still to come
-filling : (k : ℕ) (ps : List (List ℕ)) (cs : List Call) (s : Receiver) → Sound s → s .counts .taken + k ≡ 11
-    → s .counts .taken + length cs ≤ 4294967295 → s .sync .place ≡ NotKnown → All Packet ps → All (Length 204) (blocksOf cs) → All Roomy cs → Calls s cs
-    → length cs ≤ k + length ps
-    → run Receiving (s .deinterleaver .branches) (blocksOf cs) ≡ take (length cs) (replicate k zeroBlock ++ map encoded (randomizedFrom 0 ps))
-    → (answers s cs ≡ take (length cs) (replicate k 9 ++ replicate (length ps) 0)) × (packetsGiven s cs ≡ take (length cs - k) ps)
-unfolding run
-filling zero ps cs s g h l at ws bs rs ds m q =
-    let r = delivering 0 ps cs s g (omega arith) l (inl (refl, at)) ws bs rs ds (omega arith) q in
-    let e : length cs ≡ length cs - 0 = omega arith in
-    (r .0, r .1 ∙ ap (λ (i : ℕ). take i ps) e)
-filling (suc k) ps [] s g h l at ws bs rs ds m q =
-    let e : 0 ≡ 0 - suc k = omega arith in
-    (refl, ap (λ (i : ℕ). take i ps) e)
-filling (suc k) ps (c ∷ cs) s g h l at ws bs rs ds m q =
-    let y : Ready s (c .block) (c .room) = record { range = sound-range s g; size = bs .0; enough = rs .0; more = omega arith } in
-    let t : run Receiving (block.after Receiving (s .deinterleaver .branches) (c .block)) (blocksOf cs)
-    ≡ take (length cs) (replicate k zeroBlock ++ map encoded (randomizedFrom 0 ps)) = cc in
-    let o = filling-step s c (omega arith) in
-    let n : after s c .counts .taken ≡ s .counts .taken + 1 = taken-after s c y in
-    let r =
-    filling k ps cs (after s c) (sound-call s c g (ds .0)) (omega arith) (omega arith) (place-after s c y _ o ∙ at) ws (bs .1) (rs .1) (ds .1)
-    (omega arith) (ap (λ (b : Branches). run Receiving b (blocksOf cs)) (branches-after s c y) ∙ t) in
-    let e : length cs - k ≡ suc (length cs) - suc k = omega arith in (
-      ap₂ (λ (x : ℕ) (xs : List ℕ). x ∷ xs) (answer-is s c y _ o) (r .0),
-      none-given s c cs _ (answer-is s c y _ o) (r .1 ∙ ap (λ (i : ℕ). take i ps) e),
-    )
-
--- ---- the whole stream
+coded-drop : (m n : ℕ) (ps : List (List ℕ)) → drop m (map encoded (randomizedFrom n ps)) ≡ map encoded (randomizedFrom (n + m) (drop m ps))
+unfolding randomizedFrom
+coded-drop zero n ps = let e : n ≡ n + 0 = omega arith in ap (λ (i : ℕ). map encoded (randomizedFrom i ps)) e
+coded-drop (suc m) n [] = refl
+coded-drop (suc m) n (p ∷ ps) =
+    let e : n + 1 + m ≡ n + suc m = omega arith in
+    coded-drop m (n + 1) ps ∙ ap (λ (i : ℕ). map encoded (randomizedFrom i (drop m ps))) e
 
 coded-lengths : (n : ℕ) (ps : List (List ℕ)) → All Packet ps → All (Length 204) (map encoded (randomizedFrom n ps))
 unfolding randomizedFrom
@@ -222,26 +134,138 @@ blocks-count : (cs : List Call) → length (blocksOf cs) ≡ length cs
 blocks-count [] = refl
 blocks-count (c ∷ cs) = ap suc (blocks-count cs)
 
--- demand 2, receiving
+module _ (packets : List (List ℕ)) (ws : All Packet packets) where
+  -- the coded packets, as the standard gives them and call after call
+  abbrev coded : List (List ℕ)
+  coded = map encoded (randomizedStream packets)
+
+  stream : coded ≡ map encoded (randomizedFrom 0 packets)
+  stream = ap (map encoded) (sym (randomized-stream packets (packet-lengths packets ws)))
+
+  coded-size : length coded ≡ length packets
+  coded-size = ap length stream ∙ coded-count 0 packets
+
+  coded-blocks : All (Length 204) coded
+  coded-blocks = subst (All (Length 204)) (sym stream) (coded-lengths 0 packets ws)
+
+  -- ---- at most eight bytes of each block wrong
+
+  module _ (m : ℕ) (cs : List Call) (u : Unrefused freshReceiver cs) (q : Nears (drop 11 (run Receiving fresh (blocksOf cs))) (drop m coded)) where
+    dropped : drop m coded ≡ map encoded (randomizedFrom m (drop m packets))
+    dropped =
+        let e : 0 + m ≡ m = omega arith in
+        ap (drop m) stream ∙ coded-drop m 0 packets ∙ ap (λ (i : ℕ). map encoded (randomizedFrom i (drop m packets))) e
+
+    late : Repaired m (drop m packets) (drop 11 cs)
+    unfolding freshReceiver
+    late =
+        repaired-after 11 m (drop m packets) cs freshReceiver u (All-drop Packet m packets ws)
+        (subst (Nears (drop 11 (run Receiving fresh (blocksOf cs)))) dropped q)
+
+    fewer : length (drop 11 cs) ≡ length cs - 11
+    fewer = length-drop 11 cs
+
+    pub near-accepted : repairs (drop 11 cs) ≡ sentFrom m (length cs - 11)
+    near-accepted = late .accepted ∙ ap (sentFrom m) fewer
+
+    near-lefts : lefts (drop 11 cs) ≡ take (length cs - 11) (map encoded (randomizedFrom m (drop m packets)))
+    near-lefts = late .blocks ∙ ap (λ (i : ℕ). take i (map encoded (randomizedFrom m (drop m packets)))) fewer
+
+    pub near-received : BegunAt m packets cs
+    unfolding freshReceiver
+    near-received =
+        let w = beforeGroup m in
+        let os = replicate w Waiting ++ deliveredFrom (m + w) (length cs) in
+        let t : ComeTo freshReceiver cs (filledFirst 11 cs (take (length cs - 11) os)) =
+        subst (λ (x : List Outcome). ComeTo freshReceiver cs (filledFirst 11 cs x))
+        (ap (outcomes freshSync) near-accepted ∙ streams.begun-anywhere m (length cs - 11) (length cs) (omega arith))
+        (filled-come-to 11 cs freshReceiver u refl) in
+        record {
+          answered = t .answered ∙ ap (map outcomeNumber) (filled-take 11 (length cs) os) ∙ numbers 11 w (m + w) (length cs) (length cs);
+          given =
+              t .given ∙ packets-filled 11 cs (take (length cs - 11) os) ∙ ap (packetsOf (take (length cs - 11) os)) near-lefts
+              ∙ packets-late w m (length cs - 11) (length cs) (drop m packets) (All-drop Packet m packets ws) (omega arith)
+              ∙ ap (take (length cs - 11 - w)) (drop-drop w m packets);
+          repaired = near-lefts ∙ ap (take (length cs - 11)) (sym dropped);
+        }
+
+  -- ---- no byte wrong
+
+  module _ (m : ℕ) (cs : List Call) (h : m + length cs ≤ length packets) (l : length cs ≤ 4294967295)
+      (b : blocksOf cs ≡ take (length cs) (drop m (interleaved coded))) (rs : All Roomy cs) (ds : Calls freshReceiver cs) where
+    air : List (List ℕ)
+    air = drop m (interleaved coded)
+
+    sizes : All (Length 204) (blocksOf cs)
+    unfolding air
+    sizes =
+        subst (All (Length 204)) (sym b)
+        (All-take (Length 204) (length cs) air (All-drop (Length 204) m (interleaved coded) (delayed-lengths Sending coded)))
+
+    unharmed-calls : Unrefused freshReceiver cs
+    unfolding freshReceiver
+    unharmed-calls = record { sound = sound-fresh; most = omega arith; sizes = sizes; rooms = rs; decodes = ds }
+
+    -- the bytes received, and those sent after them
+    front : flatten air ≡ flatten (blocksOf cs) ++ flatten (drop (length cs) air)
+    unfolding air
+    front =
+        ap flatten (sym (take-append-drop (length cs) air)) ∙ flatten-join (take (length cs) air) (drop (length cs) air)
+        ∙ ap (λ (x : List (List ℕ)). flatten x ++ flatten (drop (length cs) air)) (sym b)
+
+    many : length (run Receiving fresh (blocksOf cs)) ≡ length cs
+    many = length-run Receiving fresh (blocksOf cs) ∙ blocks-count cs
+
+    -- the block that call i + 12 repairs is the one that was sent
+    each : (i : ℕ) → i + 11 < length cs → getD (drop 11 (run Receiving fresh (blocksOf cs))) i [] ≡ getD (drop m coded) i []
+    unfolding air
+    each i k =
+        let e : 11 + i ≡ i + 11 = omega arith in
+        getD-drop 11 (run Receiving fresh (blocksOf cs)) i [] ∙ ap (λ (j : ℕ). getD (run Receiving fresh (blocksOf cs)) j []) e
+        ∙ run-gathered (blocksOf cs) sizes i (omega (arith, blocks-count cs))
+        ∙ sym (gathered-front (flatten (blocksOf cs)) (flatten (drop (length cs) air)) i (omega (arith, length-flatten 204 (blocksOf cs) sizes, blocks-count cs)))
+        ∙ ap (λ (x : List ℕ). gathered x i) (sym front)
+        ∙ sym (getD-drop m coded i [] ∙ sent-gathered coded m i (omega (arith, coded-size)) (All-at (Length 204) coded [] (m + i) coded-blocks (omega (arith, coded-size))))
+
+    nears : Nears (drop 11 (run Receiving fresh (blocksOf cs))) (drop m coded)
+    nears =
+        nears-of (drop 11 (run Receiving fresh (blocksOf cs))) (drop m coded)
+        (omega (arith, length-drop 11 (run Receiving fresh (blocksOf cs)), length-drop m coded, many, coded-size))
+        (λ i k. same i (omega (arith, length-drop 11 (run Receiving fresh (blocksOf cs)), many)))
+      where
+        same : (i : ℕ) → i + 11 < length cs → differ (getD (drop 11 (run Receiving fresh (blocksOf cs))) i []) (getD (drop m coded) i []) ≤ 8
+        same i k = rw (each i k) (omega (arith, differ-none (getD (drop m coded) i [])))
+
+    -- the theorem
+    pub begun-anywhere : BegunAt m packets cs
+    begun-anywhere = near-received m cs unharmed-calls nears
+
+    -- document 02, P4: the calls come to what they came to by the rule before it
+    pub as-before : ComeTo freshReceiver cs (filledFirst 11 cs (before.outcomesBefore NotKnown (repairs (drop 11 cs))))
+    as-before =
+        in-order-as-before m cs unharmed-calls
+        (subst (before.InOrder m) (sym (near-accepted m cs unharmed-calls nears)) (before.sent-in-order m (length cs - 11)))
+
+-- demand 2, receiving: the case of block 0
 pub stream-received : (packets : List (List ℕ)) → All Packet packets → length packets ≤ 4294967295
     → (cs : List Call) → blocksOf cs ≡ interleaved (map encoded (randomizedStream packets)) → All Roomy cs → Calls freshReceiver cs
     → (answers freshReceiver cs ≡ take (length packets) (replicate 11 9 ++ replicate (length packets) 0))
     × (packetsGiven freshReceiver cs ≡ take (length packets - 11) packets)
-unfolding freshReceiver elevenLate
 stream-received packets ws l cs b rs ds =
-    let r =
-    filling 11 packets cs freshReceiver sound-fresh refl (omega (arith, count)) refl ws (subst (All (Length 204)) (sym whole) (delayed-lengths Sending coded)) rs ds
-    (omega (arith, count)) (ap (run Receiving fresh) whole ∙ run-delayed Receiving (interleaved coded) ∙ both-sides coded (coded-lengths 0 packets ws)
-    ∙ ap (λ (n : ℕ). take n (replicate 11 zeroBlock ++ coded)) (coded-count 0 packets ∙ sym count)) in
-    (r .0 ∙ ap (λ (n : ℕ). take n (replicate 11 9 ++ replicate (length packets) 0)) count, r .1 ∙ ap (λ (n : ℕ). take (n - 11) packets) count)
-  where
-    coded : List (List ℕ)
-    coded = map encoded (randomizedFrom 0 packets)
+    let sent = interleaved (map encoded (randomizedStream packets)) in
+    let k : length sent ≡ length packets = length-delayed Sending (map encoded (randomizedStream packets)) ∙ coded-size packets ws in
+    let n : length cs ≡ length packets = sym (blocks-count cs) ∙ ap length b ∙ k in
+    let e : length cs - 11 - 0 ≡ length packets - 11 = omega arith in
+    let r = begun-anywhere packets ws 0 cs (omega arith) (omega arith) (b ∙ sym (take-all (length cs) sent (omega arith))) rs ds in (
+      r .answered ∙ ap (λ (i : ℕ). take i (replicate 11 9 ++ replicate i 0)) n,
+      r .given ∙ ap (λ (i : ℕ). take i packets) e,
+    )
 
-    whole : blocksOf cs ≡ interleaved coded
-    whole =
-        b ∙ ap (λ (ps : List (List ℕ)). interleaved (map encoded ps))
-        (sym (randomized-stream packets (packet-lengths packets ws)))
+-- ---- one block with neither sync byte first
 
-    count : length cs ≡ length packets
-    count = sym (blocks-count cs) ∙ ap length whole ∙ length-delayed Sending coded ∙ coded-count 0 packets
+-- From a known place, such a block among good ones costs its own packet and no other.
+pub one-odd : (s : Receiver) (cs : List Call) → Unrefused s cs → 11 ≤ s .counts .taken → (n missed a b first : ℕ) → s .sync ≡ knownSync (n % 8) missed
+    → (a ≡ 0 → missed ≡ 0) → (first ≡ 0xB8 → ⊥) → (first ≡ 0x47 → ⊥) → repairs cs ≡ sentFrom n a ++ repair.Accepted first ∷ sentFrom (n + a + 1) b
+    → ComeTo s cs (deliveredFrom n a ++ OutOfStep ∷ deliveredFrom (n + a + 1) b)
+one-odd s cs u h n missed a b first at m f g e =
+    subst (ComeTo s cs) (ap₂ (λ (x : GroupSync) (rs : List Repair). outcomes x rs) at e ∙ streams.one-odd n missed a b first m f g) (come-to cs s u h)

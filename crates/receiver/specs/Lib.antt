@@ -1,2 +1,3 @@
 pub mod Receive
 pub mod Run
+pub mod Begun

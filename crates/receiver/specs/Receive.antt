@@ -16,8 +16,7 @@ use Rattle.randomizer.specs.Packet.{derandomized}
 use Rattle.delay_branches.specs.Block.{fresh, blockOut, after}
 use Rattle.delay_branches.specs.Branch as branch
 use Rattle.delay_branches.specs.declared.Side.the-variants.{Receiving}
-use Rattle.group_sync.specs.Group.{placeInRange, groupStep}
-use Rattle.group_sync.specs.declared.Place.the-variants.{NotKnown}
+use Rattle.group_sync.specs.Group.{syncInRange, freshSync, groupStep}
 use Rattle.group_sync.specs.declared.Repair.{Repair}
 use Rattle.group_sync.specs.declared.Repair.the-variants as repair
 use Rattle.group_sync.specs.declared.Outcome.{Outcome}
@@ -32,7 +31,7 @@ unfoldable pub freshReceiver : Receiver
 unfolding fresh
 freshReceiver = record {
   deinterleaver = record { branches = fresh };
-  sync = record { place = NotKnown };
+  sync = freshSync;
   counts = zeroCounts;
 }
 
@@ -41,7 +40,7 @@ unfoldable pub inRange : Receiver → Bool
 unfolding countsInRange
 inRange s =
     pick (branch.inRange Receiving (s .deinterleaver .branches))
-    (pick (placeInRange (s .sync .place)) (countsInRange (s .counts)) false)
+    (pick (syncInRange (s .sync)) (countsInRange (s .counts)) false)
     false
 
 -- the block that the delay branches give for one that comes

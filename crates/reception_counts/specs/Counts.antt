@@ -1,6 +1,6 @@
 -- The counts of a receiver: document 01, "Receiver". Of its words, taken counts the blocks received, filling those received before the
 -- deinterleaver is full, delivered the packets given, lost the uncorrectable blocks, waiting the codewords before group synchronization,
--- outofstep the codewords at which it is lost, changed the bytes corrected, and bits the bits of them.
+-- outofstep the codewords without the sync byte that is due, changed the bytes corrected, and bits the bits of them.
 -- Assumes nothing.
 use mathlib.Core.Bool.{Bool, false}
 use mathlib.Core.Path.{_≡_}

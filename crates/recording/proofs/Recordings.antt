@@ -16,10 +16,10 @@ use lib.Seq.{take-all, take-at, drop-at, drop-drop, length-take-le}
 use Rattle.common.specs.Choice.{pick}
 use Rattle.answer.specs.Number.{numberOf}
 use Rattle.reed_solomon.specs.Decode.{Decodes}
-use Rattle.randomizer.specs.Packet.{randomized, derandomized}
-use Rattle.randomizer.proofs.Laws.{length-randomized}
+use Rattle.randomizer.specs.Packet.{derandomized}
 use Rattle.delay_branches.specs.declared.Side.the-variants.{Receiving}
 use Rattle.delay_branches.proofs.Blocks.{length-out}
+use Rattle.interleaver.proofs.Blocks.{flatten-join}
 use Rattle.group_sync.specs.Group.{PlaceOf}
 use Rattle.group_sync.specs.declared.Outcome.{Outcome}
 use Rattle.group_sync.specs.declared.Outcome.the-variants.{Filling, Delivered, Lost, Waiting, OutOfStep}
@@ -31,6 +31,7 @@ use Rattle.receiver.specs.declared.Receiver.{Receiver}
 use Rattle.receiver.specs.declared.Received.{Received}
 use Rattle.receiver.proofs.Calls.{state-range, ready-number, ready-room, left-length}
 use Rattle.receiver.proofs.Reached.{Refused, ready-or-refused}
+use Rattle.receiver.proofs.Outcomes.{packet-length}
 use Rattle.recording.specs.Recording.{Recording, Takes, givenBytes}
 
 -- ---- the room after a call
@@ -42,12 +43,6 @@ givenBy number exit = pick (eqb number 0) (take 188 exit ∷ []) []
 record Filled (number : ℕ) (room exit : List ℕ) : Type 0 where
   pub size : length (flatten (givenBy number exit)) ≡ givenBytes number
   pub after-it : exit ≡ flatten (givenBy number exit) ++ drop (givenBytes number) room
-
-packet-length : (place : ℕ) (left : List ℕ) → place ≤ 7 → length left ≡ 204 → length (derandomized place (take 188 left)) ≡ 188
-unfolding derandomized
-packet-length place left h n =
-    let p = take 188 left in
-    omega (arith, length-drop 1 (randomized place p), length-randomized place p h (length-take-le 188 left (omega arith)))
 
 outcome-filled : (o : Outcome) (left room : List ℕ) → PlaceOf o → length left ≡ 204 → Filled (outcomeNumber o) room (roomAfter o left room)
 unfolding flatten
@@ -74,7 +69,7 @@ module _ (s : Receiver) (c : Call) (d : Decodes (delayedBlock s (c .block)) (c .
       by (yes h) = simp (lt-ltb _ _ h) tt
       by (no h) =
           let k : 11 ≤ s .counts .taken = omega arith in
-          simp (le-ltb _ _ k) (outcome-place (s .sync) (repairOf (c .decoded) (getD (c .left) 0 0)) (state-range s (y .range) .place))
+          simp (le-ltb _ _ k) (outcome-place (s .sync) (repairOf (c .decoded) (getD (c .left) 0 0)) (state-range s (y .range) .sync))
 
   call-filled : Filled (answerOf s c) (c .room) (roomOf s c)
   call-filled = by (ready-or-refused s (c .block) (c .room))
@@ -113,11 +108,6 @@ few-given number = by (eqb number 0) refl
     by : (t : Bool) → eqb number 0 ≡ t → givenBytes number ≤ 188
     by true e = simp e (omega arith)
     by false e = simp e (omega arith)
-
-flatten-join : (a b : List (List ℕ)) → flatten (a ++ b) ≡ flatten a ++ flatten b
-unfolding flatten
-flatten-join [] b = refl
-flatten-join (x ∷ a) b = ap (λ (l : List ℕ). x ++ l) (flatten-join a b) ∙ sym (append-assoc x (flatten a) (flatten b))
 
 -- ---- the loop
 

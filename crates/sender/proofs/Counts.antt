@@ -4,16 +4,16 @@ use mathlib.Core.Path.{_≡_, refl, ap, ap₂, sym, _∙_}
 use mathlib.Core.Bool.{Bool}
 use mathlib.Core.List.{List, [], _∷_, map, flatten}
 use Prim.Native.Nat.{ℕ, zero, suc, _+_, _*_, _%_, _≤_, _<_}
-use native.Mathlib.Nat.{mul-zero, mul-suc, add-comm, add-zero, zero-add, add-assoc, suc-add, mod-add-mod, mod-eq-of-lt, mod-lt}
+use native.Mathlib.Nat.{add-zero, zero-add, add-assoc, suc-add, mod-add-mod, mod-eq-of-lt, mod-lt}
 use native.Mathlib.Omega.{arith}
 use lib.Dec.{T, leb, leb→le}
-use lib.ListN.{length, getD, length-append, length-map}
-use Rattle.common.specs.Lists.{All, Length}
+use lib.ListN.{length, getD, length-map}
 use Rattle.common.proofs.Computed.{both, both-left, both-right}
 use Rattle.reed_solomon.specs.Encode.{encoded}
 use Rattle.randomizer.specs.Stream.{dispersed, inPackets, randomizedStream}
 use Rattle.delay_branches.specs.declared.Side.the-variants.{Sending}
 use Rattle.interleaver.specs.Stream.{interleaved}
+use Rattle.interleaver.proofs.Blocks.{length-flatten}
 use Rattle.interleaver.proofs.Streams.{length-delayed, delayed-lengths}
 use Rattle.convolutional_code.specs.Bits.{bitsOf}
 use Rattle.convolutional_code.proofs.Bits.{bits-bits, length-bits}
@@ -32,14 +32,6 @@ use Rattle.sender.specs.Standard.{interleavedBlocks, onAir}
 use Rattle.sender.specs.Calls.{senderOf, fewest, most}
 
 -- ---- in all
-
-pub length-flatten : (n : ℕ) (xs : List (List ℕ)) → All (Length n) xs → length (flatten xs) ≡ n * length xs
-unfolding flatten
-length-flatten n [] g = sym (mul-zero n)
-length-flatten n (x ∷ xs) g = length-append x (flatten xs) ∙ ap₂ (λ (a b : ℕ). a + b) (g .0) (length-flatten n xs (g .1)) ∙ times-suc n (length xs)
-  where
-    times-suc : (n k : ℕ) → n + n * k ≡ n * suc k
-    times-suc n k = add-comm n (n * k) ∙ sym (mul-suc n k)
 
 pub length-packets : (n : ℕ) (bytes : List ℕ) → length (inPackets n bytes) ≡ n
 unfolding inPackets

@@ -4,12 +4,11 @@
 use mathlib.Core.Path.{_≡_, refl, ap, ap₂, sym, _∙_}
 use mathlib.Core.List.{List, [], _∷_, _++_, map, flatten}
 use Prim.Native.Nat.{ℕ, zero, suc, _+_, _-_, _*_, _%_, _<_}
-use native.Mathlib.Nat.{zero-add, not-suc-le-zero, le-of-suc-le-suc}
+use native.Mathlib.Nat.{not-suc-le-zero, le-of-suc-le-suc}
 use native.Mathlib.Omega.{arith}
 use borrow.Author.Tests.{le-ltb}
 use lib.Bits.{bitXor}
 use lib.ListN.{length, getD, drop, length-drop, length-map, List·getD-append}
-use lib.Seq.{getD-append-add}
 use Rattle.common.specs.Lists.{All, Length}
 use Rattle.common.proofs.Lists.{All-at, getD-map-in}
 use Rattle.common.proofs.Xor.{xor-low, xor-undo}
@@ -23,6 +22,7 @@ use Rattle.randomizer.proofs.Whole.{randomized-stream}
 use Rattle.delay_branches.specs.declared.Side.the-variants.{Sending}
 use Rattle.interleaver.specs.Stream.{earlier, interleaved}
 use Rattle.interleaver.proofs.Streams.{length-delayed, delayed-at, delayed-lengths}
+use Rattle.interleaver.proofs.Blocks.{flatten-at}
 use Rattle.convolutional_code.specs.Bits.{bitsOf, Bits, none, more}
 use Rattle.convolutional_code.specs.Code.{tapsX, tapsY, convolved}
 use Rattle.convolutional_code.proofs.Bits.{bits-bits}
@@ -72,18 +72,7 @@ low-bit (b ∷ bs) (suc i) =
     let e : 8 * suc i + 7 ≡ suc (suc (suc (suc (suc (suc (suc (suc (8 * i + 7)))))))) = omega arith in
     ap (λ (k : ℕ). getD (bitsOf (b ∷ bs)) k 0) e ∙ low-bit bs i
 
--- ---- bytes and blocks
-
-flatten-at : (xs : List (List ℕ)) → All (Length 204) xs → (b i : ℕ) → b < length xs → i < 204 → getD (flatten xs) (204 * b + i) 0 ≡ getD (getD xs b []) i 0
-unfolding flatten
-flatten-at [] g b i h k = absurd (not-suc-le-zero h)
-flatten-at (x ∷ xs) g zero i h k =
-    ap (λ (n : ℕ). getD (x ++ flatten xs) n 0) (zero-add i) ∙ List·getD-append x (flatten xs) 0 i (omega (arith, g .0))
-flatten-at (x ∷ xs) g (suc b) i h k =
-    let e : 204 * suc b + i ≡ length x + (204 * b + i) = omega (arith, g .0) in
-    ap (λ (n : ℕ). getD (x ++ flatten xs) n 0) e
-    ∙ getD-append-add x (flatten xs) (204 * b + i) 0
-    ∙ flatten-at xs (g .1) b i (le-of-suc-le-suc h) k
+-- ---- blocks and packets
 
 -- byte 12 is not delayed
 not-delayed : (blocks : List (List ℕ)) (b : ℕ) → b < length blocks → getD (getD (interleaved blocks) b []) 12 0 ≡ getD (getD blocks b []) 12 0
@@ -91,8 +80,6 @@ unfolding earlier
 not-delayed blocks b h =
     let e : b - 0 ≡ b = omega arith in
     delayed-at Sending blocks b 12 h (omega arith) ∙ rw (le-ltb b 0 (omega arith)) (ap (λ (i : ℕ). getD (getD blocks i []) 12 0) e)
-
--- ---- blocks and packets
 
 length-from : (n : ℕ) (ps : List (List ℕ)) → length (randomizedFrom n ps) ≡ length ps
 unfolding randomizedFrom

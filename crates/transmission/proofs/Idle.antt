@@ -11,12 +11,13 @@ use lib.Seq.{take-at, drop-at, getD-at}
 use Rattle.common.specs.Lists.{All, Length}
 use Rattle.randomizer.specs.Stream.{Packet}
 use Rattle.randomizer.proofs.Whole.{packet-lengths}
+use Rattle.interleaver.proofs.Blocks.{length-flatten}
 use Rattle.puncturing.specs.Mode.{modeOf}
 use Rattle.puncturing.specs.Step.{patternLength, symbolsIn}
 use Rattle.sender.specs.Standard.{onAir}
 use Rattle.sender.specs.Input.{packetsFor}
 use Rattle.sender.proofs.Inputs.{packets-kept, bytes-replicate}
-use Rattle.sender.proofs.Counts.{length-flatten, length-on-air}
+use Rattle.sender.proofs.Counts.{length-on-air}
 use Rattle.sender.proofs.Distinct.{same-bits}
 use Rattle.transmission.specs.Run.{packetsOf, runSymbols, runRefusal, Runs}
 use Rattle.transmission.proofs.Buffers.{packets-none, packets-more}

@@ -3,6 +3,7 @@
 //!
 //! `compare` runs all; `compare KIND` one kind; `compare KIND CASE` one case.
 
+use reference::answer::Answer;
 use reference::exports::{expected, library, COUNTS_LENGTH};
 use reference::interleaver::Branches;
 use reference::reed_solomon::{check_bytes, encode};
@@ -609,6 +610,7 @@ fn receive_kinds(s: &mut Score) {
         let room = room_for(r, &stream);
         add(receive_run(s, &stream, room, vec![0xA5; COUNTS_LENGTH]).1);
     });
+    histories_from_every_state(s, &mut add);
     s.kind("receive_run: anything", 200, |s, r, case| {
         let length = r.below(8000);
         let stream = match case % 4 {
@@ -653,6 +655,70 @@ fn receive_kinds(s: &mut Score) {
             assert!(total.iter().all(|&count| count >= 500), "{total:?}");
         }
     }
+}
+
+/// A block by what it is to group synchronization.
+#[derive(Clone, Copy, PartialEq)]
+enum Heard {
+    Start,
+    Packet,
+    Odd,
+    Lost,
+}
+
+/// A codeword with the first byte, or a block that no codeword is near.
+fn heard(r: &mut Xorshift, what: Heard) -> Vec<u8> {
+    let mut data = r.bytes(PACKET_LENGTH);
+    data[0] = match what {
+        Heard::Start => INVERTED_SYNC,
+        Heard::Packet => SYNC,
+        _ => [0x00, 0x46, 0x48, 0xB7, 0xB9, 0xFF][r.below(6)],
+    };
+    let mut block = vec![0; BLOCK_LENGTH];
+    encode(&data, &mut block);
+    while what == Heard::Lost && reference::reed_solomon::decode(&mut block.clone()).0 == Answer::Done {
+        harm(r, &mut block, 20, 0, BLOCK_LENGTH);
+    }
+    block
+}
+
+/// Every history of one to five blocks from every state of group synchronization:
+/// the place not known, or 0 to 7 with the mark clear or set. A fresh receiver is
+/// brought there by blocks of its own, so the calls are the library's.
+fn histories_from_every_state(s: &mut Score, add: &mut impl FnMut([u64; 8])) {
+    const KINDS: [Heard; 4] = [Heard::Start, Heard::Packet, Heard::Odd, Heard::Lost];
+    const HISTORIES: u64 = 4 + 16 + 64 + 256 + 1024;
+    let mut pool = Vec::new();
+    let mut r = Xorshift::new(BASE_SEED);
+    for what in KINDS {
+        pool.push((0..16).map(|_| heard(&mut r, what)).collect::<Vec<_>>());
+    }
+    s.kind("receive_run: histories of five blocks from every state", 17 * HISTORIES, |s, r, case| {
+        let (state, mut history) = (case / HISTORIES, case % HISTORIES);
+        let mut blocks = Vec::new();
+        // State 0: not known. 1 to 8: place 0 to 7. 9 to 16: the same with the mark.
+        if state > 0 {
+            let (place, marked) = ((state - 1) % 8, state > 8);
+            let good = (place + if marked { 7 } else { 8 } - 1) % 8 + 1;
+            blocks.push(Heard::Start);
+            blocks.extend((1..good).map(|_| Heard::Packet));
+            blocks.extend(marked.then_some(Heard::Odd));
+        }
+        let mut length = 1;
+        while history >= 4u64.pow(length) {
+            history -= 4u64.pow(length);
+            length += 1;
+        }
+        for _ in 0..length {
+            blocks.push(KINDS[(history % 4) as usize]);
+            history /= 4;
+        }
+        let mut whole: Vec<Vec<u8>> = blocks.iter().map(|&what| pool[what as usize][r.below(16)].clone()).collect();
+        whole.extend((0..11).map(|_| vec![0; BLOCK_LENGTH]));
+        let stream = stream_of(&whole);
+        let room = room_of(r, stream.len() / 204 * 188);
+        add(receive_run(s, &stream, room, vec![0xA5; 64]).1);
+    });
 }
 
 fn main() {

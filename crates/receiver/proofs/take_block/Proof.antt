@@ -94,7 +94,7 @@ deliver-requires c κs =
     let e = c .before .before .before .before .before in
     let d = c .before .before .before .before .before .before .before .before in (
       subst (λ (g : GroupStep). PlaceOf (g .outcome)) (sym (e .step .ensures))
-          (outcome-place (a .receiver .sync) (e .before .repair-of .result) (state-range (a .receiver) (s .pre .range) .place)),
+          (outcome-place (a .receiver .sync) (e .before .repair-of .result) (state-range (a .receiver) (s .pre .range) .sync)),
       left-length (delayedBlock (a .receiver) (a .block .now)) (d .decode .last .0) (d .decode .result) (decodes d) (length-out Receiving (a .receiver .deinterleaver .branches) (a .block .now)),
       s .pre .enough,
     )

@@ -1,9 +1,5 @@
 -- `group_sync::GroupSync::step` meets its contract.
 -- Assumes nothing.
-use mathlib.Core.Path.{ap}
-use Rattle.group_sync.specs.Group.{step}
-use Rattle.group_sync.specs.declared.Place.{Place}
-use Rattle.group_sync.specs.declared.Outcome.the-variants.{Lost}
 use borrow.Author.Needs.{needs}
 use Rattle.group_sync.proofs.GroupSync.step.Statement.{statement}
 use Rattle.group_sync.proofs.GroupSync.step.Tie as tie
@@ -21,7 +17,7 @@ accepted-requires : tie.Need-accepted-requires
 accepted-requires c κs = search needs
 
 returns : tie.Need-returns
-returns c = simp (c .before .enum-told .given .1) (ap (λ (p : Place). step Lost p) (c .moved .ensures))
+returns c = simp (c .before .enum-told .given .1, c .moved .ensures)
 
 returns-2 : tie.Need-returns-2
 returns-2 c = simp (c .before .before .repair .given .1, c .accepted .ensures)

@@ -3,8 +3,8 @@
 use mathlib.Core.Path.{ap, _∙_}
 use Rattle.delay_branches.specs.Block.{fresh}
 use Rattle.delay_branches.specs.declared.Branches.{Branches}
-use Rattle.group_sync.specs.declared.Place.{Place}
-use Rattle.group_sync.specs.declared.Place.the-variants.{NotKnown}
+use Rattle.group_sync.specs.Group.{freshSync}
+use Rattle.group_sync.specs.declared.GroupSync.{GroupSync}
 use Rattle.reception_counts.specs.declared.Counts.{Counts}
 use Rattle.receiver.specs.Receive.{freshReceiver}
 use borrow.Author.Needs.{needs}
@@ -25,9 +25,9 @@ unfolding freshReceiver
 returns c =
     ap (λ (d : Branches). record { deinterleaver = record { branches = d }; sync = c .before .new2 .result; counts = c .new3 .result })
     (c .before .before .new .ensures)
-    ∙ ap (λ (p : Place). record { deinterleaver = record { branches = fresh }; sync = record { place = p }; counts = c .new3 .result })
+    ∙ ap (λ (s : GroupSync). record { deinterleaver = record { branches = fresh }; sync = s; counts = c .new3 .result })
     (c .before .new2 .ensures)
-    ∙ ap (λ (n : Counts). record { deinterleaver = record { branches = fresh }; sync = record { place = NotKnown }; counts = n }) (c .new3 .ensures)
+    ∙ ap (λ (n : Counts). record { deinterleaver = record { branches = fresh }; sync = freshSync; counts = n }) (c .new3 .ensures)
 
 pub new-spec : {M : Type 1} → statement M
 new-spec = tie.close (tie.spec new-requires new-requires-2 new-requires-3 returns)
