@@ -11,7 +11,7 @@ pub mod expected {
     use crate::answer::Answer;
     use crate::receiver::Receiver;
     use crate::sender::Sender;
-    use crate::{randomizer, reed_solomon, BLOCK_LENGTH, PACKET_LENGTH, SYNC};
+    use crate::{randomizer, recording, reed_solomon, BLOCK_LENGTH, PACKET_LENGTH, SYNC};
 
     pub fn randomize(place: u8, packet: &[u8], room: &mut [u8]) -> u8 {
         randomizer::randomize(place, packet, room).number()
@@ -97,6 +97,18 @@ pub mod expected {
         }
         written as u64
     }
+
+    /// No byte for the count is room too short: 4, after 5 and 16. The count is
+    /// written only where the answer is 0.
+    pub fn recording_block(recorded: &[u8], blocks: u64, p: u64, room: &mut [u8], count: &mut [u8]) -> u8 {
+        let none: &mut [u8] = &mut [];
+        let room = if count.is_empty() { none } else { room };
+        let (answer, changed) = recording::repaired_block(recorded, blocks, p, room);
+        if answer == Answer::Done {
+            count[0] = changed as u8;
+        }
+        answer.number()
+    }
 }
 
 /// The linked library.
@@ -137,6 +149,16 @@ pub mod library {
                 counts: *mut u8,
                 counts_len: usize,
             ) -> u64;
+            pub fn dvbs_recording_block(
+                recording: *const u8,
+                recording_len: usize,
+                blocks: u64,
+                p: u64,
+                room: *mut u8,
+                room_len: usize,
+                count: *mut u8,
+                count_len: usize,
+            ) -> u8;
         }
     }
 
@@ -184,6 +206,21 @@ pub mod library {
                 room.len(),
                 counts.as_mut_ptr(),
                 counts.len(),
+            )
+        }
+    }
+
+    pub fn recording_block(recorded: &[u8], blocks: u64, p: u64, room: &mut [u8], count: &mut [u8]) -> u8 {
+        unsafe {
+            c::dvbs_recording_block(
+                recorded.as_ptr(),
+                recorded.len(),
+                blocks,
+                p,
+                room.as_mut_ptr(),
+                room.len(),
+                count.as_mut_ptr(),
+                count.len(),
             )
         }
     }

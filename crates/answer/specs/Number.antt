@@ -1,8 +1,8 @@
--- The number that document 01, "Answer numbers", gives each answer.
+-- The number that document 01, "Answer numbers", and document 02 give each answer.
 -- Assumes nothing.
 use Prim.Native.Nat.{ℕ}
 use Rattle.answer.specs.declared.Answer.{Answer}
-use Rattle.answer.specs.declared.Answer.the-variants.{Done, PacketLength, SyncByte, BlockLength, RoomLength, StateRange, UnknownRate, CountsFull, Uncorrectable, Filling, WaitingForGroup, OutOfStep}
+use Rattle.answer.specs.declared.Answer.the-variants.{Done, PacketLength, SyncByte, BlockLength, RoomLength, StateRange, UnknownRate, CountsFull, Uncorrectable, Filling, WaitingForGroup, OutOfStep, NoSuchBlock}
 
 abbrev pub numberOf : Answer → ℕ
 numberOf Done = 0
@@ -17,3 +17,4 @@ numberOf Uncorrectable = 8
 numberOf Filling = 9
 numberOf WaitingForGroup = 10
 numberOf OutOfStep = 11
+numberOf NoSuchBlock = 16

@@ -1,4 +1,4 @@
-// The answer of a public call. specs/Number.antt gives each case the number of document 01.
+// The answer of a public call. specs/Number.antt gives each case the number of documents 01 and 02.
 ghost use mathlib.Core.Path.{_≡_};
 ghost use Rattle.answer.specs.Number.{numberOf};
 
@@ -27,10 +27,12 @@ pub enum Answer {
     WaitingForGroup,
     // The sync byte that is due was not there.
     OutOfStep,
+    // A recording has no such block, or a receiver would not take it.
+    NoSuchBlock,
 }
 
 impl Answer {
-    // The number that document 01 gives the answer.
+    // The number that documents 01 and 02 give the answer.
     pub fn number(self) -> u8
         ensures { λ r. ⌜ r ≡ numberOf self ⌝ }
     {
@@ -47,6 +49,7 @@ impl Answer {
             Answer::Filling => 9,
             Answer::WaitingForGroup => 10,
             Answer::OutOfStep => 11,
+            Answer::NoSuchBlock => 16,
         }
     }
 }
