@@ -20,7 +20,19 @@ struct Part {
     failed: bool,
 }
 
-// A number in decimal digits. Once it is past every block, further digits leave it there.
+// A number with a digit more. Once it is past every block, it stays there.
+fn appended(value: u64, digit: u8) -> u64
+    requires { ⌜ (value ≤ 10000000000000) × (digit ≤ 9) ⌝ }
+    ensures { λ r. ⌜ r ≤ 10000000000000 ⌝ }
+{
+    if value < 1000000000000 {
+        10 * value + digit as u64
+    } else {
+        value
+    }
+}
+
+// A number in decimal digits.
 fn parse(word: &[u8]) -> Parsed {
     if word.len() == 0 {
         return Parsed::Malformed;
@@ -35,9 +47,7 @@ fn parse(word: &[u8]) -> Parsed {
         if digit > b'9' {
             return Parsed::Malformed;
         }
-        if value < 1000000000000 {
-            value = 10 * value + (digit - b'0') as u64;
-        }
+        value = appended(value, digit - b'0');
         i += 1;
     }
     Parsed::Number(value)
