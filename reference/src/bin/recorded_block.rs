@@ -14,7 +14,9 @@ fn main() {
     let blocks = (recording.len() / BLOCK_LENGTH) as u64;
     let (answer, changed) = repaired_block(&recording, blocks, p, &mut room);
     if answer == Answer::Done {
-        std::io::stdout().write_all(&room).expect("standard output");
+        // Whole before the line on standard error.
+        let mut output = std::io::stdout();
+        output.write_all(&room).and_then(|()| output.flush()).expect("standard output");
     }
     eprintln!("answer={} changed={changed}", answer.number());
 }
