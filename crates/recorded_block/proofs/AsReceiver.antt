@@ -1,30 +1,40 @@
 -- Block p of a recording is the very block that a fresh receiver repairs at its call p + 12, the first being call 1.
 -- Assumes nothing.
 use mathlib.Core.Path.{_≡_, refl, sym, ap, ap₂, _∙_}
+use mathlib.Core.Bool.{false}
 use mathlib.Core.List.{List, [], _∷_, _++_, append-assoc, append-nil, flatten}
-use Prim.Native.Nat.{ℕ, _+_}
+use Prim.Native.Nat.{ℕ, _+_, _≤_}
 use Prim.{tt}
 use native.Mathlib.Omega.{arith}
+use borrow.Author.Tests.{le-ltb}
+use lib.Dec.{eqb}
 use lib.ListN.{length, getD, length-append}
 use Rattle.common.specs.Lists.{All, Length}
 use Rattle.answer.specs.Number.{numberOf}
-use Rattle.reed_solomon.specs.Decode.{decodedNumber}
+use Rattle.reed_solomon.specs.Decode.{Decodes, decodedNumber}
 use Rattle.reed_solomon.specs.declared.Decoded.{Decoded}
+use Rattle.reed_solomon.specs.declared.Decoded.the-variants.{Corrected, Uncorrectable, BlockLength}
 use Rattle.reed_solomon.proofs.Laws.{unique}
 use Rattle.delay_branches.specs.Block as block
 use Rattle.delay_branches.specs.Block.{fresh, blockOut}
 use Rattle.delay_branches.specs.declared.Side.{Side}
 use Rattle.delay_branches.specs.declared.Side.the-variants.{Receiving}
 use Rattle.delay_branches.specs.declared.Branches.{Branches}
+use Rattle.delay_branches.proofs.Blocks.{length-out}
 use Rattle.interleaver.specs.Stream.{run, runAfter}
 use Rattle.interleaver.specs.Gathered.{gathered}
 use Rattle.interleaver.proofs.Blocks.{length-flatten, flatten-join}
 use Rattle.interleaver.proofs.Gathering.{gathered-front, run-gathered}
-use Rattle.receiver.specs.Receive.{freshReceiver, delayedBlock, changedBytes, Receives}
+use Rattle.group_sync.specs.Group.{groupStep}
+use Rattle.group_sync.specs.declared.Outcome.{Outcome}
+use Rattle.group_sync.proofs.Synchronization.{accepted-outcome}
+use Rattle.reception_counts.specs.Counts.{outcomeNumber}
+use Rattle.receiver.specs.Receive.{freshReceiver, delayedBlock, repairOf, changedBytes, changedIn, stepOf, stateAfter, Ready, Receives}
 use Rattle.receiver.specs.Run.{Call, after, afterCalls, blocksOf}
 use Rattle.receiver.specs.declared.Receiver.{Receiver}
 use Rattle.receiver.specs.declared.Received.{Received}
-use Rattle.receiver.proofs.Outcomes.{Unrefused, next-unrefused, branches-after}
+use Rattle.receiver.proofs.Calls.{state-range, ready-number, ready-state, changed-is}
+use Rattle.receiver.proofs.Outcomes.{Unrefused, next-unrefused, branches-after, taken-after}
 use Rattle.receiver.proofs.Reception.{blocks-count}
 use Rattle.recorded_block.specs.Block.{blockRefusal, roomWith, GivesBlock}
 use Rattle.recorded_block.specs.declared.RepairedBlock.{RepairedBlock}
@@ -36,6 +46,11 @@ unfolding runAfter
 branches-calls [] s u = refl
 branches-calls (c ∷ cs) s u =
     branches-calls cs (after s c) (next-unrefused s c cs u) ∙ ap (λ (b : Branches). runAfter Receiving b (blocksOf cs)) (branches-after s c cs u)
+
+-- and as many blocks taken as there were calls
+taken-calls : (cs : List Call) (s : Receiver) → Unrefused s cs → afterCalls s cs .counts .taken ≡ s .counts .taken + length cs
+taken-calls [] s u = omega arith
+taken-calls (c ∷ cs) s u = omega (arith, taken-calls cs (after s c) (next-unrefused s c cs u), taken-after s c cs u)
 
 -- one block more
 run-last : (side : Side) (s : Branches) (bs : List (List ℕ)) (b : List ℕ) → getD (run side s (bs ++ b ∷ [])) (length bs) [] ≡ blockOut side (runAfter side s bs) b
@@ -91,3 +106,49 @@ module _ (p : ℕ) (before : List Call) (u : Unrefused freshReceiver before) (n 
         g .changed ∙ simp e (ap changedBytes (q .answer)),
         g .written ∙ simp e (ap₂ (λ (x : Decoded) (y : List ℕ). roomWith x y room) (q .answer) (q .block)),
       )
+
+  -- What the call shows of it: it is answered 8 where the block is, and its changed bytes are the block's.
+  module _ (lent exit′ : List ℕ) (received : Received) (v : Receives (afterCalls freshReceiver before) came lent received exit′)
+      (y : Ready (afterCalls freshReceiver before) came lent) (blocks : ℕ) (room : List ℕ) (r : RepairedBlock) (exit : List ℕ)
+      (e : blockRefusal recorded blocks p room ≡ 0) (g : GivesBlock recorded blocks p room r exit) where
+    past : Receiver
+    past = afterCalls freshReceiver before
+
+    full : 11 ≤ past .counts .taken
+    unfolding past freshReceiver
+    full = omega (arith, taken-calls before freshReceiver u, n)
+
+    outcome : Decoded → Outcome
+    unfolding past
+    outcome decoded = groupStep (past .sync) (repairOf decoded (getD (v .left) 0 0)) .outcome
+
+    stepped : stepOf past (v .left) (v .decoded) .outcome ≡ outcome (v .decoded)
+    unfolding past outcome
+    stepped = simp (le-ltb _ _ full)
+
+    answered : numberOf (received .answer) ≡ outcomeNumber (outcome (v .decoded))
+    unfolding past
+    answered = v .number ∙ ready-number past came lent y (v .left) (v .decoded) ∙ ap outcomeNumber stepped
+
+    -- a block that is accepted is not answered 8, and one that is not accepted is
+    lost-or-not : (decoded : Decoded) → Decodes (delayedBlock past came) (v .left) decoded
+        → eqb (outcomeNumber (outcome decoded)) 8 ≡ eqb (decodedNumber decoded) 8
+    unfolding past outcome
+    lost-or-not (Corrected count) d =
+        accepted-outcome (λ o. eqb (outcomeNumber o) 8 ≡ false) (past .sync) (getD (v .left) 0 0) (λ q l. refl) refl refl (state-range past (y .range) .sync)
+    lost-or-not Uncorrectable d = refl
+    lost-or-not BlockLength d = absurd (d .0 (length-out Receiving (past .deinterleaver .branches) came))
+
+    pub lost-as-received : eqb (numberOf (r .answer)) 8 ≡ eqb (numberOf (received .answer)) 8
+    unfolding past
+    lost-as-received =
+        ap (λ (k : ℕ). eqb k 8) (as-receiver lent exit′ received v blocks room r exit e g .0)
+        ∙ sym (ap (λ (k : ℕ). eqb k 8) answered ∙ lost-or-not (v .decoded) (v .decodes))
+
+    pub changed-as-received : received .receiver .counts .changed ≡ afterCalls freshReceiver before .counts .changed + r .changed
+    unfolding past outcome stateAfter
+    changed-as-received =
+        ap (λ (x : Receiver). x .counts .changed) (v .state ∙ ready-state past came lent y (v .left) (v .decoded))
+        ∙ ap (λ (k : ℕ). past .counts .changed + k)
+        (ap (λ (o : Outcome). changedIn o (delayedBlock past came) (v .left)) stepped
+        ∙ sym (changed-is past came lent y (v .left) (v .decoded) (v .decodes)) ∙ sym (as-receiver lent exit′ received v blocks room r exit e g .1))

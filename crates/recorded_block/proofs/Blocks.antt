@@ -20,7 +20,7 @@ use Rattle.reed_solomon.proofs.Laws.{total, unique}
 use Rattle.interleaver.specs.Gathered.{placeIn, gathered}
 use Rattle.interleaver.proofs.Gathering.{gathered-same}
 use Rattle.receiver.specs.Receive.{changedBytes}
-use Rattle.recorded_block.specs.Block.{wholeBlocks, blockRefusal, roomWith, GivesBlock, Agree, SameBlock}
+use Rattle.recorded_block.specs.Block.{wholeBlocks, blockRefusal, roomWith, GivesBlock, Agree, partAt, SameBlock}
 use Rattle.recorded_block.specs.declared.RepairedBlock.{RepairedBlock}
 
 -- ---- the tests
@@ -88,10 +88,6 @@ agreeing a b blocks p room r s x y e g h k =
     (gathered-same a b p p g) h k
 
 -- ---- by seeking
-
--- the twelve blocks from block p on
-abbrev pub partAt : List ℕ → ℕ → List ℕ
-partAt bytes p = take 2448 (drop (204 * p) bytes)
 
 -- Block p of a recording is block 0 of that part, so a file need not be read from its start. Where there is no such block, there is
 -- none in the part either.

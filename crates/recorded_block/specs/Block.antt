@@ -2,9 +2,9 @@
 -- Assumes nothing.
 use mathlib.Core.Path.{_≡_}
 use mathlib.Core.List.{List, _++_}
-use Prim.Native.Nat.{ℕ, _+_, _/_, _<_, min}
+use Prim.Native.Nat.{ℕ, _+_, _*_, _/_, _<_, min}
 use lib.Dec.{ltb, eqb}
-use lib.ListN.{length, getD, drop}
+use lib.ListN.{length, getD, take, drop}
 use Rattle.common.specs.Choice.{pick}
 use Rattle.answer.specs.Number.{numberOf}
 use Rattle.reed_solomon.specs.Decode.{Decodes, decodedNumber}
@@ -42,6 +42,10 @@ pub record GivesBlock (bytes : List ℕ) (blocks p : ℕ) (room : List ℕ) (r :
 -- two recordings agree in the 204 bytes that block p depends on
 abbrev pub Agree : List ℕ → List ℕ → ℕ → Type 0
 Agree a b p = (n : ℕ) → n < 204 → getD a (placeIn p n) 0 ≡ getD b (placeIn p n) 0
+
+-- the twelve blocks from block p on
+abbrev pub partAt : List ℕ → ℕ → List ℕ
+partAt bytes p = take 2448 (drop (204 * p) bytes)
 
 -- two calls give the same answer, count and room
 pub record SameBlock (r s : RepairedBlock) (x y : List ℕ) : Type 0 where
