@@ -70,5 +70,23 @@ usage dvbs_send 22
 usage dvbs_send 2 2
 usage dvbs_receive 0
 usage pass_report 0
+usage recording_block
+usage recording_block crates/recording_block/data/recording
+usage recording_block crates/recording_block/data/recording 1x
+usage recording_block crates/recording_block/data/recording ""
+usage recording_block crates/recording_block/data/recording 0 0
 echo "usage lines: as expected"
+
+# Each block of a recording, and those that it has not, by the program and by the reference.
+recording=crates/recording_block/data/recording
+for p in {0..28} 4294967283 4294967284 18446744073709551615; do
+    for side in target/bin/recording_block target/cargo/release/recorded_block; do
+        "$side" "$recording" "$p" > "$work/${side##*/}" 2>&1
+    done
+    cmp "$work/recording_block" "$work/recorded_block" || fail "recording_block: block $p"
+done
+# A file that is not there is said, and nothing is written.
+target/bin/recording_block "$work/none" 0 > "$work/out" 2> "$work/err"
+[ ! -s "$work/out" ] && [ -s "$work/err" ] || fail "recording_block: no file"
+echo "recording_block: as the reference"
 echo "$last"

@@ -377,6 +377,28 @@ uint64_t PLAIN(receive_run)(const uint8_t *blocks, size_t blocks_len, uint8_t *r
     return written;
 }
 
+uint8_t PLAIN(recording_block)(const uint8_t *recording, size_t recording_len, uint64_t blocks, uint64_t p,
+                               uint8_t *room, size_t room_len, uint8_t *count, size_t count_len)
+{
+    uint64_t most = blocks < 4294967295 ? blocks : 4294967295;
+    if (blocks != recording_len / BLOCK)
+        return 5;
+    if (most < 12 || p > most - 12)
+        return 16;
+    if (room_len < BLOCK || count_len < 2)
+        return 4;
+    uint8_t block[BLOCK];
+    for (size_t n = 0; n < BLOCK; n++)
+        block[n] = recording[BLOCK * (p + n % 12) + n];
+    int bits = 0, changed = repair(block, &bits);
+    if (changed < 0)
+        return 8;
+    memcpy(room, block, BLOCK);
+    count[0] = (uint8_t)changed;
+    count[1] = (uint8_t)bits;
+    return 0;
+}
+
 /* The stages by themselves. */
 void PLAIN(scale)(uint8_t *lanes, size_t lanes_len, const uint8_t *factors, size_t factors_len)
 {

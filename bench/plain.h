@@ -22,6 +22,8 @@ uint64_t PLAIN(send_run)(uint8_t rate, const uint8_t *packets, size_t packets_le
                          uint8_t *answer, size_t answer_len);
 uint64_t PLAIN(receive_run)(const uint8_t *blocks, size_t blocks_len, uint8_t *room, size_t room_len,
                             uint8_t *counts, size_t counts_len);
+uint8_t PLAIN(recording_block)(const uint8_t *recording, size_t recording_len, uint64_t blocks, uint64_t p,
+                               uint8_t *room, size_t room_len, uint8_t *count, size_t count_len);
 
 void PLAIN(scale)(uint8_t *lanes, size_t lanes_len, const uint8_t *factors, size_t factors_len);
 void PLAIN(interleave)(const uint8_t *blocks, size_t blocks_len, uint8_t *room, size_t room_len);

@@ -13,11 +13,13 @@
  *   2  the packet's first byte is not 47 hex; of dvbs_randomize alone
  *   3  a block is not 204 bytes
  *   4  room too short
- *   5  a number is out of its range: here a place above 7
+ *   5  a number is out of its range: here a place above 7, or a number of blocks
+ *      that is not the recording's
  *   6  a rate other than 0 to 4
  *   8  no codeword within eight bytes
  *  15  done, with a null packet put in
- * Where several are due, the first in the order 6, 5, 1 or 3, 2, 4 is given. */
+ *  16  the recording has no such block
+ * Where several are due, the first in the order 6, 5, 16, 1 or 3, 2, 4 is given. */
 #ifndef DVBS_H
 #define DVBS_H
 
@@ -71,6 +73,20 @@ uint64_t dvbs_send_run(uint8_t rate, const uint8_t *packets, size_t packets_len,
 uint64_t dvbs_receive_run(const uint8_t *blocks, size_t blocks_len,
                           uint8_t *room, size_t room_len,
                           uint8_t *counts, size_t counts_len);
+
+/* Block p of a recording, repaired, p from 0: the 204 bytes, the counts and the
+ * answer 8 that a fresh receiver's repair has at its call p + 12. A view of the
+ * recording is given as its two parts: blocks must be the number of its whole
+ * blocks, recording_len / 204, otherwise 5. 16 where p + 12 is above that or
+ * above 4,294,967,295. Returns the answer; where it is 0, room has the block,
+ * count[0] how many bytes were changed and count[1] how many bits, otherwise both
+ * are left. Lend 204 bytes of room and two bytes for the counts, otherwise 4.
+ * Only 204 bytes of the recording are looked at, among the 2,448 from byte 204 p
+ * on. */
+uint8_t dvbs_recording_block(const uint8_t *recording, size_t recording_len,
+                             uint64_t blocks, uint64_t p,
+                             uint8_t *room, size_t room_len,
+                             uint8_t *count, size_t count_len);
 
 #ifdef __cplusplus
 }

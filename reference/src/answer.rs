@@ -16,6 +16,7 @@ pub enum Answer {
     Waiting = 10,
     OutOfStep = 11,
     NullPacket = 15,
+    NoSuchBlock = 16,
 }
 
 impl Answer {

@@ -11,7 +11,7 @@ pub mod expected {
     use crate::answer::Answer;
     use crate::receiver::Receiver;
     use crate::sender::Sender;
-    use crate::{randomizer, reed_solomon, BLOCK_LENGTH, PACKET_LENGTH};
+    use crate::{randomizer, recording, reed_solomon, BLOCK_LENGTH, PACKET_LENGTH};
 
     pub fn randomize(place: u8, packet: &[u8], room: &mut [u8]) -> u8 {
         randomizer::randomize(place, packet, room).number()
@@ -102,6 +102,20 @@ pub mod expected {
         }
         written as u64
     }
+
+    /// Fewer than two bytes for the count are room too short: 4, after 5 and 16.
+    /// The count, changed bytes and changed bits, is written only where the answer
+    /// is 0.
+    pub fn recording_block(recorded: &[u8], blocks: u64, p: u64, room: &mut [u8], count: &mut [u8]) -> u8 {
+        let none: &mut [u8] = &mut [];
+        let room = if count.len() < 2 { none } else { room };
+        let (answer, changed) = recording::repaired_block(recorded, blocks, p, room);
+        if answer == Answer::Done {
+            count[0] = changed.bytes as u8;
+            count[1] = changed.bits as u8;
+        }
+        answer.number()
+    }
 }
 
 /// The linked library.
@@ -142,6 +156,16 @@ pub mod library {
                 counts: *mut u8,
                 counts_len: usize,
             ) -> u64;
+            pub fn dvbs_recording_block(
+                recording: *const u8,
+                recording_len: usize,
+                blocks: u64,
+                p: u64,
+                room: *mut u8,
+                room_len: usize,
+                count: *mut u8,
+                count_len: usize,
+            ) -> u8;
         }
     }
 
@@ -189,6 +213,21 @@ pub mod library {
                 room.len(),
                 counts.as_mut_ptr(),
                 counts.len(),
+            )
+        }
+    }
+
+    pub fn recording_block(recorded: &[u8], blocks: u64, p: u64, room: &mut [u8], count: &mut [u8]) -> u8 {
+        unsafe {
+            c::dvbs_recording_block(
+                recorded.as_ptr(),
+                recorded.len(),
+                blocks,
+                p,
+                room.as_mut_ptr(),
+                room.len(),
+                count.as_mut_ptr(),
+                count.len(),
             )
         }
     }

@@ -12,6 +12,7 @@ pub mod inner_code;
 pub mod interleaver;
 pub mod randomizer;
 pub mod receiver;
+pub mod recording;
 pub mod reed_solomon;
 pub mod sender;
 pub mod xorshift;

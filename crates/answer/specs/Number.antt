@@ -1,8 +1,8 @@
--- The number of each answer: 0 to 11 by document 01, "Answer numbers", 15 by document 02.
+-- The number that document 01, "Answer numbers", and document 02 give each answer.
 -- Assumes nothing.
 use Prim.Native.Nat.{ℕ}
 use Rattle.answer.specs.declared.Answer.{Answer}
-use Rattle.answer.specs.declared.Answer.the-variants.{Done, PacketLength, SyncByte, BlockLength, RoomLength, StateRange, UnknownRate, CountsFull, Uncorrectable, Filling, WaitingForGroup, OutOfStep, NullPacket}
+use Rattle.answer.specs.declared.Answer.the-variants.{Done, PacketLength, SyncByte, BlockLength, RoomLength, StateRange, UnknownRate, CountsFull, Uncorrectable, Filling, WaitingForGroup, OutOfStep, NullPacket, NoSuchBlock}
 
 abbrev pub numberOf : Answer → ℕ
 numberOf Done = 0
@@ -18,3 +18,4 @@ numberOf Filling = 9
 numberOf WaitingForGroup = 10
 numberOf OutOfStep = 11
 numberOf NullPacket = 15
+numberOf NoSuchBlock = 16

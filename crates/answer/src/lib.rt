@@ -1,4 +1,4 @@
-// The answer of a public call. specs/Number.antt gives each case its number.
+// The answer of a public call. specs/Number.antt gives each case the number of documents 01 and 02.
 ghost use mathlib.Core.Path.{_≡_};
 ghost use Rattle.answer.specs.Number.{numberOf};
 
@@ -29,10 +29,12 @@ pub enum Answer {
     OutOfStep,
     // A null packet was sent in place of the input.
     NullPacket,
+    // A recording has no such block, or a receiver would not take it.
+    NoSuchBlock,
 }
 
 impl Answer {
-    // The number of the answer.
+    // The number that documents 01 and 02 give the answer.
     pub fn number(self) -> u8
         ensures { λ r. ⌜ r ≡ numberOf self ⌝ }
     {
@@ -50,6 +52,7 @@ impl Answer {
             Answer::WaitingForGroup => 10,
             Answer::OutOfStep => 11,
             Answer::NullPacket => 15,
+            Answer::NoSuchBlock => 16,
         }
     }
 }

@@ -6,6 +6,7 @@ ghost use Rattle.randomizer.specs.Packet.{randomizeNumber, randomizeRoom, deran
 ghost use Rattle.exports.specs.Decode.{DecodeExported};
 ghost use Rattle.exports.specs.SendRun.{sendRunCount, sendRunRoom, sendRunAnswer};
 ghost use Rattle.exports.specs.ReceiveRun.{ReceiveRunExported};
+ghost use Rattle.exports.specs.RecordingBlock.{RecordingBlockExported};
 use count_bytes::put_counts;
 use reed_solomon::Decoded;
 
@@ -100,4 +101,34 @@ pub extern "C" fn dvbs_receive_run(blocks: &[u8], room: &mut [u8], counts: &mut 
     let held = last.counts;
     put_counts(held, counts);
     recorded.count as u64
+}
+
+// Block p of a recording that has so many whole blocks, repaired into the room: the number of the answer. Where it is 0, the first
+// two bytes of count have the numbers of bytes and bits changed.
+#[no_mangle]
+pub extern "C" fn dvbs_recording_block(
+    recording: &[u8],
+    blocks: u64,
+    p: u64,
+    room: &mut [u8],
+    count: &mut [u8],
+) -> u8
+    ensures { λ r. ⌜
+        RecordingBlockExported (now (recording .entry)) blocks p (now (room .entry)) (now (room .exit)) (now (count .entry)) (now (count .exit)) r ⌝ }
+{
+    if count.len() < 2 {
+        // As with no room at all: 5 and 16 come before 4.
+        let mut none = [0u8; 0];
+        let refused = recorded_block::repaired_block(recording, blocks, p, &mut none);
+        let answer = refused.answer;
+        return answer.number();
+    }
+    let repaired = recorded_block::repaired_block(recording, blocks, p, room);
+    let answer = repaired.answer;
+    let number = answer.number();
+    if number == 0 {
+        count[0] = repaired.changed.bytes;
+        count[1] = repaired.changed.bits;
+    }
+    number
 }

@@ -2,7 +2,7 @@
 -- Assumes nothing.
 use mathlib.Core.Path.{_≡_, refl, ap, ap₂, sym, _∙_}
 use mathlib.Core.List.{List, [], _∷_, _++_, append-assoc, flatten}
-use Prim.Native.Nat.{ℕ, zero, suc, _+_, _-_, _*_, _<_}
+use Prim.Native.Nat.{ℕ, zero, suc, _+_, _*_, _<_}
 use Prim.{tt}
 use native.Mathlib.Nat.{zero-add, add-comm, mul-zero, mul-suc, not-suc-le-zero}
 use native.Mathlib.Omega.{arith}

@@ -34,11 +34,13 @@ gathers bytes p block z h =
     ext-getD 0 block (gathered bytes p) (z ∙ sym (length-gathered bytes p))
     (λ n l. let m : n < 204 = rw z at l in h n m ∙ sym (gathered-at bytes p n m))
 
--- the bytes that come 2,448 bytes after its first and later do not matter
+-- bytes that agree there give the same block
+pub gathered-same : (a b : List ℕ) (p q : ℕ) → ((n : ℕ) → n < 204 → getD a (placeIn p n) 0 ≡ getD b (placeIn q n) 0) → gathered a p ≡ gathered b q
+gathered-same a b p q h = gathers b q (gathered a p) (length-gathered a p) (λ n l. gathered-at a p n l ∙ h n l)
+
+-- those that come 2,448 bytes after its first and later do not matter
 pub gathered-front : (bytes more : List ℕ) (p : ℕ) → 204 * p + 2448 ≤ length bytes → gathered (bytes ++ more) p ≡ gathered bytes p
-gathered-front bytes more p h =
-    gathers bytes p (gathered (bytes ++ more) p) (length-gathered (bytes ++ more) p)
-    (λ n l. gathered-at (bytes ++ more) p n l ∙ List·getD-append bytes more 0 (placeIn p n) (omega arith))
+gathered-front bytes more p h = gathered-same (bytes ++ more) bytes p p (λ n l. List·getD-append bytes more 0 (placeIn p n) (omega arith))
 
 -- ---- the block that the receiving side gives
 

@@ -130,7 +130,7 @@ unfolding randomizedFrom
 coded-count n [] = refl
 coded-count n (p ∷ ps) = ap suc (coded-count (n + 1) ps)
 
-blocks-count : (cs : List Call) → length (blocksOf cs) ≡ length cs
+pub blocks-count : (cs : List Call) → length (blocksOf cs) ≡ length cs
 blocks-count [] = refl
 blocks-count (c ∷ cs) = ap suc (blocks-count cs)
 

@@ -160,6 +160,27 @@ fn receive_run(s: &mut Score, blocks: &[u8], room: Vec<u8>, counts: Vec<u8>) -> 
     (a, eight)
 }
 
+/// The answer, and the block where there is one.
+fn recording_block(s: &mut Score, recording: &[u8], blocks: u64, p: u64, room: Vec<u8>, count: Vec<u8>) -> (u8, Vec<u8>) {
+    let (mut a, mut b) = (room.clone(), room);
+    let (mut m, mut n) = (count.clone(), count);
+    let want = expected::recording_block(recording, blocks, p, &mut a, &mut m);
+    let got = library::recording_block(recording, blocks, p, &mut b, &mut n);
+    let inputs = format!(
+        "recording of {}, {blocks} blocks, block {p}, room of {}, count of {}",
+        recording.len(),
+        a.len(),
+        m.len()
+    );
+    s.same(
+        &inputs,
+        &[("answer", &[want]), ("count", &m), ("room", &a)],
+        &[("answer", &[got]), ("count", &n), ("room", &b)],
+    );
+    a.truncate(if want == 0 { BLOCK_LENGTH } else { 0 });
+    (want, a)
+}
+
 // Inputs.
 
 fn packets(r: &mut Xorshift, count: usize) -> Vec<u8> {
@@ -657,6 +678,73 @@ fn receive_kinds(s: &mut Score) {
     }
 }
 
+fn recording_kinds(s: &mut Score) {
+    let mut lost = 0u64;
+    s.kind("recording_block: every block", 60, |s, r, case| {
+        // Clean, harmed here and there, in bursts, begun inside a group, and noise.
+        let count = 12 + r.below(50);
+        let p = packets(r, count + 3);
+        let from = case as usize % 4;
+        let mut recording = interleaved_stream(&p)[204 * from..].to_vec();
+        if case % 3 > 0 {
+            let one_in = 15 + r.below(60);
+            recording.iter_mut().for_each(|byte| if r.below(one_in) == 0 { *byte = r.byte() });
+        }
+        if case % 5 == 4 {
+            let at = r.below(recording.len() - 1000);
+            recording[at..at + 1000].iter_mut().for_each(|byte| *byte = 0xFF);
+        }
+        if case % 20 == 19 {
+            let length = recording.len();
+            recording = r.bytes(length);
+        }
+        let rest = r.below(204);
+        recording.extend(r.bytes(rest));
+        let blocks = recording.len() as u64 / 204;
+        for p in 0..blocks {
+            let room = room_of(r, 204);
+            let before = count_before(r);
+            let (answer, block) = recording_block(s, &recording, blocks, p, room, before);
+            lost += (answer == 8) as u64;
+            // The twelve blocks from block p on are all that matters.
+            let at = 204 * p as usize;
+            if let Some(part) = recording.get(at..at + 2448) {
+                assert_eq!(recording_block(s, part, 12, 0, vec![0xA5; 204], vec![0xA5; 2]), (answer, block));
+            }
+        }
+    });
+    if lost > 0 {
+        println!("  beyond repair: {lost}");
+        assert!(lost >= 100, "{lost}");
+    }
+    s.kind("recording_block: only 204 bytes matter", 200, |s, r, case| {
+        let p = packets(r, 20);
+        let recording = interleaved_stream(&p);
+        let block = case % 9;
+        let mut other = r.bytes(recording.len());
+        for n in 0..204 {
+            let at = 204 * (block as usize + n % 12) + n;
+            other[at] = recording[at];
+        }
+        let (answer, whole) = recording_block(s, &recording, 20, block, vec![0xA5; 204], vec![0xA5; 2]);
+        assert_eq!(recording_block(s, &other, 20, block, vec![0xA5; 204], vec![0xA5; 2]), (answer, whole));
+    });
+    s.kind("recording_block: refusals", 60, |s, r, case| {
+        let length = [0, 1, 203, 204, 2447, 2448, 2449, 2652, 4000][case as usize % 9];
+        let recording = r.bytes(length);
+        let whole = length as u64 / 204;
+        for blocks in [whole, whole + 1, whole.wrapping_sub(1), 0, 12, u64::MAX] {
+            for p in [0, 1, whole.wrapping_sub(12), whole.wrapping_sub(11), whole, 4_294_967_283, 4_294_967_284, u64::MAX - 11, u64::MAX] {
+                for room in [0, 203, 204, 205] {
+                    for count in [0, 1, 2, 3] {
+                        recording_block(s, &recording, blocks, p, r.bytes(room), vec![0xA5; count]);
+                    }
+                }
+            }
+        }
+    });
+}
+
 /// A block by what it is to group synchronization.
 #[derive(Clone, Copy, PartialEq)]
 enum Heard {
@@ -745,6 +833,7 @@ fn main() {
     decode_kinds(&mut s);
     send_kinds(&mut s);
     receive_kinds(&mut s);
+    recording_kinds(&mut s);
     println!("comparisons: {} passed, {} failed", s.passed_all, s.failed_all);
     std::process::exit((s.failed_all > 0) as i32);
 }
