@@ -1,8 +1,8 @@
--- The number that document 01, "Answer numbers", gives each answer.
+-- The number of each answer: 0 to 11 by document 01, "Answer numbers", the others by the request of document 02 that brings them.
 -- Assumes nothing.
 use Prim.Native.Nat.{ℕ}
 use Rattle.answer.specs.declared.Answer.{Answer}
-use Rattle.answer.specs.declared.Answer.the-variants.{Done, PacketLength, SyncByte, BlockLength, RoomLength, StateRange, UnknownRate, CountsFull, Uncorrectable, Filling, WaitingForGroup, OutOfStep}
+use Rattle.answer.specs.declared.Answer.the-variants.{Done, PacketLength, SyncByte, BlockLength, RoomLength, StateRange, UnknownRate, CountsFull, Uncorrectable, Filling, WaitingForGroup, OutOfStep, PatternLength, RunLength, SymbolRange}
 
 abbrev pub numberOf : Answer → ℕ
 numberOf Done = 0
@@ -17,3 +17,6 @@ numberOf Uncorrectable = 8
 numberOf Filling = 9
 numberOf WaitingForGroup = 10
 numberOf OutOfStep = 11
+numberOf PatternLength = 12
+numberOf RunLength = 13
+numberOf SymbolRange = 14

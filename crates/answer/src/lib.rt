@@ -1,4 +1,4 @@
-// The answer of a public call. specs/Number.antt gives each case the number of document 01.
+// The answer of a public call. specs/Number.antt gives each case its number.
 ghost use mathlib.Core.Path.{_≡_};
 ghost use Rattle.answer.specs.Number.{numberOf};
 
@@ -27,10 +27,16 @@ pub enum Answer {
     WaitingForGroup,
     // The sync byte that is due was not there.
     OutOfStep,
+    // The symbols of a run do not make whole puncturing patterns.
+    PatternLength,
+    // A run has more than 1,632 bits.
+    RunLength,
+    // A symbol is above 3.
+    SymbolRange,
 }
 
 impl Answer {
-    // The number that document 01 gives the answer.
+    // The number that documents 01 and 02 give the answer.
     pub fn number(self) -> u8
         ensures { λ r. ⌜ r ≡ numberOf self ⌝ }
     {
@@ -47,6 +53,9 @@ impl Answer {
             Answer::Filling => 9,
             Answer::WaitingForGroup => 10,
             Answer::OutOfStep => 11,
+            Answer::PatternLength => 12,
+            Answer::RunLength => 13,
+            Answer::SymbolRange => 14,
         }
     }
 }

@@ -1,0 +1,4 @@
+pub mod Order
+pub mod Paths
+pub mod Spread
+pub mod Laws
