@@ -1,3 +1,4 @@
 pub mod Decode
 pub mod SendRun
 pub mod ReceiveRun
+pub mod ReadRun

@@ -6,3 +6,5 @@ pub mod Whole
 pub mod Decisions
 pub mod Outcome
 pub mod Reading
+pub mod Laws
+pub mod Streams

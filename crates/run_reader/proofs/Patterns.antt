@@ -1,10 +1,10 @@
 -- Runs of whole patterns: how many symbols they have, and the coder after them.
 -- Assumes nothing.
-use mathlib.Core.Path.{_≡_, _∙_, ap}
+use mathlib.Core.Path.{_≡_, _∙_, ap, sym}
 use mathlib.Core.List.{List}
-use Prim.Native.Nat.{ℕ, _/_, _%_, _≤_, _<_}
+use Prim.Native.Nat.{ℕ, _/_, _%_, _≤_, _<_, _*_}
 use native.Mathlib.Omega.{arith}
-use native.Mathlib.Nat.{zero-add, mul-mod-right, mul-le-mul-right, div-add-mod}
+use native.Mathlib.Nat.{zero-add, mul-mod-right, mul-le-mul-right, mul-div-right, div-add-mod}
 use lib.Dec.{leb, leb→le, ltb, ltb→lt}
 use lib.ListN.{length}
 use Rattle.common.proofs.Computed as computed
@@ -69,3 +69,17 @@ module _ (rate : ℕ) (hr : rate < 5) (symbols : List ℕ) where
     pub symbols-few : length symbols ≤ n
     symbols-few =
         omega (arith, div-add-mod (length symbols) (symbolsPerPattern rate), mul-le-mul-right (length symbols / symbolsPerPattern rate) (symbols-le rate hr))
+
+-- the symbols of whole patterns of bits are whole patterns, of as many bits
+pub sent-whole : (rate m : ℕ) → rate < 5 → m < 64 → (bits : List ℕ) → Bits bits → length bits % patternLength rate ≡ 0 → (ss : List ℕ) → ss ≡ symbolsOf (coderAt rate m) bits
+    → (length ss % symbolsPerPattern rate ≡ 0) × (length bits ≡ runLength rate ss)
+unfolding symbolsPerPattern
+sent-whole rate m hr hm bits w e ss es =
+    let p = patternLength rate in
+    let s = symbolsPerPattern rate in
+    let q = length bits / p in
+    let b : length bits ≡ p * q = omega (arith, div-add-mod (length bits) p) in
+    let l : length ss ≡ s * q = ap length es ∙ (length-symbols (coderAt rate m) (at-start rate m hr hm) w ∙ (ap (symbolsIn rate 0) b ∙ whole-count rate q hr)) in (
+      ap (λ (k : ℕ). k % s) l ∙ mul-mod-right s q,
+      b ∙ ap (λ (k : ℕ). p * k) (sym (ap (λ (k : ℕ). k / s) l ∙ mul-div-right q (some-symbols rate hr))),
+    )

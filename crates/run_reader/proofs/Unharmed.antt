@@ -1,31 +1,32 @@
--- A run that was not harmed gives its bits back, and what holds of a run that was.
+-- Hard decisions as costs of the steps; a run that was not harmed has one best sequence, its own bits.
 -- Assumes nothing.
 use mathlib.Core.Bool.{Bool, true, false}
 use mathlib.Core.Path.{_≡_, refl, sym, _∙_, ap}
 use mathlib.Core.List.{List, [], _∷_, map, flatten}
-use Prim.Native.Nat.{ℕ, zero, suc, _+_, _*_, _/_, _%_, _<_}
+use Prim.Native.Nat.{ℕ, zero, suc, _+_, _*_, _/_, _%_, _<_, _≤_}
 use native.Mathlib.Omega.{arith}
-use native.Mathlib.Nat.{mod-lt, one-mul}
+use native.Mathlib.Nat.{mod-lt}
 use borrow.Author.Tests.{eqb-true, eq-eqb}
 use lib.Dec.{eqb, ltb, ltb→lt}
 use lib.ListN.{length, getD, length-map}
 use Rattle.common.specs.Choice.{pick}
 use Rattle.common.proofs.Lists.{getD-map-in}
 use Rattle.convolutional_code.specs.Bits.{Bits}
-use Rattle.convolutional_code.specs.Code.{tapsX, tapsY, coded}
-use Rattle.trellis.specs.Metric.{costFrom}
-use Rattle.trellis.specs.Best.{Best}
-use Rattle.trellis.proofs.Laws.{Apart, free, scale}
+use Rattle.convolutional_code.specs.Code.{tapsX, tapsY, coded, memoryAfter}
+use Rattle.trellis.specs.Metric.{Costs, costFrom}
+use Rattle.trellis.specs.Best.{Best, Decoded}
+use Rattle.trellis.proofs.Ends.{SomeDecoded, some-decoded}
+use Rattle.trellis.proofs.Laws.{Apart, free, best-same, decoded-same}
 use Rattle.puncturing.specs.Mode.{modeOf}
 use Rattle.puncturing.specs.Step.{patternLength}
 use Rattle.puncturing.proofs.Places.{tested-at}
 use Rattle.puncturing.proofs.Steps.{some-bits}
 use Rattle.depuncturing.specs.Steps.{kind, kindCost, kindAt, first, punctured}
 use Rattle.inner_code.specs.Step.{symbolsOf}
-use Rattle.inner_code.proofs.Coder.{length-symbols}
 use Rattle.run_reader.specs.Cost.{coderAt, differ, differing, totalCost, hardCost}
 use Rattle.run_reader.proofs.Serial.{flat}
-use Rattle.run_reader.proofs.Patterns.{at-start}
+use Rattle.run_reader.specs.Read.{symbolsPerPattern, runLength}
+use Rattle.run_reader.proofs.Patterns.{run-whole, run-symbols, sent-whole}
 use Rattle.run_reader.proofs.Costs.{Splits, run-is}
 
 -- ---- hard costs
@@ -94,39 +95,62 @@ apart : (ss : List ℕ) (rate : ℕ) → rate < 5 → Apart (punctured rate (har
 unfolding punctured
 apart ss rate h k s b c hb hc p q = kind-apart ss (kindAt rate k) (first rate k) s b c (sends rate k h) hb hc p q
 
+-- ---- a run, whatever was received
+
+differ-le : (a b : ℕ) → differ a b ≤ 1
+differ-le a b = go (eqb a b)
+  where
+    go : (t : Bool) → pick {A = ℕ} t 0 1 ≤ 1
+    go true = omega arith
+    go false = omega arith
+
+kind-le : (ss : List ℕ) (q j x y : ℕ) → kindCost (hard ss) q j x y ≤ 14
+kind-le ss zero j x y = omega arith
+kind-le ss (suc zero) j x y = omega (arith, differ-le (getD (flat ss) j 0) y)
+kind-le ss (suc (suc zero)) j x y = omega (arith, differ-le (getD (flat ss) j 0) x)
+kind-le ss (suc (suc (suc q))) j x y = omega (arith, differ-le (getD (flat ss) j 0) x, differ-le (getD (flat ss) (j + 1) 0) y)
+
+module _ (rate m : ℕ) (hr : rate < 5) (hm : m < 64) (ss : List ℕ) (whole : length ss % symbolsPerPattern rate ≡ 0) where
+  abbrev n : ℕ
+  n = runLength rate ss
+
+  abbrev F : Costs
+  F = punctured rate (hard ss)
+
+  steps : (ys : List ℕ) → Bits ys → length ys ≡ n → costFrom F 0 m ys ≡ hardCost ss rate m ys
+  steps ys v l =
+      sym (run-is (map differing ss) (hard ss) (hard-splits ss) rate m hr hm v (ap (λ (k : ℕ). k % patternLength rate) l ∙ run-whole rate hr ss)
+      (run-symbols rate hr ss whole m hm ys v l ∙ sym (length-map ss differing)))
+
+  -- there is a best sequence
+  pub hard-decoded : SomeDecoded (hardCost ss rate m) n m
+  unfolding punctured
+  hard-decoded =
+      let d = some-decoded F (λ k s b. kind-le ss (kindAt rate k) (first rate k) (coded tapsX s b) (coded tapsY s b)) m n hm in
+      record { bits = d .bits; total = d .total; after = d .after; decoded = decoded-same n m steps (d .decoded) }
+
+  -- bits that differ nowhere are the best
+  pub free-best : (bits best : List ℕ) → Bits bits → length bits ≡ n → hardCost ss rate m bits ≡ 0 → Best (hardCost ss rate m) n best → best ≡ bits
+  free-best bits best w l z b =
+      free F (apart ss rate hr) n m bits best (best-same n (λ ys v e. sym (steps ys v e)) b) w l (steps bits w l ∙ z)
+
 -- ---- an unharmed run
 
 differ-same : (a : ℕ) → differ a a ≡ 0
 differ-same a = rw (eq-eqb a a refl)
 
+-- the coding of bits differs from itself nowhere
 same-free : (ss : List ℕ) → totalCost (map differing ss) ss ≡ 0
 unfolding totalCost
 same-free [] = refl
 same-free (s ∷ ss) = omega (arith, differ-same (s / 2), differ-same (s % 2), same-free ss)
 
-module _ (rate m : ℕ) (hr : rate < 5) (hm : m < 64) (bits : List ℕ) (w : Bits bits) (e : length bits % patternLength rate ≡ 0) where
-  unfoldable pub sent : List ℕ
-  sent = symbolsOf (coderAt rate m) bits
-
-  sized : (ys : List ℕ) → Bits ys → length ys ≡ length bits → length (symbolsOf (coderAt rate m) ys) ≡ length (map differing sent)
-  unfolding sent
-  sized ys v l =
-      length-symbols (coderAt rate m) (at-start rate m hr hm) v
-      ∙ (rw l (sym (length-symbols (coderAt rate m) (at-start rate m hr hm) w)) ∙ sym (length-map sent differing))
-
-  steps : (ys : List ℕ) → Bits ys → length ys ≡ length bits → costFrom (punctured rate (hard sent)) 0 m ys ≡ 1 * hardCost sent rate m ys
-  steps ys v l =
-      sym (one-mul (hardCost sent rate m ys)
-      ∙ run-is (map differing sent) (hard sent) (hard-splits sent) rate m hr hm v (ap (λ (n : ℕ). n % patternLength rate) l ∙ e) (sized ys v l))
-
-  -- the coding of the bits differs from what was sent nowhere
-  costs-nothing : hardCost sent rate m bits ≡ 0
-  unfolding sent
-  costs-nothing = same-free sent
-
-  -- and no other sequence is the best
-  gives-back : (best : List ℕ) → Best (hardCost sent rate m) (length bits) best → best ≡ bits
-  gives-back best h =
-      free (punctured rate (hard sent)) (apart sent rate hr) (length bits) m bits best
-      (scale 1 (hardCost sent rate m) (costFrom (punctured rate (hard sent)) 0 m) (length bits) (omega arith) steps best h)
-      w refl (steps bits w refl ∙ (one-mul (hardCost sent rate m bits) ∙ costs-nothing))
+-- so a sequence is the best one of its own coding
+pub own-best : (rate m : ℕ) → rate < 5 → m < 64 → {bits : List ℕ} → Bits bits → length bits % patternLength rate ≡ 0 → (ss : List ℕ) → ss ≡ symbolsOf (coderAt rate m) bits
+    → {best : List ℕ} {total after : ℕ} → Decoded (hardCost ss rate m) (runLength rate ss) m best total after
+    → (best ≡ bits) × (total ≡ 0) × (after ≡ memoryAfter m bits)
+own-best rate m hr hm {bits} w e ss es {best} d =
+    let q = sent-whole rate m hr hm bits w e ss es in
+    let z : hardCost ss rate m bits ≡ 0 = ap (totalCost (map differing ss)) (sym es) ∙ same-free ss in
+    let b : best ≡ bits = free-best rate m hr hm ss (q .0) bits best w (q .1) z (d .best) in
+    (b, d .costs ∙ (ap (hardCost ss rate m) b ∙ z), d .ends ∙ ap (memoryAfter m) b)

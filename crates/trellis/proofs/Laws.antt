@@ -5,7 +5,7 @@ use mathlib.Core.List.{List, [], _∷_}
 use Prim.Native.Nat.{ℕ, suc, _*_, _/_, _<_}
 use native.Mathlib.Decide.{ℕ-discrete}
 use native.Mathlib.Omega.{arith}
-use native.Mathlib.Nat.{mul-le-mul-left, mul-div-cancel-left}
+use native.Mathlib.Nat.{mul-le-mul-left, mul-div-cancel-left, one-mul}
 use lib.ListN.{length}
 use Rattle.convolutional_code.specs.Bits.{Bits}
 use Rattle.convolutional_code.specs.Code.{nextMemory, memoryAfter}
@@ -70,7 +70,7 @@ pub free : (F : Costs) → Apart F → (n m : ℕ) (xs bs : List ℕ) → Best (
 free F a n m xs bs b w l z =
     free-unique F a 0 m bs xs (b .binary) w (omega (arith, b .size)) (omega (arith, b .least xs w l)) z
 
--- ---- costs that are c times as high on every sequence of n bits have the same best sequence. At c = 1 they are the same costs by another definition.
+-- ---- costs that are c times as high on every sequence of n bits have the same best sequence.
 
 cancel : (c x y : ℕ) → 0 < c → c * x ≡ c * y → x ≡ y
 cancel c x y pos e = sym (mul-div-cancel-left x pos) ∙ (ap (λ (t : ℕ). t / c) e ∙ mul-div-cancel-left y pos)
@@ -84,3 +84,11 @@ scale c C D n pos h bs b =
       least = λ ys w l. rw (h bs (b .binary) (b .size), h ys w l) (mul-le-mul-left c (b .least ys w l));
       ties = λ ys w l q. b .ties ys w l (cancel c (C bs) (C ys) pos (sym (h bs (b .binary) (b .size)) ∙ (q ∙ h ys w l)));
     }
+
+-- the same costs by another definition
+pub best-same : {C D : List ℕ → ℕ} (n : ℕ) → ((ys : List ℕ) → Bits ys → length ys ≡ n → C ys ≡ D ys) → {bs : List ℕ} → Best C n bs → Best D n bs
+best-same {C} {D} n h {bs} b = scale 1 C D n (omega arith) (λ ys w l. sym (one-mul (C ys) ∙ h ys w l)) bs b
+
+pub decoded-same : {C D : List ℕ → ℕ} (n m : ℕ) → ((ys : List ℕ) → Bits ys → length ys ≡ n → C ys ≡ D ys) → {bs : List ℕ} {total after : ℕ}
+    → Decoded C n m bs total after → Decoded D n m bs total after
+decoded-same n m h {bs} d = record { best = best-same n h (d .best); costs = d .costs ∙ h bs (d .best .binary) (d .best .size); ends = d .ends }

@@ -31,36 +31,6 @@ started m l s h q lt = rw q (go (eqb s m) refl)
         getD-set-other (replicate 64 far) (lane m) (lane s) 0 0 (λ x. eqb-false s m e (sym (lane-lane s lt) ∙ (ap lane x ∙ lane-lane m h)))
         ∙ getD-replicate 64 (lane s) far 0 (lane-lt s)
 
--- ---- the first least
-
-pub ends-one : (M : ℕ → ℕ) → Ends M 1 0
-ends-one M = record { small = omega arith; least = λ t h. rw (is-zero t (omega arith)) (omega arith); first = λ t h. absurd (omega arith) }
-  where
-    is-zero : (t : ℕ) → t ≤ 0 → t ≡ 0
-    is-zero t h = omega arith
-
-pub ends-new : (M : ℕ → ℕ) (n s : ℕ) → Ends M n s → M n < M s → Ends M (n + 1) n
-ends-new M n s e l =
-    record {
-      small = omega arith;
-      least = λ t h. ⊎-elim (λ q. rw q (omega arith)) (λ q. omega (arith, e .least t q)) (eq-or-lt-of-le (le-of t h));
-      first = λ t h. omega (arith, e .least t h);
-    }
-  where
-    le-of : (t : ℕ) → t < n + 1 → t ≤ n
-    le-of t h = omega arith
-
-pub ends-old : (M : ℕ → ℕ) (n s : ℕ) → Ends M n s → M s ≤ M n → Ends M (n + 1) s
-ends-old M n s e l =
-    record {
-      small = omega arith;
-      least = λ t h. ⊎-elim (λ q. rw q (omega arith)) (λ q. e .least t q) (eq-or-lt-of-le (le-of t h));
-      first = e .first;
-    }
-  where
-    le-of : (t : ℕ) → t < n + 1 → t ≤ n
-    le-of t h = omega arith
-
 -- ---- metrics less an offset give the same step
 
 module _ (M N : ℕ → ℕ) (o : ℕ) (same : (t : ℕ) → t < 64 → M t + o ≡ N t) (f : ℕ → ℕ → ℕ) (s : ℕ) where

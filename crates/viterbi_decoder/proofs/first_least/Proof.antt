@@ -6,7 +6,7 @@ use native.Mathlib.Omega.{arith}
 use Rattle.viterbi_decoder.specs.Step.{at}
 use mathlib.Core.Logic.{⊎-elim}
 use Rattle.trellis.specs.Metric.{Ends}
-use Rattle.viterbi_decoder.proofs.Sweeps.{ends-one, ends-new, ends-old}
+use Rattle.trellis.proofs.Ends.{ends-one, ends-new, ends-old}
 use Rattle.viterbi_decoder.proofs.first_least.Statement.{statement}
 use Rattle.viterbi_decoder.proofs.first_least.Tie as tie
 
