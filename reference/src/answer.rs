@@ -1,4 +1,4 @@
-//! The answer numbers of document 01.
+//! The answer numbers of documents 01 and 02.
 
 #[derive(Clone, Copy, Debug, PartialEq, Eq)]
 #[repr(u8)]
@@ -15,6 +15,9 @@ pub enum Answer {
     Filling = 9,
     Waiting = 10,
     OutOfStep = 11,
+    BrokenPattern = 12,
+    LongRun = 13,
+    NoSymbol = 14,
 }
 
 impl Answer {
