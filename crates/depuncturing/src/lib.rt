@@ -1,6 +1,6 @@
 // Depuncturing: the costs of the coded bits received, put where the steps of the trellis want them.
 ghost use mathlib.Core.Path.{_≡_};
-ghost use Prim.Native.Nat.{ℕ, _+_, _*_, _<_, _≤_};
+ghost use Prim.Native.Nat.{ℕ, _+_, _*_, _%_, _<_, _≤_};
 ghost use lib.ListN.{length, getD};
 ghost use Rattle.puncturing.specs.Step.{patternLength};
 ghost use Rattle.depuncturing.specs.Steps.{kind, width, first, value, stepValue};
@@ -85,6 +85,15 @@ fn four_of(costs: &[u8], q: u8, j: usize) -> Four
     }
 }
 
+// The place after one in a pattern. It is the remainder by the pattern's length, which costs more to compute.
+fn following(place: usize, pattern: usize) -> usize
+    requires { ⌜ (place < pattern) × (pattern ≤ 7) ⌝ }
+    ensures { λ r. ⌜ r ≡ (place + 1) % pattern ⌝ }
+{
+    let next = place + 1;
+    if next < pattern { next } else { 0 }
+}
+
 // Writes the four costs of each of n steps.
 pub fn spread_costs(costs: &[u8], rate: usize, pattern: usize, n: usize, room: &mut [u8])
     requires { ⌜ (rate < 5) × (pattern ≡ patternLength rate) × (0 < pattern) × (pattern ≤ 7) × (2 * first rate n ≤ length (now costs)) × (4 * n ≤ length (now room)) ⌝ }
@@ -107,7 +116,7 @@ pub fn spread_costs(costs: &[u8], rate: usize, pattern: usize, n: usize, room: &
         room[at3] = f.y1;
         at = at3 + 1;
         j = f.next;
-        place = (place + 1) % pattern;
+        place = following(place, pattern);
         k += 1;
     }
 }

@@ -52,11 +52,10 @@ slice-write-room-4 c = simp length-set (omega (arith, (c .before .before .loop) 
 add-at : tie.Need-add-at Inv-loop μ-loop
 add-at c = omega arith
 
-add-place : tie.Need-add-place Inv-loop μ-loop
-add-place c = omega (arith, in-pattern _ _ _ _ ((c .before .before .loop) .inv) ((c .before .before .before .before .before) .pre .1) ((c .before .before .before .before .before) .pre .2) .1)
-
-rem-place : tie.Need-rem-place Inv-loop μ-loop
-rem-place c = omega arith
+following-requires : tie.Need-following-requires Inv-loop μ-loop
+following-requires c κs =
+    let s = c .before .before .before .before .before in
+    (in-pattern _ _ _ _ (c .before .before .loop .inv) (s .pre .1) (s .pre .2) .1, s .pre .3)
 
 add-k : tie.Need-add-k Inv-loop μ-loop
 add-k c = omega arith
@@ -66,10 +65,12 @@ loop-less c = omega arith
 
 loop-again : tie.Need-loop-again Inv-loop μ-loop
 loop-again c =
-    let l = (c .before .before .loop) in
-    let s = (c .before .before .before .before .before) in
-    let f = c .four-of .ensures in
-    rw (s .pre .1) (spreading-more _ _ _ (l .inv) (c .before .loop-test .taken) (s .pre .5) _ _ _ _ _ _ (table-is _ _ (s .pre .0) (in-pattern _ _ _ _ ((c .before .before .loop) .inv) ((c .before .before .before .before .before) .pre .1) ((c .before .before .before .before .before) .pre .2) .0)) (f .0) (f .1) (f .2) (f .3) (f .4))
+    let l = c .before .before .before .loop in
+    let s = c .before .before .before .before .before .before in
+    let f = c .before .four-of .ensures in
+    rw (c .following .ensures, s .pre .1)
+    (spreading-more _ _ _ (l .inv) (c .before .before .loop-test .taken) (s .pre .5) _ _ _ _ _ _
+    (table-is _ _ (s .pre .0) (in-pattern _ _ _ _ (l .inv) (s .pre .1) (s .pre .2) .0)) (f .0) (f .1) (f .2) (f .3) (f .4))
 
 same-length : tie.Need-same-length Inv-loop μ-loop
 same-length c = c .before .loop .inv .written .len
@@ -96,8 +97,7 @@ spread-costs-spec =
     add-at3
     slice-write-room-4
     add-at
-    add-place
-    rem-place
+    following-requires
     add-k
     loop-less
     loop-again
