@@ -36,7 +36,7 @@ drop-bits zero w = w
 drop-bits (suc n) none = none
 drop-bits (suc n) (more h w) = drop-bits n w
 
-memory-append : (m : ℕ) (a b : List ℕ) → memoryAfter m (a ++ b) ≡ memoryAfter (memoryAfter m a) b
+pub memory-append : (m : ℕ) (a b : List ℕ) → memoryAfter m (a ++ b) ≡ memoryAfter (memoryAfter m a) b
 unfolding memoryAfter
 memory-append m [] b = refl
 memory-append m (x ∷ a) b = memory-append _ a b

@@ -27,7 +27,7 @@ pub struct Read {
     pub count: usize,
 }
 
-fn symbol_count(rate: u8) -> u8
+pub fn symbol_count(rate: u8) -> u8
     requires { ⌜ rate < 5 ⌝ }
     ensures { λ r. ⌜ r ≡ symbolsPerPattern rate ⌝ }
 {

@@ -38,6 +38,14 @@ pub data Decided (rate : ℕ) : ℕ → List ℕ → List ℕ → ℕ → List �
       → Decided rate (memoryAfter m (take (keptBits rate) bits)) (drop (keptSymbols rate) ss) out last left
       → Decided rate m ss (take (keptBits rate) bits ++ out) last left
 
+-- a longest run that is read, and the memory after the bits of it that are kept
+pub record FullRead (rate memory : ℕ) (ss room : List ℕ) (after : ℕ) (exit : List ℕ) : Type 0 where
+  pub cost : ℕ
+  pub last : ℕ
+  pub count : ℕ
+  pub out : ReadOut rate memory ss room last cost count exit
+  pub leaves : after ≡ memoryAfter memory (take (keptBits rate) (out .bits))
+
 -- a stream in progress, and what it holds
 abbrev pub heldOf : SymbolStream → List ℕ
 heldOf s = take (s .count) (s .held)
@@ -59,9 +67,8 @@ pub record Holds (s : SymbolStream) (rate memory : ℕ) (ss : List ℕ) : Type 0
 pub data Feeds (s : SymbolStream) (piece room : List ℕ) (next : SymbolStream) (taken count : ℕ) (exit : List ℕ) : Type 0 where
   gathered : length (heldOf s ++ piece) < fullSymbols (s .rate) → taken ≡ length piece → count ≡ 0 → exit ≡ room
       → Holds next (s .rate) (s .memory) (heldOf s ++ piece) → Feeds s piece room next taken count exit
-  read : (ss : List ℕ) → ss ≡ heldOf s ++ take taken piece → taken ≤ length piece → length ss ≡ fullSymbols (s .rate) → (cost after : ℕ)
-      → (o : ReadOut (s .rate) (s .memory) ss room after cost (runLength (s .rate) ss) exit) → count ≡ keptBits (s .rate)
-      → Holds next (s .rate) (memoryAfter (s .memory) (take (keptBits (s .rate)) (o .bits))) (drop (keptSymbols (s .rate)) ss)
+  read : (ss : List ℕ) → ss ≡ heldOf s ++ take taken piece → taken ≤ length piece → length ss ≡ fullSymbols (s .rate) → count ≡ keptBits (s .rate)
+      → (after : ℕ) → FullRead (s .rate) (s .memory) ss room after exit → Holds next (s .rate) after (drop (keptSymbols (s .rate)) ss)
       → Feeds s piece room next taken count exit
 
 -- What the end of a stream gives: the bits of the whole patterns that are held, and how many symbols are behind them.
