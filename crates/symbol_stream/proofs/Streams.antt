@@ -92,12 +92,12 @@ all-append : (xs ys : List ℕ) → All (λ x. x < 4) xs → All (λ x. x < 4) y
 all-append [] ys h l = l
 all-append (x ∷ xs) ys h l = (h .0, all-append xs ys (h .1) l)
 
-all-take : (n : ℕ) (xs : List ℕ) → All (λ x. x < 4) xs → All (λ x. x < 4) (take n xs)
+pub all-take : (n : ℕ) (xs : List ℕ) → All (λ x. x < 4) xs → All (λ x. x < 4) (take n xs)
 all-take zero xs h = tt
 all-take (suc n) [] h = tt
 all-take (suc n) (x ∷ xs) h = (h .0, all-take n xs (h .1))
 
-all-drop : (n : ℕ) (xs : List ℕ) → All (λ x. x < 4) xs → All (λ x. x < 4) (drop n xs)
+pub all-drop : (n : ℕ) (xs : List ℕ) → All (λ x. x < 4) xs → All (λ x. x < 4) (drop n xs)
 all-drop zero xs h = h
 all-drop (suc n) [] h = tt
 all-drop (suc n) (x ∷ xs) h = all-drop n xs (h .1)
@@ -114,20 +114,21 @@ unfolding valid
 all-valid [] h = refl
 all-valid (s ∷ ss) h = rw (lt-ltb s 4 (h .0)) (all-valid ss (h .1))
 
+-- what is no longer than a longest run has no more bits than the longest
+pub short-run : (rate : ℕ) (ss : List ℕ) → length ss ≤ fullSymbols rate → runLength rate ss ≤ 1632
+unfolding fullSymbols runPatterns
+short-run rate ss most =
+    let d : length ss / symbolsPerPattern rate ≤ 1632 / patternLength rate = div-le-of-le-mul (symbolsPerPattern rate) most in
+    omega (arith, mul-le-mul-left (patternLength rate) d, mul-div-le 1632 (patternLength rate))
+
 pub reads-out : (rate m : ℕ) → rate < 5 → m < 64 → (ss room : List ℕ) → length ss % symbolsPerPattern rate ≡ 0 → length ss ≤ fullSymbols rate
     → All (λ x. x < 4) ss → 1632 ≤ length room → {number after cost count : ℕ} {exit : List ℕ} → Reads rate m ss room number after cost count exit
     → ReadOut rate m ss room after cost count exit
-unfolding fullSymbols runPatterns
 reads-out rate m hr hm ss room whole most v long r = by r
   where
-    short : runLength rate ss ≤ 1632
-    short =
-        let d : length ss / symbolsPerPattern rate ≤ 1632 / patternLength rate = div-le-of-le-mul (symbolsPerPattern rate) most in
-        omega (arith, mul-le-mul-left (patternLength rate) d, mul-div-le 1632 (patternLength rate))
-
     zero-number : readNumber rate m ss room ≡ 0
     zero-number =
-        simp (lt-ltb rate 5 hr, lt-ltb m 64 hm, eq-eqb _ _ whole, le-ltb 1632 (runLength rate ss) short, all-valid ss v, le-ltb (length room) (runLength rate ss) (omega (arith, short)))
+        simp (lt-ltb rate 5 hr, lt-ltb m 64 hm, eq-eqb _ _ whole, le-ltb 1632 (runLength rate ss) (short-run rate ss most), all-valid ss v, le-ltb (length room) (runLength rate ss) (omega (arith, short-run rate ss most)))
 
     by : {number after cost count : ℕ} {exit : List ℕ} → Reads rate m ss room number after cost count exit → ReadOut rate m ss room after cost count exit
     by (calls.refused e h a c k l) = absurd (omega (arith, e, h, zero-number))
