@@ -404,13 +404,10 @@ uint64_t PLAIN(inner_code)(uint8_t rate, const uint8_t *blocks, size_t blocks_le
 
 /* ---- reading a run of symbols: a Viterbi decoder on 64 states ---- */
 
-/* X and Y of each bit of a pattern that are sent, in this order: 1 Y, 2 X, 3 both. */
+/* The bits and the symbols after which a pattern begins anew with no I held. */
 static const struct {
-    int bits, symbols;
-    uint8_t sent[7];
-} patterns[5] = {
-    {1, 1, {3}}, {4, 3, {3, 1, 3, 1}}, {3, 2, {3, 1, 2}}, {5, 3, {3, 1, 2, 1, 2}}, {7, 4, {3, 1, 1, 1, 2, 1, 2}},
-};
+    size_t bits, symbols;
+} patterns[5] = {{1, 1}, {4, 3}, {3, 2}, {5, 3}, {7, 4}};
 
 uint64_t PLAIN(read_run)(uint8_t rate, uint8_t memory, const uint8_t *symbols, size_t symbols_len, uint8_t *room, size_t room_len,
                          uint8_t *result, size_t result_len)
@@ -423,9 +420,9 @@ uint64_t PLAIN(read_run)(uint8_t rate, uint8_t memory, const uint8_t *symbols, s
         return result[0] = 6, 0;
     if (memory > 63)
         return result[0] = 5, 0;
-    if (symbols_len % (size_t)patterns[rate].symbols)
+    if (symbols_len % patterns[rate].symbols)
         return result[0] = 12, 0;
-    size_t count = symbols_len / (size_t)patterns[rate].symbols * (size_t)patterns[rate].bits;
+    size_t count = symbols_len / patterns[rate].symbols * patterns[rate].bits;
     if (count > 1632)
         return result[0] = 13, 0;
     for (size_t i = 0; i < symbols_len; i++)
@@ -440,7 +437,7 @@ uint64_t PLAIN(read_run)(uint8_t rate, uint8_t memory, const uint8_t *symbols, s
         metric[s] = s == memory ? 0 : 100000;
     size_t at = 0; /* the next received bit */
     for (size_t k = 0; k < count; k++) {
-        int sent = patterns[rate].sent[k % (size_t)patterns[rate].bits];
+        int sent = punctured[rate].sent[k % (size_t)punctured[rate].length];
         int received[2] = {-1, -1};
         for (int y = 0; y < 2; y++)
             if (sent & (y ? 1 : 2)) {
