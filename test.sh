@@ -68,6 +68,9 @@ usage dvbs_send
 usage dvbs_send 5
 usage dvbs_send 22
 usage dvbs_send 2 2
+usage dvbs_read
+usage dvbs_read 5
+usage dvbs_read 2 2
 usage dvbs_receive 0
 usage pass_report 0
 usage recording_block

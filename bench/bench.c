@@ -17,7 +17,8 @@
 #include <time.h>
 #ifdef HAVE_LIBFEC
 #include <fec.h>
-static void *fec;
+static void *fec, *viterbi;
+static uint8_t soft[2 * 1632]; /* libfec's order: Y, then X; 0 for a sure 0, 255 for a sure 1 */
 #endif
 
 enum { LIBRARY, PLAIN_C, LIBFEC, SIDES };
@@ -32,7 +33,9 @@ static uint8_t harmed[5][POOL][204]; /* 0, 1, 4, 8 errors, and no codeword */
 static const int errors_of[5] = {0, 1, 4, 8, 12};
 static uint8_t factors[FACTORS];
 static uint8_t coded_run[RUN * 204], clean_stream[RUN * 204], harmed_stream[RUN * 204];
-static uint8_t room[RUN * 1632], block[204], answer[2], counts[64];
+static uint8_t room[RUN * 1632], block[204], answer[2], counts[64], result[6];
+static uint8_t runs[5][1632]; /* the symbols of a longest run at each rate, whose last six bits are 0 */
+static const int run_symbols[5] = {1632, 1224, 1088, 978, 932}, run_bits[5] = {1632, 1632, 1632, 1630, 1631};
 static volatile uint64_t sink;
 
 static uint64_t state = 300421;
@@ -86,8 +89,21 @@ static void prepare(void)
         size_t n = ((size_t)random_byte() << 16 | (size_t)random_byte() << 8 | random_byte()) % sizeof harmed_stream;
         harmed_stream[n] ^= random_nonzero();
     }
+    /* A coded block of random bytes with nothing but zeros at its end: at 5/6 and 7/8 the run ends a bit or two before the block does. */
+    for (int rate = 0; rate < 5; rate++) {
+        uint8_t bytes[204];
+        memcpy(bytes, clean_stream, 204);
+        bytes[203] = 0;
+        PLAIN(inner_code)((uint8_t)rate, bytes, 204, room, sizeof room);
+        memcpy(runs[rate], room, (size_t)run_symbols[rate]);
+    }
     memset(room, 0xa5, sizeof room);
 #ifdef HAVE_LIBFEC
+    for (int i = 0; i < 1632; i++) {
+        soft[2 * i] = runs[0][i] & 1 ? 255 : 0;
+        soft[2 * i + 1] = runs[0][i] >> 1 ? 255 : 0;
+    }
+    viterbi = create_viterbi27(1632);
     fec = init_rs_char(8, 0x11d, 0, 1, 16, 51);
 #endif
 }
@@ -168,6 +184,26 @@ static void send(const struct kernel *k, int side, int n)
                                                                 room, sizeof room, answer, 1);
 }
 
+static void read_run(const struct kernel *k, int side, int n)
+{
+    int rate = k->argument;
+    (void)n;
+    if (side != LIBFEC)
+        sink += (side == LIBRARY ? dvbs_read_run : PLAIN(read_run))((uint8_t)rate, 0, runs[rate], (size_t)run_symbols[rate], room,
+                                                                    (size_t)run_bits[rate], result, 6);
+#ifdef HAVE_LIBFEC
+    else {
+        uint8_t packed[204] = {0};
+        init_viterbi27(viterbi, 0);
+        update_viterbi27_blk(viterbi, soft, 1632);
+        chainback_viterbi27(viterbi, packed, 1626, 0);
+        for (int i = 0; i < 1632; i++)
+            room[i] = packed[i / 8] >> (7 - i % 8) & 1;
+    }
+#endif
+    sink += room[0];
+}
+
 static void receive(const struct kernel *k, int side, int n)
 {
     const uint8_t *stream = k->argument ? harmed_stream : clean_stream;
@@ -196,6 +232,11 @@ static const struct kernel kernels[] = {
     {"send_3_4", "send a packet, 3/4", RUN, TWO, 2, send},
     {"send_5_6", "send a packet, 5/6", RUN, TWO, 3, send},
     {"send_7_8", "send a packet, 7/8", RUN, TWO, 4, send},
+    {"read_1_2", "read 1,632 bits, 1/2", 1, THREE, 0, read_run},
+    {"read_2_3", "read 1,632 bits, 2/3", 1, TWO, 1, read_run},
+    {"read_3_4", "read 1,632 bits, 3/4", 1, TWO, 2, read_run},
+    {"read_5_6", "read 1,630 bits, 5/6", 1, TWO, 3, read_run},
+    {"read_7_8", "read 1,631 bits, 7/8", 1, TWO, 4, read_run},
     {"receive_clean", "receive a block, clean", RUN, TWO, 0, receive},
     {"receive_harmed", "receive a block, harmed", RUN, TWO, 1, receive},
 };
@@ -231,7 +272,7 @@ static int agree(const struct kernel *k)
     static uint8_t kept[sizeof room];
     uint8_t kept_block[204];
     int calls = k->blocks == 1 ? POOL : 1;
-    size_t used = k->blocks == 1 ? 204 : sizeof room;
+    size_t used = k->blocks == 1 ? 1632 : sizeof room;
     for (int n = 0; n < calls; n++)
         for (int side = 0; side < SIDES; side++) {
             if (!has(k, side))
@@ -270,8 +311,8 @@ static int table(const char *counts_file)
     if (f)
         fclose(f);
 
-    printf("Each figure is for one block: one packet in the randomizer and in sending, and in the field\n"
-           "product sixteen lanes times one factor.\n"
+    printf("Each figure is for one block: one packet in the randomizer and in sending, one longest run in reading,\n"
+           "and in the field product sixteen lanes times one factor.\n"
            "Interleaver, inner coder, sending, receiving: one call on %d blocks from a fresh state, divided.\n"
            "Data is random. Rooms are not cleared: they are lent as the call before left them. A block to be\n"
            "decoded is copied in afresh before every call, inside the measure, on every side.\n"

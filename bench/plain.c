@@ -432,3 +432,74 @@ uint64_t PLAIN(inner_code)(uint8_t rate, const uint8_t *blocks, size_t blocks_le
         written += inner_code(&inner, blocks + n, BLOCK, room + written);
     return written;
 }
+
+/* ---- reading a run of symbols: a Viterbi decoder on 64 states ---- */
+
+/* The bits and the symbols after which a pattern begins anew with no I held. */
+static const struct {
+    size_t bits, symbols;
+} patterns[5] = {{1, 1}, {4, 3}, {3, 2}, {5, 3}, {7, 4}};
+
+uint64_t PLAIN(read_run)(uint8_t rate, uint8_t memory, const uint8_t *symbols, size_t symbols_len, uint8_t *room, size_t room_len,
+                         uint8_t *result, size_t result_len)
+{
+    if (result_len < 6)
+        return 0;
+    memset(result, 0, 6);
+    result[1] = memory;
+    if (rate > 4)
+        return result[0] = 6, 0;
+    if (memory > 63)
+        return result[0] = 5, 0;
+    if (symbols_len % patterns[rate].symbols)
+        return result[0] = 12, 0;
+    size_t count = symbols_len / patterns[rate].symbols * patterns[rate].bits;
+    if (count > 1632)
+        return result[0] = 13, 0;
+    for (size_t i = 0; i < symbols_len; i++)
+        if (symbols[i] > 3)
+            return result[0] = 14, 0;
+    if (room_len < count)
+        return result[0] = 4, 0;
+
+    uint32_t metric[64], next[64];
+    static uint8_t oldest[1632][64];
+    for (int s = 0; s < 64; s++)
+        metric[s] = s == memory ? 0 : 100000;
+    size_t at = 0; /* the next received bit */
+    for (size_t k = 0; k < count; k++) {
+        int sent = punctured[rate].sent[k % (size_t)punctured[rate].length];
+        int received[2] = {-1, -1};
+        for (int y = 0; y < 2; y++)
+            if (sent & (y ? 1 : 2)) {
+                received[y] = symbols[at / 2] >> (1 - at % 2) & 1;
+                at++;
+            }
+        for (int s = 0; s < 64; s++) {
+            uint32_t way[2];
+            for (int d = 0; d < 2; d++) {
+                int window = (s >> 5) << 6 | (s & 31) << 1 | d;
+                way[d] = metric[(s & 31) << 1 | d];
+                if (received[0] >= 0)
+                    way[d] += received[0] != __builtin_parity(window & 0171);
+                if (received[1] >= 0)
+                    way[d] += received[1] != __builtin_parity(window & 0133);
+            }
+            oldest[k][s] = way[1] < way[0];
+            next[s] = way[1] < way[0] ? way[1] : way[0];
+        }
+        memcpy(metric, next, sizeof metric);
+    }
+    int s = 0;
+    for (int t = 1; t < 64; t++)
+        if (metric[t] < metric[s])
+            s = t;
+    result[1] = (uint8_t)s;
+    for (int i = 0; i < 4; i++)
+        result[2 + i] = (uint8_t)(metric[s] >> 8 * i);
+    for (size_t k = count; k-- > 0;) {
+        room[k] = (uint8_t)(s >> 5);
+        s = (s & 31) << 1 | oldest[k][s];
+    }
+    return count;
+}

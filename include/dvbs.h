@@ -5,7 +5,7 @@
  * so any length and any bytes may come; what the caller owes is that lengths are
  * true and that buffers of one call do not overlap. Nothing is kept between
  * calls. After a refusal the buffers are as they were, but for a byte lent to
- * take the answer, and room beyond what is given is never written.
+ * take the answer or the result, and room beyond what is given is never written.
  *
  * Answers:
  *   0  done
@@ -13,13 +13,17 @@
  *   2  the packet's first byte is not 47 hex; of dvbs_randomize alone
  *   3  a block is not 204 bytes
  *   4  room too short
- *   5  a number is out of its range: here a place above 7, or a number of blocks
- *      that is not the recording's
+ *   5  a number is out of its range: here a place above 7, a memory above 63, or
+ *      a number of blocks that is not the recording's
  *   6  a rate other than 0 to 4
  *   8  no codeword within eight bytes
+ *  12  symbols that do not make whole puncturing patterns
+ *  13  a run of more than 1,632 bits
+ *  14  a symbol above 3
  *  15  done, with a null packet put in
  *  16  the recording has no such block
- * Where several are due, the first in the order 6, 5, 16, 1 or 3, 2, 4 is given. */
+ * Where several are due, the first in the order 6, 5, 16, 1 or 3, 2, 12, 13, 14, 4
+ * is given. */
 #ifndef DVBS_H
 #define DVBS_H
 
@@ -30,7 +34,7 @@
 extern "C" {
 #endif
 
-enum { DVBS_PACKET = 188, DVBS_BLOCK = 204, DVBS_COUNTS = 64 };
+enum { DVBS_PACKET = 188, DVBS_BLOCK = 204, DVBS_COUNTS = 64, DVBS_RESULT = 6 };
 
 /* Energy dispersal: the packet at this place (0 to 7) of its group of eight, as
  * it is sent, 188 bytes; and the packet that was sent so. The second takes any
@@ -63,6 +67,21 @@ uint8_t dvbs_rs_decode(uint8_t *block, size_t block_len,
 uint64_t dvbs_send_run(uint8_t rate, const uint8_t *packets, size_t packets_len,
                        uint8_t *room, size_t room_len,
                        uint8_t *answer, size_t answer_len);
+
+/* Reads a run of symbols, 2 I + Q each, which begins with a puncturing pattern;
+ * memory is the coder's before it: its last six bits, the newest counting 32.
+ * A pattern has 1, 4, 3, 5 or 7 bits in 1, 3, 2, 3 or 4 symbols. Writes the bits
+ * whose coding differs from the symbols in the fewest I and Q bits, one byte
+ * each, 0 or 1; where several tie, those with 0 at the last place where they
+ * differ. Returns how many bits were written. result: the answer, the memory
+ * after the run, which serves the next one, and in how many I and Q bits the
+ * coding differs, four bytes, lowest first; after a refusal the memory is the
+ * one given and the number 0. Where result is shorter than 6 bytes: returns 0,
+ * writes nothing. */
+uint64_t dvbs_read_run(uint8_t rate, uint8_t memory,
+                       const uint8_t *symbols, size_t symbols_len,
+                       uint8_t *room, size_t room_len,
+                       uint8_t *result, size_t result_len);
 
 /* What a fresh receiver gives for the whole blocks of a recording; bytes after
  * the last of them are left alone. Returns how many bytes of packets were

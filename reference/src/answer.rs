@@ -15,6 +15,9 @@ pub enum Answer {
     Filling = 9,
     Waiting = 10,
     OutOfStep = 11,
+    BrokenPattern = 12,
+    LongRun = 13,
+    NoSymbol = 14,
     NullPacket = 15,
     NoSuchBlock = 16,
 }

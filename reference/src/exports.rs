@@ -4,11 +4,14 @@
 
 /// Eight counts of eight bytes.
 pub const COUNTS_LENGTH: usize = 64;
+/// The result of reading a run: answer, memory, and a number in four bytes.
+pub const RESULT_LENGTH: usize = 6;
 
 /// What the reference gives for the same calls.
 pub mod expected {
     use super::*;
     use crate::answer::Answer;
+    use crate::inner_decoder;
     use crate::receiver::Receiver;
     use crate::sender::Sender;
     use crate::{randomizer, recording, reed_solomon, BLOCK_LENGTH, PACKET_LENGTH};
@@ -80,6 +83,30 @@ pub mod expected {
         written as u64
     }
 
+    /// The answer, the memory after the run and the number of differing bits go
+    /// to the first six bytes of the result. Where they are too few, nothing is
+    /// done; a refused run leaves the memory as it was, and the number is 0.
+    pub fn read_run(rate: u8, memory: u8, symbols: &[u8], room: &mut [u8], result: &mut [u8]) -> u64 {
+        if result.len() < RESULT_LENGTH {
+            return 0;
+        }
+        match inner_decoder::read_run(rate, memory, symbols, room.len()) {
+            Ok(run) => {
+                room[..run.bits.len()].copy_from_slice(&run.bits);
+                result[0] = Answer::Done.number();
+                result[1] = run.memory;
+                result[2..RESULT_LENGTH].copy_from_slice(&run.differing.to_le_bytes());
+                run.bits.len() as u64
+            }
+            Err(refusal) => {
+                result[0] = refusal.number();
+                result[1] = memory;
+                result[2..RESULT_LENGTH].fill(0);
+                0
+            }
+        }
+    }
+
     /// A rest of the recording shorter than a block is left alone. Where the
     /// room has not 188 bytes for each whole block, nothing is written.
     pub fn receive_run(blocks: &[u8], room: &mut [u8], counts: &mut [u8]) -> u64 {
@@ -148,6 +175,16 @@ pub mod library {
                 answer: *mut u8,
                 answer_len: usize,
             ) -> u64;
+            pub fn dvbs_read_run(
+                rate: u8,
+                memory: u8,
+                symbols: *const u8,
+                symbols_len: usize,
+                room: *mut u8,
+                room_len: usize,
+                result: *mut u8,
+                result_len: usize,
+            ) -> u64;
             pub fn dvbs_receive_run(
                 blocks: *const u8,
                 blocks_len: usize,
@@ -200,6 +237,21 @@ pub mod library {
                 room.len(),
                 answer.as_mut_ptr(),
                 answer.len(),
+            )
+        }
+    }
+
+    pub fn read_run(rate: u8, memory: u8, symbols: &[u8], room: &mut [u8], result: &mut [u8]) -> u64 {
+        unsafe {
+            c::dvbs_read_run(
+                rate,
+                memory,
+                symbols.as_ptr(),
+                symbols.len(),
+                room.as_mut_ptr(),
+                room.len(),
+                result.as_mut_ptr(),
+                result.len(),
             )
         }
     }

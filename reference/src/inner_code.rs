@@ -28,6 +28,14 @@ pub struct InnerCoder {
     held: Option<u8>,
 }
 
+/// Whether X, and whether Y, of bit k of a run is transmitted. The rows of 2/3
+/// have two bits; document 01 counts its pattern as four, for whole symbols.
+pub fn pattern(rate: u8, k: usize) -> (bool, bool) {
+    let (keep_x, keep_y) = PUNCTURING[rate as usize];
+    let kept = |row: &str| row.as_bytes()[k % row.len()] == b'1';
+    (kept(keep_x), kept(keep_y))
+}
+
 impl InnerCoder {
     pub fn fresh(rate: u8) -> Result<Self, Answer> {
         if rate >= RATES {
@@ -36,8 +44,29 @@ impl InnerCoder {
         Ok(InnerCoder { rate: rate as usize, memory: 0, taken: 0, held: None })
     }
 
+    /// A coder at the start of a pattern, after bits that left this memory.
+    pub fn after(rate: u8, memory: u8) -> Self {
+        InnerCoder { rate: rate as usize, memory, taken: 0, held: None }
+    }
+
+    /// The bits after which the pattern begins anew and no I is held.
+    pub fn pattern_length(rate: u8) -> usize {
+        let mut coder = InnerCoder::after(rate, 0);
+        let row = PUNCTURING[rate as usize].0.len();
+        loop {
+            coder.step(0, &mut Vec::new());
+            if coder.taken % row == 0 && coder.held.is_none() {
+                return coder.taken;
+            }
+        }
+    }
+
+    pub fn memory(&self) -> u8 {
+        self.memory
+    }
+
     /// X and Y of one bit.
-    fn mother(&mut self, bit: u8) -> (u8, u8) {
+    pub fn mother(&mut self, bit: u8) -> (u8, u8) {
         let window = bit << 6 | self.memory;
         self.memory = window >> 1;
         let parity = |taps: u8| (window & taps).count_ones() as u8 & 1;
@@ -63,6 +92,13 @@ impl InnerCoder {
         if keep_y.as_bytes()[place] == b'1' {
             self.transmit(y, symbols);
         }
+    }
+
+    /// Symbols 2 I + Q of bits, one to a byte.
+    pub fn code_bits(&mut self, bits: &[u8]) -> Vec<u8> {
+        let mut symbols = Vec::with_capacity(bits.len());
+        bits.iter().for_each(|&bit| self.step(bit, &mut symbols));
+        symbols
     }
 
     /// Symbols 2 I + Q of the bytes, top bit first.

@@ -1,5 +1,5 @@
 //! An independent second coder and decoder for the DVB-S chain, written from
-//! EN 300 421 (as ITU-R BO.1211, annex 1) and the project's document 01. It shares
+//! EN 300 421 (as ITU-R BO.1211, annex 1) and the project's documents 01 and 02. It shares
 //! no code with the project and favours the shapes of the standard's figures
 //! (shift registers, queues, bit by bit) over speed.
 
@@ -9,6 +9,7 @@
 pub mod answer;
 pub mod exports;
 pub mod inner_code;
+pub mod inner_decoder;
 pub mod interleaver;
 pub mod randomizer;
 pub mod receiver;

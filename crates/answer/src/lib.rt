@@ -1,4 +1,4 @@
-// The answer of a public call. specs/Number.antt gives each case the number of documents 01 and 02.
+// The answer of a public call. specs/Number.antt gives each case its number.
 ghost use mathlib.Core.Path.{_≡_};
 ghost use Rattle.answer.specs.Number.{numberOf};
 
@@ -27,6 +27,12 @@ pub enum Answer {
     WaitingForGroup,
     // The sync byte that is due was not there.
     OutOfStep,
+    // The symbols of a run do not make whole puncturing patterns.
+    PatternLength,
+    // A run has more than 1,632 bits.
+    RunLength,
+    // A symbol is above 3.
+    SymbolRange,
     // A null packet was sent in place of the input.
     NullPacket,
     // A recording has no such block, or a receiver would not take it.
@@ -51,6 +57,9 @@ impl Answer {
             Answer::Filling => 9,
             Answer::WaitingForGroup => 10,
             Answer::OutOfStep => 11,
+            Answer::PatternLength => 12,
+            Answer::RunLength => 13,
+            Answer::SymbolRange => 14,
             Answer::NullPacket => 15,
             Answer::NoSuchBlock => 16,
         }

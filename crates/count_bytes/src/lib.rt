@@ -1,4 +1,4 @@
-// The counts of a receiver as bytes.
+// Numbers as bytes, and the counts of a receiver so.
 ghost use mathlib.Core.Path.{_≡_};
 ghost use mathlib.Core.List.{_++_};
 ghost use Prim.Native.Nat.{_≤_};
@@ -7,7 +7,7 @@ ghost use Rattle.count_bytes.specs.Bytes.{byteAt, countBytes};
 use reception_counts::Counts;
 
 // Byte k of a number, the lowest being byte 0.
-fn byte_at(n: u64, k: usize) -> u8
+pub fn byte_at(n: u64, k: usize) -> u8
     ensures { λ r. ⌜ r ≡ byteAt k n ⌝ }
 {
     let mut left = n;

@@ -3,10 +3,15 @@
 ghost use mathlib.Core.Path.{_≡_};
 ghost use Rattle.reed_solomon.specs.Encode.{encodeNumber, encodeRoom};
 ghost use Rattle.randomizer.specs.Packet.{randomizeNumber, randomizeRoom, derandomizeNumber, derandomizeRoom};
+ghost use Prim.Native.Nat.{_≤_};
+ghost use mathlib.Core.List.{_++_};
+ghost use lib.ListN.{length, drop};
 ghost use Rattle.exports.specs.Decode.{DecodeExported};
 ghost use Rattle.exports.specs.SendRun.{sendRunCount, sendRunRoom, sendRunAnswer};
 ghost use Rattle.exports.specs.ReceiveRun.{ReceiveRunExported};
 ghost use Rattle.exports.specs.RecordingBlock.{RecordingBlockExported};
+ghost use Rattle.exports.specs.ReadRun.{resultBytes, ReadRunExported};
+use count_bytes::byte_at;
 use count_bytes::put_counts;
 use reed_solomon::Decoded;
 
@@ -131,4 +136,39 @@ pub extern "C" fn dvbs_recording_block(
         count[1] = repaired.changed.bits;
     }
     number
+}
+
+// Writes what reading a run came to: the number of the answer, the memory after it, and the cost in four bytes.
+fn put_result(number: u8, memory: u8, cost: u64, result: &mut [u8])
+    requires { ⌜ 6 ≤ length (now result) ⌝ }
+    ensures { λ _. ⌜ now (result .exit) ≡ resultBytes number memory cost ++ drop 6 (now (result .entry)) ⌝ }
+{
+    result[0] = number;
+    result[1] = memory;
+    result[2] = byte_at(cost, 0);
+    result[3] = byte_at(cost, 1);
+    result[4] = byte_at(cost, 2);
+    result[5] = byte_at(cost, 3);
+}
+
+// Reads a run of symbols: the number of bits written. The first six bytes of result have the number of the answer, the memory after the run and
+// the number of I and Q bits that differ.
+#[no_mangle]
+pub extern "C" fn dvbs_read_run(
+    rate: u8,
+    memory: u8,
+    symbols: &[u8],
+    room: &mut [u8],
+    result: &mut [u8],
+) -> u64
+    ensures { λ r. ⌜
+        ReadRunExported rate memory (now (symbols .entry)) (now (room .entry)) (now (room .exit)) (now (result .entry)) (now (result .exit)) r ⌝ }
+{
+    if result.len() < 6 {
+        return 0;
+    }
+    let read = run_reader::read_run(rate, memory, symbols, room);
+    let answer = read.answer;
+    put_result(answer.number(), read.memory, read.cost, result);
+    read.count as u64
 }

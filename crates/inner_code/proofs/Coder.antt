@@ -67,6 +67,23 @@ pub length-block : (c : InnerCoder) (block : List ℕ) → InRange c → length 
     → length (blockSymbols c block) ≡ symbolsIn (c .rate) (c .place) 1632
 length-block c block g h = length-symbols c g (bits-bits block) ∙ ap (symbolsIn (c .rate) (c .place)) (block-bits block h)
 
+-- ---- where the coder stands
+
+pub coder-rate : (c : InnerCoder) (bits : List ℕ) → coderAfter c bits .rate ≡ c .rate
+unfolding coderAfter
+coder-rate c [] = refl
+coder-rate c (b ∷ bs) = coder-rate (coderStep c b) bs
+
+pub coder-place : (c : InnerCoder) (bits : List ℕ) → coderAfter c bits .place ≡ placeAfter (c .rate) (c .place) (length bits)
+unfolding coderAfter placeAfter
+coder-place c [] = refl
+coder-place c (b ∷ bs) = coder-place (coderStep c b) bs
+
+pub coder-memory : (c : InnerCoder) (bits : List ℕ) → coderAfter c bits .memory ≡ memoryAfter (c .memory) bits
+unfolding coderAfter memoryAfter
+coder-memory c [] = refl
+coder-memory c (b ∷ bs) = coder-memory (coderStep c b) bs
+
 -- ---- one list after another
 
 pub symbols-append : (a b : List ℕ) (c : InnerCoder) → symbolsOf c (a ++ b) ≡ symbolsOf c a ++ symbolsOf (coderAfter c a) b

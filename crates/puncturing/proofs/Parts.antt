@@ -3,16 +3,17 @@
 use mathlib.Core.Path.{_≡_, refl, ap, ap₂, sym, _∙_}
 use mathlib.Core.List.{List, [], _++_, append-assoc}
 use Prim.Native.Nat.{ℕ, zero, suc, _+_, _-_, _*_, _%_, _≤_, _<_}
-use native.Mathlib.Nat.{zero-add, add-zero, add-suc, suc-add, suc-mul, zero-mul}
+use native.Mathlib.Nat.{zero-add, add-zero, add-suc, add-assoc, suc-add, suc-mul, zero-mul, mul-zero, mul-suc, mul-mod-right, mod-add-mod, mod-eq-of-lt}
 use native.Mathlib.Omega.{arith}
+use lib.Dec.{ltb, ltb→lt}
 use lib.ListN.{length, getD, length-append}
 use Rattle.common.proofs.Computed as computed
 use Rattle.convolutional_code.specs.Bits.{Bits}
 use Rattle.convolutional_code.proofs.Bits.{bits-at}
-use Rattle.puncturing.specs.Mode.{modeOf}
-use Rattle.puncturing.specs.Step.{patternLength, nextPlace, heldCount, listOf, punctured, heldAfter}
+use Rattle.puncturing.specs.Mode.{modeOf, completed}
+use Rattle.puncturing.specs.Step.{patternLength, nextPlace, heldCount, listOf, punctured, heldAfter, symbolsIn}
 use Rattle.puncturing.specs.Run.{sentSymbols, placeAfter, heldBehind, patternSymbols, patternsSymbols, iBits, qBits}
-use Rattle.puncturing.proofs.Places.{agreed-at, end, _&_, Below, below}
+use Rattle.puncturing.proofs.Places.{tested-at, agreed-at, end, _&_, Below, below}
 use Rattle.puncturing.proofs.Steps.{some-bits, next-lt, held-in-range}
 use Rattle.puncturing.proofs.Patterns.{length-pattern}
 use Rattle.puncturing.proofs.Rates.{table}
@@ -59,9 +60,47 @@ held-behind r p h l n (suc k) hr hp hh t =
     held-behind r (nextPlace r p) (heldAfter r p (getD l n 0) (getD l (1632 + n) 0) h) l (suc n) k hr (next-lt r p hp)
     (held-in-range r p (getD l n 0) (getD l (1632 + n) 0) h hr hp (bits-at t (1632 + n))) t
 
+-- ---- how many symbols
+
+pub symbols-in-append : (r p j k : ℕ) → symbolsIn r p (j + k) ≡ symbolsIn r p j + symbolsIn r (placeAfter r p j) k
+unfolding symbolsIn placeAfter
+symbols-in-append r p zero k = ap (symbolsIn r p) (zero-add k) ∙ sym (zero-add _)
+symbols-in-append r p (suc j) k =
+    ap (symbolsIn r p) (suc-add j k)
+    ∙ ap (λ (m : ℕ). length (completed (modeOf r) (p + 1)) + m) (symbols-in-append r (nextPlace r p) j k)
+    ∙ sym (add-assoc (length (completed (modeOf r) (p + 1))) (symbolsIn r (nextPlace r p) j) (symbolsIn r (placeAfter r (nextPlace r p) j) k))
+
+-- the pattern goes round
+pub place-after : (r p k : ℕ) → p < patternLength r → placeAfter r p k ≡ (p + k) % patternLength r
+unfolding placeAfter
+place-after r p zero h = sym (ap (λ (n : ℕ). n % patternLength r) (add-zero p) ∙ mod-eq-of-lt h)
+place-after r p (suc k) h =
+    let e : p + 1 + k ≡ p + suc k = omega arith in
+    place-after r (nextPlace r p) k (next-lt r p h) ∙ mod-add-mod (p + 1) (patternLength r) k ∙ ap (λ (n : ℕ). n % patternLength r) e
+
+-- a whole pattern has as many symbols as its mode, and what is shorter has fewer
+pattern-count : (r : ℕ) → r < 5 → symbolsIn r 0 (patternLength r) ≡ length (modeOf r .symbols)
+unfolding symbolsIn patternLength modeOf
+pattern-count r h = computed.agree-at (λ r. symbolsIn r 0 (patternLength r)) (λ r. length (modeOf r .symbols)) 5 tt r h
+
+pub part-count : (r k : ℕ) → r < 5 → k < patternLength r → symbolsIn r 0 k < length (modeOf r .symbols)
+unfolding symbolsIn patternLength modeOf
+part-count r k h l = ltb→lt _ _ (tested-at (λ r k. ltb (symbolsIn r 0 k) (length (modeOf r .symbols))) tt r k h l)
+
+pub whole-count : (r q : ℕ) → r < 5 → symbolsIn r 0 (patternLength r * q) ≡ length (modeOf r .symbols) * q
+unfolding symbolsIn
+whole-count r zero h = rw (mul-zero, mul-zero)
+whole-count r (suc q) h =
+    let n = patternLength r in
+    let e : placeAfter r 0 (n * q) ≡ 0 = place-after r 0 (n * q) (some-bits r h) ∙ (ap (λ (k : ℕ). k % n) (zero-add (n * q)) ∙ mul-mod-right n q) in
+    ap (symbolsIn r 0) (mul-suc n q)
+    ∙ (symbols-in-append r 0 (n * q) n
+    ∙ (ap (λ (p : ℕ). symbolsIn r 0 (n * q) + symbolsIn r p n) e
+    ∙ (ap₂ (λ (a b : ℕ). a + b) (whole-count r q h) (pattern-count r h) ∙ sym (mul-suc (length (modeOf r .symbols)) q))))
+
 -- ---- where a pattern begins
 
-none-held : (r : ℕ) → r < 5 → heldCount r 0 ≡ 0
+pub none-held : (r : ℕ) → r < 5 → heldCount r 0 ≡ 0
 unfolding heldCount modeOf
 none-held r h = computed.agree-at (λ r. heldCount r 0) (λ r. 0) 5 tt r h
 

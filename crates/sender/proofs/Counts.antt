@@ -22,11 +22,12 @@ use Rattle.puncturing.specs.Step.{patternLength, nextPlace, symbolsIn}
 use Rattle.puncturing.specs.Run.{placeAfter}
 use Rattle.puncturing.proofs.Places.{tested-at}
 use Rattle.puncturing.proofs.BlockCounts.{table, block-symbols}
+use Rattle.puncturing.proofs.Parts.{place-after}
 use Rattle.puncturing.proofs.Steps.{some-bits, next-lt}
 use Rattle.inner_code.specs.Step.{coderStep, coderAfter}
 use Rattle.inner_code.specs.Encode.{freshCoder, blockCoder, symbolCount}
 use Rattle.inner_code.specs.declared.InnerCoder.{InnerCoder}
-use Rattle.inner_code.proofs.Coder.{range-test, fresh-in-range, coder-in-range, length-symbols}
+use Rattle.inner_code.proofs.Coder.{range-test, fresh-in-range, coder-in-range, length-symbols, coder-rate, coder-place}
 use Rattle.inner_code.proofs.Stream.{symbols-fresh}
 use Rattle.sender.specs.Standard.{interleavedBlocks, onAir}
 use Rattle.sender.specs.Calls.{senderOf, fewest, most}
@@ -58,35 +59,7 @@ length-on-air rate h packets =
     ∙ length-symbols (freshCoder rate) (fresh-in-range rate h) (bits-bits bytes)
     ∙ ap (symbolsIn rate 0) (block-bits packets)
 
--- ---- in parts
-
-pub symbols-in-append : (r p j k : ℕ) → symbolsIn r p (j + k) ≡ symbolsIn r p j + symbolsIn r (placeAfter r p j) k
-unfolding symbolsIn placeAfter
-symbols-in-append r p zero k = ap (symbolsIn r p) (zero-add k) ∙ sym (zero-add _)
-symbols-in-append r p (suc j) k =
-    ap (symbolsIn r p) (suc-add j k)
-    ∙ ap (λ (m : ℕ). length (completed (modeOf r) (p + 1)) + m) (symbols-in-append r (nextPlace r p) j k)
-    ∙ sym (add-assoc (length (completed (modeOf r) (p + 1))) (symbolsIn r (nextPlace r p) j) (symbolsIn r (placeAfter r (nextPlace r p) j) k))
-
--- the pattern goes round
-pub place-after : (r p k : ℕ) → p < patternLength r → placeAfter r p k ≡ (p + k) % patternLength r
-unfolding placeAfter
-place-after r p zero h = sym (ap (λ (n : ℕ). n % patternLength r) (add-zero p) ∙ mod-eq-of-lt h)
-place-after r p (suc k) h =
-    let e : p + 1 + k ≡ p + suc k = omega arith in
-    place-after r (nextPlace r p) k (next-lt r p h) ∙ mod-add-mod (p + 1) (patternLength r) k ∙ ap (λ (n : ℕ). n % patternLength r) e
-
 -- ---- in each call
-
-coder-rate : (c : InnerCoder) (bits : List ℕ) → coderAfter c bits .rate ≡ c .rate
-unfolding coderAfter
-coder-rate c [] = refl
-coder-rate c (b ∷ bs) = coder-rate (coderStep c b) bs
-
-coder-place : (c : InnerCoder) (bits : List ℕ) → coderAfter c bits .place ≡ placeAfter (c .rate) (c .place) (length bits)
-unfolding coderAfter placeAfter
-coder-place c [] = refl
-coder-place c (b ∷ bs) = coder-place (coderStep c b) bs
 
 -- the call after some packets sends the symbols that the next 1,632 bits complete, from the place in the pattern where the packets left it
 pub call-count : (rate : ℕ) → rate < 5 → (packets : List (List ℕ))

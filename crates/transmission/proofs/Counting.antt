@@ -8,10 +8,11 @@ use native.Mathlib.Omega.{arith}
 use lib.ListN.{length, length-map}
 use Rattle.puncturing.specs.Step.{patternLength, symbolsIn}
 use Rattle.puncturing.proofs.Steps.{some-bits}
+use Rattle.puncturing.proofs.Parts.{symbols-in-append, place-after}
 use Rattle.inner_code.specs.Encode.{symbolCount}
 use Rattle.inner_code.proofs.Coder.{range-test}
 use Rattle.sender.specs.Input.{packetFor, packetsFor}
-use Rattle.sender.proofs.Counts.{length-packets, length-on-air, symbols-in-append, place-after}
+use Rattle.sender.proofs.Counts.{length-packets, length-on-air}
 use Rattle.transmission.specs.Run.{packetsOf, runSymbols}
 
 -- the symbols of a buffer of packets

@@ -4,7 +4,9 @@
 //! `compare` runs all; `compare KIND` one kind; `compare KIND CASE` one case.
 
 use reference::answer::Answer;
-use reference::exports::{expected, library, COUNTS_LENGTH};
+use reference::exports::{expected, library, COUNTS_LENGTH, RESULT_LENGTH};
+use reference::inner_code::InnerCoder;
+use reference::inner_decoder::LONGEST;
 use reference::interleaver::Branches;
 use reference::reed_solomon::{check_bytes, encode};
 use reference::sender::{interleaved_stream, Sender};
@@ -179,6 +181,26 @@ fn recording_block(s: &mut Score, recording: &[u8], blocks: u64, p: u64, room: V
     );
     a.truncate(if want == 0 { BLOCK_LENGTH } else { 0 });
     (want, a)
+}
+
+/// The bits that the reference read, the memory after them and the number.
+fn read_run(s: &mut Score, rate: u8, memory: u8, symbols: &[u8], room: Vec<u8>, result: Vec<u8>) -> (u8, Vec<u8>, u8, u32) {
+    let (mut a, mut b) = (room.clone(), room);
+    let (mut m, mut n) = (result.clone(), result);
+    let want = expected::read_run(rate, memory, symbols, &mut a, &mut m);
+    let got = library::read_run(rate, memory, symbols, &mut b, &mut n);
+    let inputs =
+        format!("rate {rate}, memory {memory}, symbols of {}, room of {}, result of {}", symbols.len(), a.len(), m.len());
+    s.same(
+        &inputs,
+        &[("bits", &want.to_le_bytes()), ("result", &m), ("room", &a)],
+        &[("bits", &got.to_le_bytes()), ("result", &n), ("room", &b)],
+    );
+    a.truncate(want as usize);
+    if m.len() < RESULT_LENGTH {
+        return (0, a, memory, 0);
+    }
+    (m[0], a, m[1], u32::from_le_bytes(m[2..RESULT_LENGTH].try_into().unwrap()))
 }
 
 // Inputs.
@@ -510,6 +532,151 @@ fn send_kinds(s: &mut Score) {
     });
 }
 
+/// GNU Radio's symbols for forty packets at the five rates.
+const OUTSIDE: [&[u8]; 5] = [
+    include_bytes!("../../tests/data/symbols_rate0.bin"),
+    include_bytes!("../../tests/data/symbols_rate1.bin"),
+    include_bytes!("../../tests/data/symbols_rate2.bin"),
+    include_bytes!("../../tests/data/symbols_rate3.bin"),
+    include_bytes!("../../tests/data/symbols_rate4.bin"),
+];
+
+fn read_kinds(s: &mut Score) {
+    let bits = |r: &mut Xorshift, count: usize| (0..count).map(|_| r.byte() & 1).collect::<Vec<u8>>();
+    let random = |r: &mut Xorshift, count: usize| (0..count).map(|_| r.byte() & 3).collect::<Vec<u8>>();
+    let symbols_in = |rate: u8, count: usize| InnerCoder::after(rate, 0).symbols_due(count);
+    // Short runs, where the reference tries every sequence of bits.
+    s.kind("read_run: short runs of random symbols", 8_000, |s, r, case| {
+        let rate = case as u8 % 5;
+        let length = InnerCoder::pattern_length(rate);
+        let count = length * r.below(12 / length + 1);
+        let symbols = random(r, symbols_in(rate, count));
+        let room = room_of(r, count);
+        read_run(s, rate, r.byte() % 64, &symbols, room, vec![0xA5; RESULT_LENGTH + case as usize % 3]);
+    });
+    s.kind("read_run: all runs of at most five bits at 1/2", 64, |s, _, case| {
+        for count in 0..6usize {
+            for number in 0..1usize << (2 * count) {
+                let symbols: Vec<u8> = (0..count).map(|i| (number >> (2 * i) & 3) as u8).collect();
+                read_run(s, 0, case as u8, &symbols, vec![0xA5; count], vec![0xA5; RESULT_LENGTH]);
+            }
+        }
+    });
+    let mut worst = 0;
+    s.kind("read_run: random symbols, where nothing was sent", 400, |s, r, case| {
+        let rate = case as u8 % 5;
+        let length = InnerCoder::pattern_length(rate);
+        let patterns = if case < 20 { LONGEST / length } else { r.below(LONGEST / length + 1) };
+        let symbols = random(r, symbols_in(rate, length * patterns));
+        let room = room_of(r, length * patterns);
+        worst = worst.max(read_run(s, rate, r.byte() % 64, &symbols, room, vec![0xA5; RESULT_LENGTH]).3);
+    });
+    if worst > 0 {
+        println!("  most differing bits: {worst}");
+    }
+    s.kind("read_run: constant symbols, full of ties", 320, |s, r, case| {
+        let rate = case as u8 % 5;
+        let length = InnerCoder::pattern_length(rate);
+        let count = length * r.below(LONGEST / length + 1);
+        let two = [case as u8 / 5 % 4, r.byte() % 4];
+        let period = 1 + r.below(4);
+        let symbols: Vec<u8> = (0..symbols_in(rate, count)).map(|i| two[(i % period == 0) as usize]).collect();
+        let room = room_of(r, count);
+        read_run(s, rate, r.byte() % 64, &symbols, room, vec![0xA5; RESULT_LENGTH]);
+    });
+    let (mut read, mut whole) = (0u64, 0u64);
+    s.kind("read_run: sent and harmed", 1_000, |s, r, case| {
+        // One I or Q bit in 2 to one in 60 wrong, or none; now and then a burst.
+        let rate = case as u8 % 5;
+        let length = InnerCoder::pattern_length(rate);
+        let patterns = if case < 10 { LONGEST / length } else { r.below(LONGEST / length + 1) };
+        let sent = bits(r, length * patterns);
+        let memory = r.byte() % 64;
+        let mut coder = InnerCoder::after(rate, memory);
+        let mut symbols = coder.code_bits(&sent);
+        let one_in = [0, 2, 5, 10, 20, 40, 60][r.below(7)];
+        let unharmed = symbols.clone();
+        for symbol in symbols.iter_mut() {
+            for bit in [1, 2] {
+                if one_in > 0 && r.below(one_in) == 0 {
+                    *symbol ^= bit;
+                }
+            }
+        }
+        if case % 7 == 0 && !symbols.is_empty() {
+            let low = r.below(symbols.len());
+            let high = (low + r.below(40)).min(symbols.len());
+            symbols[low..high].fill(0);
+        }
+        let harmed: u32 = symbols.iter().zip(&unharmed).map(|(a, b)| (a ^ b).count_ones()).sum();
+        let room = room_of(r, sent.len());
+        let (answer, got, after, differing) = read_run(s, rate, memory, &symbols, room, vec![0xA5; RESULT_LENGTH]);
+        assert_eq!(answer, 0);
+        assert!(differing <= harmed);
+        if harmed == 0 {
+            assert_eq!((&got, after, differing), (&sent, coder.memory(), 0));
+        }
+        read += 1;
+        whole += (got == sent) as u64;
+    });
+    if read > 0 {
+        println!("  runs: {read}, read as sent: {whole}");
+    }
+    s.kind("read_run: GNU Radio's symbols", 15, |s, r, case| {
+        // Cut into runs of whole patterns at random, each with the memory of the run before.
+        let rate = case as u8 % 5;
+        let length = InnerCoder::pattern_length(rate);
+        let per_pattern = symbols_in(rate, length);
+        let stream = interleaved_stream(include_bytes!("../../tests/data/packets.ts"));
+        let sent: Vec<u8> = stream.iter().flat_map(|byte| (0..8).rev().map(move |k| byte >> k & 1)).collect();
+        let mut rest = &OUTSIDE[rate as usize][..];
+        let (mut memory, mut got) = (0, Vec::new());
+        while rest.len() >= per_pattern {
+            let most = (LONGEST / length).min(rest.len() / per_pattern);
+            let patterns = if case < 5 { most } else { 1 + r.below(most) };
+            let (run, behind) = rest.split_at(per_pattern * patterns);
+            let (answer, bits, after, differing) =
+                read_run(s, rate, memory, run, vec![0xA5; length * patterns], vec![0xA5; RESULT_LENGTH]);
+            assert_eq!((answer, differing), (0, 0));
+            got.extend(bits);
+            memory = after;
+            rest = behind;
+        }
+        assert_eq!(got, sent[..sent.len() / length * length]);
+    });
+    s.kind("read_run: refusals", 256, |s, r, case| {
+        // Every rate and every memory, with each of the other refusals, alone and together.
+        for rate in [case as u8, case as u8 % 5] {
+            let known = rate % 5;
+            let length = InnerCoder::pattern_length(known);
+            let per_pattern = symbols_in(known, length);
+            let most = LONGEST / length;
+            for memory in [case as u8, case as u8 % 64] {
+                for patterns in [0, 1, most, most + 1] {
+                    for more in [0, 1, per_pattern - 1] {
+                        let mut symbols = random(r, per_pattern * patterns + more);
+                        if r.below(2) == 0 && !symbols.is_empty() {
+                            let at = r.below(symbols.len());
+                            symbols[at] = [4, 255, 4 + r.byte() % 252][r.below(3)];
+                        }
+                        let count = length * patterns;
+                        // The longest ones are read by the other kinds: the reference takes its time for them.
+                        let mut rooms = vec![count.saturating_sub(1), 0];
+                        if patterns < most {
+                            rooms.extend([count, count + 3]);
+                        }
+                        for room in rooms {
+                            for result in [0, 5, 6, 7] {
+                                read_run(s, rate, memory, &symbols, r.bytes(room), vec![0xA5; result]);
+                            }
+                        }
+                    }
+                }
+            }
+        }
+    });
+}
+
 /// Codewords through the sender's delays; sync bytes as given.
 fn stream_of(blocks: &[Vec<u8>]) -> Vec<u8> {
     let mut branches = Branches::interleaver();
@@ -832,6 +999,7 @@ fn main() {
     stage_kinds(&mut s);
     decode_kinds(&mut s);
     send_kinds(&mut s);
+    read_kinds(&mut s);
     receive_kinds(&mut s);
     recording_kinds(&mut s);
     println!("comparisons: {} passed, {} failed", s.passed_all, s.failed_all);

@@ -1,0 +1,50 @@
+-- `dvbs_read::symbols_in` meets its contract.
+-- Assumes nothing.
+use Prim.Native.Nat.{_-_}
+use native.Mathlib.Omega.{arith}
+use borrow.Author.Needs.{needs}
+use lib.ListN.{length}
+use Rattle.dvbs_read.proofs.Symbols.{Front, front-none, front-more}
+use Rattle.dvbs_read.proofs.symbols_in.Statement.{statement}
+use Rattle.dvbs_read.proofs.symbols_in.Tie as tie
+
+abbrev Inv-loop : tie.InvT-loop
+Inv-loop input i₀ i = Front input i
+
+abbrev μ-loop : tie.MeasureT-loop
+μ-loop input i₀ i = length input - i
+
+loop-holds : tie.Need-loop-holds Inv-loop μ-loop
+loop-holds c = front-none _
+
+shared-slice-read-if1 : tie.Need-shared-slice-read-if1 Inv-loop μ-loop
+shared-slice-read-if1 c = search needs
+
+returns : tie.Need-returns Inv-loop μ-loop
+returns c = (c .before .before .before .loop .inv .most, c .before .before .before .loop .inv .symbols)
+
+add-i : tie.Need-add-i Inv-loop μ-loop
+add-i c = omega arith
+
+loop-less : tie.Need-loop-less Inv-loop μ-loop
+loop-less c = omega arith
+
+loop-again : tie.Need-loop-again Inv-loop μ-loop
+loop-again c = front-more (c .before .before .before .loop .inv) (c .before .before .loop-test .taken) (c .if1 .left)
+
+returns-2 : tie.Need-returns-2 Inv-loop μ-loop
+returns-2 c = (c .before .loop .inv .most, c .before .loop .inv .symbols)
+
+pub symbols-in-spec : {M : Type 1} → statement M
+symbols-in-spec =
+    tie.close
+    (tie.spec
+    Inv-loop
+    μ-loop
+    loop-holds
+    shared-slice-read-if1
+    returns
+    add-i
+    loop-less
+    loop-again
+    returns-2)

@@ -1,0 +1,118 @@
+-- The loop that writes what each decision costs, and what its list of costs is: those of the hard decisions.
+-- Assumes nothing.
+use mathlib.Core.Path.{_≡_, refl, sym, _∙_, ap₂}
+use mathlib.Core.Bool.{Bool, true, false}
+use mathlib.Core.List.{List, map}
+use Prim.Native.Nat.{ℕ, zero, suc, _+_, _-_, _*_, _/_, _%_, _≤_, _<_}
+use native.Mathlib.Decide.{decLt}
+use native.Mathlib.Omega.{arith}
+use lib.Dec.{eqb}
+use lib.ListN.{length, getD, set, replicate, getD-replicate, List·getD-eq-default, length-replicate, length-map}
+use Rattle.common.specs.Choice.{pick}
+use Rattle.common.specs.Lists.{All}
+use Rattle.common.proofs.Each.{Updated, updated-none, updated-more}
+use Rattle.common.proofs.Lists.{All-at}
+use Rattle.depuncturing.specs.Steps.{pairCost}
+use Rattle.run_reader.specs.Cost.{differ, differing}
+use Rattle.run_reader.specs.Decisions.{component, decisionCost}
+use Rattle.run_reader.proofs.Costs.{Splits}
+use Rattle.run_reader.proofs.Unharmed.{differing-at}
+
+-- a bit differs from 0 where it is 1, and from 1 where it is 0
+from-zero : (b : ℕ) → b < 2 → b ≡ differ b 0
+from-zero zero h = refl
+from-zero (suc zero) h = refl
+from-zero (suc (suc b)) h = absurd (omega arith)
+
+from-one : (b : ℕ) → b < 2 → 1 - b ≡ differ b 1
+from-one zero h = refl
+from-one (suc zero) h = refl
+from-one (suc (suc b)) h = absurd (omega arith)
+
+-- I and Q of a symbol
+pub symbol-bits : (ss : List ℕ) (i : ℕ) → All (λ s. s < 4) ss → i < length ss → (getD ss i 0 / 2 ≤ 1) × (getD ss i 0 % 2 ≤ 1)
+symbol-bits ss i w h = let four : getD ss i 0 < 4 = All-at (λ s. s < 4) ss 0 i w h in (omega arith, omega arith)
+
+-- decision j of symbol i
+decision-at : (ss : List ℕ) (t i j : ℕ) → t ≡ 4 * i + j → j < 4 → decisionCost ss t ≡ differ (component (j / 2) (getD ss i 0)) (j % 2)
+unfolding decisionCost
+decision-at ss t i j e h =
+    let a : t / 4 ≡ i = omega arith in
+    let b : t / 2 % 2 ≡ j / 2 = omega arith in
+    let d : t % 2 ≡ j % 2 = omega arith in
+    rw (a, b, d)
+
+-- ---- the loop
+
+pub record Deciding (ss room₀ : List ℕ) (room : List ℕ) (i at : ℕ) : Type 0 where
+  pub most : i ≤ length ss
+  pub end : at ≡ 4 * i
+  pub written : Updated (λ t v. v ≡ decisionCost ss t) room₀ room at
+
+pub deciding-none : (ss room : List ℕ) → Deciding ss room room 0 0
+deciding-none ss room = record { most = omega arith; end = refl; written = updated-none }
+
+pub deciding-more : {ss room₀ room : List ℕ} {i at : ℕ} → All (λ s. s < 4) ss → 4 * length ss ≤ length room₀ → Deciding ss room₀ room i at → i < length ss
+    → let s = getD ss i 0 in
+    Deciding ss room₀ (set (set (set (set room at (s / 2)) (at + 1) (1 - s / 2)) (at + 1 + 1) (s % 2)) (at + 1 + 1 + 1) (1 - s % 2)) (i + 1) (at + 1 + 1 + 1 + 1)
+deciding-more {ss} {room₀} {room} {i} {at} w fits g h =
+    let s = getD ss i 0 in
+    let four : s < 4 = All-at (λ s. s < 4) ss 0 i w h in
+    let a : ℕ = at in
+    let en = g .end in
+    let hi : s / 2 < 2 = omega arith in
+    let hq : s % 2 < 2 = omega arith in
+    record {
+      most = omega arith;
+      end = omega arith;
+      written =
+          updated-more (1 - s % 2) (omega arith) (from-one (s % 2) hq ∙ sym (decision-at ss (a + 1 + 1 + 1) i 3 (omega arith) (omega arith)))
+          (updated-more (s % 2) (omega arith) (from-zero (s % 2) hq ∙ sym (decision-at ss (a + 1 + 1) i 2 (omega arith) (omega arith)))
+          (updated-more (1 - s / 2) (omega arith) (from-one (s / 2) hi ∙ sym (decision-at ss (a + 1) i 1 (omega arith) (omega arith)))
+          (updated-more (s / 2) (omega arith) (from-zero (s / 2) hi ∙ sym (decision-at ss a i 0 (omega arith) (omega arith))) (g .written))));
+    }
+
+-- ---- what was written
+
+-- the costs of the decisions on each symbol
+abbrev pub Written : List ℕ → List ℕ → Type 0
+Written ss l = (t : ℕ) → t < 4 * length ss → getD l t 0 ≡ decisionCost ss t
+
+pub written-splits : (ss l : List ℕ) → Written ss l → Splits (map differing ss) (pairCost l) 0
+written-splits ss l w = record {
+  at = λ i s h four.
+      let b : i < length ss = rw length-map at h in
+      let hi : s / 2 < 2 = omega arith in
+      let hq : s % 2 < 2 = omega arith in
+      differing-at ss i s h
+      ∙ ap₂ (λ (x y : ℕ). x + y) (sym (one (2 * (0 + 2 * i) + s / 2) i (s / 2) (omega arith) hi b)) (sym (two (2 * (0 + 2 * i + 1) + s % 2) i (s % 2) (omega arith) hq b));
+}
+  where
+    one : (t i v : ℕ) → t ≡ 4 * i + v → v < 2 → i < length ss → getD l t 0 ≡ differ (getD ss i 0 / 2) v
+    one t i v e h b =
+        let d : v / 2 ≡ 0 = omega arith in
+        let m : v % 2 ≡ v = omega arith in
+        w t (omega arith) ∙ (decision-at ss t i v e (omega arith) ∙ ap₂ (λ (x y : ℕ). differ (component x (getD ss i 0)) y) d m)
+
+    two : (t i v : ℕ) → t ≡ 4 * i + (2 + v) → v < 2 → i < length ss → getD l t 0 ≡ differ (getD ss i 0 % 2) v
+    two t i v e h b =
+        let d : (2 + v) / 2 ≡ 1 = omega arith in
+        let m : (2 + v) % 2 ≡ v = omega arith in
+        w t (omega arith) ∙ (decision-at ss t i (2 + v) e (omega arith) ∙ ap₂ (λ (x y : ℕ). differ (component x (getD ss i 0)) y) d m)
+
+-- every cost is at most 1
+pub written-small : (ss l : List ℕ) → Written ss l → ((t : ℕ) → 4 * length ss ≤ t → getD l t 0 ≡ getD (replicate 6528 0) t 0) → (t : ℕ) → getD l t 0 ≤ 7
+unfolding decisionCost
+written-small ss l w z t = by (decLt t (4 * length ss))
+  where
+    small : (u : Bool) → pick {A = ℕ} u 0 1 ≤ 7
+    small true = omega arith
+    small false = omega arith
+
+    zeros : Dec (t < 6528) → _≡_ {A = ℕ} (getD (replicate 6528 0) t 0) 0
+    zeros (yes h) = getD-replicate 6528 t 0 0 h
+    zeros (no h) = List·getD-eq-default (replicate 6528 0) 0 {n = t} (rw (length-replicate {A = ℕ} 6528 0) (omega arith))
+
+    by : Dec (t < 4 * length ss) → getD l t 0 ≤ 7
+    by (yes h) = rw (w t h) (small (eqb (component (t / 2 % 2) (getD ss (t / 4) 0)) (t % 2)))
+    by (no h) = rw (z t (omega arith), zeros (decLt t 6528)) (omega arith)

@@ -1,0 +1,10 @@
+pub mod Serial
+pub mod Patterns
+pub mod Costs
+pub mod Unharmed
+pub mod Whole
+pub mod Decisions
+pub mod Outcome
+pub mod Reading
+pub mod Laws
+pub mod Streams

@@ -1,0 +1,85 @@
+-- Runs of whole patterns: how many symbols they have, and the coder after them.
+-- Assumes nothing.
+use mathlib.Core.Path.{_≡_, _∙_, ap, sym}
+use mathlib.Core.List.{List}
+use Prim.Native.Nat.{ℕ, _/_, _%_, _≤_, _<_, _*_}
+use native.Mathlib.Omega.{arith}
+use native.Mathlib.Nat.{zero-add, mul-mod-right, mul-le-mul-right, mul-div-right, div-add-mod}
+use lib.Dec.{leb, leb→le, ltb, ltb→lt}
+use lib.ListN.{length}
+use Rattle.common.proofs.Computed as computed
+use Rattle.convolutional_code.specs.Bits.{Bits}
+use Rattle.convolutional_code.specs.Code.{memoryAfter}
+use Rattle.puncturing.specs.Mode.{modeOf}
+use Rattle.puncturing.specs.Step.{patternLength, heldCount, symbolsIn}
+use Rattle.puncturing.proofs.Steps.{some-bits}
+use Rattle.puncturing.proofs.Parts.{place-after, none-held, whole-count}
+use Rattle.inner_code.specs.Step.{InRange, symbolsOf, coderAfter}
+use Rattle.inner_code.specs.declared.InnerCoder.{InnerCoder}
+use Rattle.inner_code.proofs.Coder.{coder-rate, coder-memory, coder-place, coder-in-range, length-symbols}
+use Rattle.run_reader.specs.Cost.{coderAt}
+use Rattle.run_reader.specs.Read.{symbolsPerPattern, runLength}
+
+pub at-start : (rate m : ℕ) → rate < 5 → m < 64 → InRange (coderAt rate m)
+at-start rate m hr hm = record { rate = hr; memory = hm; place = some-bits rate hr; held = omega arith }
+
+-- a pattern has symbols, and no more than bits
+pub some-symbols : (rate : ℕ) → rate < 5 → 0 < symbolsPerPattern rate
+unfolding symbolsPerPattern modeOf
+some-symbols rate h = ltb→lt _ _ (computed.below-at (λ r. ltb 0 (symbolsPerPattern r)) 5 tt rate h)
+
+symbols-le : (rate : ℕ) → rate < 5 → symbolsPerPattern rate ≤ patternLength rate
+unfolding symbolsPerPattern patternLength modeOf
+symbols-le rate h = leb→le _ _ (computed.below-at (λ r. leb (symbolsPerPattern r) (patternLength r)) 5 tt rate h)
+
+-- the coder after whole patterns stands at the start of one, with the memory of the bits
+pub coder-whole : (rate m : ℕ) {bits : List ℕ} → rate < 5 → m < 64 → Bits bits → length bits % patternLength rate ≡ 0
+    → coderAfter (coderAt rate m) bits ≡ coderAt rate (memoryAfter m bits)
+coder-whole rate m {bits} hr hm w e =
+    let c : InnerCoder = coderAt rate m in
+    let p : coderAfter c bits .place ≡ 0 = coder-place c bits ∙ (place-after rate 0 (length bits) (some-bits rate hr) ∙ (ap (λ (n : ℕ). n % patternLength rate) (zero-add (length bits)) ∙ e)) in
+    let g = coder-in-range c (at-start rate m hr hm) w .held in
+    let z : heldCount (coderAfter c bits .rate) (coderAfter c bits .place) ≡ 0 =
+    (λ i. heldCount (coder-rate c bits i) (p i)) ∙ none-held rate hr in
+    let q : coderAfter c bits .held ≡ 0 = omega arith in
+    λ i. record { rate = coder-rate c bits i; memory = coder-memory c bits i; place = p i; held = q i }
+
+pub memory-in-range : (rate m : ℕ) {bits : List ℕ} → rate < 5 → m < 64 → Bits bits → memoryAfter m bits < 64
+memory-in-range rate m {bits} hr hm w = rw (← coder-memory (coderAt rate m) bits) (coder-in-range (coderAt rate m) (at-start rate m hr hm) w .memory)
+
+module _ (rate : ℕ) (hr : rate < 5) (symbols : List ℕ) where
+  abbrev n : ℕ
+  n = runLength rate symbols
+
+  pub run-whole : n % patternLength rate ≡ 0
+  run-whole = mul-mod-right (patternLength rate) (length symbols / symbolsPerPattern rate)
+
+  module _ (whole : length symbols % symbolsPerPattern rate ≡ 0) where
+    counted : symbolsIn rate 0 n ≡ length symbols
+    unfolding symbolsPerPattern
+    counted =
+        whole-count rate (length symbols / symbolsPerPattern rate) hr
+        ∙ omega (arith, div-add-mod (length symbols) (symbolsPerPattern rate))
+
+    -- every sequence of that length is coded to as many symbols as there are
+    pub run-symbols : (m : ℕ) → m < 64 → (bits : List ℕ) → Bits bits → length bits ≡ n → length (symbolsOf (coderAt rate m) bits) ≡ length symbols
+    run-symbols m hm bits w l = length-symbols (coderAt rate m) (at-start rate m hr hm) w ∙ (ap (symbolsIn rate 0) l ∙ counted)
+
+    -- which are no more than the bits
+    pub symbols-few : length symbols ≤ n
+    symbols-few =
+        omega (arith, div-add-mod (length symbols) (symbolsPerPattern rate), mul-le-mul-right (length symbols / symbolsPerPattern rate) (symbols-le rate hr))
+
+-- the symbols of whole patterns of bits are whole patterns, of as many bits
+pub sent-whole : (rate m : ℕ) → rate < 5 → m < 64 → (bits : List ℕ) → Bits bits → length bits % patternLength rate ≡ 0 → (ss : List ℕ) → ss ≡ symbolsOf (coderAt rate m) bits
+    → (length ss % symbolsPerPattern rate ≡ 0) × (length bits ≡ runLength rate ss)
+unfolding symbolsPerPattern
+sent-whole rate m hr hm bits w e ss es =
+    let p = patternLength rate in
+    let s = symbolsPerPattern rate in
+    let q = length bits / p in
+    let b : length bits ≡ p * q = omega (arith, div-add-mod (length bits) p) in
+    let l : length ss ≡ s * q = ap length es ∙ (length-symbols (coderAt rate m) (at-start rate m hr hm) w ∙ (ap (symbolsIn rate 0) b ∙ whole-count rate q hr)) in (
+      ap (λ (k : ℕ). k % s) l ∙ mul-mod-right s q,
+      b ∙ ap (λ (k : ℕ). p * k) (sym (ap (λ (k : ℕ). k / s) l ∙ mul-div-right q (some-symbols rate hr))),
+    )

@@ -1,0 +1,156 @@
+-- Hard decisions as costs of the steps; a run that was not harmed has one best sequence, its own bits.
+-- Assumes nothing.
+use mathlib.Core.Bool.{Bool, true, false}
+use mathlib.Core.Path.{_≡_, refl, sym, _∙_, ap}
+use mathlib.Core.List.{List, [], _∷_, map, flatten}
+use Prim.Native.Nat.{ℕ, zero, suc, _+_, _*_, _/_, _%_, _<_, _≤_}
+use native.Mathlib.Omega.{arith}
+use native.Mathlib.Nat.{mod-lt}
+use borrow.Author.Tests.{eqb-true, eq-eqb}
+use lib.Dec.{eqb, ltb, ltb→lt}
+use lib.ListN.{length, getD, length-map}
+use Rattle.common.specs.Choice.{pick}
+use Rattle.common.proofs.Lists.{getD-map-in}
+use Rattle.convolutional_code.specs.Bits.{Bits}
+use Rattle.convolutional_code.specs.Code.{tapsX, tapsY, coded, memoryAfter}
+use Rattle.trellis.specs.Metric.{Costs, costFrom}
+use Rattle.trellis.specs.Best.{Best, Decoded}
+use Rattle.trellis.proofs.Ends.{SomeDecoded, some-decoded}
+use Rattle.trellis.proofs.Laws.{Apart, free, best-same, decoded-same}
+use Rattle.puncturing.specs.Mode.{modeOf}
+use Rattle.puncturing.specs.Step.{patternLength}
+use Rattle.puncturing.proofs.Places.{tested-at}
+use Rattle.puncturing.proofs.Steps.{some-bits}
+use Rattle.depuncturing.specs.Steps.{kind, kindCost, kindAt, first, punctured}
+use Rattle.inner_code.specs.Step.{symbolsOf}
+use Rattle.run_reader.specs.Cost.{coderAt, differ, differing, totalCost, hardCost}
+use Rattle.run_reader.proofs.Serial.{flat}
+use Rattle.run_reader.specs.Read.{symbolsPerPattern, runLength}
+use Rattle.run_reader.proofs.Patterns.{run-whole, run-symbols, sent-whole}
+use Rattle.run_reader.proofs.Costs.{Splits, run-is}
+
+-- ---- hard costs
+
+abbrev hard : List ℕ → ℕ → ℕ → ℕ
+hard ss j v = differ (getD (flat ss) j 0) v
+
+flat-i : (ss : List ℕ) (i : ℕ) → getD (flat ss) (2 * i) 0 ≡ getD ss i 0 / 2
+flat-i [] zero = refl
+flat-i [] (suc i) = refl
+flat-i (s ∷ ss) zero = refl
+flat-i (s ∷ ss) (suc i) = let e : 2 * suc i ≡ suc (suc (2 * i)) = omega arith in rw e (flat-i ss i)
+
+flat-q : (ss : List ℕ) (i : ℕ) → getD (flat ss) (2 * i + 1) 0 ≡ getD ss i 0 % 2
+flat-q [] i = refl
+flat-q (s ∷ ss) zero = refl
+flat-q (s ∷ ss) (suc i) = let e : 2 * suc i + 1 ≡ suc (suc (2 * i + 1)) = omega arith in rw e (flat-q ss i)
+
+pub differing-at : (ss : List ℕ) (i s : ℕ) → i < length (map differing ss) → getD (map differing ss) i (λ s. 0) s ≡ differing (getD ss i 0) s
+differing-at ss i s h = ap (λ (f : ℕ → ℕ). f s) (getD-map-in differing ss 0 (λ s. 0) i (rw length-map at h))
+
+hard-splits : (ss : List ℕ) → Splits (map differing ss) (hard ss) 0
+hard-splits ss = record {
+  at = λ i s h four.
+      let a : 0 + 2 * i ≡ 2 * i = omega arith in
+      rw (a, flat-i ss i, flat-q ss i) (differing-at ss i s h);
+}
+
+-- ---- each step tells its two bits apart
+
+differ-zero : (a b : ℕ) → differ a b ≡ 0 → a ≡ b
+differ-zero a b h = go (eqb a b) refl h
+  where
+    go : (t : Bool) → eqb a b ≡ t → pick {A = ℕ} t 0 1 ≡ 0 → a ≡ b
+    go true e q = eqb-true a b e
+    go false e q = absurd (omega arith)
+
+parity : (b c p : ℕ) → b < 2 → c < 2 → (b + p) % 2 ≡ (c + p) % 2 → b ≡ c
+parity b c p hb hc e = omega arith
+
+x-apart : (m b c r : ℕ) → b < 2 → c < 2 → differ r (coded tapsX m b) ≡ 0 → differ r (coded tapsX m c) ≡ 0 → b ≡ c
+x-apart m b c r hb hc p q =
+    parity b c (m / 32 % 2 + (m / 16 % 2 + (m / 8 % 2 + (m % 2 + 0)))) hb hc
+    (sym (differ-zero r (coded tapsX m b) p) ∙ differ-zero r (coded tapsX m c) q)
+
+y-apart : (m b c r : ℕ) → b < 2 → c < 2 → differ r (coded tapsY m b) ≡ 0 → differ r (coded tapsY m c) ≡ 0 → b ≡ c
+y-apart m b c r hb hc p q =
+    parity b c (m / 16 % 2 + (m / 8 % 2 + (m / 2 % 2 + (m % 2 + 0)))) hb hc
+    (sym (differ-zero r (coded tapsY m b) p) ∙ differ-zero r (coded tapsY m c) q)
+
+kind-apart : (ss : List ℕ) (q j m b c : ℕ) → 0 < q → b < 2 → c < 2
+    → kindCost (hard ss) q j (coded tapsX m b) (coded tapsY m b) ≡ 0 → kindCost (hard ss) q j (coded tapsX m c) (coded tapsY m c) ≡ 0 → b ≡ c
+kind-apart ss zero j m b c h hb hc p q = absurd (omega arith)
+kind-apart ss (suc zero) j m b c h hb hc p q = y-apart m b c (getD (flat ss) j 0) hb hc p q
+kind-apart ss (suc (suc zero)) j m b c h hb hc p q = x-apart m b c (getD (flat ss) j 0) hb hc p q
+kind-apart ss (suc (suc (suc t))) j m b c h hb hc p q =
+    let u : hard ss j (coded tapsX m b) ≡ 0 = omega arith in
+    let v : hard ss j (coded tapsX m c) ≡ 0 = omega arith in
+    x-apart m b c (getD (flat ss) j 0) hb hc u v
+
+sends : (rate k : ℕ) → rate < 5 → 0 < kindAt rate k
+unfolding kind patternLength modeOf flatten
+sends rate k h = ltb→lt 0 (kindAt rate k) (tested-at (λ r p. ltb 0 (kind r p)) tt rate (k % patternLength rate) h (mod-lt k (some-bits rate h)))
+
+apart : (ss : List ℕ) (rate : ℕ) → rate < 5 → Apart (punctured rate (hard ss))
+unfolding punctured
+apart ss rate h k s b c hb hc p q = kind-apart ss (kindAt rate k) (first rate k) s b c (sends rate k h) hb hc p q
+
+-- ---- a run, whatever was received
+
+differ-le : (a b : ℕ) → differ a b ≤ 1
+differ-le a b = go (eqb a b)
+  where
+    go : (t : Bool) → pick {A = ℕ} t 0 1 ≤ 1
+    go true = omega arith
+    go false = omega arith
+
+kind-le : (ss : List ℕ) (q j x y : ℕ) → kindCost (hard ss) q j x y ≤ 14
+kind-le ss zero j x y = omega arith
+kind-le ss (suc zero) j x y = omega (arith, differ-le (getD (flat ss) j 0) y)
+kind-le ss (suc (suc zero)) j x y = omega (arith, differ-le (getD (flat ss) j 0) x)
+kind-le ss (suc (suc (suc q))) j x y = omega (arith, differ-le (getD (flat ss) j 0) x, differ-le (getD (flat ss) (j + 1) 0) y)
+
+module _ (rate m : ℕ) (hr : rate < 5) (hm : m < 64) (ss : List ℕ) (whole : length ss % symbolsPerPattern rate ≡ 0) where
+  abbrev n : ℕ
+  n = runLength rate ss
+
+  abbrev F : Costs
+  F = punctured rate (hard ss)
+
+  steps : (ys : List ℕ) → Bits ys → length ys ≡ n → costFrom F 0 m ys ≡ hardCost ss rate m ys
+  steps ys v l =
+      sym (run-is (map differing ss) (hard ss) (hard-splits ss) rate m hr hm v (ap (λ (k : ℕ). k % patternLength rate) l ∙ run-whole rate hr ss)
+      (run-symbols rate hr ss whole m hm ys v l ∙ sym (length-map ss differing)))
+
+  -- there is a best sequence
+  pub hard-decoded : SomeDecoded (hardCost ss rate m) n m
+  unfolding punctured
+  hard-decoded =
+      let d = some-decoded F (λ k s b. kind-le ss (kindAt rate k) (first rate k) (coded tapsX s b) (coded tapsY s b)) m n hm in
+      record { bits = d .bits; total = d .total; after = d .after; decoded = decoded-same n m steps (d .decoded) }
+
+  -- bits that differ nowhere are the best
+  pub free-best : (bits best : List ℕ) → Bits bits → length bits ≡ n → hardCost ss rate m bits ≡ 0 → Best (hardCost ss rate m) n best → best ≡ bits
+  free-best bits best w l z b =
+      free F (apart ss rate hr) n m bits best (best-same n (λ ys v e. sym (steps ys v e)) b) w l (steps bits w l ∙ z)
+
+-- ---- an unharmed run
+
+differ-same : (a : ℕ) → differ a a ≡ 0
+differ-same a = rw (eq-eqb a a refl)
+
+-- the coding of bits differs from itself nowhere
+same-free : (ss : List ℕ) → totalCost (map differing ss) ss ≡ 0
+unfolding totalCost
+same-free [] = refl
+same-free (s ∷ ss) = omega (arith, differ-same (s / 2), differ-same (s % 2), same-free ss)
+
+-- so a sequence is the best one of its own coding
+pub own-best : (rate m : ℕ) → rate < 5 → m < 64 → {bits : List ℕ} → Bits bits → length bits % patternLength rate ≡ 0 → (ss : List ℕ) → ss ≡ symbolsOf (coderAt rate m) bits
+    → {best : List ℕ} {total after : ℕ} → Decoded (hardCost ss rate m) (runLength rate ss) m best total after
+    → (best ≡ bits) × (total ≡ 0) × (after ≡ memoryAfter m bits)
+own-best rate m hr hm {bits} w e ss es {best} d =
+    let q = sent-whole rate m hr hm bits w e ss es in
+    let z : hardCost ss rate m bits ≡ 0 = ap (totalCost (map differing ss)) (sym es) ∙ same-free ss in
+    let b : best ≡ bits = free-best rate m hr hm ss (q .0) bits best w (q .1) z (d .best) in
+    (b, d .costs ∙ (ap (hardCost ss rate m) b ∙ z), d .ends ∙ ap (memoryAfter m) b)

@@ -1,0 +1,90 @@
+-- `run_reader::decision_costs` meets its contract.
+-- Assumes nothing.
+use Prim.Native.Nat.{_-_}
+use native.Mathlib.Omega.{arith}
+use borrow.Author.Needs.{needs}
+use lib.ListN.{length, length-set}
+use Rattle.run_reader.proofs.Decisions.{Deciding, deciding-none, deciding-more, symbol-bits}
+use Rattle.run_reader.proofs.decision_costs.Statement.{statement}
+use Rattle.run_reader.proofs.decision_costs.Tie as tie
+
+abbrev Inv-loop : tie.InvT-loop
+Inv-loop symbols room₀ i₀ at₀ room i at = Deciding symbols room₀ room i at
+
+abbrev μ-loop : tie.MeasureT-loop
+μ-loop symbols room₀ i₀ at₀ room i at = length symbols - i
+
+loop-holds : tie.Need-loop-holds Inv-loop μ-loop
+loop-holds c = deciding-none _ _
+
+shared-slice-read-s : tie.Need-shared-slice-read-s Inv-loop μ-loop
+shared-slice-read-s c = search needs
+
+slice-write-room : tie.Need-slice-write-room Inv-loop μ-loop
+slice-write-room c = omega (arith, (c .before .before .loop .inv) .written .len)
+
+add-at1 : tie.Need-add-at1 Inv-loop μ-loop
+add-at1 c = omega arith
+
+sub-room : tie.Need-sub-room Inv-loop μ-loop
+sub-room c = symbol-bits (c .before .before .before .args .symbols .now) (c .before .before .loop .i) (c .before .before .before .pre .0) (c .before .loop-test .taken) .0
+
+slice-write-room-2 : tie.Need-slice-write-room-2 Inv-loop μ-loop
+slice-write-room-2 c = simp length-set (omega (arith, (c .before .before .loop .inv) .written .len))
+
+add-at2 : tie.Need-add-at2 Inv-loop μ-loop
+add-at2 c = omega arith
+
+slice-write-room-3 : tie.Need-slice-write-room-3 Inv-loop μ-loop
+slice-write-room-3 c = simp length-set (omega (arith, (c .before .before .loop .inv) .written .len))
+
+add-at3 : tie.Need-add-at3 Inv-loop μ-loop
+add-at3 c = omega arith
+
+sub-room-2 : tie.Need-sub-room-2 Inv-loop μ-loop
+sub-room-2 c = symbol-bits (c .before .before .before .args .symbols .now) (c .before .before .loop .i) (c .before .before .before .pre .0) (c .before .loop-test .taken) .1
+
+slice-write-room-4 : tie.Need-slice-write-room-4 Inv-loop μ-loop
+slice-write-room-4 c = simp length-set (omega (arith, (c .before .before .loop .inv) .written .len))
+
+add-at : tie.Need-add-at Inv-loop μ-loop
+add-at c = omega arith
+
+add-i : tie.Need-add-i Inv-loop μ-loop
+add-i c = omega arith
+
+loop-less : tie.Need-loop-less Inv-loop μ-loop
+loop-less c = omega arith
+
+loop-again : tie.Need-loop-again Inv-loop μ-loop
+loop-again c = deciding-more (c .before .before .before .pre .0) (c .before .before .before .pre .1) (c .before .before .loop .inv) (c .before .loop-test .taken)
+
+same-length : tie.Need-same-length Inv-loop μ-loop
+same-length c = c .before .loop .inv .written .len
+
+returns : tie.Need-returns Inv-loop μ-loop
+returns c = (λ t h. c .before .loop .inv .written .done t (omega arith), λ t h. c .before .loop .inv .written .todo t (omega arith))
+
+pub decision-costs-spec : {M : Type 1} → statement M
+decision-costs-spec =
+    tie.close
+    (tie.spec
+    Inv-loop
+    μ-loop
+    loop-holds
+    shared-slice-read-s
+    slice-write-room
+    add-at1
+    sub-room
+    slice-write-room-2
+    add-at2
+    slice-write-room-3
+    add-at3
+    sub-room-2
+    slice-write-room-4
+    add-at
+    add-i
+    loop-less
+    loop-again
+    same-length
+    returns)

@@ -1,0 +1,4 @@
+pub mod Cost
+pub mod Decisions
+pub mod Read
+pub mod Runs

@@ -1,0 +1,17 @@
+-- `symbol_stream::open` meets its contract.
+-- Assumes nothing.
+use mathlib.Core.Path.{refl}
+use native.Mathlib.Omega.{arith}
+use Rattle.symbol_stream.proofs.Streams.{numbers}
+use Rattle.symbol_stream.proofs.open.Statement.{statement}
+use Rattle.symbol_stream.proofs.open.Tie as tie
+
+returns : tie.Need-returns
+returns c =
+    let n = numbers (c .args .rate) (c .pre) in (
+      record { known = c .pre; in-range = omega arith; size = refl; below = omega (arith, n .kept-some, n .kept-fewer); symbols = tt },
+      record { rate-is = refl; memory-is = refl; held-is = refl },
+    )
+
+pub open-spec : {M : Type 1} → statement M
+open-spec = tie.close (tie.spec returns)

@@ -1,0 +1,303 @@
+-- The lanes of a step are the ways into the 64 memories: those into lanes 2 i and 2 i + 1 come from lanes i and i + 32, with the costs exchanged.
+-- Assumes nothing.
+use mathlib.Core.Bool.{Bool, true, false}
+use mathlib.Core.Path.{_≡_, refl, sym, _∙_, ap, ap₂}
+use mathlib.Core.List.{List, [], _∷_}
+use Prim.Native.Nat.{ℕ, zero, suc, _+_, _-_, _*_, _/_, _%_, _^_, _≤_, _<_}
+use native.Mathlib.Omega.{arith}
+use native.Mathlib.Nat.{add-zero}
+use borrow.Author.Tests.{eqb-true, eqb-false}
+use lib.Dec.{ltb, eqb}
+use Rattle.common.specs.Choice.{pick}
+use Rattle.common.proofs.Computed as computed
+use Rattle.convolutional_code.specs.Code.{tapsX, tapsY, coded}
+use Rattle.trellis.specs.Metric.{from, via, choice}
+use Rattle.trellis.proofs.Paths.{choice-lt}
+use Rattle.viterbi_decoder.specs.Step.{at, decided, stepCost}
+use Rattle.viterbi_decoder.specs.Lanes.{lane, held, Tables, lesser, second, decision, Stepped}
+
+-- ---- costs
+
+pub decided-le : (c0 c1 v : ℕ) → c0 ≤ 7 → c1 ≤ 7 → decided c0 c1 v ≤ 7
+decided-le c0 c1 v h l = go (eqb v 0)
+  where
+    go : (t : Bool) → pick t c0 c1 ≤ 7
+    go true = h
+    go false = l
+
+pub stepCost-le : (x0 x1 y0 y1 m b : ℕ) → x0 ≤ 7 → x1 ≤ 7 → y0 ≤ 7 → y1 ≤ 7 → stepCost x0 x1 y0 y1 m b ≤ 14
+unfolding stepCost
+stepCost-le x0 x1 y0 y1 m b h0 h1 h2 h3 =
+    omega (arith, decided-le x0 x1 (coded tapsX m b) h0 h1, decided-le y0 y1 (coded tapsY m b) h2 h3)
+
+flip : (c0 c1 v : ℕ) → v < 2 → decided c0 c1 (1 - v) + decided c0 c1 v ≡ c0 + c1
+flip c0 c1 zero h = omega arith
+flip c0 c1 (suc zero) h = omega arith
+flip c0 c1 (suc (suc v)) h = absurd (omega arith)
+
+-- ---- lanes
+
+pub lane-lt : (s : ℕ) → lane s < 64
+unfolding lane
+lane-lt s = omega arith
+
+pub lane-lane : (r : ℕ) → r < 64 → lane (lane r) ≡ r
+unfolding lane
+lane-lane r h = computed.agree-at (λ r. lane (lane r)) (λ r. r) 64 tt r h
+
+-- the memories that a butterfly joins
+record Joins (i : ℕ) : Type 0 where
+  odd : lane (i + 32) ≡ lane i + 1
+  low-from : lane (2 * i) % 32 * 2 ≡ lane i
+  low-bit : lane (2 * i) / 32 ≡ 0
+  high-from : lane (2 * i + 1) % 32 * 2 ≡ lane i
+  high-bit : lane (2 * i + 1) / 32 ≡ 1
+
+joins : (i : ℕ) → i < 32 → Joins i
+unfolding lane
+joins i h = record {
+  odd = computed.agree-at (λ i. lane (i + 32)) (λ i. lane i + 1) 32 tt i h;
+  low-from = computed.agree-at (λ i. lane (2 * i) % 32 * 2) lane 32 tt i h;
+  low-bit = computed.agree-at (λ i. lane (2 * i) / 32) (λ i. 0) 32 tt i h;
+  high-from = computed.agree-at (λ i. lane (2 * i + 1) % 32 * 2) lane 32 tt i h;
+  high-bit = computed.agree-at (λ i. lane (2 * i + 1) / 32) (λ i. 1) 32 tt i h;
+}
+
+record Flipped (taps : List ℕ) (i : ℕ) : Type 0 where
+  odd-one : coded taps (lane i + 1) 1 ≡ coded taps (lane i) 0
+  even-one : coded taps (lane i) 1 ≡ 1 - coded taps (lane i) 0
+  odd-zero : coded taps (lane i + 1) 0 ≡ 1 - coded taps (lane i) 0
+
+x-flipped : (i : ℕ) → i < 32 → Flipped tapsX i
+unfolding lane
+x-flipped i h = record {
+  odd-one = computed.agree-at (λ i. coded tapsX (lane i + 1) 1) (λ i. coded tapsX (lane i) 0) 32 tt i h;
+  even-one = computed.agree-at (λ i. coded tapsX (lane i) 1) (λ i. 1 - coded tapsX (lane i) 0) 32 tt i h;
+  odd-zero = computed.agree-at (λ i. coded tapsX (lane i + 1) 0) (λ i. 1 - coded tapsX (lane i) 0) 32 tt i h;
+}
+
+y-flipped : (i : ℕ) → i < 32 → Flipped tapsY i
+unfolding lane
+y-flipped i h = record {
+  odd-one = computed.agree-at (λ i. coded tapsY (lane i + 1) 1) (λ i. coded tapsY (lane i) 0) 32 tt i h;
+  even-one = computed.agree-at (λ i. coded tapsY (lane i) 1) (λ i. 1 - coded tapsY (lane i) 0) 32 tt i h;
+  odd-zero = computed.agree-at (λ i. coded tapsY (lane i + 1) 0) (λ i. 1 - coded tapsY (lane i) 0) 32 tt i h;
+}
+
+coded-lt : (taps : List ℕ) (m b : ℕ) → coded taps m b < 2
+coded-lt taps m b = omega arith
+
+abbrev xTable : List ℕ
+xTable = 0 ∷ 1 ∷ 1 ∷ 0 ∷ 1 ∷ 0 ∷ 0 ∷ 1 ∷ 0 ∷ 1 ∷ 1 ∷ 0 ∷ 1 ∷ 0 ∷ 0 ∷ 1 ∷ 0 ∷ 1 ∷ 1 ∷ 0 ∷ 1 ∷ 0 ∷ 0 ∷ 1 ∷ 0 ∷ 1 ∷ 1 ∷ 0 ∷ 1 ∷ 0 ∷ 0 ∷ 1 ∷ []
+
+abbrev yTable : List ℕ
+yTable = 0 ∷ 0 ∷ 1 ∷ 1 ∷ 1 ∷ 1 ∷ 0 ∷ 0 ∷ 0 ∷ 0 ∷ 1 ∷ 1 ∷ 1 ∷ 1 ∷ 0 ∷ 0 ∷ 1 ∷ 1 ∷ 0 ∷ 0 ∷ 0 ∷ 0 ∷ 1 ∷ 1 ∷ 1 ∷ 1 ∷ 0 ∷ 0 ∷ 0 ∷ 0 ∷ 1 ∷ 1 ∷ []
+
+pub tables : Tables xTable yTable
+unfolding lane
+tables = record {
+  x = computed.agree-at (at xTable) (λ i. coded tapsX (lane i) 0) 32 tt;
+  y = computed.agree-at (at yTable) (λ i. coded tapsY (lane i) 0) 32 tt;
+}
+
+-- the costs of the two bits out of the two memories
+pub record Costed (f : ℕ → ℕ → ℕ) (a c : List ℕ) : Type 0 where
+  pub even-zero : (i : ℕ) → i < 32 → f (lane i) 0 ≡ at a i
+  pub odd-one : (i : ℕ) → i < 32 → f (lane i + 1) 1 ≡ at a i
+  pub even-one : (i : ℕ) → i < 32 → f (lane i) 1 ≡ at c i
+  pub odd-zero : (i : ℕ) → i < 32 → f (lane i + 1) 0 ≡ at c i
+
+module _ (xs ys : List ℕ) (t : Tables xs ys) (x0 x1 y0 y1 : ℕ) (a : List ℕ)
+    (ea : (i : ℕ) → i < 32 → at a i ≡ decided x0 x1 (at xs i) + decided y0 y1 (at ys i)) where
+  even : (i : ℕ) → i < 32 → at a i ≡ decided x0 x1 (coded tapsX (lane i) 0) + decided y0 y1 (coded tapsY (lane i) 0)
+  even i h = ea i h ∙ ap₂ (λ (v w : ℕ). decided x0 x1 v + decided y0 y1 w) (t .x i h) (t .y i h)
+
+  sums : (i : ℕ) → i < 32
+      → decided x0 x1 (1 - coded tapsX (lane i) 0) + decided y0 y1 (1 - coded tapsY (lane i) 0) + at a i ≡ x0 + x1 + y0 + y1
+  sums i h =
+      let ex = flip x0 x1 (coded tapsX (lane i) 0) (coded-lt tapsX (lane i) 0) in
+      let ey = flip y0 y1 (coded tapsY (lane i) 0) (coded-lt tapsY (lane i) 0) in
+      let e = even i h in
+      omega arith
+
+  pub within : (i : ℕ) → i < 32 → at a i ≤ x0 + x1 + y0 + y1
+  within i h = omega (arith, sums i h)
+
+  pub costed : (c : List ℕ) → ((i : ℕ) → i < 32 → at c i ≡ x0 + x1 + y0 + y1 - at a i) → Costed (stepCost x0 x1 y0 y1) a c
+  unfolding stepCost
+  costed c ec = record {
+    even-zero = λ i h. sym (even i h);
+    odd-one = λ i h. ap₂ (λ (v w : ℕ). decided x0 x1 v + decided y0 y1 w) (x-flipped i h .odd-one) (y-flipped i h .odd-one) ∙ sym (even i h);
+    even-one = λ i h.
+        ap₂ (λ (v w : ℕ). decided x0 x1 v + decided y0 y1 w) (x-flipped i h .even-one) (y-flipped i h .even-one) ∙ other i h;
+    odd-zero = λ i h.
+        ap₂ (λ (v w : ℕ). decided x0 x1 v + decided y0 y1 w) (x-flipped i h .odd-zero) (y-flipped i h .odd-zero) ∙ other i h;
+  }
+    where
+      other : (i : ℕ) → i < 32 → decided x0 x1 (1 - coded tapsX (lane i) 0) + decided y0 y1 (1 - coded tapsY (lane i) 0) ≡ at c i
+      other i h = omega (arith, sums i h, ec i h)
+
+-- ---- ways
+
+lesser-is : (M : ℕ → ℕ) (f : ℕ → ℕ → ℕ) (s : ℕ) → lesser (via M f s 0) (via M f s 1) ≡ via M f s (choice M f s)
+unfolding choice
+lesser-is M f s = go (ltb (via M f s 1) (via M f s 0))
+  where
+    go : (t : Bool) → pick t (via M f s 1) (via M f s 0) ≡ via M f s (pick t 1 0)
+    go true = refl
+    go false = refl
+
+second-is : (M : ℕ → ℕ) (f : ℕ → ℕ → ℕ) (s : ℕ) → second (via M f s 0) (via M f s 1) ≡ choice M f s
+unfolding choice
+second-is M f s = refl
+
+second-le : (a b : ℕ) → second a b ≤ 1
+second-le a b = go (ltb b a)
+  where
+    go : (t : Bool) → pick t 1 0 ≤ 1
+    go true = omega arith
+    go false = omega arith
+
+-- the four bits of a byte
+four-cases : (t c0 c1 c2 c3 v d : ℕ) → t < 4 → c0 < 2 → c1 < 2 → c2 < 2 → c3 < 2 → v ≡ c0 + 2 * c1 + 4 * c2 + 8 * c3
+    → (t ≡ 0 → c0 ≡ d) → (t ≡ 1 → c1 ≡ d) → (t ≡ 2 → c2 ≡ d) → (t ≡ 3 → c3 ≡ d) → v / 2 ^ t % 2 ≡ d
+four-cases zero c0 c1 c2 c3 v d ht h0 h1 h2 h3 e e0 e1 e2 e3 = let q : v / 1 % 2 ≡ c0 = omega arith in q ∙ e0 refl
+four-cases (suc zero) c0 c1 c2 c3 v d ht h0 h1 h2 h3 e e0 e1 e2 e3 = let q : v / 2 % 2 ≡ c1 = omega arith in q ∙ e1 refl
+four-cases (suc (suc zero)) c0 c1 c2 c3 v d ht h0 h1 h2 h3 e e0 e1 e2 e3 = let q : v / 4 % 2 ≡ c2 = omega arith in q ∙ e2 refl
+four-cases (suc (suc (suc zero))) c0 c1 c2 c3 v d ht h0 h1 h2 h3 e e0 e1 e2 e3 = let q : v / 8 % 2 ≡ c3 = omega arith in q ∙ e3 refl
+four-cases (suc (suc (suc (suc t)))) c0 c1 c2 c3 v d ht h0 h1 h2 h3 e e0 e1 e2 e3 = absurd (omega arith)
+
+-- the lane of each bit
+case0 : (r : ℕ) → r < 64 → r / 2 / 16 + 2 * (r % 2) ≡ 0 → 2 * (r / 2 % 16) ≡ r
+case0 r h e = omega arith
+
+case1 : (r : ℕ) → r < 64 → r / 2 / 16 + 2 * (r % 2) ≡ 1 → 2 * (r / 2 % 16 + 16) ≡ r
+case1 r h e = omega arith
+
+case2 : (r : ℕ) → r < 64 → r / 2 / 16 + 2 * (r % 2) ≡ 2 → 2 * (r / 2 % 16) + 1 ≡ r
+case2 r h e = omega arith
+
+case3 : (r : ℕ) → r < 64 → r / 2 / 16 + 2 * (r % 2) ≡ 3 → 2 * (r / 2 % 16 + 16) + 1 ≡ r
+case3 r h e = omega arith
+
+-- what the lanes hold
+pub record Lanes (m a c : List ℕ) (total : ℕ) (low high low′ high′ : List ℕ) : Type 0 where
+  pub low-is : (i : ℕ) → i < 32 → at low i ≡ lesser (at m i + at a i) (at m (i + 32) + (total - at a i))
+  pub high-is : (i : ℕ) → i < 32 → at high i ≡ lesser (at m i + at c i) (at m (i + 32) + (total - at c i))
+  pub low-chosen : (i : ℕ) → i < 32 → at low′ i ≡ second (at m i + at a i) (at m (i + 32) + (total - at a i))
+  pub high-chosen : (i : ℕ) → i < 32 → at high′ i ≡ second (at m i + at c i) (at m (i + 32) + (total - at c i))
+
+-- the two costs make the total
+pub record Shared (a c : List ℕ) (total : ℕ) : Type 0 where
+  pub within : (i : ℕ) → i < 32 → at a i ≤ total
+  pub rest : (i : ℕ) → i < 32 → at c i ≡ total - at a i
+
+module _ {m a c : List ℕ} {total : ℕ} {low high low′ high′ : List ℕ} (f : ℕ → ℕ → ℕ) (l : Lanes m a c total low high low′ high′) (k : Costed f a c)
+    (sh : Shared a c total) where
+  pub low-le : (i : ℕ) → i < 32 → (at low′ i ≤ 1) × (at high′ i ≤ 1)
+  low-le i h = (rw (l .low-chosen i h) (second-le (at m i + at a i) (at m (i + 32) + (total - at a i))), rw (l .high-chosen i h) (second-le (at m i + at c i) (at m (i + 32) + (total - at c i))))
+
+  M : ℕ → ℕ
+  M = held m
+
+  here : (i : ℕ) → i < 32 → M (lane i) ≡ at m i
+  unfolding M
+  here i h = ap (at m) (lane-lane i (omega arith))
+
+  there : (i : ℕ) → i < 32 → M (lane i + 1) ≡ at m (i + 32)
+  unfolding M
+  there i h = ap M (sym (joins i h .odd)) ∙ ap (at m) (lane-lane (i + 32) (omega arith))
+
+  -- the ways into lane 2 i
+  low-zero : (i : ℕ) → i < 32 → via M f (lane (2 * i)) 0 ≡ at m i + at a i
+  unfolding via
+  low-zero i h =
+      let e : lane (2 * i) % 32 * 2 + 0 ≡ lane i = add-zero (lane (2 * i) % 32 * 2) ∙ joins i h .low-from in
+      rw (e, joins i h .low-bit, k .even-zero i h, here i h)
+
+  low-one : (i : ℕ) → i < 32 → via M f (lane (2 * i)) 1 ≡ at m (i + 32) + (total - at a i)
+  unfolding via
+  low-one i h = rw (joins i h .low-from, joins i h .low-bit, k .odd-zero i h, there i h, sh .rest i h)
+
+  -- the ways into lane 2 i + 1
+  high-zero : (i : ℕ) → i < 32 → via M f (lane (2 * i + 1)) 0 ≡ at m i + at c i
+  unfolding via
+  high-zero i h =
+      let e : lane (2 * i + 1) % 32 * 2 + 0 ≡ lane i = add-zero (lane (2 * i + 1) % 32 * 2) ∙ joins i h .high-from in
+      rw (e, joins i h .high-bit, k .even-one i h, here i h)
+
+  high-one : (i : ℕ) → i < 32 → via M f (lane (2 * i + 1)) 1 ≡ at m (i + 32) + (total - at c i)
+  unfolding via
+  high-one i h =
+      let e : at a i ≡ total - at c i = omega (arith, sh .within i h, sh .rest i h) in
+      rw (joins i h .high-from, joins i h .high-bit, k .odd-one i h, there i h) (ap (λ (x : ℕ). at m (i + 32) + x) e)
+
+  low-metric : (i : ℕ) → i < 32 → at low i ≡ via M f (lane (2 * i)) (choice M f (lane (2 * i)))
+  low-metric i h = l .low-is i h ∙ (ap₂ lesser (sym (low-zero i h)) (sym (low-one i h)) ∙ lesser-is M f (lane (2 * i)))
+
+  high-metric : (i : ℕ) → i < 32 → at high i ≡ via M f (lane (2 * i + 1)) (choice M f (lane (2 * i + 1)))
+  high-metric i h = l .high-is i h ∙ (ap₂ lesser (sym (high-zero i h)) (sym (high-one i h)) ∙ lesser-is M f (lane (2 * i + 1)))
+
+  low-choice : (i : ℕ) → i < 32 → at low′ i ≡ choice M f (lane (2 * i))
+  low-choice i h = l .low-chosen i h ∙ (ap₂ second (sym (low-zero i h)) (sym (low-one i h)) ∙ second-is M f (lane (2 * i)))
+
+  high-choice : (i : ℕ) → i < 32 → at high′ i ≡ choice M f (lane (2 * i + 1))
+  high-choice i h = l .high-chosen i h ∙ (ap₂ second (sym (high-zero i h)) (sym (high-one i h)) ∙ second-is M f (lane (2 * i + 1)))
+
+  module _ (next row : List ℕ) (en : (i : ℕ) → i < 32 → (at next (2 * i) ≡ at low i) × (at next (2 * i + 1) ≡ at high i))
+      (er : (j : ℕ) → j < 16 → at row j ≡ at low′ j + 2 * at low′ (j + 16) + 4 * at high′ j + 8 * at high′ (j + 16)) where
+    -- by lanes
+    lane-metric : (r : ℕ) → r < 64 → at next r ≡ via M f (lane r) (choice M f (lane r))
+    lane-metric r h = go (eqb (r % 2) 0) refl
+      where
+        go : (t : Bool) → eqb (r % 2) 0 ≡ t → at next r ≡ via M f (lane r) (choice M f (lane r))
+        go true e =
+            let z : r % 2 ≡ 0 = eqb-true _ _ e in
+            let w : 2 * (r / 2) ≡ r = omega arith in
+            rw w at (en (r / 2) (omega arith) .0 ∙ low-metric (r / 2) (omega arith))
+        go false e =
+            let z : ¬ (r % 2 ≡ 0) = eqb-false _ _ e in
+            let w : 2 * (r / 2) + 1 ≡ r = omega arith in
+            rw w at (en (r / 2) (omega arith) .1 ∙ high-metric (r / 2) (omega arith))
+
+    D : ℕ → ℕ
+    D r = choice M f (lane r)
+
+    D-lt : (r : ℕ) → D r < 2
+    unfolding D
+    D-lt r = choice-lt M f (lane r)
+
+    -- byte j of the row has the choices of lanes 2 j, 2 j + 32, 2 j + 1 and 2 j + 33
+    byte : (j : ℕ) → j < 16 → at row j ≡ D (2 * j) + 2 * D (2 * (j + 16)) + 4 * D (2 * j + 1) + 8 * D (2 * (j + 16) + 1)
+    unfolding D
+    byte j h = omega (arith, er j h, low-choice j (omega arith), low-choice (j + 16) (omega arith), high-choice j (omega arith), high-choice (j + 16) (omega arith))
+
+    lane-choice : (r : ℕ) → r < 64 → decision row r ≡ D r
+    unfolding decision
+    lane-choice r h =
+        let j = r / 2 % 16 in
+        let hj : r / 2 % 16 < 16 = omega arith in
+        four-cases (r / 2 / 16 + 2 * (r % 2)) (D (2 * j)) (D (2 * (j + 16))) (D (2 * j + 1)) (D (2 * (j + 16) + 1)) (at row j) (D r)
+        (omega arith) (D-lt _) (D-lt _) (D-lt _) (D-lt _) (byte j hj)
+        (λ e. ap D (case0 r h e)) (λ e. ap D (case1 r h e)) (λ e. ap D (case2 r h e)) (λ e. ap D (case3 r h e))
+
+    pub stepped : Stepped (held m) f next row
+    unfolding D M
+    stepped = record {
+      metrics = λ s h. lane-metric (lane s) (lane-lt s) ∙ ap (λ (t : ℕ). via M f t (choice M f t)) (lane-lane s h);
+      choices = λ s h. lane-choice (lane s) (lane-lt s) ∙ ap (choice M f) (lane-lane s h);
+    }
+
+-- the sums fit a byte
+pub fits : {f : ℕ → ℕ → ℕ} {a c : List ℕ} {total : ℕ} → Costed f a c → ((m b : ℕ) → f m b ≤ 14) → Shared a c total → (m : List ℕ)
+    → ((t : ℕ) → t < 64 → at m t ≤ 241)
+    → (i : ℕ) → i < 32 → ((at a i ≤ total) × (at m i + at a i < 256) × (at m (i + 32) + (total - at a i) < 256))
+    × ((at c i ≤ total) × (at m i + at c i < 256) × (at m (i + 32) + (total - at c i) < 256))
+fits {f} {a} {c} k small sh m b i h =
+    let p : at m i ≤ 241 = b i (omega arith) in
+    let q : at m (i + 32) ≤ 241 = b (i + 32) (omega arith) in
+    let ai : at a i ≤ 14 = rw (sym (k .even-zero i h)) (small (lane i) 0) in
+    let ci : at c i ≤ 14 = rw (sym (k .even-one i h)) (small (lane i) 1) in
+    let w = sh .within i h in
+    let r = sh .rest i h in
+    ((omega arith, omega arith, omega arith), (omega arith, omega arith, omega arith))

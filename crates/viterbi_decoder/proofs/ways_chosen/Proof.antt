@@ -1,0 +1,83 @@
+-- `viterbi_decoder::ways_chosen` meets its contract.
+-- Assumes nothing.
+use mathlib.Core.Path.{_≡_, refl}
+use Prim.Native.Nat.{_+_, _-_}
+use native.Mathlib.Omega.{arith}
+use Rattle.common.proofs.Each.{Each, each-none, each-more, each-all}
+use Rattle.viterbi_decoder.specs.Step.{at}
+use Rattle.viterbi_decoder.specs.Lanes.{second}
+use Rattle.viterbi_decoder.proofs.ways_chosen.Statement.{statement}
+use Rattle.viterbi_decoder.proofs.ways_chosen.Tie as tie
+
+abbrev Inv-loop : tie.InvT-loop
+Inv-loop metrics costs total r₀ i₀ r i = Each (λ k v. v ≡ second (at metrics k + at costs k) (at metrics (k + 32) + (total - at costs k))) 32 r i
+
+abbrev μ-loop : tie.MeasureT-loop
+μ-loop metrics costs total r₀ i₀ r i = 32 - i
+
+loop-holds : tie.Need-loop-holds Inv-loop μ-loop
+loop-holds c = each-none refl
+
+element-copy-out-second : tie.Need-element-copy-out-second Inv-loop μ-loop
+element-copy-out-second c = omega arith
+
+element-copy-out-second-2 : tie.Need-element-copy-out-second-2 Inv-loop μ-loop
+element-copy-out-second-2 c = omega arith
+
+add-second : tie.Need-add-second Inv-loop μ-loop
+add-second c = omega (arith, c .before .before .before .before .pre (c .before .before .before .loop .i) (omega arith) .1)
+
+add-second-2 : tie.Need-add-second-2 Inv-loop μ-loop
+add-second-2 c = omega arith
+
+element-copy-out-second-3 : tie.Need-element-copy-out-second-3 Inv-loop μ-loop
+element-copy-out-second-3 c = omega arith
+
+element-copy-out-second-4 : tie.Need-element-copy-out-second-4 Inv-loop μ-loop
+element-copy-out-second-4 c = omega arith
+
+sub-second : tie.Need-sub-second Inv-loop μ-loop
+sub-second c = omega (arith, c .before .before .before .before .before .before .pre (c .before .before .before .before .before .loop .i) (omega arith) .0)
+
+add-second-3 : tie.Need-add-second-3 Inv-loop μ-loop
+add-second-3 c = omega (arith, c .before .before .before .before .before .before .pre (c .before .before .before .before .before .loop .i) (omega arith) .2)
+
+second-requires : tie.Need-second-requires Inv-loop μ-loop
+second-requires c κs = omega arith
+
+array-write-r : tie.Need-array-write-r Inv-loop μ-loop
+array-write-r c = omega arith
+
+add-i : tie.Need-add-i Inv-loop μ-loop
+add-i c = omega arith
+
+loop-less : tie.Need-loop-less Inv-loop μ-loop
+loop-less c = omega arith
+
+loop-again : tie.Need-loop-again Inv-loop μ-loop
+loop-again c = each-more _ (omega arith) (c .second .ensures) (c .before .before .before .before .before .before .loop .inv)
+
+returns : tie.Need-returns Inv-loop μ-loop
+returns c = each-all (omega arith) (c .before .loop .inv)
+
+pub ways-chosen-spec : {M : Type 1} → statement M
+ways-chosen-spec =
+    tie.close
+    (tie.spec
+    Inv-loop
+    μ-loop
+    loop-holds
+    element-copy-out-second
+    element-copy-out-second-2
+    add-second
+    add-second-2
+    element-copy-out-second-3
+    element-copy-out-second-4
+    sub-second
+    add-second-3
+    second-requires
+    array-write-r
+    add-i
+    loop-less
+    loop-again
+    returns)

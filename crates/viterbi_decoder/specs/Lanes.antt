@@ -1,0 +1,50 @@
+-- What the steps of the decoder give: metrics less an offset, one to a byte, and sixteen bytes of choices for each step.
+-- Assumes nothing.
+use mathlib.Core.Path.{_≡_}
+use mathlib.Core.List.{List, []}
+use Prim.Native.Nat.{ℕ, _+_, _*_, _/_, _%_, _^_, _<_}
+use lib.Dec.{ltb}
+use lib.ListN.{length, getD}
+use Rattle.common.specs.Choice.{pick}
+use Rattle.convolutional_code.specs.Code.{tapsX, tapsY, coded}
+use Rattle.trellis.specs.Metric.{Costs, via, choice, metric, choices}
+use Rattle.viterbi_decoder.specs.Step.{at}
+
+-- the lane of a memory: its six bits in the other order, so that the newest one counts 1
+unfoldable pub lane : ℕ → ℕ
+lane s = s % 2 * 32 + s / 2 % 2 * 16 + s / 4 % 2 * 8 + s / 8 % 2 * 4 + s / 16 % 2 * 2 + s / 32 % 2
+
+-- the number that a memory has in a list of lanes
+abbrev pub held : List ℕ → ℕ → ℕ
+held l s = at l (lane s)
+
+-- the tables of X and of Y that bit 0 gives out of the memories of the first 32 lanes, whose oldest bit is 0
+pub record Tables (xs ys : List ℕ) : Type 0 where
+  pub x : (i : ℕ) → i < 32 → at xs i ≡ coded tapsX (lane i) 0
+  pub y : (i : ℕ) → i < 32 → at ys i ≡ coded tapsY (lane i) 0
+
+-- the lesser of two numbers, and whether it is the second
+abbrev pub lesser : ℕ → ℕ → ℕ
+lesser a b = pick (ltb b a) b a
+
+abbrev pub second : ℕ → ℕ → ℕ
+second a b = pick (ltb b a) 1 0
+
+-- the choice of lane r in a row: byte j has those of lanes 2 j, 2 j + 32, 2 j + 1 and 2 j + 33
+unfoldable pub decision : List ℕ → ℕ → ℕ
+decision row r = at row (r / 2 % 16) / 2 ^ (r / 2 / 16 + 2 * (r % 2)) % 2
+
+-- the metrics and the choices after a step
+pub record Stepped (M : ℕ → ℕ) (f : ℕ → ℕ → ℕ) (next row : List ℕ) : Type 0 where
+  pub metrics : (s : ℕ) → s < 64 → held next s ≡ via M f s (choice M f s)
+  pub choices : (s : ℕ) → s < 64 → decision row (lane s) ≡ choice M f s
+
+-- the choices that a table of rows holds
+abbrev pub table : List (List ℕ) → ℕ → ℕ → ℕ
+table rows k s = decision (getD rows k []) (lane s)
+
+-- after k steps: the metrics less the offset, and a row of choices for each step
+pub record Forward (F : Costs) (m k : ℕ) (metrics : List ℕ) (offset : ℕ) (rows : List (List ℕ)) : Type 0 where
+  pub size : length rows ≡ 1632
+  pub metrics-are : (s : ℕ) → s < 64 → held metrics s + offset ≡ metric F m k s
+  pub choices-are : (j : ℕ) → j < k → (s : ℕ) → s < 64 → table rows j s ≡ choices F m j s

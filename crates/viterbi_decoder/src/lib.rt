@@ -1,0 +1,388 @@
+// The Viterbi decoder of the mother code, on 64 metrics of a byte each.
+ghost use mathlib.Core.Path.{_≡_};
+ghost use mathlib.Core.List.{reverse};
+ghost use Prim.Native.Nat.{ℕ, _+_, _-_, _*_, _/_, _<_, _≤_};
+ghost use lib.Dec.{eqb};
+ghost use lib.ListN.{length};
+ghost use Rattle.common.specs.Choice.{pick};
+ghost use Rattle.trellis.specs.Best.{Decoded};
+ghost use Rattle.trellis.specs.Metric.{far, costFrom, path, Ends};
+ghost use Rattle.viterbi_decoder.specs.Step.{at, decided, stepCost, stepCosts, Small};
+ghost use Rattle.viterbi_decoder.specs.Lanes.{lane, held, Tables, lesser as lesserOf, second as secondOf, decision as decisionOf, Stepped, Forward, table};
+
+const XS: [u8; 32] = [
+    0,
+    1,
+    1,
+    0,
+    1,
+    0,
+    0,
+    1,
+    0,
+    1,
+    1,
+    0,
+    1,
+    0,
+    0,
+    1,
+    0,
+    1,
+    1,
+    0,
+    1,
+    0,
+    0,
+    1,
+    0,
+    1,
+    1,
+    0,
+    1,
+    0,
+    0,
+    1,
+];
+
+const YS: [u8; 32] = [
+    0,
+    0,
+    1,
+    1,
+    1,
+    1,
+    0,
+    0,
+    0,
+    0,
+    1,
+    1,
+    1,
+    1,
+    0,
+    0,
+    1,
+    1,
+    0,
+    0,
+    0,
+    0,
+    1,
+    1,
+    1,
+    1,
+    0,
+    0,
+    0,
+    0,
+    1,
+    1,
+];
+
+// What a coded bit costs.
+fn decide(bit: u8, zero: u8, one: u8) -> u8
+    requires { ⌜ (zero ≤ 7) × (one ≤ 7) ⌝ }
+    ensures { λ r. ⌜ (r ≡ decided zero one bit) × (r ≤ 7) ⌝ }
+{
+    if bit == 0 { zero } else { one }
+}
+
+fn lesser(a: u8, b: u8) -> u8
+    ensures { λ r. ⌜ r ≡ lesserOf a b ⌝ }
+{
+    if b < a { b } else { a }
+}
+
+fn second(a: u8, b: u8) -> u8
+    ensures { λ r. ⌜ r ≡ secondOf a b ⌝ }
+{
+    if b < a { 1 } else { 0 }
+}
+
+// The lane of a memory, and the memory of a lane.
+fn lane_of(s: usize) -> usize
+    requires { ⌜ s < 64 ⌝ }
+    ensures { λ r. ⌜ r ≡ lane s ⌝ }
+{
+    s % 2 * 32 + s / 2 % 2 * 16 + s / 4 % 2 * 8 + s / 8 % 2 * 4 + s / 16 % 2 * 2 + s / 32 % 2
+}
+
+// What bit 0 costs out of each even memory.
+fn branch_costs(xs: &[u8; 32], ys: &[u8; 32], x0: u8, x1: u8, y0: u8, y1: u8) -> [u8; 32]
+    requires { ⌜ (x0 ≤ 7) × (x1 ≤ 7) × (y0 ≤ 7) × (y1 ≤ 7) ⌝ }
+    ensures { λ r. ⌜ ((i : ℕ) → i < 32 → at r i ≡ decided x0 x1 (at (now (xs .entry)) i) + decided y0 y1 (at (now (ys .entry)) i)) ⌝ }
+{
+    let mut r = [0u8; 32];
+    let mut i = 0;
+    while i < 32 {
+        r[i] = decide(xs[i], x0, x1) + decide(ys[i], y0, y1);
+        i += 1;
+    }
+    r
+}
+
+// What the other bit costs there.
+fn complement(costs: &[u8; 32], total: u8) -> [u8; 32]
+    requires { ⌜ ((i : ℕ) → i < 32 → at (now costs) i ≤ total) ⌝ }
+    ensures { λ r. ⌜ ((i : ℕ) → i < 32 → at r i ≡ total - at (now (costs .entry)) i) ⌝ }
+{
+    let mut r = [0u8; 32];
+    let mut i = 0;
+    while i < 32 {
+        r[i] = total - costs[i];
+        i += 1;
+    }
+    r
+}
+
+// The lesser of two ways into each of 32 memories: from lane i at a cost, and from lane i + 32 at what the total leaves.
+fn lesser_ways(metrics: &[u8; 64], costs: &[u8; 32], total: u8) -> [u8; 32]
+    requires { ⌜ ((i : ℕ) → i < 32 → (at (now costs) i ≤ total) × (at (now metrics) i + at (now costs) i < 256) × (at (now metrics) (i + 32) + (total - at (now costs) i) < 256)) ⌝ }
+    ensures { λ r. ⌜ ((i : ℕ) → i < 32 → at r i ≡ lesserOf (at (now (metrics .entry)) i + at (now (costs .entry)) i) (at (now (metrics .entry)) (i + 32) + (total - at (now (costs .entry)) i))) ⌝ }
+{
+    let mut r = [0u8; 32];
+    let mut i = 0;
+    while i < 32 {
+        r[i] = lesser(metrics[i] + costs[i], metrics[i + 32] + (total - costs[i]));
+        i += 1;
+    }
+    r
+}
+
+// Which way that is.
+fn ways_chosen(metrics: &[u8; 64], costs: &[u8; 32], total: u8) -> [u8; 32]
+    requires { ⌜ ((i : ℕ) → i < 32 → (at (now costs) i ≤ total) × (at (now metrics) i + at (now costs) i < 256) × (at (now metrics) (i + 32) + (total - at (now costs) i) < 256)) ⌝ }
+    ensures { λ r. ⌜ ((i : ℕ) → i < 32 → at r i ≡ secondOf (at (now (metrics .entry)) i + at (now (costs .entry)) i) (at (now (metrics .entry)) (i + 32) + (total - at (now (costs .entry)) i))) ⌝ }
+{
+    let mut r = [0u8; 32];
+    let mut i = 0;
+    while i < 32 {
+        r[i] = second(metrics[i] + costs[i], metrics[i + 32] + (total - costs[i]));
+        i += 1;
+    }
+    r
+}
+
+fn four_bits(a: u8, b: u8, c: u8, d: u8) -> u8
+    requires { ⌜ (a ≤ 1) × (b ≤ 1) × (c ≤ 1) × (d ≤ 1) ⌝ }
+    ensures { λ r. ⌜ r ≡ a + 2 * b + 4 * c + 8 * d ⌝ }
+{
+    a + 2 * b + 4 * c + 8 * d
+}
+
+// The choices of the 64 memories, four to a byte.
+fn packed(low: &[u8; 32], high: &[u8; 32]) -> [u8; 16]
+    requires { ⌜ ((i : ℕ) → i < 32 → (at (now low) i ≤ 1) × (at (now high) i ≤ 1)) ⌝ }
+    ensures { λ r. ⌜ ((j : ℕ) → j < 16 → at r j ≡ at (now (low .entry)) j + 2 * at (now (low .entry)) (j + 16) + 4 * at (now (high .entry)) j + 8 * at (now (high .entry)) (j + 16)) ⌝ }
+{
+    let mut r = [0u8; 16];
+    let mut j = 0;
+    while j < 16 {
+        r[j] = four_bits(low[j], low[j + 16], high[j], high[j + 16]);
+        j += 1;
+    }
+    r
+}
+
+// The metrics of the memories with newest bit 0 in the even lanes, and those with 1 in the odd ones.
+fn woven(low: &[u8; 32], high: &[u8; 32]) -> [u8; 64]
+    ensures { λ r. ⌜ ((i : ℕ) → i < 32 → (at r (2 * i) ≡ at (now (low .entry)) i) × (at r (2 * i + 1) ≡ at (now (high .entry)) i)) ⌝ }
+{
+    let mut r = [0u8; 64];
+    let mut i = 0;
+    while i < 32 {
+        r[2 * i] = low[i];
+        r[2 * i + 1] = high[i];
+        i += 1;
+    }
+    r
+}
+
+fn above_84(x: u8) -> u8
+    ensures { λ r. ⌜ r ≡ x - 84 ⌝ }
+{
+    if x < 84 { 0 } else { x - 84 }
+}
+
+fn lowered(metrics: &[u8; 64], by: u8) -> [u8; 64]
+    requires { ⌜ ((t : ℕ) → t < 64 → by ≤ at (now metrics) t) ⌝ }
+    ensures { λ r. ⌜ ((t : ℕ) → t < 64 → at r t ≡ at (now (metrics .entry)) t - by) ⌝ }
+{
+    let mut r = [0u8; 64];
+    let mut s = 0;
+    while s < 64 {
+        r[s] = metrics[s] - by;
+        s += 1;
+    }
+    r
+}
+
+pub struct Row {
+    pub metrics: [u8; 64],
+    pub choices: [u8; 16],
+}
+
+// One step: the metrics and the choices of all memories.
+fn step(xs: &[u8; 32], ys: &[u8; 32], metrics: &[u8; 64], x0: u8, x1: u8, y0: u8, y1: u8) -> Row
+    requires { ⌜ (Tables (now xs) (now ys)) × ((t : ℕ) → t < 64 → at (now metrics) t ≤ 241) × (x0 ≤ 7) × (x1 ≤ 7) × (y0 ≤ 7) × (y1 ≤ 7) ⌝ }
+    ensures { λ r. ⌜ Stepped (held (now (metrics .entry))) (stepCost x0 x1 y0 y1) (r .metrics) (r .choices) ⌝ }
+{
+    let total = x0 + x1 + y0 + y1;
+    let a = branch_costs(xs, ys, x0, x1, y0, y1);
+    let c = complement(&a, total);
+    let low = lesser_ways(metrics, &a, total);
+    let high = lesser_ways(metrics, &c, total);
+    let low_chosen = ways_chosen(metrics, &a, total);
+    let high_chosen = ways_chosen(metrics, &c, total);
+    let next = woven(&low, &high);
+    let choices = packed(&low_chosen, &high_chosen);
+    Row {
+        metrics: next,
+        choices: choices,
+    }
+}
+
+// The metrics before the first step.
+fn start(memory: usize) -> [u8; 64]
+    requires { ⌜ memory < 64 ⌝ }
+    ensures { λ r. ⌜ ((s : ℕ) → s < 64 → held r s ≡ pick (eqb s memory) 0 far) ⌝ }
+{
+    let mut m = [85u8; 64];
+    m[lane_of(memory)] = 0;
+    m
+}
+
+// The metrics in the order of the memories.
+fn ordered(metrics: &[u8; 64]) -> [u8; 64]
+    ensures { λ r. ⌜ ((s : ℕ) → s < 64 → at r s ≡ held (now (metrics .entry)) s) ⌝ }
+{
+    let mut r = [0u8; 64];
+    let mut s = 0;
+    while s < 64 {
+        r[s] = metrics[lane_of(s)];
+        s += 1;
+    }
+    r
+}
+
+// The first of the memories with the least metric.
+fn first_least(metrics: &[u8; 64]) -> usize
+    ensures { λ r. ⌜ Ends (at (now (metrics .entry))) 64 r ⌝ }
+{
+    let mut best = 0;
+    let mut s = 1;
+    while s < 64 {
+        if metrics[s] < metrics[best] {
+            best = s;
+        }
+        s += 1;
+    }
+    best
+}
+
+pub struct Survivors {
+    pub metrics: [u8; 64],
+    pub offset: usize,
+}
+
+// The metrics with that of lane 0 brought down to 84.
+fn levelled(metrics: &[u8; 64], offset: usize) -> Survivors
+    requires { ⌜ (offset ≤ 30000) × ((s t : ℕ) → s < 64 → t < 64 → at (now metrics) s ≤ at (now metrics) t + 84) ⌝ }
+    ensures { λ r. ⌜ ((t : ℕ) → t < 64 → at (r .metrics) t + r .offset ≡ at (now (metrics .entry)) t + offset) × ((t : ℕ) → t < 64 → at (r .metrics) t ≤ 168) ⌝ }
+{
+    let by = above_84(metrics[0]);
+    let lower = lowered(metrics, by);
+    Survivors {
+        metrics: lower,
+        offset: offset + by as usize,
+    }
+}
+
+// All n steps: the metrics after them, and a row of choices for each.
+fn forward(steps: &[u8], memory: usize, n: usize, rows: &mut [[u8; 16]; 1632]) -> Survivors
+    requires { ⌜ (4 * n ≤ length (now steps)) × (n ≤ 1632) × (memory < 64) × Small (now steps) × (length (now rows) ≡ 1632) ⌝ }
+    ensures { λ r. ⌜ Forward (stepCosts (now (steps .entry))) memory n (r .metrics) (r .offset) (now (rows .exit)) ⌝ }
+{
+    let xs = XS;
+    let ys = YS;
+    let mut metrics = start(memory);
+    let mut offset = 0;
+    let mut k = 0;
+    while k < n {
+        let row = step(
+            &xs,
+            &ys,
+            &metrics,
+            steps[4 * k],
+            steps[4 * k + 1],
+            steps[4 * k + 2],
+            steps[4 * k + 3],
+        );
+        let next = row.metrics;
+        let choices = row.choices;
+        rows[k] = choices;
+        if k % 6 == 5 {
+            let level = levelled(&next, offset);
+            let lower = level.metrics;
+            metrics = lower;
+            offset = level.offset;
+        } else {
+            metrics = next;
+        }
+        k += 1;
+    }
+    Survivors {
+        metrics: metrics,
+        offset: offset,
+    }
+}
+
+// The choice of a lane in a row.
+fn decision(row: &[u8; 16], lane: usize) -> usize
+    requires { ⌜ lane < 64 ⌝ }
+    ensures { λ r. ⌜ r ≡ decisionOf (now (row .entry)) lane ⌝ }
+{
+    let i = lane / 2;
+    let t = i / 16 + 2 * (lane % 2);
+    let j = i % 16;
+    ((row[j] >> t) % 2) as usize
+}
+
+// The path that ends in a lane, written from its last bit back.
+fn trace(rows: &[[u8; 16]; 1632], end: usize, room: &mut [u8])
+    requires { ⌜ (length (now room) ≤ 1632) × (end < 64) ⌝ }
+    ensures { λ _. ⌜ now (room .exit) ≡ reverse (path (table (now (rows .entry))) (length (now (room .entry))) (lane end)) ⌝ }
+{
+    let mut r = end;
+    let mut k = room.len();
+    while 0 < k {
+        k -= 1;
+        room[k] = (r % 2) as u8;
+        let row = rows[k];
+        r = r / 2 + 32 * decision(&row, r);
+    }
+}
+
+pub struct Run {
+    pub memory: usize,
+    pub cost: usize,
+}
+
+// The best bits of a run, into room. There are four costs for each bit: X as 0, X as 1, Y as 0, Y as 1.
+pub fn decode(steps: &[u8], memory: usize, room: &mut [u8]) -> Run
+    requires { ⌜ (4 * length (now room) ≤ length (now steps)) × (length (now room) ≤ 1632) × (memory < 64) × Small (now steps) ⌝ }
+    ensures { λ r. ⌜ Decoded (costFrom (stepCosts (now (steps .entry))) 0 memory) (length (now (room .entry))) memory (now (room .exit)) (r .cost) (r .memory) ⌝ }
+{
+    let mut rows = [[0u8; 16]; 1632];
+    let last = forward(steps, memory, room.len(), &mut rows);
+    let lanes = last.metrics;
+    let offset = last.offset;
+    let metrics = ordered(&lanes);
+    let end = first_least(&metrics);
+    trace(&rows, lane_of(end), room);
+    Run {
+        memory: end,
+        cost: metrics[end] as usize + offset,
+    }
+}
