@@ -107,14 +107,11 @@ values-more q x k v w n l s e f =
 
 -- ---- powers of every lane
 
-pub first-squares : (a : List ℕ) → map (λ u. mul u u) a ≡ map (λ u. pow u 2) a
-first-squares [] = refl
-first-squares (x ∷ a) =
-    ap₂ (λ (y : ℕ) (l : List ℕ). y ∷ l) (times-one x x ∙ mul-comm x (pow x 1) ∙ times-one (pow x 1) x ∙ pow-add x 1 1) (first-squares a)
-
-squares-at : (m : ℕ) (a : List ℕ) → map (λ u. mul u u) (map (λ u. pow u m) a) ≡ map (λ u. pow u (m + m)) a
-squares-at m [] = refl
-squares-at m (x ∷ a) = ap₂ (λ (y : ℕ) (l : List ℕ). y ∷ l) (pow-add x m m) (squares-at m a)
+pub first-products : (a : List ℕ) → productsOf a a ≡ map (λ u. pow u 2) a
+unfolding productsOf
+first-products [] = refl
+first-products (x ∷ a) =
+    ap₂ (λ (y : ℕ) (l : List ℕ). y ∷ l) (times-one x x ∙ mul-comm x (pow x 1) ∙ times-one (pow x 1) x ∙ pow-add x 1 1) (first-products a)
 
 next-powers : (m : ℕ) (a : List ℕ) → productsOf (map (λ u. pow u m) a) a ≡ map (λ u. pow u (m + 1)) a
 unfolding productsOf
@@ -127,9 +124,6 @@ powers-add m n [] = refl
 powers-add m n (x ∷ a) = ap₂ (λ (y : ℕ) (l : List ℕ). y ∷ l) (pow-add x m n) (powers-add m n a)
 
 -- the same, of lists that are powers of a
-pub squares : (a : List ℕ) (m : ℕ) {x : List ℕ} → x ≡ map (λ u. pow u m) a → map (λ u. mul u u) x ≡ map (λ u. pow u (m + m)) a
-squares a m p = ap (map (λ u. mul u u)) p ∙ squares-at m a
-
 pub one-more : (a : List ℕ) (m : ℕ) {x : List ℕ} → x ≡ map (λ u. pow u m) a → productsOf x a ≡ map (λ u. pow u (m + 1)) a
 one-more a m p = ap (λ (l : List ℕ). productsOf l a) p ∙ next-powers m a
 

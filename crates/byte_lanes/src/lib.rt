@@ -46,19 +46,6 @@ pub fn times_x(a: [u8; 16]) -> [u8; 16]
     r
 }
 
-// The square of each lane.
-fn squares(a: [u8; 16]) -> [u8; 16]
-    ensures { λ r. ⌜ r ≡ map (λ u. mul u u) a ⌝ }
-{
-    let mut r = [0u8; 16];
-    let mut k: usize = 0;
-    while k < 16 {
-        r[k] = galois::square(a[k]);
-        k += 1;
-    }
-    r
-}
-
 // Each lane times f, which is laid in all lanes: with f alone the compiler would branch on its bits.
 pub fn scale(a: [u8; 16], f: u8) -> [u8; 16]
     ensures { λ r. ⌜ r ≡ scaled f a ⌝ }
@@ -66,20 +53,20 @@ pub fn scale(a: [u8; 16], f: u8) -> [u8; 16]
     products(a, [f; 16])
 }
 
-// The inverse of each lane, and 0 of 0: the lane to the 254.
+// The inverse of each lane, and 0 of 0: the lane to the 254, by products alone.
 pub fn inverses(a: [u8; 16]) -> [u8; 16]
     ensures { λ r. ⌜ r ≡ map inv a ⌝ }
 {
-    let a2 = squares(a);
+    let a2 = products(a, a);
     let a3 = products(a2, a);
-    let a6 = squares(a3);
-    let a12 = squares(a6);
+    let a6 = products(a3, a3);
+    let a12 = products(a6, a6);
     let a14 = products(a12, a2);
     let a15 = products(a12, a3);
-    let a30 = squares(a15);
-    let a60 = squares(a30);
-    let a120 = squares(a60);
-    let a240 = squares(a120);
+    let a30 = products(a15, a15);
+    let a60 = products(a30, a30);
+    let a120 = products(a60, a60);
+    let a240 = products(a120, a120);
     products(a240, a14)
 }
 

@@ -24,34 +24,19 @@ pub fn mul(a: u8, b: u8) -> u8
     r
 }
 
-// The square: the sum of the squares of the bits of a, which are every second power of x and do not hang on a. Less work than a product.
-pub fn square(a: u8) -> u8
-    ensures { λ r. ⌜ r ≡ mulOf a a ⌝ }
-{
-    let mut r: u8 = 0;
-    let mut x: u8 = 1;
-    let mut k: u8 = 0;
-    while k < 8 {
-        r = r ^ (((a >> k) & 1) * x);
-        x = times_x(times_x(x));
-        k += 1;
-    }
-    r
-}
-
-// The inverse of a, and 0 of 0: a to the 254.
+// The inverse of a, and 0 of 0: a to the 254, by products alone.
 pub fn inverse(a: u8) -> u8
     ensures { λ r. ⌜ r ≡ invOf a ⌝ }
 {
-    let a2 = square(a);
+    let a2 = mul(a, a);
     let a3 = mul(a2, a);
-    let a6 = square(a3);
-    let a12 = square(a6);
+    let a6 = mul(a3, a3);
+    let a12 = mul(a6, a6);
     let a14 = mul(a12, a2);
     let a15 = mul(a12, a3);
-    let a30 = square(a15);
-    let a60 = square(a30);
-    let a120 = square(a60);
-    let a240 = square(a120);
+    let a30 = mul(a15, a15);
+    let a60 = mul(a30, a30);
+    let a120 = mul(a60, a60);
+    let a240 = mul(a120, a120);
     mul(a240, a14)
 }
