@@ -28,45 +28,52 @@ fn degree(q: &[u8]) -> usize
     d
 }
 
-// The values of the locator at every place.
-pub fn evaluate(q: [u8; 9], x: &[u8; 208]) -> [u8; 208]
-    requires { ⌜ Powers (now x) ⌝ }
-    ensures { λ r. ⌜ Evaluated q r ⌝ }
-{
-    let end = degree(&q) + 1;
-    let mut v = [0u8; 208];
-    let mut i: usize = 0;
-    while i < 13 {
-        let w = byte_lanes::evaluate(&q[..end], byte_lanes::sixteen(x, i * 16));
-        common::put(&w, i * 16, &mut v);
-        i += 1;
-    }
-    v
-}
-
-// The degrees below 204 at which the value is zero. The four places above are not sent.
-pub fn find_roots(v: &[u8], x: &[u8; 208]) -> Roots
-    requires { ⌜ (length (now v) ≡ 208) × (length (zerosOf (now v)) ≤ 8) ⌝ }
-    ensures { λ r. ⌜ FoundRoots (now (v .entry)) (now (x .entry)) (r .degrees) (r .places) (r .count) ⌝ }
-{
-    let mut degrees = [0u8; 16];
-    let mut places = [0u8; 16];
-    let mut count: usize = 0;
-    let mut i: u8 = 0;
-    while i < 204 {
-        let at = i as usize;
-        if v[at] == 0 {
-            degrees[count] = i;
-            places[count] = x[at];
-            count += 1;
+// Roots, and those among sixteen places more: v has the values at the places x, of which the first is that of degree i. Degrees from 204 on are not sent.
+fn list_zeros(found: Roots, v: [u8; 16], x: [u8; 16], i: u8) -> Roots {
+    let mut degrees = found.degrees;
+    let mut places = found.places;
+    let mut count = found.count;
+    let mut l: u8 = 0;
+    while l < 16 {
+        let at = l as usize;
+        let d = i + l;
+        if d < 204 {
+            if v[at] == 0 {
+                degrees[count] = d;
+                places[count] = x[at];
+                count += 1;
+            }
         }
-        i += 1;
+        l += 1;
     }
     Roots {
         degrees,
         places,
         count,
     }
+}
+
+// The degrees below 204 at which the locator vanishes, sixteen places at a time.
+pub fn find_roots(q: [u8; 9]) -> Roots {
+    let end = degree(&q) + 1;
+    let degrees = [0u8; 16];
+    let places = [0u8; 16];
+    let mut found = Roots {
+        degrees,
+        places,
+        count: 0,
+    };
+    let mut x = byte_lanes::first_powers();
+    let mut i: u8 = 0;
+    while i < 208 {
+        let v = byte_lanes::evaluate(&q[..end], x);
+        let r = list_zeros(found, v, x, i);
+        found = r;
+        let y = byte_lanes::next_powers(x);
+        x = y;
+        i += 16;
+    }
+    found
 }
 
 // A polynomial moved up by one power of x, without its highest coefficient.
