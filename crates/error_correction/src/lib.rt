@@ -1,10 +1,9 @@
 // Where the errors are, what they are, and whether that explains all sixteen syndromes.
 ghost use mathlib.Core.Path.{_≡_};
 ghost use mathlib.Core.List.{_∷_};
-ghost use Prim.Native.Nat.{ℕ, _<_, _≤_};
+ghost use Prim.Native.Nat.{ℕ, _+_, _-_, _<_, _≤_};
 ghost use lib.ListN.{length, getD, take};
-ghost use Rattle.byte_lanes.specs.Lanes.{Powers};
-ghost use Rattle.error_correction.specs.Correction.{EndsAt, Evaluated, zerosOf, FoundRoots, RootProduct, FractionsAt, ErrorValues, sumOf, Explained, correctedBy, changedIn};
+ghost use Rattle.error_correction.specs.Correction.{EndsAt, zerosFrom, Listed, rootsOf, FoundRoots, RootProduct, FractionsAt, ErrorValues, sumOf, Explained, correctedBy, changedIn};
 
 // The degrees at which the locator vanishes, in order, their places, and how many they are. The places after them are zero.
 pub struct Roots {
@@ -28,11 +27,22 @@ fn degree(q: &[u8]) -> usize
     d
 }
 
-// Roots, and those among sixteen places more: v has the values at the places x, of which the first is that of degree i. Degrees from 204 on are not sent.
-fn list_zeros(found: Roots, v: [u8; 16], x: [u8; 16], i: u8) -> Roots {
-    let mut degrees = found.degrees;
-    let mut places = found.places;
-    let mut count = found.count;
+// Roots found so far, and those among sixteen places more: v has the values at the places x, of which the first is that of degree i.
+// Degrees from 204 on are not sent.
+fn list_zeros(
+    degrees: [u8; 16],
+    places: [u8; 16],
+    count: usize,
+    v: [u8; 16],
+    x: [u8; 16],
+    i: u8,
+) -> Roots
+    requires { ⌜ (i ≤ 204) × (count + length (zerosFrom i (take (204 - i) v)) ≤ 16) ⌝ }
+    ensures { λ r. ⌜ Listed degrees places count (take (204 - i) v) x i (r .degrees) (r .places) (r .count) ⌝ }
+{
+    let mut degrees = degrees;
+    let mut places = places;
+    let mut count = count;
     let mut l: u8 = 0;
     while l < 16 {
         let at = l as usize;
@@ -54,7 +64,10 @@ fn list_zeros(found: Roots, v: [u8; 16], x: [u8; 16], i: u8) -> Roots {
 }
 
 // The degrees below 204 at which the locator vanishes, sixteen places at a time.
-pub fn find_roots(q: [u8; 9]) -> Roots {
+pub fn find_roots(q: [u8; 9]) -> Roots
+    requires { ⌜ length (rootsOf q) ≤ 8 ⌝ }
+    ensures { λ r. ⌜ FoundRoots q (r .degrees) (r .places) (r .count) ⌝ }
+{
     let end = degree(&q) + 1;
     let degrees = [0u8; 16];
     let places = [0u8; 16];
@@ -67,7 +80,9 @@ pub fn find_roots(q: [u8; 9]) -> Roots {
     let mut i: u8 = 0;
     while i < 208 {
         let v = byte_lanes::evaluate(&q[..end], x);
-        let r = list_zeros(found, v, x, i);
+        let degrees = found.degrees;
+        let places = found.places;
+        let r = list_zeros(degrees, places, found.count, v, x, i);
         found = r;
         let y = byte_lanes::next_powers(x);
         x = y;
