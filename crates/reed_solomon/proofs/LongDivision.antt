@@ -171,7 +171,7 @@ check-more l i r d h e f =
     ap₂ divided e f ∙ sym (remainder-snoc (replicate 16 0) (take i l) (getD l i 0))
     ∙ ap (remainderFrom (replicate 16 0)) (sym (take-suc l i 0 h) ∙ ap (λ (n : ℕ). take n l) (sym (add-one i)))
 
-high-zeros : (x : Fin 256) (n : ℕ) → high x (replicate n 0) ≡ bytes .𝟘
+pub high-zeros : (x : Fin 256) (n : ℕ) → high x (replicate n 0) ≡ bytes .𝟘
 high-zeros x zero = high-nil x
 high-zeros x (suc n) =
     high-cons x 0 (replicate n 0)

@@ -7,6 +7,13 @@
 // of the roots of g, which has degree 65. All multiples of b up to degree 89 were tried. For sixteen coefficients at once the second power of h
 // must lie sixteen or more below the first: none of those has fewer than 26 terms, and this is the one of least degree that has 26.
 // proofs/SparseMultiple.antt multiplies g by its cofactor.
+ghost use mathlib.Core.Path.{_≡_};
+ghost use mathlib.Core.List.{_++_};
+ghost use Prim.Native.Nat.{ℕ, _-_, _≤_};
+ghost use lib.ListN.{length, take, drop, replicate};
+ghost use Rattle.common.specs.Lists.{All};
+ghost use Rattle.reed_solomon.specs.Encode.{checkBytes};
+ghost use Rattle.reed_solomon.specs.Steps.{DelayedSums, SparseQuotient, SparseRemainder, reducedOf, SameValues, residueOf, allZero};
 use crate::GENERATOR;
 
 // How far below x^84 the other powers of h lie: h = x^84 + x^62 + x^61 + .. + x + 1.
@@ -59,7 +66,10 @@ const FOLLOWING: [u8; 16] = [
 ];
 
 // Sixteen coefficients, and the sixteen of the quotient that lie so many places before, for each delay.
-fn delayed_sum(v: [u8; 16], quotient: &[u8; 320], at: usize, delays: &[u8; 25]) -> [u8; 16] {
+fn delayed_sum(v: [u8; 16], quotient: &[u8], at: usize, delays: &[u8]) -> [u8; 16]
+    requires { ⌜ (length (now quotient) ≡ 320) × (84 ≤ at) × (at ≤ 304) × (length (now delays) ≡ 25) × All (λ (d : ℕ). d ≤ 84) (now delays) ⌝ }
+    ensures { λ r. ⌜ DelayedSums (now (delays .entry)) (now (quotient .entry)) at v r ⌝ }
+{
     let mut r = v;
     let mut k: usize = 0;
     while k < 25 {
@@ -71,7 +81,10 @@ fn delayed_sum(v: [u8; 16], quotient: &[u8; 320], at: usize, delays: &[u8; 25]) 
 }
 
 // The quotient by h: 128 coefficients, from place 84 on, between zeros. The dividend is 212 coefficients, the highest first, and twelve zeros.
-fn sparse_quotient(m: &[u8; 224]) -> [u8; 320] {
+fn sparse_quotient(m: &[u8]) -> [u8; 320]
+    requires { ⌜ length (now m) ≡ 224 ⌝ }
+    ensures { λ q. ⌜ SparseQuotient (now (m .entry)) q 128 ⌝ }
+{
     let delays = DELAYS;
     let mut quotient = [0u8; 320];
     let mut i: usize = 0;
@@ -84,7 +97,10 @@ fn sparse_quotient(m: &[u8; 224]) -> [u8; 320] {
 }
 
 // What is left by h: 84 coefficients, and twelve that do not count.
-fn sparse_remainder(m: &[u8; 224], quotient: &[u8; 320]) -> [u8; 96] {
+fn sparse_remainder(m: &[u8], quotient: &[u8]) -> [u8; 96]
+    requires { ⌜ (length (now m) ≡ 224) × (length (now quotient) ≡ 320) ⌝ }
+    ensures { λ r. ⌜ SparseRemainder (now (m .entry)) (now (quotient .entry)) r 96 ⌝ }
+{
     let delays = DELAYS;
     let mut r = [0u8; 96];
     let mut i: usize = 0;
@@ -103,7 +119,9 @@ fn reduced(
     following: [u8; 16],
     g: [u8; 16],
     generator: [u8; 16],
-) -> [u8; 16] {
+) -> [u8; 16]
+    ensures { λ r. ⌜ r ≡ reducedOf s f following g generator ⌝ }
+{
     let mut r = [0u8; 16];
     let mut l: usize = 0;
     while l < 16 {
@@ -114,7 +132,10 @@ fn reduced(
 }
 
 // Divides the first 84 coefficients by g in place, two at a time: sixteen are left, from place 68 on.
-fn divide(p: &mut [u8]) {
+fn divide(p: &mut [u8])
+    requires { ⌜ 84 ≤ length (now p) ⌝ }
+    ensures { λ _. ⌜ SameValues (take 16 (drop 68 (now (p .exit)))) (take 84 (now (p .entry))) ⌝ }
+{
     let mut i: usize = 0;
     while i < 68 {
         let f = [p[i]; 16];
@@ -127,7 +148,10 @@ fn divide(p: &mut [u8]) {
 }
 
 // What is left by g of up to 204 coefficients, the highest first, and zeros after them.
-fn remainder(list: &[u8]) -> [u8; 16] {
+fn remainder(list: &[u8]) -> [u8; 16]
+    requires { ⌜ length (now list) ≤ 204 ⌝ }
+    ensures { λ r. ⌜ SameValues r (now (list .entry) ++ replicate (204 - length (now (list .entry))) 0) ⌝ }
+{
     let mut m = [0u8; 224];
     common::put(list, 8, &mut m);
     let quotient = sparse_quotient(&m);
@@ -137,12 +161,18 @@ fn remainder(list: &[u8]) -> [u8; 16] {
 }
 
 // The check bytes of a message of 188 bytes.
-pub fn check_bytes(message: &[u8]) -> [u8; 16] {
+pub fn check_bytes(message: &[u8]) -> [u8; 16]
+    requires { ⌜ length (now message) ≡ 188 ⌝ }
+    ensures { λ r. ⌜ r ≡ checkBytes (now (message .entry)) ⌝ }
+{
     remainder(message)
 }
 
 // What is left of a block of 204 bytes by the generator polynomial: zero for a codeword.
-pub fn residue(block: &[u8]) -> [u8; 16] {
+pub fn residue(block: &[u8]) -> [u8; 16]
+    requires { ⌜ length (now block) ≡ 204 ⌝ }
+    ensures { λ r. ⌜ r ≡ residueOf (now (block .entry)) ⌝ }
+{
     remainder(block)
 }
 
