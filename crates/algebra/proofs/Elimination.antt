@@ -10,7 +10,7 @@ use native.Mathlib.Omega.{arith}
 use native.Mathlib.Decide.{decLt, ℕ-discrete}
 use lib.ListN.{length, getD}
 use Rattle.algebra.specs.Field.{Field}
-use Rattle.algebra.proofs.Ring.{ring, cancel, add-zero, mul-zero, zero-mul, zero-add, mul-comm, mul-one, one-mul, add-self}
+use Rattle.algebra.proofs.Ring.{ring, cancel, add-zero, mul-zero, zero-mul, zero-add, mul-comm}
 use Rattle.common.proofs.Lists.{All-at}
 use Rattle.algebra.proofs.Polynomial.{Zero}
 use Rattle.algebra.proofs.Syndromes.{dot}

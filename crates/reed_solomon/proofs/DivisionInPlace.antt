@@ -2,13 +2,13 @@
 -- Assumes nothing.
 use mathlib.Core.Path.{_≡_, refl, sym, ap, ap₂, _∙_}
 use mathlib.Core.List.{List, [], _∷_, _++_, append-assoc}
-use Prim.Native.Nat.{ℕ, zero, suc, _+_, _-_, _≤_, _<_, Fin}
+use Prim.Native.Nat.{ℕ, suc, _+_, _-_, _≤_, _<_, Fin}
 use native.Mathlib.Omega.{arith}
 use lib.Bits.{bitXor}
 use lib.ListN.{length, getD, take, drop, replicate, length-drop, length-append, length-map}
 use lib.Seq.{drop-cons, drop-drop, drop-at, take-add, take-append-add, length-take-le}
 use Rattle.algebra.specs.Field.{Field, ops}
-use Rattle.algebra.specs.Polynomial.{power, eval, plus, scale, product}
+use Rattle.algebra.specs.Polynomial.{power, plus, scale, product}
 use Rattle.algebra.proofs.Ring.{ring, mul-one}
 use Rattle.algebra.proofs.Syndromes.{power-add}
 use Rattle.galois.specs.Field256.{numbers, mul, rounds, timesX, scaled}

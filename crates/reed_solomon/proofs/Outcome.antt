@@ -7,7 +7,7 @@ use Prim.Native.Nat.{ℕ, _+_, _≤_, _<_, Fin}
 use native.Mathlib.Decide.{decLt, ℕ-discrete}
 use native.Mathlib.Omega.{arith}
 use borrow.Author.Tests.{eq-eqb, ne-eqb}
-use lib.ListN.{length, getD, take, drop, length-drop, take-append-drop, List·getD-eq-default}
+use lib.ListN.{length, getD, take, List·getD-eq-default}
 use lib.Seq.{length-take-le, getD-take}
 use Rattle.common.specs.Lists.{All, Bytes}
 use Rattle.common.proofs.Choice.{false-true}
@@ -15,20 +15,19 @@ use Rattle.common.proofs.Entries.{bytes-of}
 use Rattle.common.proofs.Lists.{getD-map-in, All-map, All-at}
 use Rattle.algebra.specs.Field.{ops}
 use Rattle.algebra.specs.Polynomial.{power}
-use Rattle.algebra.proofs.Ring.{add-comm, add-self, zero-add, mul-zero}
+use Rattle.algebra.proofs.Ring.{add-self, zero-add, mul-zero}
 use Rattle.algebra.proofs.Syndromes.{syndrome}
 use Rattle.galois.specs.Field256.{pow}
 use Rattle.galois.proofs.Instance.{bytes, byte, byte-zero}
 use Rattle.reed_solomon.specs.Code.{Codeword, differ}
-use Rattle.reed_solomon.specs.Encode.{checkBytes}
 use Rattle.reed_solomon.specs.Decode.{Accepted, Rejected}
 use Rattle.byte_lanes.specs.Lanes.{point}
 use Rattle.reed_solomon.specs.Steps.{residueOf, allZero, SyndromesOf}
 use Rattle.error_locator.specs.Locator.{Located}
 use Rattle.error_correction.specs.Correction.{rootsOf, FoundRoots, RootProduct, errorValue, ErrorValues, termsOf, Explained, correctedBy, changedIn}
-use Rattle.reed_solomon.proofs.Codewords.{blockSyndrome, codeword-of, generator-root}
+use Rattle.reed_solomon.proofs.Codewords.{blockSyndrome, codeword-of}
 use Rattle.reed_solomon.proofs.Distance.{differ-none, accepted}
-use Rattle.reed_solomon.proofs.LongDivision.{high, high-nil, high-cons, high-append, high-plus, high-check, check-remainder}
+use Rattle.reed_solomon.proofs.LongDivision.{high, high-nil, high-cons}
 use Rattle.reed_solomon.proofs.Residue.{residue-value}
 use Rattle.reed_solomon.proofs.Completeness.{degreeTerms, roots-vanish, roots-distinct, roots-few, found}
 use Rattle.reed_solomon.proofs.Soundness.{corrected-length, corrected-bytes, corrected-value, corrected-differ, terms-cut, terms-by-degree, distinct-unmap}

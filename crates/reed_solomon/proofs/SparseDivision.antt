@@ -4,7 +4,7 @@
 use mathlib.Core.Path.{_≡_, refl, sym, ap, ap₂, _∙_}
 use mathlib.Core.List.{List, [], _∷_, _++_, append-assoc, reverse, reverse-reverse}
 use mathlib.Core.Logic.{inl, inr}
-use Prim.Native.Nat.{ℕ, zero, suc, _+_, _-_, _≤_, _<_, Fin}
+use Prim.Native.Nat.{ℕ, _+_, _-_, _≤_, _<_, Fin}
 use Prim.{tt}
 use native.Mathlib.Decide.{decLt}
 use native.Mathlib.Numerals.{add-one}
@@ -19,7 +19,7 @@ use Rattle.algebra.specs.Field.{Field, ops}
 use Rattle.algebra.specs.Polynomial.{power, eval, plus}
 use Rattle.algebra.proofs.Ring.{ring, add-zero, mul-zero, zero-mul, zero-add}
 use Rattle.galois.specs.Field256.{numbers}
-use Rattle.galois.proofs.Instance.{bytes, byte, byte-one}
+use Rattle.galois.proofs.Instance.{bytes, byte-one}
 use Rattle.byte_lanes.specs.Lanes.{elements, point}
 use Rattle.byte_lanes.proofs.Powers.{zeros-at}
 use Rattle.byte_lanes.proofs.Words.{length-sum, sum-at}

@@ -8,7 +8,7 @@ use Rattle.algebra.specs.Polynomial.{power, eval, plus, scale, product}
 use Rattle.algebra.proofs.Ring.{zero-mul}
 use Rattle.algebra.proofs.Polynomial.{eval-product}
 use Rattle.galois.specs.Field256.{numbers, mul, rounds, timesX}
-use Rattle.galois.proofs.Instance.{bytes, byte}
+use Rattle.galois.proofs.Instance.{bytes}
 use Rattle.byte_lanes.specs.Lanes.{elements, point}
 use Rattle.byte_lanes.proofs.Words.{elements-product}
 use Rattle.reed_solomon.specs.Code.{factors, generator}

@@ -1,8 +1,7 @@
 -- `error_correction::find_roots` meets its contract: the roots among the first i degrees are listed, and x has the next sixteen places.
 -- Assumes nothing.
 use mathlib.Core.Path.{_≡_, sym}
-use mathlib.Core.List.{List}
-use Prim.Native.Nat.{ℕ, _-_, _%_, _≤_}
+use Prim.Native.Nat.{_-_, _%_, _≤_}
 use native.Mathlib.Omega.{arith}
 use lib.ListN.{length, take, drop}
 use Rattle.byte_lanes.specs.Lanes.{PowersFrom}

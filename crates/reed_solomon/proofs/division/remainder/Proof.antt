@@ -1,6 +1,5 @@
 -- `reed_solomon::division::remainder` meets its contract.
 -- Assumes nothing.
-use mathlib.Core.Path.{_∙_}
 use Rattle.reed_solomon.proofs.SparseDivision.{divided-values}
 use borrow.Author.Needs.{needs}
 use Rattle.reed_solomon.proofs.division.remainder.Statement.{statement}
