@@ -92,6 +92,10 @@ module _ (q x v : List ℕ) (i d : ℕ) (h : i ≤ 204) (p : PowersFrom i x) (g 
 
 -- ---- the zeros of a list
 
+pub map-join : {A B : Type 0} (f : A → B) (a b : List A) → map f (a ++ b) ≡ map f a ++ map f b
+map-join f [] b = refl
+map-join {B = B} f (x ∷ a) b = ap (λ (l : List B). f x ∷ l) (map-join f a b)
+
 zeros-append : (n : ℕ) (a b : List ℕ) → zerosFrom n (a ++ b) ≡ zerosFrom n a ++ zerosFrom (n + length a) b
 unfolding zerosFrom
 zeros-append n [] b = ap (λ (k : ℕ). zerosFrom k b) (sym (add-zero n))
@@ -200,16 +204,12 @@ module _ (degrees places : List ℕ) (count : ℕ) (v x : List ℕ) (i : ℕ) (d
                     ∙ append-assoc (take count places) (map (λ d. getD x (d - i) 0) (zerosFrom i (take l v))) (getD x l 0 ∷ [])
                     ∙ ap (λ (m : List ℕ). take count places ++ m)
                     (ap (λ (k : ℕ). map (λ d. getD x (d - i) 0) (zerosFrom i (take l v)) ++ getD x k 0 ∷ []) place
-                    ∙ sym (map-snoc (zerosFrom i (take l v))) ∙ ap (map (λ d. getD x (d - i) 0)) one-more);
+                    ∙ sym (map-join (λ d. getD x (d - i) 0) (zerosFrom i (take l v)) ((i + l) ∷ [])) ∙ ap (map (λ d. getD x (d - i) 0)) one-more);
               };
         }
       where
         place : l ≡ i + l - i
         place = omega arith
-
-        map-snoc : (m : List ℕ) → map (λ d. getD x (d - i) 0) (m ++ (i + l) ∷ []) ≡ map (λ d. getD x (d - i) 0) m ++ getD x (i + l - i) 0 ∷ []
-        map-snoc [] = refl
-        map-snoc (a ∷ m) = ap (λ (k : List ℕ). getD x (a - i) 0 ∷ k) (map-snoc m)
 
   pub listed-all : length v ≤ l → Listed degrees places count v x i degrees' places' count'
   listed-all h = subst (λ (m : List ℕ). Listed degrees places count m x i degrees' places' count') (take-all l v h) (s .all)
@@ -245,17 +245,13 @@ module _ (q degrees places : List ℕ) (count i : ℕ) (s : Searched q degrees p
           listed = l .listed ∙ ap (λ (m : List ℕ). m ++ zerosFrom i v) (s .listed) ∙ sym more;
           placed =
               l .placed ∙ ap₂ _++_ (s .placed) (zeros-map (λ d. getD x (d - i) 0) (pow 2) i v power-at)
-              ∙ sym (map-join (zerosFrom 0 (take i (valuesOf q))) (zerosFrom i v)) ∙ ap (map (pow 2)) (sym more);
+              ∙ sym (map-join (pow 2) (zerosFrom 0 (take i (valuesOf q))) (zerosFrom i v)) ∙ ap (map (pow 2)) (sym more);
         }
       where
         power-at : (j : ℕ) → j < length v → getD x (i + j - i) 0 ≡ pow 2 (i + j)
         power-at j b =
             let k : i + j - i ≡ j = omega arith in
             ap (λ (m : ℕ). getD x m 0) k ∙ p .each j (omega (arith, ap length e, length-take 16 (drop i (valuesOf q))))
-
-        map-join : (a b : List ℕ) → map (pow 2) (a ++ b) ≡ map (pow 2) a ++ map (pow 2) b
-        map-join [] b = refl
-        map-join (y ∷ a) b = ap (λ (m : List ℕ). pow 2 y ∷ m) (map-join a b)
 
   pub searched-all : 204 ≤ i → FoundRoots q degrees places count
   searched-all h =

@@ -24,7 +24,7 @@ use Rattle.reed_solomon.specs.Code.{Codeword, differ}
 use Rattle.byte_lanes.specs.Lanes.{elements, point}
 use Rattle.error_locator.specs.Locator.{Located}
 use Rattle.error_correction.specs.Correction.{valuesOf, rootsOf, RootProduct, errorValue}
-use Rattle.error_correction.proofs.RootSearch.{length-values, value-at as locator-value}
+use Rattle.error_correction.proofs.RootSearch.{length-values, value-at as locator-value, map-join}
 use Rattle.reed_solomon.proofs.Codewords.{blockSyndrome, codeword-length, codeword-bytes, codeword-syndromes, rootsBelow, distinct-roots, length-roots}
 use Rattle.reed_solomon.proofs.Distance.{difference, difference-length, errors, errors-distinct, errors-weight, errors-syndrome}
 use Rattle.reed_solomon.proofs.Zeros.{zeros-all, zeros-has, zeros-distinct, zeros-syndrome}
@@ -58,10 +58,6 @@ module _ (q : List ℕ) (lq : length q ≡ 9) where
       All-points (d ∷ l) h = (h .0 .1, All-points l (h .1))
 
 -- ---- lists
-
-map-join : {A B : Type 0} (f : A → B) (a b : List A) → map f (a ++ b) ≡ map f a ++ map f b
-map-join f [] b = refl
-map-join {B = B} f (x ∷ a) b = ap (λ (l : List B). f x ∷ l) (map-join f a b)
 
 All-unmap : {A B : Type 0} (f : A → B) (P : B → Type 0) (l : List A) → All P (map f l) → All (λ a. P (f a)) l
 All-unmap f P [] h = tt

@@ -5,7 +5,7 @@ use mathlib.Core.List.{List, [], _∷_, _++_, append-assoc}
 use Prim.Native.Nat.{ℕ, suc, _+_, _-_, _≤_, _<_, Fin}
 use native.Mathlib.Omega.{arith}
 use lib.Bits.{bitXor}
-use lib.ListN.{length, getD, take, drop, replicate, length-drop, length-append, length-map}
+use lib.ListN.{length, getD, take, drop, replicate, length-drop, length-append}
 use lib.Seq.{drop-cons, drop-drop, drop-at, take-add, take-append-add, length-take-le}
 use Rattle.algebra.specs.Field.{Field, ops}
 use Rattle.algebra.specs.Polynomial.{power, plus, scale, product}
@@ -20,7 +20,7 @@ use Rattle.reed_solomon.specs.Code.{factors, generator}
 use Rattle.reed_solomon.specs.Encode.{generatorTail, divided, remainderFrom, checkBytes}
 use Rattle.reed_solomon.specs.Steps.{reducedOf, SameValues}
 use Rattle.reed_solomon.proofs.Codewords.{generator-root}
-use Rattle.reed_solomon.proofs.LongDivision.{high, high-one, high-cons, high-append, high-plus, high-scale, high-check}
+use Rattle.reed_solomon.proofs.LongDivision.{length-scaled, high, high-one, high-cons, high-append, high-plus, high-scale, high-check}
 
 -- ---- two products of rows
 
@@ -55,10 +55,6 @@ module _ (K : Field) where
 
   row-identity : (p x : F) → p ⊗ (𝟘 ⊕ (x ⊗ 𝟙) ⊗ 𝟙) ≡ x ⊗ p
   row-identity p x = simp ring
-
-length-scaled : (c : ℕ) (a : List ℕ) → length (scaled c a) ≡ length a
-unfolding scale
-length-scaled c a = length-map a (mul c)
 
 -- a and b have at x the values of x^17 and x^16: two coefficients f and g leave at the top of a window w of sixteen
 module _ (x : Fin 256) (a b : List ℕ) (la : length a ≡ 16) (lb : length b ≡ 16)

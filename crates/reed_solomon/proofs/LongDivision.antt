@@ -118,9 +118,9 @@ monic = generator-is ∙ sym (ap (λ (g : List ℕ). take 16 g ++ 1 ∷ []) gene
 sixteen : length (take 16 generator) ≡ 16
 sixteen = ap (λ (g : List ℕ). length (take 16 g)) generator-is
 
-length-scaled : (c : ℕ) → length (scaled c generatorTail) ≡ length generatorTail
+pub length-scaled : (c : ℕ) (a : List ℕ) → length (scaled c a) ≡ length a
 unfolding scale
-length-scaled c = length-map generatorTail (mul c)
+length-scaled c a = length-map a (mul c)
 
 power-zero : (x : Fin 256) → power (ops bytes) x 0 ≡ bytes .𝟙
 unfolding power
@@ -139,9 +139,9 @@ divided-remainder : (r : List ℕ) (d : ℕ) → Remainder r → Remainder (divi
 unfolding divided
 divided-remainder r d h =
     let n : length (drop 1 r ++ 0 ∷ []) ≡ length (scaled (bitXor (getD r 0 0) d) generatorTail) =
-    length-append (drop 1 r) (0 ∷ []) ∙ omega (arith, length-drop 1 r, h .size, length-scaled (bitXor (getD r 0 0) d), length-tail) in
+    length-append (drop 1 r) (0 ∷ []) ∙ omega (arith, length-drop 1 r, h .size, length-scaled (bitXor (getD r 0 0) d) generatorTail, length-tail) in
     record {
-      size = length-sum (drop 1 r ++ 0 ∷ []) (scaled (bitXor (getD r 0 0) d) generatorTail) n ∙ n ∙ length-scaled (bitXor (getD r 0 0) d) ∙ length-tail;
+      size = length-sum (drop 1 r ++ 0 ∷ []) (scaled (bitXor (getD r 0 0) d) generatorTail) n ∙ n ∙ length-scaled (bitXor (getD r 0 0) d) generatorTail ∙ length-tail;
       small = bytes-plus (drop 1 r ++ 0 ∷ []) (scaled (bitXor (getD r 0 0) d) generatorTail) (bytes-append (drop 1 r) (0 ∷ []) (bytes-drop 1 r (h .small)) (lit< tt, tt)) (bytes-scale (bitXor (getD r 0 0) d) generatorTail);
     }
 
@@ -186,7 +186,7 @@ module _ (x : Fin 256) (root : eval (ops bytes) (elements generator) x ≡ bytes
   unfolding divided power
   high-divided [] d n = absurd (omega arith)
   high-divided (y ∷ r) d n =
-      high-plus x (r ++ 0 ∷ []) (scaled (bitXor y d) generatorTail) (length-append r (0 ∷ []) ∙ omega (arith, length-scaled (bitXor y d), length-tail))
+      high-plus x (r ++ 0 ∷ []) (scaled (bitXor y d) generatorTail) (length-append r (0 ∷ []) ∙ omega (arith, length-scaled (bitXor y d) generatorTail, length-tail))
       ∙ ap₂ (bytes .add)
       (high-append x r (0 ∷ []) ∙ ap (λ (u : Fin 256). bytes .add u (bytes .mul (bytes .mul x (bytes .𝟙)) (high x r))) (high-one x 0 ∙ byte-zero))
       (high-scale x (bitXor y d) generatorTail ∙ ap₂ (bytes .mul) (byte-add y d) high-tail)
