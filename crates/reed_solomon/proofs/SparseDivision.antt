@@ -10,10 +10,12 @@ use native.Mathlib.Decide.{decLt}
 use native.Mathlib.Numerals.{add-one}
 use native.Mathlib.Omega.{arith}
 use lib.Bits.{bitXor, xor-zero-l, xor-zero-r}
+use lib.Dec.{leb, leb→le}
 use lib.ListN.{length, getD, take, drop, replicate, length-append, length-drop, length-replicate, replicate-append-replicate, List·getD-append, List·getD-eq-default}
 use lib.Seq.{take-suc, take-at, drop-at, take-append-add, length-take-le, getD-take, getD-drop, getD-append-add, ext-getD}
 use Rattle.common.specs.Lists.{All}
-use Rattle.common.proofs.Lists.{put-own, put-other}
+use Rattle.common.proofs.Computed.{at}
+use Rattle.common.proofs.Lists.{All-of, put-own, put-other}
 use Rattle.common.proofs.Xor.{xor-assoc, xor-undo}
 use Rattle.algebra.specs.Field.{Field, ops}
 use Rattle.algebra.specs.Polynomial.{power, eval, plus}
@@ -55,10 +57,10 @@ delayed-same (d ∷ ds) p q b n x a z h e =
     ap (λ (y : ℕ). delayedSum ds p n (bitXor x y)) (e (n - d) (omega (arith, a .0))) ∙ delayed-same ds p q b n (bitXor x (getD q (n - d) 0)) (a .1) z h e
 
 long : All (λ d. 16 ≤ d) delays
-long = (omega arith, (omega arith, (omega arith, (omega arith, (omega arith, (omega arith, (omega arith, (omega arith, (omega arith, (omega arith, (omega arith, (omega arith, (omega arith, (omega arith, (omega arith, (omega arith, (omega arith, (omega arith, (omega arith, (omega arith, (omega arith, (omega arith, (omega arith, (omega arith, (omega arith, tt)))))))))))))))))))))))))
+long = All-of (λ d. 16 ≤ d) delays 0 (λ i h. leb→le 16 (getD delays i 0) (at (λ k d. leb 16 d) delays tt i h))
 
 pub short : All (λ d. d ≤ 84) delays
-short = (omega arith, (omega arith, (omega arith, (omega arith, (omega arith, (omega arith, (omega arith, (omega arith, (omega arith, (omega arith, (omega arith, (omega arith, (omega arith, (omega arith, (omega arith, (omega arith, (omega arith, (omega arith, (omega arith, (omega arith, (omega arith, (omega arith, (omega arith, (omega arith, (omega arith, tt)))))))))))))))))))))))))
+short = All-of (λ d. d ≤ 84) delays 0 (λ i h. leb→le (getD delays i 0) 84 (at (λ k d. leb d 84) delays tt i h))
 
 -- ---- the loops
 
