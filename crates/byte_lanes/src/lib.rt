@@ -81,7 +81,7 @@ pub fn first_powers() -> [u8; 16]
     ]
 }
 
-// The sixteen powers after those of x: 4C is 02 to the sixteen.
+// The sixteen powers after those of x: 4C is 02 to the sixteen. Not by `scale`: with a factor that it knows the compiler leaves out the rounds of its zero bits.
 pub fn next_powers(x: [u8; 16]) -> [u8; 16]
     ensures { λ r. ⌜ r ≡ scaled 0x4C x ⌝ }
 {
