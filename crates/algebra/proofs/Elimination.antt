@@ -10,7 +10,7 @@ use native.Mathlib.Omega.{arith}
 use native.Mathlib.Decide.{decLt, ℕ-discrete}
 use lib.ListN.{length, getD}
 use Rattle.algebra.specs.Field.{Field}
-use Rattle.algebra.proofs.Ring.{ring, cancel, add-zero, mul-zero, zero-mul, zero-add, mul-comm, mul-one, one-mul, add-self}
+use Rattle.algebra.proofs.Ring.{ring, cancel, add-zero, mul-zero, zero-mul, zero-add, mul-comm}
 use Rattle.common.proofs.Lists.{All-at}
 use Rattle.algebra.proofs.Polynomial.{Zero}
 use Rattle.algebra.proofs.Syndromes.{dot}
@@ -89,30 +89,34 @@ module _ (K : Field) where
   abbrev pub Reach : ℕ → ℕ → (ℕ → ℕ → F) → (ℕ → ℕ → F) → Type 0
   Reach t n old new = (v : ℕ → F) → Sol t n new v → Sol t n old v
 
-  -- row i has got a weighted row j
-  pub record AddRow (t n i j : ℕ) (a : F) (old new : ℕ → ℕ → F) : Type 0 where
+  -- row i is b times what it was, and a times row j
+  pub record CombineRow (t n i j : ℕ) (b a : F) (old new : ℕ → ℕ → F) : Type 0 where
     pub other : (r c : ℕ) → r < t → c < n → (r ≡ i → ⊥) → new r c ≡ old r c
-    pub row : (c : ℕ) → c < n → new i c ≡ old i c + a * old j c
+    pub row : (c : ℕ) → c < n → new i c ≡ b * old i c + a * old j c
 
-  -- row i is a weighted what it was
+  -- row i is a times what it was
   pub record MulRow (t n i : ℕ) (a : F) (old new : ℕ → ℕ → F) : Type 0 where
     pub other : (r c : ℕ) → r < t → c < n → (r ≡ i → ⊥) → new r c ≡ old r c
     pub row : (c : ℕ) → c < n → new i c ≡ a * old i c
 
-  add-back : (x a y v : F) → x * v ≡ (x + a * y) * v + a * (y * v)
-  add-back x a y v = simp ring
+  combine-back : (b x a y v : F) → b * (x * v) ≡ (b * x + a * y) * v + a * (y * v)
+  combine-back b x a y v = simp ring
 
-  pub reach-add : (t n i j : ℕ) (a : F) (old new : ℕ → ℕ → F) → j < t → (j ≡ i → ⊥) → AddRow t n i j a old new → Reach t n old new
-  reach-add t n i j a old new lj ne A v s r l = go (ℕ-discrete r i)
+  pub reach-combine : (t n i j : ℕ) (b a : F) (old new : ℕ → ℕ → F) → j < t → (j ≡ i → ⊥) → (b ≡ 𝟘 → ⊥) → CombineRow t n i j b a old new → Reach t n old new
+  reach-combine t n i j b a old new lj ne nz A v s r l = go (ℕ-discrete r i)
     where
       same : (r : ℕ) → r < t → (r ≡ i → ⊥) → sum n (λ c. old r c * v c) ≡ 𝟘
-      same r l x = sum-ext n (λ c. old r c * v c) (λ c. new r c * v c) (λ c b. ap (λ u. u * v c) (sym (A .other r c l b x))) ∙ s r l
+      same r l x = sum-ext n (λ c. old r c * v c) (λ c. new r c * v c) (λ c h. ap (λ u. u * v c) (sym (A .other r c l h x))) ∙ s r l
 
-      at : i < t → sum n (λ c. old i c * v c) ≡ 𝟘
-      at l =
-          sum-ext n (λ c. old i c * v c) (λ c. new i c * v c + a * (old j c * v c)) (λ c b. add-back (old i c) a (old j c) (v c) ∙ ap (λ u. u * v c + a * (old j c * v c)) (sym (A .row c b)))
+      weighted : i < t → sum n (λ c. b * (old i c * v c)) ≡ 𝟘
+      weighted l =
+          sum-ext n (λ c. b * (old i c * v c)) (λ c. new i c * v c + a * (old j c * v c))
+          (λ c h. combine-back b (old i c) a (old j c) (v c) ∙ ap (λ u. u * v c + a * (old j c * v c)) (sym (A .row c h)))
           ∙ sum-add n (λ c. new i c * v c) (λ c. a * (old j c * v c))
           ∙ ap (λ u. u + sum n (λ c. a * (old j c * v c))) (s i l) ∙ zero-add K _ ∙ sum-mul n a (λ c. old j c * v c) ∙ ap (λ u. a * u) (same j lj ne) ∙ mul-zero K a
+
+      at : i < t → sum n (λ c. old i c * v c) ≡ 𝟘
+      at l = cancel K b _ nz (sym (sum-mul n b (λ c. old i c * v c)) ∙ weighted l)
 
       go : Dec (r ≡ i) → sum n (λ c. old r c * v c) ≡ 𝟘
       go (yes e) = subst (λ r. r < t → sum n (λ c. old r c * v c) ≡ 𝟘) (sym e) at l
@@ -131,19 +135,22 @@ module _ (K : Field) where
       go (yes e) = subst (λ r. r < t → sum n (λ c. old r c * v c) ≡ 𝟘) (sym e) at l
       go (no e) = sum-ext n (λ c. old r c * v c) (λ c. new r c * v c) (λ c b. ap (λ u. u * v c) (sym (A .other r c l b e))) ∙ s r l
 
-  -- the first k columns are those of the unit matrix
-  pub record Units (t k : ℕ) (m : ℕ → ℕ → F) : Type 0 where
+  -- the first k columns are those of d times the unit matrix
+  pub record Diagonal (t k : ℕ) (d : F) (m : ℕ → ℕ → F) : Type 0 where
     pub off : (r c : ℕ) → r < t → c < k → (r ≡ c → ⊥) → m r c ≡ 𝟘
-    pub on : (c : ℕ) → c < k → m c c ≡ 𝟙
+    pub on : (c : ℕ) → c < k → m c c ≡ d
 
-  -- the vector of the kernel, where column k has no pivot: v_c = m c k below k, v_k = 1, and 0 above
-  pub record Vector (n k : ℕ) (m : ℕ → ℕ → F) (v : ℕ → F) : Type 0 where
+  -- the vector of the kernel, where column k has no pivot: v_c = m c k below k, v_k = d, and 0 above
+  pub record Vector (n k : ℕ) (d : F) (m : ℕ → ℕ → F) (v : ℕ → F) : Type 0 where
     pub below : (c : ℕ) → c < k → v c ≡ m c k
-    pub own : v k ≡ 𝟙
+    pub own : v k ≡ d
     pub above : (c : ℕ) → k < c → c < n → v c ≡ 𝟘
 
-  pub solves : (t n k : ℕ) (m : ℕ → ℕ → F) (v : ℕ → F) → k ≤ t → k < n → Units t k m → ((r : ℕ) → k ≤ r → r < t → m r k ≡ 𝟘) → Vector n k m v → Sol t n m v
-  solves t n k m v kt kn U z W r l = go (decLt r k)
+  twice : (d x : F) → d * x + x * d ≡ 𝟘
+  twice d x = simp ring
+
+  pub solves : (t n k : ℕ) (d : F) (m : ℕ → ℕ → F) (v : ℕ → F) → k ≤ t → k < n → Diagonal t k d m → ((r : ℕ) → k ≤ r → r < t → m r k ≡ 𝟘) → Vector n k d m v → Sol t n m v
+  solves t n k d m v kt kn U z W r l = go (decLt r k)
     where
       times0 : (x y : F) → y ≡ 𝟘 → x * y ≡ 𝟘
       times0 x y e = ap (λ u. x * u) e ∙ mul-zero K x
@@ -152,7 +159,7 @@ module _ (K : Field) where
       zero× x y e = ap (λ u. u * y) e ∙ zero-mul K y
 
       two : r < k → m r r * v r + m r k * v k ≡ 𝟘
-      two b = ap (λ u. u * v r + m r k * v k) (U .on r b) ∙ ap (λ u. u + m r k * v k) (one-mul K (v r) ∙ W .below r b) ∙ ap (λ u. m r k + m r k * u) (W .own) ∙ ap (λ u. m r k + u) (mul-one K (m r k)) ∙ add-self K (m r k)
+      two b = ap (λ u. u * v r + m r k * v k) (U .on r b) ∙ ap (λ u. d * u + m r k * v k) (W .below r b) ∙ ap (λ u. d * m r k + m r k * u) (W .own) ∙ twice d (m r k)
 
       at : (c : ℕ) → c < n → (r ≡ c → ⊥) → (c ≡ k → ⊥) → Dec (c < k) → m r c * v c ≡ 𝟘
       at c b x y (yes p) = zero× _ _ (U .off r c l p x)
@@ -167,47 +174,79 @@ module _ (K : Field) where
       go (yes b) = sum-two n r k (λ c. m r c * v c) b kn (λ i c x y. at i c (λ e. x (sym e)) y (decLt i k)) ∙ two b
       go (no b) = sum-zero n (λ c. m r c * v c) (λ c e. upto c e (omega arith) (decLt c k) (ℕ-discrete c k))
 
-  -- a matrix that agrees in the first k columns
-  units-keep : (t k : ℕ) (old new : ℕ → ℕ → F) → k ≤ t → ((r c : ℕ) → r < t → c < k → new r c ≡ old r c) → Units t k old → Units t k new
-  units-keep t k old new b h U = record { off = λ r c l m x. h r c l m ∙ U .off r c l m x; on = λ c l. h c c (omega arith) l ∙ U .on c l }
+  both-none : (b x a y : F) → x ≡ 𝟘 → y ≡ 𝟘 → b * x + a * y ≡ 𝟘
+  both-none b x a y h k = simp (ring, h, k)
 
-  add-none : (x a y : F) → y ≡ 𝟘 → x + a * y ≡ x
-  add-none x a y h = simp (ring, h)
-
-  pub units-add : (t n k i j : ℕ) (a : F) (old new : ℕ → ℕ → F) → k ≤ j → j < t → k ≤ n → AddRow t n i j a old new → Units t k old → Units t k new
-  units-add t n k i j a old new kj lj kn A U = units-keep t k old new (omega arith) (λ r c l m. go r c l m (ℕ-discrete r i)) U
+  -- a step among the rows from k on, which are zero in the first k columns
+  pub diagonal-combine : (t n k i j : ℕ) (b a d : F) (old new : ℕ → ℕ → F) → k ≤ i → i < t → k ≤ j → j < t → k ≤ n → CombineRow t n i j b a old new → Diagonal t k d old → Diagonal t k d new
+  diagonal-combine t n k i j b a d old new ki li kj lj kn A U = record { off = λ r c l m x. same r c l m (ℕ-discrete r i) ∙ U .off r c l m x; on = λ c l. same c c (omega arith) l (ℕ-discrete c i) ∙ U .on c l }
     where
-      go : (r c : ℕ) → r < t → c < k → Dec (r ≡ i) → new r c ≡ old r c
-      go r c l m (yes e) = ap (λ u. new u c) e ∙ A .row c (omega arith) ∙ add-none (old i c) a (old j c) (U .off j c lj m (λ x. omega arith)) ∙ ap (λ u. old u c) (sym e)
-      go r c l m (no e) = A .other r c l (omega arith) e
+      none : (r c : ℕ) → k ≤ r → r < t → c < k → old r c ≡ 𝟘
+      none r c h l m = U .off r c l m (λ x. omega arith)
 
-  pub units-mul : (t n k i : ℕ) (a : F) (old new : ℕ → ℕ → F) → k ≤ i → i < t → k ≤ n → MulRow t n i a old new → Units t k old → Units t k new
-  units-mul t n k i a old new ki li kn A U = units-keep t k old new (omega arith) (λ r c l m. go r c l m (ℕ-discrete r i)) U
+      same : (r c : ℕ) → r < t → c < k → Dec (r ≡ i) → new r c ≡ old r c
+      same r c l m (yes e) =
+          ap (λ u. new u c) e ∙ A .row c (omega arith) ∙ both-none b (old i c) a (old j c) (none i c ki li m) (none j c kj lj m)
+          ∙ sym (none i c ki li m) ∙ ap (λ u. old u c) (sym e)
+      same r c l m (no e) = A .other r c l (omega arith) e
+
+  -- each row below i but row k is what it was, times the element k of row k, and a multiple of row k that makes column k zero
+  pub record Swept (t n k i : ℕ) (old new : ℕ → ℕ → F) : Type 0 where
+    pub done : (r c : ℕ) → r < i → c < n → (r ≡ k → ⊥) → new r c ≡ old k k * old r c + old r k * old k c
+    pub own : (c : ℕ) → c < n → new k c ≡ old k c
+    pub todo : (r c : ℕ) → i ≤ r → r < t → c < n → new r c ≡ old r c
+
+  pub swept-none : (t n k : ℕ) (m : ℕ → ℕ → F) → Swept t n k 0 m m
+  swept-none t n k m = record { done = λ r c h. absurd (omega arith); own = λ c h. refl; todo = λ r c h l b. refl }
+
+  pub swept-skip : (t n k i : ℕ) (old new : ℕ → ℕ → F) → i ≡ k → Swept t n k i old new → Swept t n k (suc i) old new
+  swept-skip t n k i old new e S = record { done = λ r c h b x. S .done r c (omega arith) b x; own = S .own; todo = λ r c h l b. S .todo r c (omega arith) l b }
+
+  -- the step of one row
+  pub swept-row : (t n k i : ℕ) (old mid new : ℕ → ℕ → F) → k < t → k < n → i < t → (i ≡ k → ⊥) → CombineRow t n i k (old k k) (mid i k) mid new → Swept t n k i old mid → Swept t n k (suc i) old new
+  swept-row t n k i old mid new kt kn li ne A S = record {
+    done = λ r c h b x. done r c h b x (ℕ-discrete r i);
+    own = λ c b. A .other k c kt b (λ e. ne (sym e)) ∙ S .own c b;
+    todo = λ r c h l b. A .other r c l b (λ e. omega arith) ∙ S .todo r c (omega arith) l b;
+  }
     where
-      at : (c : ℕ) → c < k → new i c ≡ old i c
-      at c m = let z = U .off i c li m (λ x. omega arith) in A .row c (omega arith) ∙ ap (λ u. a * u) z ∙ mul-zero K a ∙ sym z
+      done : (r c : ℕ) → r < suc i → c < n → (r ≡ k → ⊥) → Dec (r ≡ i) → new r c ≡ old k k * old r c + old r k * old k c
+      done r c h b x (yes e) =
+          ap (λ u. new u c) e ∙ A .row c b
+          ∙ ap (λ u. old k k * u + mid i k * mid k c) (S .todo i c (omega arith) li b)
+          ∙ ap (λ u. old k k * old i c + u * mid k c) (S .todo i k (omega arith) li kn)
+          ∙ ap (λ u. old k k * old i c + old i k * u) (S .own c b)
+          ∙ ap (λ u. old k k * old u c + old u k * old k c) (sym e)
+      done r c h b x (no e) = A .other r c (omega arith) b e ∙ S .done r c (omega arith) b x
 
-      go : (r c : ℕ) → r < t → c < k → Dec (r ≡ i) → new r c ≡ old r c
-      go r c l m (yes e) = ap (λ u. new u c) e ∙ at c m ∙ ap (λ u. old u c) (sym e)
-      go r c l m (no e) = A .other r c l (omega arith) e
+  swept-own : (p d x y : F) → y ≡ 𝟘 → p * d + x * y ≡ d * p
+  swept-own p d x y h = simp (ring, h)
 
-  pub units-more : (t k : ℕ) (m : ℕ → ℕ → F) → Units t k m → m k k ≡ 𝟙 → ((r : ℕ) → r < t → (r ≡ k → ⊥) → m r k ≡ 𝟘) → Units t (suc k) m
-  units-more t k m U o z = record { off = λ r c l b x. off′ r c l b x (ℕ-discrete c k); on = λ c b. on′ c b (ℕ-discrete c k) }
+  times-none : (d x : F) → x ≡ 𝟘 → d * x ≡ 𝟘
+  times-none d x h = simp (ring, h)
+
+  -- all rows swept, and row k times d: one column more
+  pub diagonal-more : (t n k : ℕ) (d : F) (old mid new : ℕ → ℕ → F) → k < t → k < n → Diagonal t k d old → Swept t n k t old mid → MulRow t n k d mid new → Diagonal t (suc k) (d * old k k) new
+  diagonal-more t n k d old mid new kt kn U S A = record { off = λ r c l b x. off′ r c l b x (ℕ-discrete r k) (ℕ-discrete c k); on = λ c b. on′ c b (ℕ-discrete c k) }
     where
-      off′ : (r c : ℕ) → r < t → c < suc k → (r ≡ c → ⊥) → Dec (c ≡ k) → m r c ≡ 𝟘
-      off′ r c l b x (yes e) = ap (m r) e ∙ z r l (λ y. omega arith)
-      off′ r c l b x (no e) = U .off r c l (omega arith) x
+      -- another row
+      else : (r c : ℕ) → r < t → c < n → (r ≡ k → ⊥) → new r c ≡ old k k * old r c + old r k * old k c
+      else r c l b x = A .other r c l b x ∙ S .done r c l b x
 
-      on′ : (c : ℕ) → c < suc k → Dec (c ≡ k) → m c c ≡ 𝟙
-      on′ c b (yes e) = ap (λ u. m u u) e ∙ o
-      on′ c b (no e) = U .on c (omega arith)
+      off′ : (r c : ℕ) → r < t → c < suc k → (r ≡ c → ⊥) → Dec (r ≡ k) → Dec (c ≡ k) → new r c ≡ 𝟘
+      off′ r c l b x (yes e) (yes f) = absurd (omega arith)
+      off′ r c l b x (yes e) (no f) =
+          ap (λ u. new u c) e ∙ A .row c (omega arith) ∙ times-none d (mid k c) (S .own c (omega arith) ∙ U .off k c kt (omega arith) (λ y. omega arith))
+      off′ r c l b x (no e) (yes f) =
+          ap (λ u. new r u) f ∙ else r k l kn e ∙ twice (old k k) (old r k)
+      off′ r c l b x (no e) (no f) =
+          else r c l (omega arith) e ∙ both-none (old k k) (old r c) (old r k) (old k c) (U .off r c l (omega arith) x) (U .off k c kt (omega arith) (λ y. omega arith))
 
-  -- what the step of each row puts into column k
-  clear-ring : (x p : F) → p ≡ 𝟙 → x + x * p ≡ 𝟘
-  clear-ring x p h = simp (ring, h)
-
-  pub clears : (t n i k : ℕ) (old new : ℕ → ℕ → F) → k < n → AddRow t n i k (old i k) old new → old k k ≡ 𝟙 → new i k ≡ 𝟘
-  clears t n i k old new kn A o = A .row k kn ∙ clear-ring (old i k) (old k k) o
+      on′ : (c : ℕ) → c < suc k → Dec (c ≡ k) → new c c ≡ d * old k k
+      on′ c b (yes e) = ap (λ u. new u u) e ∙ A .row k kn ∙ ap (λ u. d * u) (S .own k kn)
+      on′ c b (no e) =
+          else c c (omega arith) (omega arith) e ∙ ap (λ u. old k k * u + old c k * old k c) (U .on c (omega arith))
+          ∙ swept-own (old k k) d (old c k) (old k c) (U .off k c kt (omega arith) (λ y. omega arith))
 
   -- (D) the equations of the locator, from the last matrix
   pub kernel-key : (t : ℕ) (S : ℕ → F) (m : ℕ → ℕ → F) (q : List F) → length q ≡ suc t → Reach t (suc t) (λ r c. S (r +ℕ c)) m → Sol t (suc t) m (λ c. getD q c 𝟘)
@@ -216,5 +255,5 @@ module _ (K : Field) where
       dot-sum q (λ i. S (j +ℕ i)) ∙ ap (λ n. sum n (λ i. getD q i 𝟘 * S (j +ℕ i))) e
       ∙ sum-ext (suc t) (λ i. getD q i 𝟘 * S (j +ℕ i)) (λ i. S (j +ℕ i) * getD q i 𝟘) (λ i b. mul-comm K _ _) ∙ h (λ c. getD q c 𝟘) s j l
 
-  pub kernel-nonzero : (n k : ℕ) (m : ℕ → ℕ → F) (q : List F) → k < length q → Vector n k m (λ c. getD q c 𝟘) → Zero K q → ⊥
-  kernel-nonzero n k m q l W z = K .one·ne·zero (sym (W .own) ∙ All-at (λ a. a ≡ 𝟘) q 𝟘 k z l)
+  pub kernel-nonzero : (n k : ℕ) (d : F) (m : ℕ → ℕ → F) (q : List F) → k < length q → (d ≡ 𝟘 → ⊥) → Vector n k d m (λ c. getD q c 𝟘) → Zero K q → ⊥
+  kernel-nonzero n k d m q l ne W z = ne (sym (W .own) ∙ All-at (λ a. a ≡ 𝟘) q 𝟘 k z l)

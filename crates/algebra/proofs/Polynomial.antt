@@ -336,10 +336,14 @@ module _ (K : Field) where
   equal-of-zero (a ∷ p) [] e z = absurd (omega arith)
   equal-of-zero (a ∷ p) (b ∷ q) e z = ap₂ _∷_ (eq-of-add K a b (z .0)) (equal-of-zero p q (omega arith) (z .1))
 
-  pub equal-of-values : (xs p q : List F) → length p ≡ length q → length p ≤ length xs → Distinct xs → ((x : F) → eval (ops K) p x ≡ eval (ops K) q x) → p ≡ q
-  equal-of-values xs p q e l d h =
+  pub equal-at : (xs p q : List F) → length p ≡ length q → length p ≤ length xs → Distinct xs → All (λ x. eval (ops K) p x ≡ eval (ops K) q x) xs → p ≡ q
+  equal-at xs p q e l d h =
       equal-of-zero p q e
-      (root-bound xs (plus (ops K) p q) (omega (arith, length-plus-max p q)) d (All-each (λ x. eval (ops K) (plus (ops K) p q) x ≡ 𝟘) (λ x. eval-plus p q x ∙ add-eq-zero K _ _ (h x)) xs))
+      (root-bound xs (plus (ops K) p q) (omega (arith, length-plus-max p q)) d
+      (All-map (λ x. eval (ops K) p x ≡ eval (ops K) q x) (λ x. eval (ops K) (plus (ops K) p q) x ≡ 𝟘) (λ x k. eval-plus p q x ∙ add-eq-zero K _ _ k) xs h))
+
+  pub equal-of-values : (xs p q : List F) → length p ≡ length q → length p ≤ length xs → Distinct xs → ((x : F) → eval (ops K) p x ≡ eval (ops K) q x) → p ≡ q
+  equal-of-values xs p q e l d h = equal-at xs p q e l d (All-each (λ x. eval (ops K) p x ≡ eval (ops K) q x) h xs)
 
   pub root-count : (xs p : List F) → (Zero p → ⊥) → Distinct xs → All (λ x. eval (ops K) p x ≡ 𝟘) xs → length xs < length p
   root-count xs p n d r = go (decLt (length xs) (length p))

@@ -2,20 +2,24 @@
 -- Assumes nothing.
 use mathlib.Core.Path.{_≡_, refl, sym, ap, ap₂, _∙_, subst}
 use mathlib.Core.List.{List, [], _∷_, map}
-use Prim.Native.Nat.{ℕ, zero, suc, _+_, _≤_, _<_, Fin}
+use Prim.Native.Nat.{ℕ, zero, suc, _+_, _<_, Fin}
+use native.Mathlib.Nat.{zero-add}
 use native.Mathlib.Numerals.{add-one}
 use native.Mathlib.Omega.{arith}
 use lib.Bits.{bitXor, xor-lt}
-use lib.ListN.{length, getD, take, drop, replicate, getD-replicate, drop-of-length-le}
-use lib.Seq.{drop-cons, getD-take, getD-drop}
+use lib.Dec.{T}
+use lib.ListN.{length, getD, drop, replicate, getD-replicate, drop-of-length-le}
+use lib.Seq.{drop-cons}
+use Rattle.common.proofs.Computed.{agree, agree-at}
+use Rattle.common.proofs.Lists.{getD-map-in}
 use Rattle.algebra.specs.Field.{ops}
-use Rattle.algebra.specs.Polynomial.{eval, scale}
+use Rattle.algebra.specs.Polynomial.{power, eval, scale}
 use Rattle.algebra.proofs.Ring.{add-comm, add-zero, mul-zero}
-use Rattle.galois.specs.Field256.{timesX, mul, pow, scaled}
-use Rattle.galois.proofs.Laws.{mul-lt, mul-comm, mul-assoc, mul-two}
+use Rattle.galois.specs.Field256.{timesX, rounds, mul, pow, scaled}
+use Rattle.galois.proofs.Laws.{mul-lt, mul-comm}
 use Rattle.galois.proofs.Powers.{times-one, pow-add}
 use Rattle.galois.proofs.Instance.{bytes, byte, byte-add, byte-mul, byte-power}
-use Rattle.byte_lanes.specs.Lanes.{elements, point, productsOf, Powers, advanced, ValuesAt}
+use Rattle.byte_lanes.specs.Lanes.{elements, point, productsOf, PowersFrom, advanced, ValuesAt}
 use Rattle.byte_lanes.proofs.Words.{length-sum, sum-at, length-products, products-at}
 
 pub zeros-at : (n j : ℕ) → getD {A = ℕ} (replicate n 0) j 0 ≡ 0
@@ -23,10 +27,36 @@ zeros-at zero j = refl
 zeros-at (suc n) zero = refl
 zeros-at (suc n) (suc j) = zeros-at n j
 
--- sixteen of the powers of 02, from power n on
-pub powers-at : (x y : List ℕ) (n : ℕ) → Powers x → n + 16 ≤ 208 → y ≡ take 16 (drop n x) → (j : ℕ) → j < 16 → byte (getD y j 0) ≡ point (n + j)
-powers-at x y n p h e j l =
-    ap byte (ap (λ (r : List ℕ). getD r j 0) e ∙ getD-take 16 (drop n x) j 0 l ∙ getD-drop n x j 0 ∙ p .each (n + j) (omega arith)) ∙ byte-power 2 (n + j)
+-- ---- sixteen powers of 02
+
+-- the first ones, as antt computes them
+abbrev roots : List ℕ
+roots = 0x01 ∷ 0x02 ∷ 0x04 ∷ 0x08 ∷ 0x10 ∷ 0x20 ∷ 0x40 ∷ 0x80 ∷ 0x1D ∷ 0x3A ∷ 0x74 ∷ 0xE8 ∷ 0xCD ∷ 0x87 ∷ 0x13 ∷ 0x26 ∷ []
+
+roots-right : T (agree (λ j. getD roots j 0) (pow 2) 16)
+unfolding power mul rounds timesX
+roots-right = tt
+
+pub powers-first : PowersFrom 0 roots
+powers-first = record { each = λ j h. agree-at (λ j. getD roots j 0) (pow 2) 16 roots-right j h ∙ ap (pow 2) (sym (zero-add j)) }
+
+sixteenth : pow 2 16 ≡ 0x4C
+unfolding power mul rounds timesX
+sixteenth = refl
+
+pub powers-next : (n : ℕ) (x y : List ℕ) → length x ≡ 16 → y ≡ scaled 0x4C x → PowersFrom n x → PowersFrom (n + 16) y
+unfolding scale
+powers-next n x y l e p =
+    record {
+      each = λ j h.
+          let m : 16 + (n + j) ≡ n + 16 + j = omega arith in
+          ap (λ (r : List ℕ). getD r j 0) e ∙ getD-map-in (mul 0x4C) x 0 0 j (omega arith)
+          ∙ ap₂ mul (sym sixteenth) (p .each j h) ∙ pow-add 2 16 (n + j) ∙ ap (pow 2) m;
+    }
+
+-- in the field
+pub powers-at : (n : ℕ) (x : List ℕ) → PowersFrom n x → (j : ℕ) → j < 16 → byte (getD x j 0) ≡ point (n + j)
+powers-at n x p j h = ap byte (p .each j h) ∙ byte-power 2 (n + j)
 
 -- ---- one factor in every lane
 
@@ -35,14 +65,6 @@ unfolding productsOf scale
 products-scaled n f [] h = refl
 products-scaled zero f (x ∷ a) h = absurd (omega arith)
 products-scaled (suc n) f (x ∷ a) h = ap₂ (λ (y : ℕ) (l : List ℕ). y ∷ l) (mul-comm x f) (products-scaled n f a (omega arith))
-
--- a multiple by f, times x
-pub scaled-next : (f : ℕ) (a : List ℕ) → f < 256 → map timesX (scaled f a) ≡ scaled (timesX f) a
-unfolding scale
-scaled-next f [] h = refl
-scaled-next f (y ∷ a) h =
-    ap₂ (λ (z : ℕ) (l : List ℕ). z ∷ l)
-    (sym (mul-two (mul f y) (mul-lt f y)) ∙ sym (mul-assoc 2 f y) ∙ ap (λ (z : ℕ). mul z y) (mul-two f h)) (scaled-next f a h)
 
 -- ---- one step of Horner's rule
 
@@ -107,14 +129,11 @@ values-more q x k v w n l s e f =
 
 -- ---- powers of every lane
 
-pub first-squares : (a : List ℕ) → map (λ u. mul u u) a ≡ map (λ u. pow u 2) a
-first-squares [] = refl
-first-squares (x ∷ a) =
-    ap₂ (λ (y : ℕ) (l : List ℕ). y ∷ l) (times-one x x ∙ mul-comm x (pow x 1) ∙ times-one (pow x 1) x ∙ pow-add x 1 1) (first-squares a)
-
-squares-at : (m : ℕ) (a : List ℕ) → map (λ u. mul u u) (map (λ u. pow u m) a) ≡ map (λ u. pow u (m + m)) a
-squares-at m [] = refl
-squares-at m (x ∷ a) = ap₂ (λ (y : ℕ) (l : List ℕ). y ∷ l) (pow-add x m m) (squares-at m a)
+pub first-products : (a : List ℕ) → productsOf a a ≡ map (λ u. pow u 2) a
+unfolding productsOf
+first-products [] = refl
+first-products (x ∷ a) =
+    ap₂ (λ (y : ℕ) (l : List ℕ). y ∷ l) (times-one x x ∙ mul-comm x (pow x 1) ∙ times-one (pow x 1) x ∙ pow-add x 1 1) (first-products a)
 
 next-powers : (m : ℕ) (a : List ℕ) → productsOf (map (λ u. pow u m) a) a ≡ map (λ u. pow u (m + 1)) a
 unfolding productsOf
@@ -127,9 +146,6 @@ powers-add m n [] = refl
 powers-add m n (x ∷ a) = ap₂ (λ (y : ℕ) (l : List ℕ). y ∷ l) (pow-add x m n) (powers-add m n a)
 
 -- the same, of lists that are powers of a
-pub squares : (a : List ℕ) (m : ℕ) {x : List ℕ} → x ≡ map (λ u. pow u m) a → map (λ u. mul u u) x ≡ map (λ u. pow u (m + m)) a
-squares a m p = ap (map (λ u. mul u u)) p ∙ squares-at m a
-
 pub one-more : (a : List ℕ) (m : ℕ) {x : List ℕ} → x ≡ map (λ u. pow u m) a → productsOf x a ≡ map (λ u. pow u (m + 1)) a
 one-more a m p = ap (λ (l : List ℕ). productsOf l a) p ∙ next-powers m a
 

@@ -2,7 +2,7 @@
 -- Assumes nothing.
 use mathlib.Core.Path.{_≡_}
 use mathlib.Core.List.{List, [], _∷_, map, reverse}
-use Prim.Native.Nat.{ℕ, _<_, Fin}
+use Prim.Native.Nat.{ℕ, _+_, _<_, Fin}
 use lib.ListN.{length, getD, replicate}
 use Rattle.algebra.specs.Field.{ops}
 use Rattle.algebra.specs.Polynomial.{power, eval, plus}
@@ -27,9 +27,9 @@ productsOf [] b = []
 productsOf (x ∷ a) [] = []
 productsOf (x ∷ a) (y ∷ b) = mul x y ∷ productsOf a b
 
--- the first 208 powers of 02
-pub record Powers (x : List ℕ) : Type 0 where
-  pub each : (i : ℕ) → i < 208 → getD x i 0 ≡ pow 2 i
+-- sixteen powers of 02, from power n on
+pub record PowersFrom (n : ℕ) (x : List ℕ) : Type 0 where
+  pub each : (j : ℕ) → j < 16 → getD x j 0 ≡ pow 2 (n + j)
 
 -- one step of Horner's rule at the places x: from the values v, with one coefficient c more
 unfoldable pub advanced : List ℕ → List ℕ → ℕ → List ℕ

@@ -2,28 +2,27 @@
 -- Assumes nothing.
 use mathlib.Core.Path.{_≡_, refl, sym, ap, ap₂, _∙_, subst}
 use mathlib.Core.List.{List, [], _∷_, _++_, map, append-assoc, append-nil}
-use mathlib.Core.Logic.{inl}
-use Prim.Native.Nat.{ℕ, zero, suc, _+_, _-_, _*_, _≤_, _<_, Fin}
+use Prim.Native.Nat.{ℕ, zero, suc, _+_, _-_, _≤_, _<_, Fin}
 use native.Mathlib.Nat.{zero-add, add-zero}
 use native.Mathlib.Numerals.{add-one}
-use native.Mathlib.Decide.{ℕ-discrete, decLt}
+use native.Mathlib.Decide.{ℕ-discrete}
 use native.Mathlib.Omega.{arith}
 use borrow.Author.Tests.{eq-eqb, ne-eqb}
 use lib.Dec.{eqb}
-use lib.ListN.{length, getD, take, drop, set, replicate, length-append, length-take, length-set, List·getD-eq-default}
-use lib.Seq.{getD-take, take-suc, take-suc-set, take-all, length-take-le}
+use lib.ListN.{length, getD, take, drop, set, replicate, length-append, length-take, length-drop, length-set, take-append-drop, List·getD-eq-default}
+use lib.Seq.{getD-take, getD-drop, take-suc, take-suc-set, take-all, take-add, length-take-le, ext-getD}
 use Rattle.common.specs.Choice.{pick}
-use Rattle.common.proofs.Lists.{put-own, put-other}
+use Rattle.common.proofs.Lists.{length-listOf, getD-listOf}
 use Rattle.algebra.specs.Field.{ops}
 use Rattle.algebra.specs.Polynomial.{eval}
 use Rattle.algebra.proofs.Ring.{zero-add as field-zero-add, mul-zero as field-mul-zero}
-use Rattle.galois.specs.Field256.{mul}
-use Rattle.galois.proofs.Instance.{bytes, byte, byte-zero}
-use Rattle.byte_lanes.specs.Lanes.{elements, point, Powers, ValuesAt}
-use Rattle.error_correction.specs.Correction.{EndsAt, Evaluated, zerosFrom, zerosOf, FoundRoots}
+use Rattle.galois.specs.Field256.{pow}
+use Rattle.galois.proofs.Instance.{bytes, byte, byte-val, byte-zero}
+use Rattle.byte_lanes.specs.Lanes.{elements, point, PowersFrom, ValuesAt}
 use Rattle.byte_lanes.proofs.Powers.{powers-at}
+use Rattle.error_correction.specs.Correction.{EndsAt, valuesOf, zerosFrom, Listed, rootsOf, FoundRoots}
 
--- ---- the values
+-- ---- the degree
 
 -- coefficients that are zero from place n on
 abbrev pub Zeros : List ℕ → ℕ → Type 0
@@ -60,49 +59,42 @@ ends-of q d n e = subst (λ (l : List ℕ). EndsAt l d) (take-all 9 q (omega ari
 pub length-prefix : (q : List ℕ) (d : ℕ) → length q ≡ 9 → EndsAt (take 9 q) d → length (take (d + 1) q) ≡ d + 1
 length-prefix q d n e = length-take-le (d + 1) q (omega (arith, e .most))
 
--- the values at the first i times sixteen places
-pub record EvaluatedTo (q v : List ℕ) (i : ℕ) : Type 0 where
-  pub most : i ≤ 13
-  pub len : length v ≡ 208
-  pub each : (k : ℕ) → k < i * 16 → byte (getD v k 0) ≡ eval (ops bytes) (elements q) (point k)
-  pub small : (k : ℕ) → k < i * 16 → getD v k 0 < 256
+-- ---- sixteen values
 
-pub evaluated-none : (q v : List ℕ) → length v ≡ 208 → EvaluatedTo q v 0
-evaluated-none q v l = record { most = omega arith; len = l; each = λ k h. absurd (omega arith); small = λ k h. absurd (omega arith) }
+pub length-values : (q : List ℕ) → length (valuesOf q) ≡ 204
+unfolding valuesOf
+length-values q = length-listOf 204 (λ (i : ℕ). eval (ops bytes) (elements q) (point i) .0)
 
-module _ (q x v y w n : List ℕ) (i d : ℕ) (p : Powers x) (b : i < 13) (ey : y ≡ take 16 (drop (i * 16) x)) (g : ValuesAt (take (d + 1) q) y w) (z : EndsAt q d)
-    (en : n ≡ take (i * 16) v ++ w ++ drop (i * 16 + length w) v) (ln : length n ≡ length v) (e : EvaluatedTo q v i) where
-  fits : i * 16 + length w ≤ length v
-  fits = omega (arith, e .len, g .len)
+pub value-at : (q : List ℕ) (i : ℕ) → i < 204 → getD (valuesOf q) i 0 ≡ eval (ops bytes) (elements q) (point i) .0
+unfolding valuesOf
+value-at q i h = getD-listOf 204 (λ (i : ℕ). eval (ops bytes) (elements q) (point i) .0) 0 i h
 
-  own : (k : ℕ) → i * 16 ≤ k → k < (i + 1) * 16 → getD n k 0 ≡ getD w (k - i * 16) 0
-  own k l h =
-      let m : k ≡ i * 16 + (k - i * 16) = omega arith in
-      ap₂ (λ (l : List ℕ) (j : ℕ). getD l j 0) en m ∙ put-own v w (i * 16) (k - i * 16) fits (omega (arith, g .len))
+module _ (q x v : List ℕ) (i d : ℕ) (h : i ≤ 204) (p : PowersFrom i x) (g : ValuesAt (take (d + 1) q) x v) (z : EndsAt q d) where
+  lane-value : (j : ℕ) → j < 16 → getD v j 0 ≡ eval (ops bytes) (elements q) (point (i + j)) .0
+  lane-value j l =
+      sym (byte-val (getD v j 0) (g .small j l))
+      ∙ ap (λ (u : Fin 256). u .0)
+      (g .each j l ∙ sym (eval-cut (d + 1) q (byte (getD x j 0)) (λ k b. z .zeros k (omega arith))) ∙ ap (eval (ops bytes) (elements q)) (powers-at i x p j l))
 
-  other : (k : ℕ) → k < i * 16 → getD n k 0 ≡ getD v k 0
-  other k h = ap (λ (l : List ℕ). getD l k 0) en ∙ put-other v w (i * 16) k fits (omega (arith, e .len)) (inl h)
-
-  pub evaluated-more : EvaluatedTo q n (i + 1)
-  evaluated-more =
-      record { most = omega arith; len = ln ∙ e .len; each = λ k h. each k h (decLt k (i * 16)); small = λ k h. small k h (decLt k (i * 16)) }
+  -- the lanes below degree 204 are the next of the values
+  pub lanes-next : take (204 - i) v ≡ take 16 (drop i (valuesOf q))
+  lanes-next = ext-getD 0 (take (204 - i) v) (take 16 (drop i (valuesOf q))) size each
     where
-      each : (k : ℕ) → k < (i + 1) * 16 → Dec (k < i * 16) → byte (getD n k 0) ≡ eval (ops bytes) (elements q) (point k)
-      each k h (yes l) = ap byte (other k l) ∙ e .each k l
-      each k h (no l) =
-          let m : i * 16 + (k - i * 16) ≡ k = omega arith in
-          ap byte (own k (omega arith) h) ∙ g .each (k - i * 16) (omega arith)
-          ∙ sym (eval-cut (d + 1) q (byte (getD y (k - i * 16) 0)) (λ j b. z .zeros j (omega arith)))
-          ∙ ap (eval (ops bytes) (elements q)) (powers-at x y (i * 16) p (omega arith) ey (k - i * 16) (omega arith) ∙ ap point m)
+      size : length (take (204 - i) v) ≡ length (take 16 (drop i (valuesOf q)))
+      size = omega (arith, length-take (204 - i) v, length-take 16 (drop i (valuesOf q)), length-drop i (valuesOf q), length-values q, g .len)
 
-      small : (k : ℕ) → k < (i + 1) * 16 → Dec (k < i * 16) → getD n k 0 < 256
-      small k h (yes l) = subst (λ (j : ℕ). j < 256) (sym (other k l)) (e .small k l)
-      small k h (no l) = subst (λ (j : ℕ). j < 256) (sym (own k (omega arith) h)) (g .small (k - i * 16) (omega arith))
-
-pub evaluated-all : (q v : List ℕ) (i : ℕ) → 13 ≤ i → EvaluatedTo q v i → Evaluated q v
-evaluated-all q v i h e = record { each = λ k b. e .each k (omega arith); small = λ k b. e .small k (omega arith) }
+      each : (j : ℕ) → j < length (take (204 - i) v) → getD (take (204 - i) v) j 0 ≡ getD (take 16 (drop i (valuesOf q))) j 0
+      each j l =
+          let a : j < 204 - i = omega (arith, length-take (204 - i) v) in
+          let b : j < 16 = omega (arith, length-take (204 - i) v, g .len) in
+          getD-take (204 - i) v j 0 a ∙ lane-value j b
+          ∙ sym (getD-take 16 (drop i (valuesOf q)) j 0 b ∙ getD-drop i (valuesOf q) j 0 ∙ value-at q (i + j) (omega arith))
 
 -- ---- the zeros of a list
+
+pub map-join : {A B : Type 0} (f : A → B) (a b : List A) → map f (a ++ b) ≡ map f a ++ map f b
+map-join f [] b = refl
+map-join {B = B} f (x ∷ a) b = ap (λ (l : List B). f x ∷ l) (map-join f a b)
 
 zeros-append : (n : ℕ) (a b : List ℕ) → zerosFrom n (a ++ b) ≡ zerosFrom n a ++ zerosFrom (n + length a) b
 unfolding zerosFrom
@@ -116,84 +108,156 @@ zeros-append n (x ∷ a) b =
     shift = omega arith
 
 -- one element more
-zeros-more : (v : List ℕ) (i : ℕ) → i < length v → zerosFrom 0 (take (i + 1) v) ≡ zerosFrom 0 (take i v) ++ pick (eqb (getD v i 0) 0) (i ∷ []) []
+zeros-more : (n : ℕ) (v : List ℕ) (l : ℕ) → l < length v → zerosFrom n (take (l + 1) v) ≡ zerosFrom n (take l v) ++ pick (eqb (getD v l 0) 0) ((n + l) ∷ []) []
 unfolding zerosFrom
-zeros-more v i h =
-    ap (λ (n : ℕ). zerosFrom 0 (take n v)) (add-one i) ∙ ap (zerosFrom 0) (take-suc v i 0 h) ∙ zeros-append 0 (take i v) (getD v i 0 ∷ [])
-    ∙ ap (λ (n : ℕ). zerosFrom 0 (take i v) ++ (pick (eqb (getD v i 0) 0) (n ∷ []) [] ++ [])) place
-    ∙ ap (λ (l : List ℕ). zerosFrom 0 (take i v) ++ l) (append-nil (pick (eqb (getD v i 0) 0) (i ∷ []) []))
+zeros-more n v l h =
+    ap (λ (k : ℕ). zerosFrom n (take k v)) (add-one l) ∙ ap (zerosFrom n) (take-suc v l 0 h) ∙ zeros-append n (take l v) (getD v l 0 ∷ [])
+    ∙ ap (λ (k : ℕ). zerosFrom n (take l v) ++ (pick (eqb (getD v l 0) 0) ((n + k) ∷ []) [] ++ [])) (length-take-le l v (omega arith))
+    ∙ ap (λ (m : List ℕ). zerosFrom n (take l v) ++ m) (append-nil (pick (eqb (getD v l 0) 0) ((n + l) ∷ []) []))
+
+-- a front has no more
+zeros-front : (n i : ℕ) (v : List ℕ) → length (zerosFrom n (take i v)) ≤ length (zerosFrom n v)
+zeros-front n i v =
+    omega (
+      arith,
+      ap (λ (l : List ℕ). length (zerosFrom n l)) (sym (take-append-drop i v)),
+      ap length (zeros-append n (take i v) (drop i v)),
+      length-append (zerosFrom n (take i v)) (zerosFrom (n + length (take i v)) (drop i v)),
+    )
+
+-- two functions that agree at the places agree at the zeros
+zeros-map : (f g : ℕ → ℕ) (n : ℕ) (v : List ℕ) → ((j : ℕ) → j < length v → f (n + j) ≡ g (n + j)) → map f (zerosFrom n v) ≡ map g (zerosFrom n v)
+unfolding zerosFrom
+zeros-map f g n [] h = refl
+zeros-map f g n (x ∷ v) h = go (ℕ-discrete x 0) (zeros-map f g (n + 1) v (λ j l. ap f (shift j) ∙ h (suc j) (omega arith) ∙ ap g (sym (shift j))))
   where
-    place : 0 + length (take i v) ≡ i
-    place = zero-add (length (take i v)) ∙ length-take-le i v (omega arith)
+    shift : (j : ℕ) → n + 1 + j ≡ n + suc j
+    shift j = omega arith
 
-zeros-prefix : (n i j : ℕ) (v : List ℕ) → i ≤ j → length (zerosFrom n (take i v)) ≤ length (zerosFrom n (take j v))
+    go : Dec (x ≡ 0) → map f (zerosFrom (n + 1) v) ≡ map g (zerosFrom (n + 1) v) → map f (pick (eqb x 0) (n ∷ []) [] ++ zerosFrom (n + 1) v) ≡ map g (pick (eqb x 0) (n ∷ []) [] ++ zerosFrom (n + 1) v)
+    go (yes e) r = rw (eq-eqb x 0 e) (ap₂ _∷_ (ap f (sym (add-zero n)) ∙ h 0 (omega arith) ∙ ap g (add-zero n)) r)
+    go (no e) r = rw (ne-eqb x 0 e) r
+
+-- ---- the loop over sixteen values
+
+-- the zeros among the first l of the values v are listed
+pub record ListedTo (degrees places : List ℕ) (count : ℕ) (v x : List ℕ) (i : ℕ) (degrees' places' : List ℕ) (count' l : ℕ) : Type 0 where
+  pub degrees-len : length degrees' ≡ 16
+  pub places-len : length places' ≡ 16
+  pub all : Listed degrees places count (take l v) x i degrees' places' count'
+
+pub listed-none : (degrees places : List ℕ) (count : ℕ) (v x : List ℕ) (i : ℕ) → length degrees ≡ 16 → length places ≡ 16 → ListedTo degrees places count v x i degrees places count 0
 unfolding zerosFrom
-zeros-prefix n zero j v h = omega arith
-zeros-prefix n (suc i) zero v h = absurd (omega arith)
-zeros-prefix n (suc i) (suc j) [] h = omega arith
-zeros-prefix n (suc i) (suc j) (x ∷ v) h =
-    omega (arith, length-append (pick (eqb x 0) (n ∷ []) []) (zerosFrom (n + 1) (take i v)), length-append (pick (eqb x 0) (n ∷ []) []) (zerosFrom (n + 1) (take j v)), zeros-prefix (n + 1) i j v (omega arith))
+listed-none degrees places count v x i a b =
+    record { degrees-len = a; places-len = b; all = record { number = omega arith; listed = sym (append-nil (take count degrees)); placed = sym (append-nil (take count places)) } }
 
--- ---- the loop that lists them
+pub listed-as : {degrees places : List ℕ} {count : ℕ} {v x : List ℕ} {i : ℕ} {d e p q : List ℕ} {m n l : ℕ} → d ≡ e → p ≡ q → m ≡ n
+    → ListedTo degrees places count v x i e q n l → ListedTo degrees places count v x i d p m l
+listed-as {degrees} {places} {count} {v} {x} {i} {d} {e} {p} {q} {m} {n} {l} a b c s =
+    subst (λ (u : List ℕ). ListedTo degrees places count v x i u p m l) (sym a)
+    (subst (λ (u : List ℕ). ListedTo degrees places count v x i e u m l) (sym b) (subst (λ (u : ℕ). ListedTo degrees places count v x i e q u l) (sym c) s))
 
--- the zeros among the first i values are listed
-pub record Searched (v x degrees places : List ℕ) (count i : ℕ) : Type 0 where
-  pub most : i ≤ 204
-  pub degrees-len : length degrees ≡ 16
-  pub places-len : length places ≡ 16
-  pub number : count ≡ length (zerosFrom 0 (take i v))
-  pub listed : take count degrees ≡ zerosFrom 0 (take i v)
-  pub placed : take count places ≡ map (λ d. getD x d 0) (zerosFrom 0 (take i v))
+module _ (degrees places : List ℕ) (count : ℕ) (v x : List ℕ) (i : ℕ) (degrees' places' : List ℕ) (count' l : ℕ) (s : ListedTo degrees places count v x i degrees' places' count' l) where
+  -- the same list of zeros
+  same : zerosFrom i (take l v) ≡ zerosFrom i (take (l + 1) v) → ListedTo degrees places count v x i degrees' places' count' (l + 1)
+  same e =
+      record {
+        degrees-len = s .degrees-len;
+        places-len = s .places-len;
+        all =
+            record {
+              number = s .all .number ∙ ap (λ (m : List ℕ). count + length m) e;
+              listed = s .all .listed ∙ ap (λ (m : List ℕ). take count degrees ++ m) e;
+              placed = s .all .placed ∙ ap (λ (m : List ℕ). take count places ++ map (λ d. getD x (d - i) 0) m) e;
+            };
+      }
 
-pub searched-none : (v x : List ℕ) → Searched v x (replicate 16 0) (replicate 16 0) 0 0
-unfolding zerosFrom
-searched-none v x = record { most = omega arith; degrees-len = refl; places-len = refl; number = refl; listed = refl; placed = refl }
+  pub listed-past : length v ≤ l → ListedTo degrees places count v x i degrees' places' count' (l + 1)
+  listed-past h = same (ap (zerosFrom i) (take-all l v h ∙ sym (take-all (l + 1) v (omega arith))))
 
-pub searched-as : {v x d e p q : List ℕ} {m n i : ℕ} → d ≡ e → p ≡ q → m ≡ n → Searched v x e q n i → Searched v x d p m i
-searched-as {v} {x} {d} {e} {p} {q} {m} {n} {i} a b c s =
-    subst (λ (u : List ℕ). Searched v x u p m i) (sym a)
-    (subst (λ (u : List ℕ). Searched v x e u m i) (sym b) (subst (λ (u : ℕ). Searched v x e q u i) (sym c) s))
+  pub listed-skip : l < length v → (getD v l 0 ≡ 0 → ⊥) → ListedTo degrees places count v x i degrees' places' count' (l + 1)
+  listed-skip h z = same (sym (append-nil (zerosFrom i (take l v))) ∙ sym (zeros-more i v l h ∙ ap (λ b. zerosFrom i (take l v) ++ pick b ((i + l) ∷ []) []) (ne-eqb _ _ z)))
 
-module _ (v x degrees places : List ℕ) (count i : ℕ) where
-  pub searched-room : length (zerosOf v) ≤ 8 → Searched v x degrees places count i → count ≤ 8
-  searched-room h s = omega (arith, s .number, zeros-prefix 0 i 204 v (s .most))
+  module _ (h : l < length v) (z : getD v l 0 ≡ 0) where
+    one-more : zerosFrom i (take l v) ++ (i + l) ∷ [] ≡ zerosFrom i (take (l + 1) v)
+    one-more = sym (zeros-more i v l h ∙ ap (λ b. zerosFrom i (take l v) ++ pick b ((i + l) ∷ []) []) (eq-eqb _ _ z))
 
-  module _ (n : length v ≡ 208) (m : i < 204) (s : Searched v x degrees places count i) where
-    pub searched-skip : (getD v i 0 ≡ 0 → ⊥) → Searched v x degrees places count (i + 1)
-    searched-skip z =
-        let e : zerosFrom 0 (take i v) ≡ zerosFrom 0 (take (i + 1) v) =
-        sym (append-nil (zerosFrom 0 (take i v))) ∙ sym (zeros-more v i (omega arith) ∙ ap (λ b. zerosFrom 0 (take i v) ++ pick b (i ∷ []) []) (ne-eqb _ _ z)) in
+    pub listed-room : count + length (zerosFrom i v) ≤ 16 → count' < 16
+    listed-room r =
+        omega (arith, s .all .number, ap length one-more, length-append (zerosFrom i (take l v)) ((i + l) ∷ []), zeros-front i (l + 1) v)
+
+    pub listed-more : count + length (zerosFrom i v) ≤ 16 → ListedTo degrees places count v x i (set degrees' count' (i + l)) (set places' count' (getD x l 0)) (count' + 1) (l + 1)
+    listed-more r =
         record {
-          most = omega arith;
-          degrees-len = s .degrees-len;
-          places-len = s .places-len;
-          number = s .number ∙ ap length e;
-          listed = s .listed ∙ e;
-          placed = s .placed ∙ ap (map (λ d. getD x d 0)) e;
-        }
-
-    pub searched-more : count ≤ 8 → getD v i 0 ≡ 0 → Searched v x (set degrees count i) (set places count (getD x i 0)) (count + 1) (i + 1)
-    searched-more r z =
-        let e : zerosFrom 0 (take i v) ++ i ∷ [] ≡ zerosFrom 0 (take (i + 1) v) =
-        sym (zeros-more v i (omega arith) ∙ ap (λ b. zerosFrom 0 (take i v) ++ pick b (i ∷ []) []) (eq-eqb _ _ z)) in
-        record {
-          most = omega arith;
-          degrees-len = length-set degrees count i ∙ s .degrees-len;
-          places-len = length-set places count (getD x i 0) ∙ s .places-len;
-          number = ap (λ (k : ℕ). k + 1) (s .number) ∙ sym (length-append (zerosFrom 0 (take i v)) (i ∷ [])) ∙ ap length e;
-          listed =
-              ap (λ (k : ℕ). take k (set degrees count i)) (add-one count) ∙ take-suc-set degrees count i (omega (arith, s .degrees-len))
-              ∙ ap (λ (l : List ℕ). l ++ i ∷ []) (s .listed) ∙ e;
-          placed =
-              ap (λ (k : ℕ). take k (set places count (getD x i 0))) (add-one count) ∙ take-suc-set places count (getD x i 0) (omega (arith, s .places-len))
-              ∙ ap (λ (l : List ℕ). l ++ getD x i 0 ∷ []) (s .placed) ∙ sym (map-snoc (zerosFrom 0 (take i v))) ∙ ap (map (λ d. getD x d 0)) e;
+          degrees-len = length-set degrees' count' (i + l) ∙ s .degrees-len;
+          places-len = length-set places' count' (getD x l 0) ∙ s .places-len;
+          all =
+              record {
+                number = omega (arith, s .all .number, ap length one-more, length-append (zerosFrom i (take l v)) ((i + l) ∷ []));
+                listed =
+                    ap (λ (k : ℕ). take k (set degrees' count' (i + l))) (add-one count') ∙ take-suc-set degrees' count' (i + l) (omega (arith, s .degrees-len, listed-room r))
+                    ∙ ap (λ (m : List ℕ). m ++ (i + l) ∷ []) (s .all .listed) ∙ append-assoc (take count degrees) (zerosFrom i (take l v)) ((i + l) ∷ [])
+                    ∙ ap (λ (m : List ℕ). take count degrees ++ m) one-more;
+                placed =
+                    ap (λ (k : ℕ). take k (set places' count' (getD x l 0))) (add-one count') ∙ take-suc-set places' count' (getD x l 0) (omega (arith, s .places-len, listed-room r))
+                    ∙ ap (λ (m : List ℕ). m ++ getD x l 0 ∷ []) (s .all .placed)
+                    ∙ append-assoc (take count places) (map (λ d. getD x (d - i) 0) (zerosFrom i (take l v))) (getD x l 0 ∷ [])
+                    ∙ ap (λ (m : List ℕ). take count places ++ m)
+                    (ap (λ (k : ℕ). map (λ d. getD x (d - i) 0) (zerosFrom i (take l v)) ++ getD x k 0 ∷ []) place
+                    ∙ sym (map-join (λ d. getD x (d - i) 0) (zerosFrom i (take l v)) ((i + l) ∷ [])) ∙ ap (map (λ d. getD x (d - i) 0)) one-more);
+              };
         }
       where
-        map-snoc : (l : List ℕ) → map (λ d. getD x d 0) (l ++ i ∷ []) ≡ map (λ d. getD x d 0) l ++ getD x i 0 ∷ []
-        map-snoc [] = refl
-        map-snoc (a ∷ l) = ap (λ (k : List ℕ). getD x a 0 ∷ k) (map-snoc l)
+        place : l ≡ i + l - i
+        place = omega arith
 
-  pub searched-all : 204 ≤ i → Searched v x degrees places count i → FoundRoots v x degrees places count
-  searched-all h s =
-      let e : i ≡ 204 = omega (arith, s .most) in
-      record { number = rw e at (s .number); listed = rw e at (s .listed); placed = rw e at (s .placed) }
+  pub listed-all : length v ≤ l → Listed degrees places count v x i degrees' places' count'
+  listed-all h = subst (λ (m : List ℕ). Listed degrees places count m x i degrees' places' count') (take-all l v h) (s .all)
+
+-- ---- the loop over all places
+
+-- the roots among the first i degrees are listed, and x has the next places
+pub record Searched (q degrees places : List ℕ) (count i : ℕ) : Type 0 where
+  pub number : count ≡ length (zerosFrom 0 (take i (valuesOf q)))
+  pub listed : take count degrees ≡ zerosFrom 0 (take i (valuesOf q))
+  pub placed : take count places ≡ map (pow 2) (zerosFrom 0 (take i (valuesOf q)))
+
+pub searched-none : (q : List ℕ) → Searched q (replicate 16 0) (replicate 16 0) 0 0
+unfolding zerosFrom
+searched-none q = record { number = refl; listed = refl; placed = refl }
+
+module _ (q degrees places : List ℕ) (count i : ℕ) (s : Searched q degrees places count i) where
+  module _ (v x : List ℕ) (h : i < 204) (p : PowersFrom i x) (e : v ≡ take 16 (drop i (valuesOf q))) where
+    more : zerosFrom 0 (take (i + 16) (valuesOf q)) ≡ zerosFrom 0 (take i (valuesOf q)) ++ zerosFrom i v
+    more =
+        ap (zerosFrom 0) (take-add i 16 (valuesOf q)) ∙ zeros-append 0 (take i (valuesOf q)) (take 16 (drop i (valuesOf q)))
+        ∙ ap₂ (λ (k : ℕ) (l : List ℕ). zerosFrom 0 (take i (valuesOf q)) ++ zerosFrom k l)
+        (zero-add (length (take i (valuesOf q))) ∙ length-take-le i (valuesOf q) (omega (arith, length-values q))) (sym e)
+
+    pub searched-room : length (rootsOf q) ≤ 8 → count + length (zerosFrom i v) ≤ 16
+    searched-room r =
+        omega (arith, s .number, ap length more, length-append (zerosFrom 0 (take i (valuesOf q))) (zerosFrom i v), zeros-front 0 (i + 16) (valuesOf q))
+
+    pub searched-more : (degrees' places' : List ℕ) (count' : ℕ) → Listed degrees places count v x i degrees' places' count' → Searched q degrees' places' count' (i + 16)
+    searched-more degrees' places' count' l =
+        record {
+          number = omega (arith, l .number, s .number, ap length more, length-append (zerosFrom 0 (take i (valuesOf q))) (zerosFrom i v));
+          listed = l .listed ∙ ap (λ (m : List ℕ). m ++ zerosFrom i v) (s .listed) ∙ sym more;
+          placed =
+              l .placed ∙ ap₂ _++_ (s .placed) (zeros-map (λ d. getD x (d - i) 0) (pow 2) i v power-at)
+              ∙ sym (map-join (pow 2) (zerosFrom 0 (take i (valuesOf q))) (zerosFrom i v)) ∙ ap (map (pow 2)) (sym more);
+        }
+      where
+        power-at : (j : ℕ) → j < length v → getD x (i + j - i) 0 ≡ pow 2 (i + j)
+        power-at j b =
+            let k : i + j - i ≡ j = omega arith in
+            ap (λ (m : ℕ). getD x m 0) k ∙ p .each j (omega (arith, ap length e, length-take 16 (drop i (valuesOf q))))
+
+  pub searched-all : 204 ≤ i → FoundRoots q degrees places count
+  searched-all h =
+      let e : take i (valuesOf q) ≡ valuesOf q = take-all i (valuesOf q) (omega (arith, length-values q)) in
+      record {
+        number = s .number ∙ ap (λ (l : List ℕ). length (zerosFrom 0 l)) e;
+        listed = s .listed ∙ ap (zerosFrom 0) e;
+        placed = s .placed ∙ ap (λ (l : List ℕ). map (pow 2) (zerosFrom 0 l)) e;
+      }

@@ -8,10 +8,12 @@ use lib.Bits.{bitXor}
 use lib.Dec.{eqb}
 use lib.ListN.{length, getD, take, set}
 use Rattle.common.specs.Choice.{pick}
+use Rattle.common.specs.Lists.{listOf}
 use Rattle.algebra.specs.Field.{ops}
 use Rattle.algebra.specs.Polynomial.{eval}
 use Rattle.algebra.proofs.Polynomial.{quotient, fromRoots}
 use Rattle.algebra.proofs.Syndromes.{Term, dot, syndrome}
+use Rattle.galois.specs.Field256.{pow}
 use Rattle.galois.proofs.Instance.{bytes, byte}
 use Rattle.byte_lanes.specs.Lanes.{elements, point}
 
@@ -20,24 +22,29 @@ pub record EndsAt (q : List ℕ) (d : ℕ) : Type 0 where
   pub most : d ≤ 8
   pub zeros : (i : ℕ) → d < i → getD q i 0 ≡ 0
 
--- the values of a polynomial at the first 208 powers of 02
-pub record Evaluated (q v : List ℕ) : Type 0 where
-  pub each : (i : ℕ) → i < 208 → byte (getD v i 0) ≡ eval (ops bytes) (elements q) (point i)
-  pub small : (i : ℕ) → i < 208 → getD v i 0 < 256
+-- the values of a polynomial at the first 204 powers of 02, as numbers
+unfoldable pub valuesOf : List ℕ → List ℕ
+valuesOf q = listOf 204 (λ i. eval (ops bytes) (elements q) (point i) .0)
 
 -- the places of a list's zeros, the first element being at n
 unfoldable pub zerosFrom : ℕ → List ℕ → List ℕ
 zerosFrom n [] = []
 zerosFrom n (x ∷ l) = pick (eqb x 0) (n ∷ []) [] ++ zerosFrom (n + 1) l
 
--- the degrees below 204 at which the values are zero
-abbrev pub zerosOf : List ℕ → List ℕ
-zerosOf v = zerosFrom 0 (take 204 v)
+-- roots, and those among the first of sixteen places more: v has the values at the places x, of which the first is that of degree i
+pub record Listed (degrees places : List ℕ) (count : ℕ) (v x : List ℕ) (i : ℕ) (degrees' places' : List ℕ) (count' : ℕ) : Type 0 where
+  pub number : count' ≡ count + length (zerosFrom i v)
+  pub listed : take count' degrees' ≡ take count degrees ++ zerosFrom i v
+  pub placed : take count' places' ≡ take count places ++ map (λ d. getD x (d - i) 0) (zerosFrom i v)
 
-pub record FoundRoots (v x degrees places : List ℕ) (count : ℕ) : Type 0 where
-  pub number : count ≡ length (zerosOf v)
-  pub listed : take count degrees ≡ zerosOf v
-  pub placed : take count places ≡ map (λ d. getD x d 0) (zerosOf v)
+-- the degrees below 204 at which a polynomial vanishes
+abbrev pub rootsOf : List ℕ → List ℕ
+rootsOf q = zerosFrom 0 (valuesOf q)
+
+pub record FoundRoots (q degrees places : List ℕ) (count : ℕ) : Type 0 where
+  pub number : count ≡ length (rootsOf q)
+  pub listed : take count degrees ≡ rootsOf q
+  pub placed : take count places ≡ map (pow 2) (rootsOf q)
 
 -- p, of which nine coefficients count, has the values of the product of x + r
 pub record RootProduct (places p : List ℕ) : Type 0 where

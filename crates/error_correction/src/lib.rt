@@ -1,10 +1,9 @@
 // Where the errors are, what they are, and whether that explains all sixteen syndromes.
 ghost use mathlib.Core.Path.{_≡_};
 ghost use mathlib.Core.List.{_∷_};
-ghost use Prim.Native.Nat.{ℕ, _<_, _≤_};
+ghost use Prim.Native.Nat.{ℕ, _+_, _-_, _<_, _≤_};
 ghost use lib.ListN.{length, getD, take};
-ghost use Rattle.byte_lanes.specs.Lanes.{Powers};
-ghost use Rattle.error_correction.specs.Correction.{EndsAt, Evaluated, zerosOf, FoundRoots, RootProduct, FractionsAt, ErrorValues, sumOf, Explained, correctedBy, changedIn};
+ghost use Rattle.error_correction.specs.Correction.{EndsAt, zerosFrom, Listed, rootsOf, FoundRoots, RootProduct, FractionsAt, ErrorValues, sumOf, Explained, correctedBy, changedIn};
 
 // The degrees at which the locator vanishes, in order, their places, and how many they are. The places after them are zero.
 pub struct Roots {
@@ -28,45 +27,68 @@ fn degree(q: &[u8]) -> usize
     d
 }
 
-// The values of the locator at every place.
-pub fn evaluate(q: [u8; 9], x: &[u8; 208]) -> [u8; 208]
-    requires { ⌜ Powers (now x) ⌝ }
-    ensures { λ r. ⌜ Evaluated q r ⌝ }
+// Roots found so far, and those among sixteen places more: v has the values at the places x, of which the first is that of degree i.
+// Degrees from 204 on are not sent.
+fn list_zeros(
+    degrees: [u8; 16],
+    places: [u8; 16],
+    count: usize,
+    v: [u8; 16],
+    x: [u8; 16],
+    i: u8,
+) -> Roots
+    requires { ⌜ (i ≤ 204) × (count + length (zerosFrom i (take (204 - i) v)) ≤ 16) ⌝ }
+    ensures { λ r. ⌜ Listed degrees places count (take (204 - i) v) x i (r .degrees) (r .places) (r .count) ⌝ }
 {
-    let end = degree(&q) + 1;
-    let mut v = [0u8; 208];
-    let mut i: usize = 0;
-    while i < 13 {
-        let w = byte_lanes::evaluate(&q[..end], byte_lanes::sixteen(x, i * 16));
-        common::put(&w, i * 16, &mut v);
-        i += 1;
-    }
-    v
-}
-
-// The degrees below 204 at which the value is zero. The four places above are not sent.
-pub fn find_roots(v: &[u8], x: &[u8; 208]) -> Roots
-    requires { ⌜ (length (now v) ≡ 208) × (length (zerosOf (now v)) ≤ 8) ⌝ }
-    ensures { λ r. ⌜ FoundRoots (now (v .entry)) (now (x .entry)) (r .degrees) (r .places) (r .count) ⌝ }
-{
-    let mut degrees = [0u8; 16];
-    let mut places = [0u8; 16];
-    let mut count: usize = 0;
-    let mut i: u8 = 0;
-    while i < 204 {
-        let at = i as usize;
-        if v[at] == 0 {
-            degrees[count] = i;
-            places[count] = x[at];
-            count += 1;
+    let mut degrees = degrees;
+    let mut places = places;
+    let mut count = count;
+    let mut l: u8 = 0;
+    while l < 16 {
+        let at = l as usize;
+        let d = i + l;
+        if d < 204 {
+            if v[at] == 0 {
+                degrees[count] = d;
+                places[count] = x[at];
+                count += 1;
+            }
         }
-        i += 1;
+        l += 1;
     }
     Roots {
         degrees,
         places,
         count,
     }
+}
+
+// The degrees below 204 at which the locator vanishes, sixteen places at a time.
+pub fn find_roots(q: [u8; 9]) -> Roots
+    requires { ⌜ length (rootsOf q) ≤ 8 ⌝ }
+    ensures { λ r. ⌜ FoundRoots q (r .degrees) (r .places) (r .count) ⌝ }
+{
+    let end = degree(&q) + 1;
+    let degrees = [0u8; 16];
+    let places = [0u8; 16];
+    let mut found = Roots {
+        degrees,
+        places,
+        count: 0,
+    };
+    let mut x = byte_lanes::first_powers();
+    let mut i: u8 = 0;
+    while i < 208 {
+        let v = byte_lanes::evaluate(&q[..end], x);
+        let degrees = found.degrees;
+        let places = found.places;
+        let r = list_zeros(degrees, places, found.count, v, x, i);
+        found = r;
+        let y = byte_lanes::next_powers(x);
+        x = y;
+        i += 16;
+    }
+    found
 }
 
 // A polynomial moved up by one power of x, without its highest coefficient.

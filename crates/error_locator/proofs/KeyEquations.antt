@@ -9,17 +9,18 @@ use native.Mathlib.Omega.{arith}
 use native.Mathlib.Numerals.{add-one}
 use native.Mathlib.Decide.{ℕ-discrete, decLt}
 use lib.Dec.{lit<}
-use lib.ListN.{length, getD, take, drop, length-map, length-drop, List·getD-map}
+use lib.Bits.{bitXor}
+use lib.ListN.{length, getD, take, drop, replicate, getD-replicate, length-map, length-drop, List·getD-map}
 use lib.Seq.{getD-take, getD-drop, length-take-le}
 use Rattle.common.proofs.Lists.{getD-map-in, put-own, put-other}
 use Rattle.algebra.specs.Polynomial.{plus, scale}
-use Rattle.algebra.proofs.Ring.{zero-add, one-mul, mul-inv, mul-comm, mul-zero}
-use Rattle.algebra.proofs.Elimination.{AddRow, MulRow, Units, Reach, Vector, Sol, solves, kernel-key, kernel-nonzero, sum-ext, reach-add, reach-mul, units-add, units-mul, units-more, clears}
+use Rattle.algebra.proofs.Ring.{zero-add, one-mul, mul-comm, mul-ne}
+use Rattle.algebra.proofs.Elimination.{CombineRow, MulRow, Reach, Vector, Sol, solves, kernel-key, kernel-nonzero, sum-ext, reach-combine, reach-mul, diagonal-combine, diagonal-more, swept-none, swept-skip, swept-row}
 use Rattle.galois.specs.Field256.{numbers, mul, scaled}
 use Rattle.galois.proofs.Instance.{bytes, byte, byte-inj, byte-zero, byte-one, byte-add, byte-mul}
-use Rattle.byte_lanes.proofs.Words.{length-sum, sum-at}
-use Rattle.byte_lanes.specs.Lanes.{elements}
-use Rattle.error_locator.specs.Locator.{mat, FirstPivot, Kept, Pivoted, Cleared, Eliminated, Filled, SolutionAt, Solution, Located}
+use Rattle.byte_lanes.proofs.Words.{length-sum, sum-at, length-products, products-at}
+use Rattle.byte_lanes.specs.Lanes.{elements, productsOf}
+use Rattle.error_locator.specs.Locator.{mat, FirstPivot, combinedOf, Kept, Pivoted, Cleared, Eliminated, Filled, SolutionAt, Solution, Located}
 
 -- ---- a row written anew
 
@@ -65,21 +66,64 @@ module _ (m new : List ℕ) (i a : ℕ) (lm : length m ≡ 128) (li : i < 8) whe
             ∙ ap (λ (u : Fin 256). bytes .mul (byte a) u) (row-at m i c (omega arith));
       }
 
-  pub added-row : (j : ℕ) (row : List ℕ) → j < 8 → row ≡ plus numbers (take 16 (drop (i * 16) m)) (scaled a (take 16 (drop (j * 16) m)))
-      → new ≡ take (i * 16) m ++ row ++ drop (i * 16 + length row) m → AddRow bytes 8 9 i j (byte a) (mat m) (mat new)
-  added-row j row lj e f =
-      let s : length (take 16 (drop (i * 16) m)) ≡ length (scaled a (take 16 (drop (j * 16) m))) =
-      row-length m i lm li ∙ sym (scaled-length a (take 16 (drop (j * 16) m)) ∙ row-length m j lm lj) in
-      let n : length row ≡ 16 = ap length e ∙ length-sum (take 16 (drop (i * 16) m)) (scaled a (take 16 (drop (j * 16) m))) s ∙ row-length m i lm li in
-      record {
-        other = λ r c h l x. ap (λ (u : List ℕ). mat u r c) f ∙ row-other m row i lm li n r c h (omega arith) x;
-        row =
-            λ c h. ap (λ (u : List ℕ). mat u i c) f ∙ row-own m row i lm li n c (omega arith) ∙ ap (λ (u : List ℕ). byte (getD u c 0)) e
-            ∙ ap byte (sum-at (take 16 (drop (i * 16) m)) (scaled a (take 16 (drop (j * 16) m))) c s)
-            ∙ byte-add (getD (take 16 (drop (i * 16) m)) c 0) (getD (scaled a (take 16 (drop (j * 16) m))) c 0)
-            ∙ ap₂ (bytes .add) (row-at m i c (omega arith))
-            (scaled-at a (take 16 (drop (j * 16) m)) c (omega (arith, row-length m j lm lj)) ∙ ap (λ (u : Fin 256). bytes .mul (byte a) u) (row-at m j c (omega arith)));
-      }
+-- one row and another
+added-at : (m : List ℕ) (i j c : ℕ) → length m ≡ 128 → i < 8 → j < 8 → c < 16
+    → byte (getD (plus numbers (take 16 (drop (i * 16) m)) (take 16 (drop (j * 16) m))) c 0) ≡ bytes .add (mat m i c) (mat m j c)
+added-at m i j c lm li lj h =
+    ap byte (sum-at (take 16 (drop (i * 16) m)) (take 16 (drop (j * 16) m)) c (row-length m i lm li ∙ sym (row-length m j lm lj)))
+    ∙ byte-add (getD (take 16 (drop (i * 16) m)) c 0) (getD (take 16 (drop (j * 16) m)) c 0)
+    ∙ ap₂ (bytes .add) (row-at m i c h) (row-at m j c h)
+
+pub added-row : (m new row : List ℕ) (i j : ℕ) → length m ≡ 128 → i < 8 → j < 8 → row ≡ plus numbers (take 16 (drop (i * 16) m)) (take 16 (drop (j * 16) m))
+    → new ≡ take (i * 16) m ++ row ++ drop (i * 16 + length row) m → CombineRow bytes 8 9 i j (bytes .𝟙) (bytes .𝟙) (mat m) (mat new)
+added-row m new row i j lm li lj e f =
+    let n : length row ≡ 16 =
+    ap length e ∙ length-sum (take 16 (drop (i * 16) m)) (take 16 (drop (j * 16) m)) (row-length m i lm li ∙ sym (row-length m j lm lj)) ∙ row-length m i lm li in
+    record {
+      other = λ r c h l x. ap (λ (u : List ℕ). mat u r c) f ∙ row-other m row i lm li n r c h (omega arith) x;
+      row =
+          λ c h. ap (λ (u : List ℕ). mat u i c) f ∙ row-own m row i lm li n c (omega arith) ∙ ap (λ (u : List ℕ). byte (getD u c 0)) e
+          ∙ added-at m i j c lm li lj (omega arith)
+          ∙ sym (ap₂ (bytes .add) (one-mul bytes (mat m i c)) (one-mul bytes (mat m j c)));
+    }
+
+-- ---- two rows combined
+
+module _ (p a b f : List ℕ) (lp : length p ≡ 16) (la : length a ≡ 16) (lb : length b ≡ 16) (lf : length f ≡ 16) where
+  sides : length (productsOf p a) ≡ length (productsOf b f)
+  sides = length-products p a (lp ∙ sym la) ∙ lp ∙ sym (length-products b f (lb ∙ sym lf) ∙ lb)
+
+  pub length-combined : length (combinedOf p a b f) ≡ 16
+  unfolding combinedOf
+  length-combined = length-sum (productsOf p a) (productsOf b f) sides ∙ length-products p a (lp ∙ sym la) ∙ lp
+
+  pub combined-at : (c : ℕ) → c < 16 → getD (combinedOf p a b f) c 0 ≡ bitXor (mul (getD p c 0) (getD a c 0)) (mul (getD b c 0) (getD f c 0))
+  unfolding combinedOf
+  combined-at c h =
+      sum-at (productsOf p a) (productsOf b f) c sides
+      ∙ ap₂ bitXor (products-at p a c (lp ∙ sym la) (omega arith)) (products-at b f c (lb ∙ sym lf) (omega arith))
+
+-- row i of m with row k of o, which has the same row k
+pub combined-row : (o m new row : List ℕ) (i k p x : ℕ) → length o ≡ 128 → length m ≡ 128 → i < 8 → k < 8 → ((c : ℕ) → c < 9 → mat m k c ≡ mat o k c)
+    → row ≡ combinedOf (replicate 16 p) (take 16 (drop (i * 16) m)) (take 16 (drop (k * 16) o)) (replicate 16 x)
+    → new ≡ take (i * 16) m ++ row ++ drop (i * 16 + length row) m → CombineRow bytes 8 9 i k (byte p) (byte x) (mat m) (mat new)
+combined-row o m new row i k p x lo lm li lk own e f =
+    let a = row-length m i lm li in
+    let b = row-length o k lo lk in
+    let n : length row ≡ 16 = ap length e ∙ length-combined (replicate 16 p) (take 16 (drop (i * 16) m)) (take 16 (drop (k * 16) o)) (replicate 16 x) refl a b refl in
+    record {
+      other = λ r c h l x. ap (λ (u : List ℕ). mat u r c) f ∙ row-other m row i lm li n r c h (omega arith) x;
+      row =
+          λ c h. ap (λ (u : List ℕ). mat u i c) f ∙ row-own m row i lm li n c (omega arith) ∙ ap (λ (u : List ℕ). byte (getD u c 0)) e
+          ∙ ap byte (combined-at (replicate 16 p) (take 16 (drop (i * 16) m)) (take 16 (drop (k * 16) o)) (replicate 16 x) refl a b refl c (omega arith))
+          ∙ byte-add (mul (getD (replicate 16 p) c 0) (getD (take 16 (drop (i * 16) m)) c 0)) (mul (getD (take 16 (drop (k * 16) o)) c 0) (getD (replicate 16 x) c 0))
+          ∙ ap₂ (bytes .add)
+          (byte-mul (getD (replicate 16 p) c 0) (getD (take 16 (drop (i * 16) m)) c 0)
+          ∙ ap₂ (bytes .mul) (ap byte (getD-replicate 16 c p 0 (omega arith))) (row-at m i c (omega arith)))
+          (byte-mul (getD (take 16 (drop (k * 16) o)) c 0) (getD (replicate 16 x) c 0)
+          ∙ ap₂ (bytes .mul) (row-at o k c (omega arith) ∙ sym (own c h)) (ap byte (getD-replicate 16 c x 0 (omega arith)))
+          ∙ mul-comm bytes (mat m k c) (byte x));
+    }
 
 -- ---- the elimination
 
@@ -105,83 +149,79 @@ looked-found m k p b n U = record { from = U .from; most = U .most; zeros = U .z
 pub looked-none : (m : List ℕ) (k p : ℕ) → 8 ≤ p → Looked m k p → FirstPivot m k p
 looked-none m k p h U = record { from = U .from; most = U .most; zeros = U .zeros; pivot = λ l. absurd (omega arith) }
 
-pub kept-refl : (m : List ℕ) (k : ℕ) → length m ≡ 128 → Units bytes 8 k (mat m) → Kept m m k
-kept-refl m k l u = record { len = l; reach = λ v s. s; units = u }
+-- ---- the pivot
 
-pub kept-add : (o m n : List ℕ) (k i j : ℕ) (a : Fin 256) → k ≤ j → j < 8 → (j ≡ i → ⊥) → length n ≡ 128 → AddRow bytes 8 9 i j a (mat m) (mat n) → Kept o m k → Kept o n k
-kept-add o m n k i j a kj lj ne l A P = record { len = l; reach = λ v s. P .reach v (reach-add bytes 8 9 i j a (mat m) (mat n) lj ne A v s); units = units-add bytes 8 9 k i j a (mat m) (mat n) kj lj (omega arith) A (P .units) }
+pub pivoted-same : (m : List ℕ) (k p : ℕ) → p ≡ k → p < 8 → length m ≡ 128 → FirstPivot m k p → Pivoted m m k true
+pivoted-same m k p e l len F = record { len = len; reach = λ v s. s; diagonal = λ d D. D; outcome = λ z. F .pivot l (ap (λ r. mat m r k) e ∙ z) }
 
-pub kept-mul : (o m n : List ℕ) (k i : ℕ) (a : Fin 256) → k ≤ i → i < 8 → (a ≡ bytes .𝟘 → ⊥) → length n ≡ 128 → MulRow bytes 8 9 i a (mat m) (mat n) → Kept o m k → Kept o n k
-kept-mul o m n k i a ki li ne l A P = record { len = l; reach = λ v s. P .reach v (reach-mul bytes 8 9 i a (mat m) (mat n) ne A v s); units = units-mul bytes 8 9 k i a (mat m) (mat n) ki li (omega arith) A (P .units) }
-
--- the pivot's row is there
-pub record Ready (o m : List ℕ) (k : ℕ) : Type 0 where
-  pub kept : Kept o m k
-  pub own : mat m k k ≡ bytes .𝟘 → ⊥
-
-pub ready-same : (m : List ℕ) (k p : ℕ) → p ≡ k → p < 8 → length m ≡ 128 → Units bytes 8 k (mat m) → FirstPivot m k p → Ready m m k
-ready-same m k p e l len u F = record { kept = kept-refl m k len u; own = λ z. F .pivot l (ap (λ r. mat m r k) e ∙ z) }
-
-pub ready-add : (m n : List ℕ) (k p : ℕ) → (p ≡ k → ⊥) → p < 8 → length m ≡ 128 → length n ≡ 128 → Units bytes 8 k (mat m) → FirstPivot m k p → AddRow bytes 8 9 k p (byte 1) (mat m) (mat n) → Ready m n k
-ready-add m n k p ne l len len′ u F A = record { kept = kept-add m m n k k p (byte 1) (F .from) l ne len′ A (kept-refl m k len u); own = λ z. F .pivot l (sym at ∙ z) }
+pub pivoted-add : (m n : List ℕ) (k p : ℕ) → (p ≡ k → ⊥) → p < 8 → length n ≡ 128 → FirstPivot m k p → CombineRow bytes 8 9 k p (bytes .𝟙) (bytes .𝟙) (mat m) (mat n) → Pivoted m n k true
+pivoted-add m n k p ne l len F A = record {
+  len = len;
+  reach = reach-combine bytes 8 9 k p (bytes .𝟙) (bytes .𝟙) (mat m) (mat n) l ne (bytes .one·ne·zero) A;
+  diagonal = λ d D. diagonal-combine bytes 8 9 k k p (bytes .𝟙) (bytes .𝟙) d (mat m) (mat n) (omega arith) (omega (arith, F .from)) (F .from) l (omega (arith, F .from)) A D;
+  outcome = λ z. F .pivot l (sym at ∙ z);
+}
   where
     at : mat n k k ≡ mat m p k
-    at = A .row k (omega (arith, F .from)) ∙ ap (λ u. bytes .add u (bytes .mul (byte 1) (mat m p k))) (F .zeros k (omega arith) (omega (arith, F .from))) ∙ zero-add bytes (bytes .mul (byte 1) (mat m p k)) ∙ ap (λ u. bytes .mul u (mat m p k)) (byte-one) ∙ one-mul bytes (mat m p k)
+    at =
+        A .row k (omega (arith, F .from))
+        ∙ ap₂ (bytes .add) (one-mul bytes (mat m k k) ∙ F .zeros k (omega arith) (omega (arith, F .from))) (one-mul bytes (mat m p k))
+        ∙ zero-add bytes (mat m p k)
 
-pub pivoted : (o m n : List ℕ) (k y : ℕ) → k < 8 → length n ≡ 128 → byte y ≡ bytes .inv (mat m k k) → MulRow bytes 8 9 k (byte y) (mat m) (mat n) → Ready o m k → Pivoted o n k true
-pivoted o m n k y l len e A R = record { kept = kept-mul o m n k k (byte y) (omega arith) l ne len A (R .kept); outcome = one }
-  where
-    product : bytes .mul (byte y) (mat m k k) ≡ bytes .𝟙
-    product = mul-comm bytes (byte y) (mat m k k) ∙ ap (λ u. bytes .mul (mat m k k) u) e ∙ mul-inv bytes (mat m k k) (R .own)
+pub pivoted-none : (m : List ℕ) (k p : ℕ) → p ≡ 8 → length m ≡ 128 → FirstPivot m k p → Pivoted m m k false
+pivoted-none m k p e len F = record { len = len; reach = λ v s. s; diagonal = λ d D. D; outcome = λ r a b. F .zeros r a (omega arith) }
 
-    one : mat n k k ≡ bytes .𝟙
-    one = A .row k (omega arith) ∙ product
+-- ---- the column cleared
 
-    ne : byte y ≡ bytes .𝟘 → ⊥
-    ne z = bytes .one·ne·zero (sym product ∙ mul-comm bytes (byte y) (mat m k k) ∙ ap (λ u. bytes .mul (mat m k k) u) z ∙ mul-zero bytes (mat m k k))
-
-pub pivoted-none : (m : List ℕ) (k p : ℕ) → p ≡ 8 → length m ≡ 128 → Units bytes 8 k (mat m) → FirstPivot m k p → Pivoted m m k false
-pivoted-none m k p e len u F = record { kept = kept-refl m k len u; outcome = λ r a b. F .zeros r a (omega arith) }
-
-pub cleared-start : (m : List ℕ) (k : ℕ) → length m ≡ 128 → Units bytes 8 k (mat m) → mat m k k ≡ bytes .𝟙 → Cleared m m k 0
-cleared-start m k len u o = record { kept = kept-refl m k len u; most = omega arith; one = o; zeros = λ r b. absurd (omega arith) }
+pub cleared-start : (m : List ℕ) (k : ℕ) → length m ≡ 128 → Cleared m m k 0
+cleared-start m k len = record { len = len; most = omega arith; reach = λ v s. s; swept = swept-none bytes 8 9 k (mat m) }
 
 pub cleared-skip : (o m : List ℕ) (k i : ℕ) → i < 8 → i ≡ k → Cleared o m k i → Cleared o m k (i + 1)
-cleared-skip o m k i l e C = record { kept = C .kept; most = omega arith; one = C .one; zeros = λ r b n. C .zeros r (omega-ne r b n) n }
-  where
-    omega-ne : (r : ℕ) → r < i + 1 → (r ≡ k → ⊥) → r < i
-    omega-ne r b n = omega arith
+cleared-skip o m k i l e C = record { len = C .len; most = omega arith; reach = C .reach; swept = rw add-one (swept-skip bytes 8 9 k i (mat o) (mat m) e (C .swept)) }
 
-pub cleared-step : (o m n : List ℕ) (k i : ℕ) → i < 8 → k < 8 → (i ≡ k → ⊥) → length n ≡ 128 → AddRow bytes 8 9 i k (mat m i k) (mat m) (mat n) → Cleared o m k i → Cleared o n k (i + 1)
-cleared-step o m n k i li lk ne len A C = record {
-  kept = kept-add o m n k i k (mat m i k) (omega arith) lk (λ e. ne (sym e)) len A (C .kept);
+pub cleared-step : (o m n : List ℕ) (k i : ℕ) → i < 8 → k < 8 → (i ≡ k → ⊥) → (mat o k k ≡ bytes .𝟘 → ⊥) → length n ≡ 128
+    → CombineRow bytes 8 9 i k (mat o k k) (mat m i k) (mat m) (mat n) → Cleared o m k i → Cleared o n k (i + 1)
+cleared-step o m n k i li lk ne nz len A C = record {
+  len = len;
   most = omega arith;
-  one = A .other k k lk (omega arith) (λ e. ne (sym e)) ∙ C .one;
-  zeros = λ r b x. go r b x (ℕ-discrete r i);
+  reach = λ v s. C .reach v (reach-combine bytes 8 9 i k (mat o k k) (mat m i k) (mat m) (mat n) lk (λ e. ne (sym e)) nz A v s);
+  swept = rw add-one (swept-row bytes 8 9 k i (mat o) (mat m) (mat n) lk (omega arith) li ne A (C .swept));
 }
-  where
-    go : (r : ℕ) → r < i + 1 → (r ≡ k → ⊥) → Dec (r ≡ i) → mat n r k ≡ bytes .𝟘
-    go r b x (yes e) = ap (λ u. mat n u k) e ∙ clears bytes 8 9 i k (mat m) (mat n) (omega arith) A (C .one)
-    go r b x (no e) = A .other r k (omega arith) (omega arith) e ∙ C .zeros r (omega arith) x
-
-pub kept-more : (o m n p : List ℕ) (k : ℕ) → k < 8 → Kept o m k → Pivoted m n k true → Cleared n p k 8 → Kept o p (k + 1)
-kept-more o m n p k l P Q C = record {
-  len = C .kept .len;
-  reach = λ v s. P .reach v (Q .kept .reach v (C .kept .reach v s));
-  units = rw add-one (units-more bytes 8 k (mat p) (C .kept .units) (C .one) (λ r b x. C .zeros r b x));
-}
-
-pub eliminated : (o m n : List ℕ) (k : ℕ) → k < 8 → Kept o m k → Pivoted m n k false → Eliminated o n k
-eliminated o m n k l P Q = record { kept = record { len = Q .kept .len; reach = λ v s. P .reach v (Q .kept .reach v s); units = Q .kept .units }; most = omega arith; none = Q .outcome }
-
-pub eliminated-all : (o m : List ℕ) (k : ℕ) → 8 ≤ k → k ≤ 8 → Kept o m k → Eliminated o m k
-eliminated-all o m k h l P = record { kept = P; most = l; none = λ r a b. absurd (omega arith) }
 
 pub cleared-done : (o m : List ℕ) (k i : ℕ) → 8 ≤ i → Cleared o m k i → Cleared o m k 8
-cleared-done o m k i h C = record { kept = C .kept; most = omega arith; one = C .one; zeros = λ r b n. C .zeros r (omega arith) n }
+cleared-done o m k i h C = let e : i ≡ 8 = omega (arith, C .most) in rw e at C
 
-pub units-none : (m : ℕ → ℕ → Fin 256) → Units bytes 8 0 m
-units-none m = record { off = λ r c a b. absurd (omega arith); on = λ c b. absurd (omega arith) }
+-- ---- all columns
+
+pub kept-start : (m : List ℕ) → length m ≡ 128 → Kept m m 0 (byte 1)
+kept-start m l = record {
+  len = l;
+  reach = λ v s. s;
+  diagonal = record { off = λ r c a b. absurd (omega arith); on = λ c b. absurd (omega arith) };
+  nonzero = λ z. bytes .one·ne·zero (sym byte-one ∙ z);
+}
+
+pub kept-more : (o m n p q : List ℕ) (k : ℕ) (d e : Fin 256) → k < 8 → Kept o m k d → Pivoted m n k true → Cleared n p k 8 → length q ≡ 128
+    → MulRow bytes 8 9 k d (mat p) (mat q) → e ≡ mat q k k → Kept o q (k + 1) e
+kept-more o m n p q k d e l P Q C len A f = record {
+  len = len;
+  reach = λ v s. P .reach v (Q .reach v (C .reach v (reach-mul bytes 8 9 k d (mat p) (mat q) (P .nonzero) A v s)));
+  diagonal = rw (add-one, element) (diagonal-more bytes 8 9 k d (mat n) (mat p) (mat q) l (omega arith) (Q .diagonal d (P .diagonal)) (C .swept) A);
+  nonzero = λ z. mul-ne bytes d (mat n k k) (P .nonzero) (Q .outcome) (sym element ∙ z);
+}
+  where
+    element : e ≡ bytes .mul d (mat n k k)
+    element = f ∙ A .row k (omega arith) ∙ ap (λ u. bytes .mul d u) (C .swept .own k (omega arith))
+
+pub eliminated : (o m n : List ℕ) (k : ℕ) (d : Fin 256) → k < 8 → Kept o m k d → Pivoted m n k false → Eliminated o n k d
+eliminated o m n k d l P Q = record {
+  kept = record { len = Q .len; reach = λ v s. P .reach v (Q .reach v s); diagonal = Q .diagonal d (P .diagonal); nonzero = P .nonzero };
+  most = omega arith;
+  none = Q .outcome;
+}
+
+pub eliminated-all : (o m : List ℕ) (k : ℕ) (d : Fin 256) → 8 ≤ k → k ≤ 8 → Kept o m k d → Eliminated o m k d
+eliminated-all o m k d h l P = record { kept = P; most = l; none = λ r a b. absurd (omega arith) }
 
 -- ---- the matrix of the key equations, and the solution read from it
 
@@ -215,26 +255,26 @@ filled-more s m row n i ls l e w z F = record { most = omega arith; len = z ∙ 
 pub filled-all : (s m : List ℕ) (i : ℕ) → 8 ≤ i → FilledTo s m i → Filled s m
 filled-all s m i h F = record { len = F .len; each = λ r c a b. F .each r c (omega (arith, F .most)) b }
 
-pub solution-below : (m : List ℕ) (k c : ℕ) → c < k → SolutionAt m k c (getD m (c * 16 + k) 0)
-solution-below m k c l = record { below = λ b. refl; own = λ b. absurd (omega arith); above = λ b. absurd (omega arith) }
+pub solution-below : (m : List ℕ) (k d c : ℕ) → c < k → SolutionAt m k d c (getD m (c * 16 + k) 0)
+solution-below m k d c l = record { below = λ b. refl; own = λ b. absurd (omega arith); above = λ b. absurd (omega arith) }
 
-pub solution-own : (m : List ℕ) (k c : ℕ) → c ≡ k → SolutionAt m k c 1
-solution-own m k c e = record { below = λ b. absurd (omega arith); own = λ b. byte-one; above = λ b. absurd (omega arith) }
+pub solution-own : (m : List ℕ) (k d c : ℕ) → c ≡ k → SolutionAt m k d c d
+solution-own m k d c e = record { below = λ b. absurd (omega arith); own = λ b. refl; above = λ b. absurd (omega arith) }
 
-pub solution-above : (m : List ℕ) (k c : ℕ) → k ≤ c → (c ≡ k → ⊥) → SolutionAt m k c 0
-solution-above m k c l n = record { below = λ b. absurd (omega arith); own = λ b. absurd (n b); above = λ b. byte-zero }
+pub solution-above : (m : List ℕ) (k d c : ℕ) → k ≤ c → (c ≡ k → ⊥) → SolutionAt m k d c 0
+solution-above m k d c l n = record { below = λ b. absurd (omega arith); own = λ b. absurd (n b); above = λ b. byte-zero }
 
 elements-at : (q : List ℕ) (c : ℕ) → getD (elements q) c (bytes .𝟘) ≡ byte (getD q c 0)
 elements-at q c = ap (λ u. getD (elements q) c u) (sym byte-zero) ∙ List·getD-map byte q c 0
 
-pub located : (s m n q : List ℕ) (k : ℕ) → length q ≡ 9 → Filled s m → Eliminated m n k → Solution n k q → Located s q
-located s m n q k l F E R =
+pub located : (s m n q : List ℕ) (k d : ℕ) → length q ≡ 9 → Filled s m → Eliminated m n k (byte d) → Solution n k d q → Located s q
+located s m n q k d l F E R =
     record {
-      nonzero = kernel-nonzero bytes 9 k (mat n) (elements q) (omega (arith, length-map q byte, E .most)) vec;
+      nonzero = kernel-nonzero bytes 9 k (byte d) (mat n) (elements q) (omega (arith, length-map q byte, E .most)) (E .kept .nonzero) vec;
       equations = kernel-key bytes 8 (λ i. byte (getD s i 0)) (mat n) (elements q) (length-map q byte ∙ l) reach sol;
     }
   where
-    vec : Vector bytes 9 k (mat n) (λ c. getD (elements q) c (bytes .𝟘))
+    vec : Vector bytes 9 k (byte d) (mat n) (λ c. getD (elements q) c (bytes .𝟘))
     vec =
         record {
           below = λ c b. elements-at q c ∙ R .each c (omega (arith, E .most)) .below b;
@@ -243,7 +283,7 @@ located s m n q k l F E R =
         }
 
     sol : Sol bytes 8 9 (mat n) (λ c. getD (elements q) c (bytes .𝟘))
-    sol = solves bytes 8 9 k (mat n) (λ c. getD (elements q) c (bytes .𝟘)) (E .most) (omega (arith, E .most)) (E .kept .units) (E .none) vec
+    sol = solves bytes 8 9 k (byte d) (mat n) (λ c. getD (elements q) c (bytes .𝟘)) (E .most) (omega (arith, E .most)) (E .kept .diagonal) (E .none) vec
 
     reach : Reach bytes 8 9 (λ r c. byte (getD s (r + c) 0)) (mat n)
     reach v z r l =

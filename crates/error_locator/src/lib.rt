@@ -3,17 +3,19 @@
 ghost use mathlib.Core.Path.{_≡_};
 ghost use Prim.Native.Nat.{_<_, _≤_};
 ghost use lib.ListN.{length};
-ghost use Rattle.algebra.proofs.Elimination.{AddRow, MulRow, Units};
+ghost use Rattle.algebra.proofs.Elimination.{CombineRow, MulRow};
 ghost use Rattle.galois.proofs.Instance.{bytes, byte};
-ghost use Rattle.error_locator.specs.Locator.{mat, FirstPivot, Pivoted, Cleared, Eliminated, Filled, SolutionAt, Solution, Located};
+ghost use Rattle.error_locator.specs.Locator.{mat, FirstPivot, Pivoted, combinedOf, Cleared, Eliminated, Filled, SolutionAt, Solution, Located};
 
-// Row i gets a times row j.
-fn add_row(m: &mut [u8], i: usize, j: usize, a: u8)
+// Row i gets row j.
+fn add_row(m: &mut [u8], i: usize, j: usize)
     requires { ⌜ (length (now m) ≡ 128) × (i < 8) × (j < 8) ⌝ }
-    ensures { λ _. ⌜ AddRow bytes 8 9 i j (byte a) (mat (now (m .entry))) (mat (now (m .exit))) ⌝ }
+    ensures { λ _. ⌜ CombineRow bytes 8 9 i j (bytes .𝟙) (bytes .𝟙) (mat (now (m .entry))) (mat (now (m .exit))) ⌝ }
 {
-    let scaled = byte_lanes::scale(byte_lanes::sixteen(m, j * 16), a);
-    let row = byte_lanes::sum(byte_lanes::sixteen(m, i * 16), scaled);
+    let row = byte_lanes::sum(
+        byte_lanes::sixteen(m, i * 16),
+        byte_lanes::sixteen(m, j * 16),
+    );
     common::put(&row, i * 16, m);
 }
 
@@ -41,9 +43,9 @@ fn find_pivot(m: &[u8], k: usize) -> usize
     p
 }
 
-// Makes the element k of column k one, unless the column has no pivot.
+// Brings a row that is not zero in column k to row k, unless the column has no pivot.
 fn pivot(m: &mut [u8], k: usize) -> bool
-    requires { ⌜ (length (now m) ≡ 128) × (k < 8) × Units bytes 8 k (mat (now m)) ⌝ }
+    requires { ⌜ (length (now m) ≡ 128) × (k < 8) ⌝ }
     ensures { λ r. ⌜ Pivoted (now (m .entry)) (now (m .exit)) k r ⌝ }
 {
     let p = find_pivot(m, k);
@@ -51,44 +53,72 @@ fn pivot(m: &mut [u8], k: usize) -> bool
         return false;
     }
     if p != k {
-        add_row(m, k, p, 1);
+        add_row(m, k, p);
     }
-    let x = m[k * 16 + k];
-    let y = galois::inverse(x);
-    scale_row(m, k, y);
     true
 }
 
-// Makes all else of column k zero.
+// p times a, and f times b, lane by lane. It has one caller, so that the compiler makes what it needs of p and b once for all rows.
+fn combined(p: [u8; 16], a: [u8; 16], b: [u8; 16], f: [u8; 16]) -> [u8; 16]
+    ensures { λ r. ⌜ r ≡ combinedOf p a b f ⌝ }
+{
+    let mut r = [0u8; 16];
+    let mut l: usize = 0;
+    while l < 16 {
+        r[l] = galois::mul(p[l], a[l]) ^ galois::mul(b[l], f[l]);
+        l += 1;
+    }
+    r
+}
+
+// Makes all else of column k zero: each other row times the pivot, and a multiple of row k.
 fn clear(m: &mut [u8], k: usize)
-    requires { ⌜ (length (now m) ≡ 128) × (k < 8) × Units bytes 8 k (mat (now m)) × (mat (now m) k k ≡ bytes .𝟙) ⌝ }
+    requires { ⌜ (length (now m) ≡ 128) × (k < 8) × (mat (now m) k k ≡ bytes .𝟘 → ⊥) ⌝ }
     ensures { λ _. ⌜ Cleared (now (m .entry)) (now (m .exit)) k 8 ⌝ }
 {
+    let row = byte_lanes::sixteen(m, k * 16);
+    let p = [m[k * 16 + k]; 16];
     let mut i: usize = 0;
     while i < 8 {
         if i != k {
             let x = m[i * 16 + k];
-            add_row(m, i, k, x);
+            let w = combined(p, byte_lanes::sixteen(m, i * 16), row, [x; 16]);
+            common::put(&w, i * 16, m);
         }
         i += 1;
     }
 }
 
-// Eliminates, until a column has no pivot: its number.
-fn eliminate(m: &mut [u8]) -> usize
+// How many columns have a pivot. The rows of these have one element in their own column, the same in each, and zero in the others of them.
+struct Pivots {
+    count: usize,
+    diagonal: u8,
+}
+
+// Eliminates, until a column has no pivot. No inverse is needed: row k gets the factor that the rows before it have, so that all have one element on the diagonal.
+fn eliminate(m: &mut [u8]) -> Pivots
     requires { ⌜ length (now m) ≡ 128 ⌝ }
-    ensures { λ r. ⌜ Eliminated (now (m .entry)) (now (m .exit)) r ⌝ }
+    ensures { λ r. ⌜ Eliminated (now (m .entry)) (now (m .exit)) (r .count) (byte (r .diagonal)) ⌝ }
 {
+    let mut d: u8 = 1;
     let mut k: usize = 0;
     while k < 8 {
         let found = pivot(m, k);
         if !found {
-            return k;
+            return Pivots {
+                count: k,
+                diagonal: d,
+            };
         }
         clear(m, k);
+        scale_row(m, k, d);
+        d = m[k * 16 + k];
         k += 1;
     }
-    k
+    Pivots {
+        count: k,
+        diagonal: d,
+    }
 }
 
 // The matrix of the key equations: row r, column c has the syndrome r + c.
@@ -104,29 +134,29 @@ fn fill(s: [u8; 16], m: &mut [u8])
     }
 }
 
-// The element c of the solution, where the elimination ended at column k.
-fn solution_at(m: &[u8], k: usize, c: usize) -> u8
+// The element c of the solution, where column k has no pivot and the rows before have d on the diagonal.
+fn solution_at(m: &[u8], k: usize, d: u8, c: usize) -> u8
     requires { ⌜ (length (now m) ≡ 128) × (c < 9) × (k ≤ 8) ⌝ }
-    ensures { λ r. ⌜ SolutionAt (now (m .entry)) k c r ⌝ }
+    ensures { λ r. ⌜ SolutionAt (now (m .entry)) k d c r ⌝ }
 {
     if c < k {
         return m[c * 16 + k];
     }
     if c == k {
-        return 1;
+        return d;
     }
     0
 }
 
-// The solution, where the elimination ended at column k.
-fn solution(m: &[u8], k: usize) -> [u8; 9]
+// The solution.
+fn solution(m: &[u8], k: usize, d: u8) -> [u8; 9]
     requires { ⌜ (length (now m) ≡ 128) × (k ≤ 8) ⌝ }
-    ensures { λ r. ⌜ Solution (now (m .entry)) k r ⌝ }
+    ensures { λ r. ⌜ Solution (now (m .entry)) k d r ⌝ }
 {
     let mut q = [0u8; 9];
     let mut c: usize = 0;
     while c < 9 {
-        q[c] = solution_at(m, k, c);
+        q[c] = solution_at(m, k, d, c);
         c += 1;
     }
     q
@@ -138,6 +168,6 @@ pub fn locator(s: [u8; 16]) -> [u8; 9]
 {
     let mut m = [0u8; 128];
     fill(s, &mut m);
-    let k = eliminate(&mut m);
-    solution(&m, k)
+    let pivots = eliminate(&mut m);
+    solution(&m, pivots.count, pivots.diagonal)
 }

@@ -86,7 +86,7 @@ pub mul-mod-right : (a b : ℕ) → mul a (b % 256) ≡ mul a b
 unfolding mul
 mul-mod-right a b = rounds-mod 8 (a % 256) b
 
-pub mul-add-left : (a b c : ℕ) → mul (bitXor a b) c ≡ bitXor (mul a c) (mul b c)
+mul-add-left : (a b c : ℕ) → mul (bitXor a b) c ≡ bitXor (mul a c) (mul b c)
 unfolding mul
 mul-add-left a b c = ap (λ (x : ℕ). rounds 8 x c) (xor-mod a b 8) ∙ rounds-left 8 c (a % 256) (b % 256)
 
@@ -152,8 +152,3 @@ mul-assoc a b c =
 pub mul-one : (a : ℕ) → a < 256 → mul a 1 ≡ a
 unfolding mul rounds timesX
 mul-one a h = linear-ext (λ x. mul x 1) (λ x. x) (λ x y. mul-add-left x y 1) (λ x y. refl) 8 (agree-at (λ i. mul (2 ^ i) 1) (λ i. 2 ^ i) 8 tt) a h
-
--- 02 is x
-pub mul-two : (a : ℕ) → a < 256 → mul 2 a ≡ timesX a
-unfolding mul rounds timesX
-mul-two a h = linear-ext (mul 2) timesX (mul-add-right 2) timesX-linear 8 (agree-at (λ i. mul 2 (2 ^ i)) (λ i. timesX (2 ^ i)) 8 tt) a h

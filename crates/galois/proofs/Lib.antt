@@ -2,5 +2,4 @@ pub mod Linear
 pub mod Laws
 pub mod Powers
 pub mod Tables
-pub mod Squares
 pub mod Instance

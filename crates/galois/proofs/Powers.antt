@@ -1,13 +1,12 @@
 -- Powers.
 -- Assumes nothing.
-use mathlib.Core.Path.{_≡_, refl, sym, ap, ap₂, _∙_}
+use mathlib.Core.Path.{_≡_, refl, sym, ap, _∙_}
 use Prim.Native.Nat.{ℕ, zero, suc, _+_, _%_, _<_}
 use native.Mathlib.Nat.{zero-add, suc-add, mod-lt}
 use lib.Dec.{lit<}
 use Rattle.algebra.specs.Polynomial.{power}
-use native.Mathlib.Numerals.{add-one}
-use Rattle.galois.specs.Field256.{timesX, mul, pow}
-use Rattle.galois.proofs.Laws.{mul-lt, mul-mod-left, mul-mod-right, mul-comm, mul-assoc, mul-one, mul-two}
+use Rattle.galois.specs.Field256.{mul, pow}
+use Rattle.galois.proofs.Laws.{mul-lt, mul-mod-left, mul-mod-right, mul-comm, mul-assoc, mul-one}
 
 pub pow-lt : (a n : ℕ) → pow a n < 256
 unfolding power
@@ -16,10 +15,6 @@ pow-lt a (suc n) = mul-lt a (pow a n)
 
 pub one-mul : (a : ℕ) → a < 256 → mul 1 a ≡ a
 one-mul a h = mul-comm 1 a ∙ mul-one a h
-
-pub pow-one : (a : ℕ) → a < 256 → pow a 1 ≡ a
-unfolding power
-pow-one a h = mul-one a h
 
 -- as a factor, a is its first power, whatever number it is
 pub times-one : (x a : ℕ) → mul x a ≡ mul x (pow a 1)
@@ -30,10 +25,6 @@ pub pow-add : (a m n : ℕ) → mul (pow a m) (pow a n) ≡ pow a (m + n)
 unfolding power
 pow-add a zero n = one-mul (pow a n) (pow-lt a n) ∙ ap (pow a) (sym (zero-add n))
 pow-add a (suc m) n = mul-assoc a (pow a m) (pow a n) ∙ ap (mul a) (pow-add a m n) ∙ ap (pow a) (sym (suc-add m n))
-
--- a product of powers of a, by their exponents
-pub times-pow : (a m n : ℕ) {x y : ℕ} → x ≡ pow a m → y ≡ pow a n → mul x y ≡ pow a (m + n)
-times-pow a m n p q = ap₂ mul p q ∙ pow-add a m n
 
 pow-mul : (a b n : ℕ) → mul (pow a n) (pow b n) ≡ pow (mul a b) n
 unfolding power
@@ -53,8 +44,3 @@ pub pow-pow : (a m n : ℕ) → pow (pow a m) n ≡ pow (pow a n) m
 unfolding power
 pow-pow a zero n = one-pow n
 pow-pow a (suc m) n = sym (pow-mul a (pow a m) n) ∙ ap (mul (pow a n)) (pow-pow a m n)
-
--- the powers of 02, one after the other
-pub power-next : (n : ℕ) → timesX (pow 2 n) ≡ pow 2 (n + 1)
-unfolding power
-power-next n = sym (mul-two (pow 2 n) (pow-lt 2 n)) ∙ ap (pow 2) (sym (add-one n))

@@ -1,9 +1,9 @@
 // Arithmetic in GF(256) by 11D hex, with no table and no branch on a value.
 ghost use mathlib.Core.Path.{_≡_};
-ghost use Rattle.galois.specs.Field256.{timesX as timesXOf, mul as mulOf, inv as invOf};
+ghost use Rattle.galois.specs.Field256.{timesX as timesXOf, mul as mulOf};
 
 // a times x.
-pub fn times_x(a: u8) -> u8
+fn times_x(a: u8) -> u8
     ensures { λ r. ⌜ r ≡ timesXOf a ⌝ }
 {
     (a << 1) ^ ((a >> 7) * 0x1D)
@@ -22,36 +22,4 @@ pub fn mul(a: u8, b: u8) -> u8
         i += 1;
     }
     r
-}
-
-// The square: the sum of the squares of the bits of a, which are every second power of x and do not hang on a. Less work than a product.
-pub fn square(a: u8) -> u8
-    ensures { λ r. ⌜ r ≡ mulOf a a ⌝ }
-{
-    let mut r: u8 = 0;
-    let mut x: u8 = 1;
-    let mut k: u8 = 0;
-    while k < 8 {
-        r = r ^ (((a >> k) & 1) * x);
-        x = times_x(times_x(x));
-        k += 1;
-    }
-    r
-}
-
-// The inverse of a, and 0 of 0: a to the 254.
-pub fn inverse(a: u8) -> u8
-    ensures { λ r. ⌜ r ≡ invOf a ⌝ }
-{
-    let a2 = square(a);
-    let a3 = mul(a2, a);
-    let a6 = square(a3);
-    let a12 = square(a6);
-    let a14 = mul(a12, a2);
-    let a15 = mul(a12, a3);
-    let a30 = square(a15);
-    let a60 = square(a30);
-    let a120 = square(a60);
-    let a240 = square(a120);
-    mul(a240, a14)
 }

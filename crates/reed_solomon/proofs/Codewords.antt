@@ -12,7 +12,7 @@ use Rattle.algebra.specs.Field.{ops}
 use Rattle.algebra.specs.Polynomial.{power, eval, plus, scale, product}
 use Rattle.algebra.proofs.Lists.{Away, Distinct}
 use Rattle.algebra.proofs.Ring.{zero-mul}
-use Rattle.algebra.proofs.Polynomial.{eval-linear, eval-product, eval-timesLinear, length-product, fromRoots, fromRoots-root-self, fromRoots-root-more, Factored, factored, equal-of-values}
+use Rattle.algebra.proofs.Polynomial.{eval-linear, eval-product, eval-timesLinear, length-product, fromRoots, fromRoots-root-self, fromRoots-root-more, Factored, factored, equal-at, equal-of-values}
 use Rattle.algebra.proofs.Syndromes.{places}
 use Rattle.algebra.proofs.Terms.{terms, distinct-terms, length-terms}
 use Rattle.galois.specs.Field256.{numbers, mul, rounds, timesX, pow}
@@ -137,3 +137,15 @@ module _ (block : List ℕ) (n : length block ≡ 204) (b : Bytes block) (h : (j
             elements-inj (reverse block) (product numbers generator (values (quotient .factor))) (bytes-reverse block b) (bytes-product generator (values (quotient .factor)))
             (same-word ∙ sym (elements-product generator (values (quotient .factor)) ∙ ap (product (ops bytes) (elements generator)) (elements-values (quotient .factor))));
       }
+
+-- ---- sixteen bytes
+
+-- they are known by their values at the roots
+pub same-sixteen : (a b : List ℕ) → length a ≡ 16 → length b ≡ 16 → Bytes a → Bytes b → ((j : ℕ) → j < 16 → blockSyndrome a j ≡ blockSyndrome b j) → a ≡ b
+same-sixteen a b n m ba bb h =
+    sym (reverse-reverse a)
+    ∙ ap reverse
+    (elements-inj (reverse a) (reverse b) (bytes-reverse a ba) (bytes-reverse b bb)
+    (equal-at bytes (rootsBelow 16) (word a) (word b) (length-word a ∙ n ∙ sym (length-word b ∙ m)) (omega (arith, length-word a, length-roots 16)) (distinct-roots 16 (omega arith))
+    (all-roots 16 (λ x. eval (ops bytes) (word a) x ≡ eval (ops bytes) (word b) x) h)))
+    ∙ reverse-reverse b

@@ -4,12 +4,11 @@ use mathlib.Core.Path.{_≡_, refl, sym, ap, ap₂, _∙_, subst}
 use mathlib.Core.List.{List, [], _∷_, _++_, map}
 use Prim.Native.Nat.{ℕ, suc, _+_, _≤_, _<_, Fin}
 use Prim.{tt}
-use native.Mathlib.Decide.{decLt}
+use native.Mathlib.Decide.{decLt, Fin·val-path}
 use native.Mathlib.Nat.{zero-add}
 use native.Mathlib.Omega.{arith}
-use lib.Dec.{lit<}
 use lib.ListN.{length, getD, take, drop, length-map, length-append, List·getD-map}
-use lib.Seq.{length-take-le, getD-take, split-at}
+use lib.Seq.{length-take-le, split-at}
 use Rattle.common.specs.Lists.{All, Bytes}
 use Rattle.common.proofs.Lists.{All-at, All-map}
 use Rattle.algebra.specs.Field.{ops}
@@ -19,39 +18,39 @@ use Rattle.algebra.proofs.Ring.{add-zero, one-mul}
 use Rattle.algebra.proofs.Polynomial.{Zero, root-count, quotient, quotient-zero, quotient-value, length-quotient, length-plus-max, length-timesLinearFrom, timesLinear, fromRoots, length-fromRoots, fromRoots-roots, fromRoots-ne, eval-fromRoots-out}
 use Rattle.algebra.proofs.Syndromes.{Term, dot, dot-ext, syndrome, key, value}
 use Rattle.algebra.proofs.Terms.{length-terms, place-at, value-at}
-use Rattle.galois.proofs.Instance.{bytes, byte, byte-inj, byte-zero, byte-power, powers-differ}
+use Rattle.galois.specs.Field256.{pow}
+use Rattle.galois.proofs.Instance.{bytes, byte, byte-power, powers-differ}
 use Rattle.reed_solomon.specs.Code.{Codeword, differ}
-use Rattle.byte_lanes.specs.Lanes.{elements, point, Powers}
+use Rattle.byte_lanes.specs.Lanes.{elements, point}
 use Rattle.error_locator.specs.Locator.{Located}
-use Rattle.error_correction.specs.Correction.{Evaluated, zerosOf, RootProduct, errorValue}
+use Rattle.error_correction.specs.Correction.{valuesOf, rootsOf, RootProduct, errorValue}
+use Rattle.error_correction.proofs.RootSearch.{length-values, value-at as locator-value, map-join}
 use Rattle.reed_solomon.proofs.Codewords.{blockSyndrome, codeword-length, codeword-bytes, codeword-syndromes, rootsBelow, distinct-roots, length-roots}
 use Rattle.reed_solomon.proofs.Distance.{difference, difference-length, errors, errors-distinct, errors-weight, errors-syndrome}
 use Rattle.reed_solomon.proofs.Zeros.{zeros-all, zeros-has, zeros-distinct, zeros-syndrome}
 
 -- ---- the roots found
 
--- the locator, its values and its roots
-module _ (q v : List ℕ) (lq : length q ≡ 9) (lv : length v ≡ 208) (ev : Evaluated q v) where
-  searched-size : length (take 204 v) ≡ 204
-  searched-size = length-take-le 204 v (omega arith)
-
+-- the locator and its roots
+module _ (q : List ℕ) (lq : length q ≡ 9) where
   -- at each degree listed the locator vanishes
-  pub roots-vanish : All (λ d. (d < 204) × (eval (ops bytes) (elements q) (point d) ≡ bytes .𝟘)) (zerosOf v)
+  pub roots-vanish : All (λ d. (d < 204) × (eval (ops bytes) (elements q) (point d) ≡ bytes .𝟘)) (rootsOf q)
   roots-vanish =
-      zeros-all (λ d. (d < 204) × (eval (ops bytes) (elements q) (point d) ≡ bytes .𝟘)) 0 (take 204 v)
-      (λ i h z. subst (λ (d : ℕ). (d < 204) × (eval (ops bytes) (elements q) (point d) ≡ bytes .𝟘)) (sym (zero-add i))
-      (omega (arith, searched-size), sym (ev .each i (omega (arith, searched-size))) ∙ ap byte (sym (getD-take 204 v i 0 (omega (arith, searched-size))) ∙ z) ∙ byte-zero))
+      zeros-all (λ d. (d < 204) × (eval (ops bytes) (elements q) (point d) ≡ bytes .𝟘)) 0 (valuesOf q)
+      (λ i h z.
+      let b : i < 204 = omega (arith, length-values q) in
+      subst (λ (d : ℕ). (d < 204) × (eval (ops bytes) (elements q) (point d) ≡ bytes .𝟘)) (sym (zero-add i)) (b, Fin·val-path (sym (locator-value q i b) ∙ z)))
 
-  pub roots-distinct : Distinct (map point (zerosOf v))
-  roots-distinct = zeros-distinct point 255 0 (take 204 v) powers-differ (omega (arith, searched-size))
+  pub roots-distinct : Distinct (map point (rootsOf q))
+  roots-distinct = zeros-distinct point 255 0 (valuesOf q) powers-differ (omega (arith, length-values q))
 
-  pub roots-few : (Zero bytes (elements q) → ⊥) → length (zerosOf v) ≤ 8
+  pub roots-few : (Zero bytes (elements q) → ⊥) → length (rootsOf q) ≤ 8
   roots-few n =
       omega (
         arith,
-        length-map (zerosOf v) point,
+        length-map (rootsOf q) point,
         length-map q byte,
-        root-count bytes (map point (zerosOf v)) (elements q) n roots-distinct (All-points (zerosOf v) roots-vanish),
+        root-count bytes (map point (rootsOf q)) (elements q) n roots-distinct (All-points (rootsOf q) roots-vanish),
       )
     where
       All-points : (l : List ℕ) → All (λ d. (d < 204) × (eval (ops bytes) (elements q) (point d) ≡ bytes .𝟘)) l → All (λ x. eval (ops bytes) (elements q) x ≡ bytes .𝟘) (map point l)
@@ -60,18 +59,14 @@ module _ (q v : List ℕ) (lq : length q ≡ 9) (lv : length v ≡ 208) (ev : Ev
 
 -- ---- lists
 
-map-join : {A B : Type 0} (f : A → B) (a b : List A) → map f (a ++ b) ≡ map f a ++ map f b
-map-join f [] b = refl
-map-join {B = B} f (x ∷ a) b = ap (λ (l : List B). f x ∷ l) (map-join f a b)
-
 All-unmap : {A B : Type 0} (f : A → B) (P : B → Type 0) (l : List A) → All P (map f l) → All (λ a. P (f a)) l
 All-unmap f P [] h = tt
 All-unmap f P (x ∷ l) h = (h .0, All-unmap f P l (h .1))
 
 -- the places of the roots, as elements of the field
-pub places-point : (x l : List ℕ) → Powers x → All (λ d. d < 204) l → elements (map (λ d. getD x d 0) l) ≡ map point l
-places-point x [] p h = refl
-places-point x (d ∷ l) p h = ap₂ _∷_ (ap byte (p .each d (omega (arith, h .0))) ∙ byte-power 2 d) (places-point x l p (h .1))
+places-point : (l : List ℕ) → elements (map (pow 2) l) ≡ map point l
+places-point [] = refl
+places-point (d ∷ l) = ap₂ _∷_ (byte-power 2 d) (places-point l)
 
 -- degrees and values as terms
 unfoldable pub degreeTerms : List ℕ → List ℕ → List (Term bytes)
@@ -97,8 +92,7 @@ point-differs i d a b n e = go (decLt i d)
 
 module _ (came c : List ℕ) (n : length came ≡ 204) (b : Bytes came) (cw : Codeword c) (near : differ came c ≤ 8)
     (s : List ℕ) (syndromes : (j : ℕ) → j < 16 → byte (getD s j 0) ≡ blockSyndrome came j)
-    (q v : List ℕ) (lq : length q ≡ 9) (lv : length v ≡ 208) (loc : Located s q) (ev : Evaluated q v)
-    (x p : List ℕ) (lp : length p ≡ 16) (px : Powers x) (rp : RootProduct (map (λ d. getD x d 0) (zerosOf v)) p) where
+    (q : List ℕ) (lq : length q ≡ 9) (loc : Located s q) (p : List ℕ) (lp : length p ≡ 16) (rp : RootProduct (map (pow 2) (rootsOf q)) p) where
   abbrev E : List (Term bytes)
   E = errors came c n (codeword-length c cw) b (codeword-bytes c cw)
 
@@ -141,14 +135,14 @@ module _ (came c : List ℕ) (n : length came ≡ 204) (b : Bytes came) (cw : Co
       (omega (arith, errors-weight came c n (codeword-length c cw) b (codeword-bytes c cw))) solution
 
   -- where there is an error the locator vanishes, so that the degree is listed
-  vanishes : (i : ℕ) → i < 204 → (g i ≡ bytes .𝟘 → ⊥) → getD v i 0 ≡ 0
+  vanishes : (i : ℕ) → i < 204 → (g i ≡ bytes .𝟘 → ⊥) → getD (valuesOf q) i 0 ≡ 0
   vanishes i h z =
-      byte-inj (getD v i 0) 0 (ev .small i (omega arith)) (lit< tt)
-      (ev .each i (omega arith) ∙ ap (eval (ops bytes) (elements q)) (sym (E-place i h))
-      ∙ All-at (λ t. (t .1 ≡ bytes .𝟘 → ⊥) → eval (ops bytes) (elements q) (t .0) ≡ bytes .𝟘) E none i located (omega (arith, E-length)) (λ y. z (sym (E-value i h) ∙ y))
-      ∙ sym byte-zero)
+      locator-value q i h
+      ∙ ap (λ (u : Fin 256). u .0)
+      (ap (eval (ops bytes) (elements q)) (sym (E-place i h))
+      ∙ All-at (λ t. (t .1 ≡ bytes .𝟘 → ⊥) → eval (ops bytes) (elements q) (t .0) ≡ bytes .𝟘) E none i located (omega (arith, E-length)) (λ y. z (sym (E-value i h) ∙ y)))
 
-  off : (i : ℕ) → i < 204 → (getD v i 0 ≡ 0 → ⊥) → g i ≡ bytes .𝟘
+  off : (i : ℕ) → i < 204 → (getD (valuesOf q) i 0 ≡ 0 → ⊥) → g i ≡ bytes .𝟘
   off i h z = go (bytes .dec (g i) (bytes .𝟘))
     where
       go : Dec (g i ≡ bytes .𝟘) → g i ≡ bytes .𝟘
@@ -160,39 +154,39 @@ module _ (came c : List ℕ) (n : length came ≡ 204) (b : Bytes came) (cw : Co
   abbrev N : List (Fin 256)
   N = elements (take 9 p)
 
-  in-range : All (λ d. d < 204) (zerosOf v)
-  in-range = All-map (λ d. (d < 204) × (eval (ops bytes) (elements q) (point d) ≡ bytes .𝟘)) (λ d. d < 204) (λ d h. h .0) (zerosOf v) (roots-vanish q v lq lv ev)
+  in-range : All (λ d. d < 204) (rootsOf q)
+  in-range = All-map (λ d. (d < 204) × (eval (ops bytes) (elements q) (point d) ≡ bytes .𝟘)) (λ d. d < 204) (λ d h. h .0) (rootsOf q) (roots-vanish q lq)
 
-  N-values : (y : Fin 256) → eval (ops bytes) N y ≡ eval (ops bytes) (fromRoots bytes (map point (zerosOf v))) y
-  N-values y = rp .values y ∙ ap (λ (l : List (Fin 256)). eval (ops bytes) (fromRoots bytes l) y) (places-point x (zerosOf v) px in-range)
+  N-values : (y : Fin 256) → eval (ops bytes) N y ≡ eval (ops bytes) (fromRoots bytes (map point (rootsOf q))) y
+  N-values y = rp .values y ∙ ap (λ (l : List (Fin 256)). eval (ops bytes) (fromRoots bytes l) y) (places-point (rootsOf q))
 
-  N-roots : All (λ d. eval (ops bytes) N (point d) ≡ bytes .𝟘) (zerosOf v)
+  N-roots : All (λ d. eval (ops bytes) N (point d) ≡ bytes .𝟘) (rootsOf q)
   N-roots =
-      All-map (λ d. eval (ops bytes) (fromRoots bytes (map point (zerosOf v))) (point d) ≡ bytes .𝟘) (λ d. eval (ops bytes) N (point d) ≡ bytes .𝟘) (λ d h. N-values (point d) ∙ h) (zerosOf v)
-      (All-unmap point (λ y. eval (ops bytes) (fromRoots bytes (map point (zerosOf v))) y ≡ bytes .𝟘) (zerosOf v) (fromRoots-roots bytes (map point (zerosOf v))))
+      All-map (λ d. eval (ops bytes) (fromRoots bytes (map point (rootsOf q))) (point d) ≡ bytes .𝟘) (λ d. eval (ops bytes) N (point d) ≡ bytes .𝟘) (λ d h. N-values (point d) ∙ h) (rootsOf q)
+      (All-unmap point (λ y. eval (ops bytes) (fromRoots bytes (map point (rootsOf q))) y ≡ bytes .𝟘) (rootsOf q) (fromRoots-roots bytes (map point (rootsOf q))))
 
-  module _ (l : ℕ) (h : l < length (zerosOf v)) where
+  module _ (l : ℕ) (h : l < length (rootsOf q)) where
     abbrev d : ℕ
-    d = getD (zerosOf v) l 0
+    d = getD (rootsOf q) l 0
 
     d-range : d < 204
-    d-range = All-at (λ d. d < 204) (zerosOf v) 0 l in-range h
+    d-range = All-at (λ d. d < 204) (rootsOf q) 0 l in-range h
 
     abbrev before : List (Fin 256)
-    before = map point (take l (zerosOf v))
+    before = map point (take l (rootsOf q))
 
     abbrev after : List (Fin 256)
-    after = map point (drop (suc l) (zerosOf v))
+    after = map point (drop (suc l) (rootsOf q))
 
-    split : map point (zerosOf v) ≡ before ++ point d ∷ after
-    split = ap (map point) (split-at (zerosOf v) l 0 h) ∙ map-join point (take l (zerosOf v)) (d ∷ drop (suc l) (zerosOf v))
+    split : map point (rootsOf q) ≡ before ++ point d ∷ after
+    split = ap (map point) (split-at (rootsOf q) l 0 h) ∙ map-join point (take l (rootsOf q)) (d ∷ drop (suc l) (rootsOf q))
 
     N-out : (y : Fin 256) → eval (ops bytes) N y ≡ bytes .mul (bytes .add y (point d)) (eval (ops bytes) (fromRoots bytes (before ++ after)) y)
     N-out y =
         N-values y ∙ ap (λ (r : List (Fin 256)). eval (ops bytes) (fromRoots bytes r) y) split ∙ eval-fromRoots-out bytes (point d) before after y
 
     N-zero : eval (ops bytes) N (point d) ≡ bytes .𝟘
-    N-zero = All-at (λ d. eval (ops bytes) N (point d) ≡ bytes .𝟘) (zerosOf v) 0 l N-roots h
+    N-zero = All-at (λ d. eval (ops bytes) N (point d) ≡ bytes .𝟘) (rootsOf q) 0 l N-roots h
 
     abbrev Q : List (Fin 256)
     Q = quotient bytes (point d) N
@@ -204,18 +198,17 @@ module _ (came c : List ℕ) (n : length came ≡ 204) (b : Bytes came) (cw : Co
     Q-others i k m z =
         quotient-zero bytes (point d) N (point i) N-zero (point-differs i d k d-range m)
         (subst (λ (j : ℕ). eval (ops bytes) N (point j) ≡ bytes .𝟘) (zero-add i)
-        (zeros-has (λ d. eval (ops bytes) N (point d) ≡ bytes .𝟘) 0 (take 204 v) N-roots i (omega (arith, length-take-le 204 v (omega arith)))
-        (getD-take 204 v i 0 k ∙ vanishes i k z)))
+        (zeros-has (λ d. eval (ops bytes) N (point d) ≡ bytes .𝟘) 0 (valuesOf q) N-roots i (omega (arith, length-values q)) (vanishes i k z)))
 
-    others-length : suc (length (before ++ after)) ≡ length (zerosOf v)
+    others-length : suc (length (before ++ after)) ≡ length (rootsOf q)
     others-length =
         let k = ap length split in
-        omega (arith, length-append before after, length-append before (point d ∷ after), length-map (zerosOf v) point, k)
+        omega (arith, length-append before after, length-append before (point d ∷ after), length-map (rootsOf q) point, k)
 
     Q-own : eval (ops bytes) Q (point d) ≡ bytes .𝟘 → ⊥
     Q-own z =
         fromRoots-ne bytes (before ++ after) (point d)
-        (Distinct-away (point d) before after (subst Distinct split (roots-distinct q v lq lv ev)))
+        (Distinct-away (point d) before after (subst Distinct split (roots-distinct q lq)))
         (sym (quotient-value bytes (rootsBelow 16) (point d) N (fromRoots bytes (before ++ after)) (distinct-roots 16 (omega arith)) fits N-zero N-out) ∙ z)
       where
         fits : length (timesLinear bytes (point d) (plus (ops bytes) Q (fromRoots bytes (before ++ after)))) ≤ length (rootsBelow 16)
@@ -227,14 +220,14 @@ module _ (came c : List ℕ) (n : length came ≡ 204) (b : Bytes came) (cw : Co
               Q-length,
               length-fromRoots bytes (before ++ after),
               others-length,
-              roots-few q v lq lv ev (loc .nonzero),
+              roots-few q lq (loc .nonzero),
               length-roots 16,
             )
 
-    on : errorValue p s (getD x d 0) ≡ g d
+    on : errorValue p s (pow 2 d) ≡ g d
     unfolding errorValue
     on =
-        ap (λ (y : Fin 256). bytes .mul (dot bytes (quotient bytes y N) (λ i. byte (getD s i 0))) (bytes .inv (eval (ops bytes) (quotient bytes y N) y))) (ap byte (px .each d (omega (arith, d-range))) ∙ byte-power 2 d)
+        ap (λ (y : Fin 256). bytes .mul (dot bytes (quotient bytes y N) (λ i. byte (getD s i 0))) (bytes .inv (eval (ops bytes) (quotient bytes y N) y))) (byte-power 2 d)
         ∙ ap₂ (bytes .mul)
         (dot-ext bytes Q (λ i. byte (getD s i 0)) (syndrome bytes E) (λ i k. E-syndrome i (omega (arith, Q-length))))
         (ap (λ (y : Fin 256). bytes .inv (eval (ops bytes) Q y)) (sym (E-place d d-range)))
@@ -244,11 +237,11 @@ module _ (came c : List ℕ) (n : length came ≡ 204) (b : Bytes came) (cw : Co
         ∙ E-value d d-range
 
   -- the values found have the sixteen syndromes
-  pub found : (es : List ℕ) → length es ≡ length (zerosOf v) → ((l : ℕ) → l < length (zerosOf v) → byte (getD es l 0) ≡ errorValue p s (getD x (getD (zerosOf v) l 0) 0))
-      → (j : ℕ) → j < 16 → syndrome bytes (degreeTerms (zerosOf v) es) j ≡ byte (getD s j 0)
+  pub found : (es : List ℕ) → length es ≡ length (rootsOf q) → ((l : ℕ) → l < length (rootsOf q) → byte (getD es l 0) ≡ errorValue p s (pow 2 (getD (rootsOf q) l 0)))
+      → (j : ℕ) → j < 16 → syndrome bytes (degreeTerms (rootsOf q) es) j ≡ byte (getD s j 0)
   unfolding power
   found es k h j m =
-      ap (λ (t : List (Term bytes)). syndrome bytes t j) (degree-terms-map g (zerosOf v) es k (λ l i. h l i ∙ on l i))
-      ∙ zeros-syndrome g 0 (take 204 v) e j (length-take-le 204 v (omega arith) ∙ sym e-length) (λ i a. ap g (sym (zero-add i)))
-      (λ i a z. ap g (zero-add i) ∙ off i (omega (arith, length-take-le 204 v (omega arith))) (λ y. z (getD-take 204 v i 0 (omega (arith, length-take-le 204 v (omega arith))) ∙ y)))
+      ap (λ (t : List (Term bytes)). syndrome bytes t j) (degree-terms-map g (rootsOf q) es k (λ l i. h l i ∙ on l i))
+      ∙ zeros-syndrome g 0 (valuesOf q) e j (length-values q ∙ sym e-length) (λ i a. ap g (sym (zero-add i)))
+      (λ i a z. ap g (zero-add i) ∙ off i (omega (arith, length-values q)) z)
       ∙ sym (E-syndrome j m)

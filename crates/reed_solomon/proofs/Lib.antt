@@ -2,8 +2,9 @@ pub mod Codewords
 pub mod Distance
 pub mod BitDistance
 pub mod LongDivision
-pub mod WordDivision
-pub mod PowerRuns
+pub mod SparseMultiple
+pub mod SparseDivision
+pub mod DivisionInPlace
 pub mod Residue
 pub mod Zeros
 pub mod Completeness

@@ -5,11 +5,9 @@ use mathlib.Core.List.{List, [], _∷_, _++_, reverse, reverse-append, reverse-r
 use Prim.Native.Nat.{ℕ, zero, suc, _+_, _<_, Fin}
 use Prim.{tt}
 use native.Mathlib.Omega.{arith}
-use native.Mathlib.Numerals.{add-one}
 use lib.Bits.{bitXor}
 use lib.Dec.{lit<}
 use lib.ListN.{length, getD, take, drop, replicate, length-map, length-append, length-drop, take-append-drop}
-use lib.Seq.{take-suc}
 use Rattle.common.specs.Lists.{Bytes}
 use Rattle.algebra.specs.Field.{Field, ops}
 use Rattle.algebra.specs.Polynomial.{power, eval, plus, scale, product}
@@ -107,11 +105,11 @@ generator-is : generator ≡ 0x3B ∷ 0x24 ∷ 0x32 ∷ 0x62 ∷ 0xE5 ∷ 0x29 �
 unfolding generator factors product scale plus power mul rounds timesX
 generator-is = refl
 
-pub tail-is : generatorTail ≡ 0x3B ∷ 0x0D ∷ 0x68 ∷ 0xBD ∷ 0x44 ∷ 0xD1 ∷ 0x1E ∷ 0x08 ∷ 0xA3 ∷ 0x41 ∷ 0x29 ∷ 0xE5 ∷ 0x62 ∷ 0x32 ∷ 0x24 ∷ 0x3B ∷ []
+tail-is : generatorTail ≡ 0x3B ∷ 0x0D ∷ 0x68 ∷ 0xBD ∷ 0x44 ∷ 0xD1 ∷ 0x1E ∷ 0x08 ∷ 0xA3 ∷ 0x41 ∷ 0x29 ∷ 0xE5 ∷ 0x62 ∷ 0x32 ∷ 0x24 ∷ 0x3B ∷ []
 unfolding generatorTail
 tail-is = ap (λ (g : List ℕ). reverse (take 16 g)) generator-is
 
-pub length-tail : length generatorTail ≡ 16
+length-tail : length generatorTail ≡ 16
 length-tail = ap length tail-is
 
 monic : generator ≡ take 16 generator ++ 1 ∷ []
@@ -120,9 +118,9 @@ monic = generator-is ∙ sym (ap (λ (g : List ℕ). take 16 g ++ 1 ∷ []) gene
 sixteen : length (take 16 generator) ≡ 16
 sixteen = ap (λ (g : List ℕ). length (take 16 g)) generator-is
 
-length-scaled : (c : ℕ) → length (scaled c generatorTail) ≡ length generatorTail
+pub length-scaled : (c : ℕ) (a : List ℕ) → length (scaled c a) ≡ length a
 unfolding scale
-length-scaled c = length-map generatorTail (mul c)
+length-scaled c a = length-map a (mul c)
 
 power-zero : (x : Fin 256) → power (ops bytes) x 0 ≡ bytes .𝟙
 unfolding power
@@ -141,37 +139,25 @@ divided-remainder : (r : List ℕ) (d : ℕ) → Remainder r → Remainder (divi
 unfolding divided
 divided-remainder r d h =
     let n : length (drop 1 r ++ 0 ∷ []) ≡ length (scaled (bitXor (getD r 0 0) d) generatorTail) =
-    length-append (drop 1 r) (0 ∷ []) ∙ omega (arith, length-drop 1 r, h .size, length-scaled (bitXor (getD r 0 0) d), length-tail) in
+    length-append (drop 1 r) (0 ∷ []) ∙ omega (arith, length-drop 1 r, h .size, length-scaled (bitXor (getD r 0 0) d) generatorTail, length-tail) in
     record {
-      size = length-sum (drop 1 r ++ 0 ∷ []) (scaled (bitXor (getD r 0 0) d) generatorTail) n ∙ n ∙ length-scaled (bitXor (getD r 0 0) d) ∙ length-tail;
+      size = length-sum (drop 1 r ++ 0 ∷ []) (scaled (bitXor (getD r 0 0) d) generatorTail) n ∙ n ∙ length-scaled (bitXor (getD r 0 0) d) generatorTail ∙ length-tail;
       small = bytes-plus (drop 1 r ++ 0 ∷ []) (scaled (bitXor (getD r 0 0) d) generatorTail) (bytes-append (drop 1 r) (0 ∷ []) (bytes-drop 1 r (h .small)) (lit< tt, tt)) (bytes-scale (bitXor (getD r 0 0) d) generatorTail);
     }
 
-pub remainder-from : (r ds : List ℕ) → Remainder r → Remainder (remainderFrom r ds)
+remainder-from : (r ds : List ℕ) → Remainder r → Remainder (remainderFrom r ds)
 unfolding remainderFrom
 remainder-from r [] h = h
 remainder-from r (d ∷ ds) h = remainder-from (divided r d) ds (divided-remainder r d h)
 
-pub remainder-zeros : Remainder (replicate 16 0)
+remainder-zeros : Remainder (replicate 16 0)
 remainder-zeros = record { size = refl; small = bytes-zeros 16 }
 
 pub check-remainder : (message : List ℕ) → Remainder (checkBytes message)
 unfolding checkBytes
 check-remainder message = remainder-from (replicate 16 0) message remainder-zeros
 
-remainder-snoc : (r ds : List ℕ) (d : ℕ) → remainderFrom r (ds ++ d ∷ []) ≡ divided (remainderFrom r ds) d
-unfolding remainderFrom
-remainder-snoc r [] d = refl
-remainder-snoc r (e ∷ ds) d = remainder-snoc (divided r e) ds d
-
--- one byte more of the message
-pub check-more : (l : List ℕ) (i : ℕ) (r : List ℕ) (d : ℕ) → i < length l → r ≡ checkBytes (take i l) → d ≡ getD l i 0 → divided r d ≡ checkBytes (take (i + 1) l)
-unfolding checkBytes
-check-more l i r d h e f =
-    ap₂ divided e f ∙ sym (remainder-snoc (replicate 16 0) (take i l) (getD l i 0))
-    ∙ ap (remainderFrom (replicate 16 0)) (sym (take-suc l i 0 h) ∙ ap (λ (n : ℕ). take n l) (sym (add-one i)))
-
-high-zeros : (x : Fin 256) (n : ℕ) → high x (replicate n 0) ≡ bytes .𝟘
+pub high-zeros : (x : Fin 256) (n : ℕ) → high x (replicate n 0) ≡ bytes .𝟘
 high-zeros x zero = high-nil x
 high-zeros x (suc n) =
     high-cons x 0 (replicate n 0)
@@ -200,7 +186,7 @@ module _ (x : Fin 256) (root : eval (ops bytes) (elements generator) x ≡ bytes
   unfolding divided power
   high-divided [] d n = absurd (omega arith)
   high-divided (y ∷ r) d n =
-      high-plus x (r ++ 0 ∷ []) (scaled (bitXor y d) generatorTail) (length-append r (0 ∷ []) ∙ omega (arith, length-scaled (bitXor y d), length-tail))
+      high-plus x (r ++ 0 ∷ []) (scaled (bitXor y d) generatorTail) (length-append r (0 ∷ []) ∙ omega (arith, length-scaled (bitXor y d) generatorTail, length-tail))
       ∙ ap₂ (bytes .add)
       (high-append x r (0 ∷ []) ∙ ap (λ (u : Fin 256). bytes .add u (bytes .mul (bytes .mul x (bytes .𝟙)) (high x r))) (high-one x 0 ∙ byte-zero))
       (high-scale x (bitXor y d) generatorTail ∙ ap₂ (bytes .mul) (byte-add y d) high-tail)

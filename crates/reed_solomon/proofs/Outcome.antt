@@ -8,7 +8,7 @@ use native.Mathlib.Decide.{decLt, ℕ-discrete}
 use native.Mathlib.Omega.{arith}
 use borrow.Author.Tests.{eq-eqb, ne-eqb}
 use lib.Bits.{bitXor}
-use lib.ListN.{length, getD, take, drop, length-drop, take-append-drop, List·getD-eq-default}
+use lib.ListN.{length, getD, take, List·getD-eq-default}
 use lib.Seq.{length-take-le, getD-take}
 use Rattle.common.specs.Lists.{All, Bytes}
 use Rattle.common.proofs.Choice.{false-true}
@@ -16,20 +16,21 @@ use Rattle.common.proofs.Entries.{bytes-of}
 use Rattle.common.proofs.Lists.{getD-map-in, All-map, All-at}
 use Rattle.algebra.specs.Field.{ops}
 use Rattle.algebra.specs.Polynomial.{power}
-use Rattle.algebra.proofs.Ring.{add-comm, add-self, zero-add, mul-zero}
+use Rattle.algebra.proofs.Ring.{add-self, zero-add, mul-zero}
 use Rattle.algebra.proofs.Syndromes.{syndrome}
+use Rattle.galois.specs.Field256.{pow}
 use Rattle.galois.proofs.Instance.{bytes, byte, byte-zero}
 use Rattle.reed_solomon.specs.Code.{Codeword, unequal, unequalBits, distance, differ, differBits, noChange}
-use Rattle.reed_solomon.specs.Encode.{checkBytes}
 use Rattle.reed_solomon.specs.Decode.{Accepted, Rejected}
-use Rattle.byte_lanes.specs.Lanes.{point, Powers}
+use Rattle.byte_lanes.specs.Lanes.{point}
 use Rattle.reed_solomon.specs.Steps.{residueOf, allZero, SyndromesOf, weighed}
 use Rattle.error_locator.specs.Locator.{Located}
-use Rattle.error_correction.specs.Correction.{Evaluated, zerosOf, FoundRoots, RootProduct, errorValue, ErrorValues, termsOf, Explained, correctedBy, changedIn}
-use Rattle.reed_solomon.proofs.Codewords.{blockSyndrome, codeword-of, generator-root}
+use Rattle.error_correction.specs.Correction.{rootsOf, FoundRoots, RootProduct, errorValue, ErrorValues, termsOf, Explained, correctedBy, changedIn}
+use Rattle.reed_solomon.proofs.Codewords.{blockSyndrome, codeword-of}
 use Rattle.reed_solomon.proofs.Distance.{unequal-same, unequal-xor, differ-none, accepted}
 use Rattle.reed_solomon.proofs.BitDistance.{bits-same, bits-xor, changes-none}
-use Rattle.reed_solomon.proofs.LongDivision.{high, high-nil, high-cons, high-append, high-plus, high-check, check-remainder}
+use Rattle.reed_solomon.proofs.LongDivision.{high, high-nil, high-cons}
+use Rattle.reed_solomon.proofs.Residue.{residue-value}
 use Rattle.reed_solomon.proofs.Completeness.{degreeTerms, roots-vanish, roots-distinct, roots-few, found}
 use Rattle.reed_solomon.proofs.Soundness.{corrected-length, corrected-bytes, corrected-value, corrected-distance, terms-cut, terms-by-degree, distinct-unmap}
 use Rattle.error_correction.proofs.ErrorTerms.{changed-le}
@@ -37,18 +38,6 @@ use Rattle.error_correction.proofs.ErrorTerms.{changed-le}
 -- ---- the residue
 
 module _ (came : List ℕ) (n : length came ≡ 204) where
-  pub residue-value : (j : ℕ) → j < 16 → high (point j) (residueOf came) ≡ blockSyndrome came j
-  unfolding residueOf
-  residue-value j h =
-      high-plus (point j) (checkBytes (take 188 came)) (drop 188 came) (check-remainder (take 188 came) .size ∙ sym last)
-      ∙ ap (λ (u : Fin 256). bytes .add u (high (point j) (drop 188 came))) (high-check (point j) (generator-root j h) (take 188 came))
-      ∙ add-comm bytes (bytes .mul (power (ops bytes) (point j) 16) (high (point j) (take 188 came))) (high (point j) (drop 188 came))
-      ∙ ap (λ (k : ℕ). bytes .add (high (point j) (drop 188 came)) (bytes .mul (power (ops bytes) (point j) k) (high (point j) (take 188 came)))) (sym last)
-      ∙ sym (high-append (point j) (take 188 came) (drop 188 came)) ∙ ap (high (point j)) (take-append-drop 188 came)
-    where
-      last : length (drop 188 came) ≡ 16
-      last = omega (arith, length-drop 188 came)
-
   zero-value : (x : Fin 256) (l : List ℕ) → allZero l ≡ true → high x l ≡ bytes .𝟘
   zero-value x [] h = high-nil x
   zero-value x (y ∷ l) h = go (ℕ-discrete y 0) (λ k. zero-value x l k)
@@ -63,7 +52,7 @@ module _ (came : List ℕ) (n : length came ≡ 204) where
   -- a block whose residue is zero is a codeword already
   pub clean : Bytes came → allZero (residueOf came) ≡ true → Accepted came came noChange
   clean b h =
-      accepted came came noChange n (codeword-of came n b (λ j l. sym (residue-value j l) ∙ zero-value (point j) (residueOf came) h)) (sym (changes-none came)) (omega (arith, differ-none came))
+      accepted came came noChange n (codeword-of came n b (λ j l. sym (residue-value came n j l) ∙ zero-value (point j) (residueOf came) h)) (sym (changes-none came)) (omega (arith, differ-none came))
 
 -- ---- the search for errors
 
@@ -74,52 +63,49 @@ changed-weighed [] = refl
 changed-weighed (e ∷ es) = ap (λ (n : ℕ). unequal e 0 + n) (changed-weighed es)
 
 -- what the steps have found
-pub record Decoding (came x s q v degrees places : List ℕ) (count : ℕ) (p values : List ℕ) : Type 0 where
+pub record Decoding (came s q degrees places : List ℕ) (count : ℕ) (p values : List ℕ) : Type 0 where
   pub size : length came ≡ 204
   pub small : Bytes came
-  pub powers : Powers x
   pub syndromes-of : SyndromesOf (residueOf came) s
   pub locator : Located s q
   pub locator-size : length q ≡ 9
-  pub evaluated : Evaluated q v
-  pub evaluated-size : length v ≡ 208
-  pub roots : FoundRoots v x degrees places count
+  pub roots : FoundRoots q degrees places count
   pub product : RootProduct (take count places) p
   pub product-size : length p ≡ 16
   pub errors : ErrorValues p s places count values
   pub errors-size : length values ≡ 16
 
-module _ {came x s q v degrees places : List ℕ} {count : ℕ} {p values : List ℕ} (D : Decoding came x s q v degrees places count p values) where
-  open Decoding D using (size as n, small as b, powers as px, syndromes-of as sy, locator as loc, locator-size as lq, evaluated as ev, evaluated-size as lv, roots as fr, product as rp, product-size as lp, errors as vs, errors-size as lvs)
+module _ {came s q degrees places : List ℕ} {count : ℕ} {p values : List ℕ} (D : Decoding came s q degrees places count p values) where
+  open Decoding D using (size as n, small as b, syndromes-of as sy, locator as loc, locator-size as lq, roots as fr, product as rp, product-size as lp, errors as vs, errors-size as lvs)
 
   syndromes : (j : ℕ) → j < 16 → byte (getD s j 0) ≡ blockSyndrome came j
   syndromes j h = sy .each j h ∙ residue-value came n j h
 
   few : count ≤ 8
-  few = omega (arith, fr .number, roots-few q v lq lv ev (loc .nonzero))
+  few = omega (arith, fr .number, roots-few q lq (loc .nonzero))
 
   abbrev es : List ℕ
   es = take count values
 
-  es-length : length es ≡ length (zerosOf v)
+  es-length : length es ≡ length (rootsOf q)
   es-length = length-take-le count values (omega (arith, few)) ∙ fr .number
 
-  in-range : All (λ d. d < 204) (zerosOf v)
-  in-range = All-map _ (λ d. d < 204) (λ d h. h .0) (zerosOf v) (roots-vanish q v lq lv ev)
+  in-range : All (λ d. d < 204) (rootsOf q)
+  in-range = All-map _ (λ d. d < 204) (λ d h. h .0) (rootsOf q) (roots-vanish q lq)
 
   -- sixteen lanes have the syndromes of the errors found
-  lanes : (j : ℕ) → syndrome bytes (termsOf places values) j ≡ syndrome bytes (degreeTerms (zerosOf v) es) j
+  lanes : (j : ℕ) → syndrome bytes (termsOf places values) j ≡ syndrome bytes (degreeTerms (rootsOf q) es) j
   lanes j =
       terms-cut count places values j (vs .rest)
       ∙ ap (λ (l : List ℕ). syndrome bytes (termsOf l es) j) (fr .placed)
-      ∙ ap (λ t. syndrome bytes t j) (terms-by-degree x (zerosOf v) es px in-range)
+      ∙ ap (λ t. syndrome bytes t j) (terms-by-degree (rootsOf q) es)
 
-  es-value : (l : ℕ) → l < length (zerosOf v) → byte (getD es l 0) ≡ errorValue p s (getD x (getD (zerosOf v) l 0) 0)
+  es-value : (l : ℕ) → l < length (rootsOf q) → byte (getD es l 0) ≡ errorValue p s (pow 2 (getD (rootsOf q) l 0))
   es-value l h =
       let k : l < count = omega (arith, fr .number) in
       ap byte (getD-take count values l 0 k) ∙ vs .own l k
       ∙ ap (errorValue p s)
-      (sym (getD-take count places l 0 k) ∙ ap (λ (m : List ℕ). getD m l 0) (fr .placed) ∙ getD-map-in (λ d. getD x d 0) (zerosOf v) 0 0 l h)
+      (sym (getD-take count places l 0 k) ∙ ap (λ (m : List ℕ). getD m l 0) (fr .placed) ∙ getD-map-in (pow 2) (rootsOf q) 0 0 l h)
 
   -- not explained: no codeword is within eight bytes
   pub rejected : Explained places values s false → Rejected came came
@@ -130,7 +116,7 @@ module _ {came x s q v degrees places : List ℕ} {count : ℕ} {p values : List
       go c cw (no h) =
           absurd (f (record {
             each = λ j l. lanes j
-                ∙ found came c n b cw (omega arith) s syndromes q v lq lv loc ev x p lp px (subst (λ (m : List ℕ). RootProduct m p) (fr .placed) rp) es es-length es-value j l;
+                ∙ found came c n b cw (omega arith) s syndromes q lq loc p lp (subst (λ (m : List ℕ). RootProduct m p) (fr .placed) rp) es es-length es-value j l;
           }))
 
   es-bytes : Bytes es
@@ -148,21 +134,21 @@ module _ {came x s q v degrees places : List ℕ} {count : ℕ} {p values : List
   repaired left k m f e g i =
       subst (λ (l : List ℕ). Accepted came l (record { bytes = k; bits = m })) (sym whole)
       (accepted came done (record { bytes = k; bits = m }) n
-      (codeword-of done (corrected-length came (zerosOf v) es ∙ n) (corrected-bytes came (zerosOf v) es n b es-bytes)
-      (λ j l. corrected-value j came (zerosOf v) es n in-range es-length
+      (codeword-of done (corrected-length came (rootsOf q) es ∙ n) (corrected-bytes came (rootsOf q) es n b es-bytes)
+      (λ j l. corrected-value j came (rootsOf q) es n in-range es-length
       ∙ ap (λ (u : Fin 256). bytes .add (blockSyndrome came j) u) (sym (lanes j) ∙ f .each j l ∙ syndromes j l) ∙ add-self bytes (blockSyndrome came j)))
       (ap₂ (λ (x y : ℕ). record { bytes = x; bits = y }) (g ∙ changed-weighed es ∙ sym hamming) (i ∙ sym (apart (unequalBits 8) (bits-same 8) (bits-xor 8))))
       (omega (arith, hamming, changed-weighed es, changed-le es, es-length, fr .number, few)))
     where
       done : List ℕ
-      done = correctedBy came (zerosOf v) es
+      done = correctedBy came (rootsOf q) es
 
-      whole : left ≡ correctedBy came (zerosOf v) es
+      whole : left ≡ correctedBy came (rootsOf q) es
       whole = e ∙ ap (λ (ds : List ℕ). correctedBy came ds es) (fr .listed)
 
       apart : (d : ℕ → ℕ → ℕ) → ((x : ℕ) → d x x ≡ 0) → ((x y : ℕ) → d x (bitXor x y) ≡ d y 0) → distance d came done ≡ weighed d es
       apart d none one =
-          corrected-distance d none one came (zerosOf v) es n in-range (distinct-unmap point (zerosOf v) (roots-distinct q v lq lv ev)) es-length
+          corrected-distance d none one came (rootsOf q) es n in-range (distinct-unmap point (rootsOf q) (roots-distinct q lq)) es-length
 
       hamming : distance unequal came done ≡ weighed unequal es
       hamming = apart unequal (λ x. unequal-same x x refl) unequal-xor
@@ -171,4 +157,4 @@ module _ {came x s q v degrees places : List ℕ} {count : ℕ} {p values : List
   pub degrees-range : (l : ℕ) → l < count → getD degrees l 0 < 204
   degrees-range l h =
       subst (λ (k : ℕ). k < 204) (sym (sym (getD-take count degrees l 0 h) ∙ ap (λ (m : List ℕ). getD m l 0) (fr .listed)))
-      (All-at (λ d. d < 204) (zerosOf v) 0 l in-range (omega (arith, fr .number)))
+      (All-at (λ d. d < 204) (rootsOf q) 0 l in-range (omega (arith, fr .number)))

@@ -1,21 +1,27 @@
--- The test of a residue for zero, and its values at the roots of g.
+-- The test of a residue for zero, and the syndromes; check bytes and residue as the only sixteen bytes with their values at the roots of g.
 -- Assumes nothing.
-use mathlib.Core.Path.{_≡_, ap, ap₂, _∙_}
+use mathlib.Core.Path.{_≡_, sym, ap, ap₂, _∙_}
 use mathlib.Core.Bool.{true, false}
-use mathlib.Core.List.{List, [], _∷_, reverse, reverse-cons}
-use Prim.Native.Nat.{ℕ, zero, suc, _+_, _≤_, _<_, Fin}
+use mathlib.Core.List.{List, [], _∷_, _++_, append-nil, reverse, reverse-cons}
+use Prim.Native.Nat.{ℕ, zero, suc, _+_, _-_, _≤_, _<_, Fin}
 use native.Mathlib.Nat.{zero-add}
 use native.Mathlib.Numerals.{add-one}
 use native.Mathlib.Omega.{arith}
 use borrow.Author.Tests.{eq-eqb, ne-eqb}
-use lib.ListN.{length, getD, take, drop, length-reverse, drop-of-length-le, List·getD-append}
+use lib.ListN.{length, getD, take, drop, replicate, length-drop, length-reverse, drop-of-length-le, take-append-drop, List·getD-append}
 use lib.Seq.{drop-cons, getD-append-add}
+use Rattle.common.specs.Lists.{Bytes}
 use Rattle.algebra.specs.Field.{ops}
-use Rattle.algebra.specs.Polynomial.{eval}
+use Rattle.algebra.specs.Polynomial.{power, eval}
+use Rattle.algebra.proofs.Ring.{add-comm, zero-add as field-zero-add}
 use Rattle.galois.proofs.Instance.{bytes}
-use Rattle.byte_lanes.specs.Lanes.{elements, point, Powers, ValuesAt}
+use Rattle.byte_lanes.specs.Lanes.{elements, point, PowersFrom, ValuesAt}
 use Rattle.byte_lanes.proofs.Powers.{powers-at}
-use Rattle.reed_solomon.specs.Steps.{allZero, SyndromesOf}
+use Rattle.byte_lanes.proofs.Words.{length-sum, bytes-plus, bytes-drop}
+use Rattle.reed_solomon.specs.Encode.{checkBytes}
+use Rattle.reed_solomon.specs.Steps.{residueOf, allZero, SameValues, SyndromesOf}
+use Rattle.reed_solomon.proofs.Codewords.{blockSyndrome, generator-root, same-sixteen}
+use Rattle.reed_solomon.proofs.LongDivision.{high, high-append, high-plus, high-zeros, high-check, check-remainder}
 
 -- ---- the test for zero
 
@@ -45,9 +51,52 @@ reverse-at (x ∷ l) i (suc k) h =
     ap (λ (r : List ℕ). getD r i 0) (reverse-cons x l) ∙ List·getD-append (reverse l) (x ∷ []) 0 i (omega (arith, length-reverse l))
     ∙ reverse-at l i k (omega arith)
 
-pub syndromes-of : (l x q y s : List ℕ) → Powers x → q ≡ reverse l → y ≡ take 16 (drop 0 x) → ValuesAt q y s → SyndromesOf l s
-syndromes-of l x q y s p e f v =
+pub syndromes-of : (l q x s : List ℕ) → q ≡ reverse l → PowersFrom 0 x → ValuesAt q x s → SyndromesOf l s
+syndromes-of l q x s e p v =
     record {
       each = λ j h. v .each j h
-          ∙ ap₂ (λ (r : List ℕ) (u : Fin 256). eval (ops bytes) (elements r) u) e (powers-at x y 0 p (omega arith) f j h ∙ ap point (zero-add j));
+          ∙ ap₂ (λ (r : List ℕ) (u : Fin 256). eval (ops bytes) (elements r) u) e (powers-at 0 x p j h ∙ ap point (zero-add j));
     }
+
+-- ---- the check bytes and the residue, known by their values at the roots
+
+pub check-of-values : (message r : List ℕ) → length message ≡ 188 → length r ≡ 16 → Bytes r → SameValues r (message ++ replicate (204 - length message) 0) → r ≡ checkBytes message
+check-of-values message r n m b v =
+    same-sixteen r (checkBytes message) m (check-remainder message .size) b (check-remainder message .small)
+    (λ j h.
+    let x : Fin 256 = point j in
+    let k : 204 - length message ≡ 16 = omega arith in
+    v .each j h ∙ ap (λ (i : ℕ). high x (message ++ replicate i 0)) k ∙ high-append x message (replicate 16 0)
+    ∙ ap (λ (u : Fin 256). bytes .add u (bytes .mul (power (ops bytes) x 16) (high x message))) (high-zeros x 16)
+    ∙ field-zero-add bytes (bytes .mul (power (ops bytes) x 16) (high x message)) ∙ sym (high-check x (generator-root j h) message))
+
+module _ (block : List ℕ) (n : length block ≡ 204) where
+  last : length (drop 188 block) ≡ 16
+  last = omega (arith, length-drop 188 block)
+
+  sides : length (checkBytes (take 188 block)) ≡ length (drop 188 block)
+  sides = check-remainder (take 188 block) .size ∙ sym last
+
+  pub residue-value : (j : ℕ) → j < 16 → high (point j) (residueOf block) ≡ blockSyndrome block j
+  unfolding residueOf
+  residue-value j h =
+      high-plus (point j) (checkBytes (take 188 block)) (drop 188 block) sides
+      ∙ ap (λ (u : Fin 256). bytes .add u (high (point j) (drop 188 block))) (high-check (point j) (generator-root j h) (take 188 block))
+      ∙ add-comm bytes (bytes .mul (power (ops bytes) (point j) 16) (high (point j) (take 188 block))) (high (point j) (drop 188 block))
+      ∙ ap (λ (k : ℕ). bytes .add (high (point j) (drop 188 block)) (bytes .mul (power (ops bytes) (point j) k) (high (point j) (take 188 block)))) (sym last)
+      ∙ sym (high-append (point j) (take 188 block) (drop 188 block)) ∙ ap (high (point j)) (take-append-drop 188 block)
+
+  residue-length : length (residueOf block) ≡ 16
+  unfolding residueOf
+  residue-length = length-sum (checkBytes (take 188 block)) (drop 188 block) sides ∙ check-remainder (take 188 block) .size
+
+  residue-bytes : Bytes block → Bytes (residueOf block)
+  unfolding residueOf
+  residue-bytes b = bytes-plus (checkBytes (take 188 block)) (drop 188 block) (check-remainder (take 188 block) .small) (bytes-drop 188 block b)
+
+  pub residue-of-values : (r : List ℕ) → length r ≡ 16 → Bytes block → Bytes r → SameValues r (block ++ replicate (204 - length block) 0) → r ≡ residueOf block
+  residue-of-values r m bb b v =
+      same-sixteen r (residueOf block) m residue-length b (residue-bytes bb)
+      (λ j h.
+      let k : 204 - length block ≡ 0 = omega arith in
+      v .each j h ∙ ap (λ (i : ℕ). high (point j) (block ++ replicate i 0)) k ∙ ap (high (point j)) (append-nil block) ∙ sym (residue-value j h))

@@ -17,10 +17,11 @@ use Rattle.algebra.proofs.Lists.{Away, Distinct}
 use Rattle.algebra.proofs.Ring.{ring, zero-mul, add-zero as field-add-zero}
 use Rattle.algebra.proofs.Syndromes.{Term, syndrome}
 use Rattle.algebra.proofs.Terms.{power-swap}
+use Rattle.galois.specs.Field256.{pow}
 use Rattle.galois.proofs.Instance.{bytes, byte, byte-zero, byte-add, byte-power}
 use Rattle.reed_solomon.specs.Code.{distance}
 use Rattle.reed_solomon.specs.Steps.{weighed}
-use Rattle.byte_lanes.specs.Lanes.{point, Powers}
+use Rattle.byte_lanes.specs.Lanes.{point}
 use Rattle.error_correction.specs.Correction.{termsOf, correctedBy}
 use Rattle.reed_solomon.proofs.Distance.{distance-none}
 use Rattle.reed_solomon.proofs.LongDivision.{high, high-cons}
@@ -171,12 +172,11 @@ terms-cut (suc n) (x ∷ xs) [] j z = refl
 terms-cut (suc n) (x ∷ xs) (e ∷ es) j z =
     ap (λ (u : Fin 256). bytes .add (bytes .mul (byte e) (power (ops bytes) (byte x) j)) u) (terms-cut n xs es j (λ l h. z (suc l) (omega arith)))
 
-pub terms-by-degree : (x ds es : List ℕ) → Powers x → All (λ d. d < 204) ds → termsOf (map (λ d. getD x d 0) ds) es ≡ degreeTerms ds es
+pub terms-by-degree : (ds es : List ℕ) → termsOf (map (pow 2) ds) es ≡ degreeTerms ds es
 unfolding termsOf degreeTerms
-terms-by-degree x [] es p h = refl
-terms-by-degree x (d ∷ ds) [] p h = refl
-terms-by-degree x (d ∷ ds) (e ∷ es) p h =
-    ap₂ (λ (u : Fin 256) (l : List (Term bytes)). (u, byte e) ∷ l) (ap byte (p .each d (omega (arith, h .0))) ∙ byte-power 2 d) (terms-by-degree x ds es p (h .1))
+terms-by-degree [] es = refl
+terms-by-degree (d ∷ ds) [] = refl
+terms-by-degree (d ∷ ds) (e ∷ es) = ap₂ (λ (u : Fin 256) (l : List (Term bytes)). (u, byte e) ∷ l) (byte-power 2 d) (terms-by-degree ds es)
 
 pub distinct-unmap : (f : ℕ → Fin 256) (l : List ℕ) → Distinct (map f l) → Distinct l
 distinct-unmap f [] h = tt

@@ -1,55 +1,53 @@
 -- What the private steps of the coder and the decoder give. The public contracts do not rest on these definitions.
+-- Lists of coefficients have the highest first.
 -- Assumes nothing.
 use mathlib.Core.Path.{_≡_}
 use mathlib.Core.Bool.{Bool, true, false}
-use mathlib.Core.List.{List, [], _∷_, _++_}
-use Prim.Native.Nat.{ℕ, zero, suc, _+_, _*_, _/_, _%_, _≤_, _<_}
+use mathlib.Core.List.{List, [], _∷_}
+use Prim.Native.Nat.{ℕ, _+_, _-_, _≤_, _<_}
 use lib.Bits.{bitXor}
 use lib.Dec.{eqb}
-use lib.ListN.{length, getD, take, drop}
+use lib.ListN.{getD, take, drop}
 use Rattle.common.specs.Choice.{pick}
 use Rattle.algebra.specs.Field.{ops}
 use Rattle.algebra.specs.Polynomial.{eval, plus}
-use Rattle.galois.specs.Field256.{numbers, scaled}
+use Rattle.galois.specs.Field256.{numbers}
 use Rattle.galois.proofs.Instance.{bytes, byte}
-use Rattle.byte_lanes.specs.Lanes.{word, point}
-use Rattle.reed_solomon.specs.Encode.{generatorTail, divided, checkBytes}
+use Rattle.byte_lanes.specs.Lanes.{word, point, productsOf}
+use Rattle.reed_solomon.specs.Encode.{checkBytes}
 
 -- ---- the division
 
--- the n lowest bytes of a number, the lowest first
-unfoldable pub lowBytes : ℕ → ℕ → List ℕ
-lowBytes zero w = []
-lowBytes (suc n) w = w % 256 ∷ lowBytes n (w / 256)
+-- how far below x^84 the other powers of the sparse multiple of g lie
+abbrev pub delays : List ℕ
+delays = 22 ∷ 23 ∷ 33 ∷ 34 ∷ 35 ∷ 37 ∷ 43 ∷ 44 ∷ 48 ∷ 55 ∷ 58 ∷ 59 ∷ 63 ∷ 65 ∷ 67 ∷ 68 ∷ 69 ∷ 70 ∷ 72 ∷ 77 ∷ 78 ∷ 80 ∷ 82 ∷ 83 ∷ 84 ∷ []
 
--- the sixteen coefficients that two words hold
-abbrev pub coefficients : ℕ → ℕ → List ℕ
-coefficients upper lower = lowBytes 8 upper ++ lowBytes 8 lower
+-- x, and what stands in q so many places before place n, for each delay
+unfoldable pub delayedSum : List ℕ → List ℕ → ℕ → ℕ → ℕ
+delayedSum [] q n x = x
+delayedSum (d ∷ ds) q n x = delayedSum ds q n (bitXor x (getD q (n - d) 0))
 
--- i of the entries after those from to from + size: each is the sum of the entry size before it and a row. An entry is two words.
-pub record Extended (old new : List ℕ) (from size i upper lower : ℕ) : Type 0 where
-  pub len : length new ≡ length old
-  pub first : (n : ℕ) → n < i → getD new ((from + size + n) * 2) 0 ≡ bitXor (getD old ((from + n) * 2) 0) upper
-  pub second : (n : ℕ) → n < i → getD new ((from + size + n) * 2 + 1) 0 ≡ bitXor (getD old ((from + n) * 2 + 1) 0) lower
-  pub before : (k : ℕ) → k < (from + size) * 2 → getD new k 0 ≡ getD old k 0
-  pub after : (k : ℕ) → (from + size + i) * 2 ≤ k → getD new k 0 ≡ getD old k 0
+-- the same for the sixteen elements of v, from place n on
+pub record DelayedSums (ds q : List ℕ) (n : ℕ) (v r : List ℕ) : Type 0 where
+  pub each : (j : ℕ) → j < 16 → getD r j 0 ≡ delayedSum ds q (n + j) (getD v j 0)
 
--- a table has an entry for each value of the low half of a byte, and then one for each of the high half
-abbrev pub lowEntry : List ℕ → ℕ → List ℕ
-lowEntry m n = coefficients (getD m (n * 2) 0) (getD m (n * 2 + 1) 0)
+-- the first i coefficients of the quotient of m by the sparse multiple, from place 84 on, between zeros
+pub record SparseQuotient (m q : List ℕ) (i : ℕ) : Type 0 where
+  pub before : (k : ℕ) → k < 84 → getD q k 0 ≡ 0
+  pub each : (k : ℕ) → k < i → getD q (84 + k) 0 ≡ delayedSum delays q (84 + k) (getD m k 0)
+  pub after : (k : ℕ) → 84 + i ≤ k → getD q k 0 ≡ 0
 
-abbrev pub highEntry : List ℕ → ℕ → List ℕ
-highEntry m n = coefficients (getD m (n * 2 + 32) 0) (getD m (n * 2 + 32 + 1) 0)
+-- what is left of m after 128 coefficients of the quotient: i elements of it
+pub record SparseRemainder (m q r : List ℕ) (i : ℕ) : Type 0 where
+  pub each : (k : ℕ) → k < i → getD r k 0 ≡ delayedSum delays q (212 + k) (getD m (128 + k) 0)
 
--- the multiples of the generator's tail by the halves of a byte
-pub record Multiples (m : List ℕ) : Type 0 where
-  pub low : (n : ℕ) → n < 16 → lowEntry m n ≡ scaled n generatorTail
-  pub high : (n : ℕ) → n < 16 → highEntry m n ≡ scaled (n * 16) generatorTail
+-- s, and lane by lane the products of two rows
+unfoldable pub reducedOf : List ℕ → List ℕ → List ℕ → List ℕ → List ℕ → List ℕ
+reducedOf s f following g generator = plus numbers (plus numbers s (productsOf following f)) (productsOf generator g)
 
--- each entry after one step more of the division
-pub record Following (m f : List ℕ) : Type 0 where
-  pub low : (n : ℕ) → n < 16 → lowEntry f n ≡ divided (lowEntry m n) 0
-  pub high : (n : ℕ) → n < 16 → highEntry f n ≡ divided (highEntry m n) 0
+-- the same values at the sixteen roots of g
+pub record SameValues (a b : List ℕ) : Type 0 where
+  pub each : (j : ℕ) → j < 16 → eval (ops bytes) (word a) (point j) ≡ eval (ops bytes) (word b) (point j)
 
 -- ---- the residue
 

@@ -83,11 +83,9 @@ fn repair(block: &mut [u8], residue: [u8; 16]) -> Decoded
     requires { ⌜ (length (now block) ≡ 204) × (residue ≡ residueOf (now block)) ⌝ }
     ensures { λ r. ⌜ Decodes (now (block .entry)) (now (block .exit)) r ⌝ }
 {
-    let x = syndromes::powers();
-    let s = syndromes::syndromes(residue, &x);
+    let s = syndromes::syndromes(residue);
     let q = error_locator::locator(s);
-    let v = error_correction::evaluate(q, &x);
-    let roots = error_correction::find_roots(&v, &x);
+    let roots = error_correction::find_roots(q);
     let degrees = roots.degrees;
     let places = roots.places;
     let count = roots.count;

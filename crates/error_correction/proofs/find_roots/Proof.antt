@@ -1,42 +1,69 @@
--- `error_correction::find_roots` meets its contract: the zeros among the first i values are listed.
+-- `error_correction::find_roots` meets its contract: the roots among the first i degrees are listed, and x has the next sixteen places.
 -- Assumes nothing.
-use mathlib.Core.Logic.{⊎-elim}
-use Prim.Native.Nat.{_-_, _≤_}
+use mathlib.Core.Path.{_≡_, sym}
+use Prim.Native.Nat.{_-_, _%_, _≤_}
 use native.Mathlib.Omega.{arith}
-use Rattle.error_correction.proofs.RootSearch.{Searched, searched-none, searched-room, searched-skip, searched-more, searched-all, searched-as}
+use lib.ListN.{length, take, drop}
+use Rattle.byte_lanes.specs.Lanes.{PowersFrom}
+use Rattle.byte_lanes.proofs.Powers.{powers-next}
+use Rattle.error_correction.specs.Correction.{valuesOf}
+use Rattle.error_correction.proofs.RootSearch.{ends-of, length-prefix, lanes-next, Searched, searched-none, searched-room, searched-more, searched-all}
 use borrow.Author.Needs.{needs}
 use Rattle.error_correction.proofs.find_roots.Statement.{statement}
 use Rattle.error_correction.proofs.find_roots.Tie as tie
 
 abbrev Inv-loop : tie.InvT-loop
-Inv-loop v x degrees₀ places₀ count₀ i₀ degrees places count i = Searched v x degrees places count i
+Inv-loop q end found₀ x₀ i₀ found x i = (i ≤ 208) × (i % 16 ≡ 0) × (length x ≡ 16) × PowersFrom i x × Searched q (found .degrees) (found .places) (found .count) i
 
 abbrev μ-loop : tie.MeasureT-loop
-μ-loop v x degrees₀ places₀ count₀ i₀ degrees places count i = 204 - i
+μ-loop q end found₀ x₀ i₀ found x i = 208 - i
 
-room : (c : tie.At-loop Inv-loop μ-loop) → c .loop .count ≤ 8
-room c = searched-room _ _ _ _ _ _ (c .before .pre .1) (c .loop .inv)
+-- the lanes are the next of the values
+next : (e : tie.After-evaluate Inv-loop μ-loop)
+    → take (204 - e .before .before .before .loop .i) (e .evaluate .result) ≡ take 16 (drop (e .before .before .before .loop .i) (valuesOf (e .before .before .before .before .before .before .before .args .t1)))
+next e =
+    let s = e .before .before .before .before .before .before .before in
+    let d = e .before .before .before .before .before .degree in
+    let l = e .before .before .before .loop in
+    lanes-next (s .args .t1) (l .x) (e .evaluate .result) (l .i) (d .result) (omega (arith, l .inv .1)) (l .inv .3) (e .evaluate .ensures) (ends-of (s .args .t1) (d .result) (s .good .0 .1 .0 .1) (d .ensures .0))
+
+slice-aggregate-degree : tie.Need-slice-aggregate-degree Inv-loop μ-loop
+slice-aggregate-degree c = search needs
+
+degree-requires : tie.Need-degree-requires Inv-loop μ-loop
+degree-requires c κs = omega (arith, c .before .good .0 .1 .0 .1)
+
+add-end : tie.Need-add-end Inv-loop μ-loop
+add-end c = omega (arith, c .degree .ensures .0 .most)
+
+first-powers-requires : tie.Need-first-powers-requires Inv-loop μ-loop
+first-powers-requires c κs = search needs
 
 loop-holds : tie.Need-loop-holds Inv-loop μ-loop
-loop-holds c = searched-none _ _
+loop-holds c = (search needs, search needs, c .first-powers .ok .1 .0 .1, c .first-powers .ensures, searched-none _)
 
-cast-at : tie.Need-cast-at Inv-loop μ-loop
-cast-at c = search needs
+array-share-prefix-q : tie.Need-array-share-prefix-q Inv-loop μ-loop
+array-share-prefix-q c = omega (arith, c .before .before .before .degree .ensures .0 .most, c .before .before .before .before .before .good .0 .1 .0 .1)
 
-shared-slice-read-if1 : tie.Need-shared-slice-read-if1 Inv-loop μ-loop
-shared-slice-read-if1 c = search needs
+slice-aggregate-evaluate : tie.Need-slice-aggregate-evaluate Inv-loop μ-loop
+slice-aggregate-evaluate c =
+    let s = c .before .before .before .before .before .before in
+    let d = c .before .before .before .before .degree in
+    sym (length-prefix (s .args .t1) (d .result) (s .good .0 .1 .0 .1) (d .ensures .0))
 
-array-write-degrees : tie.Need-array-write-degrees Inv-loop μ-loop
-array-write-degrees c = omega (arith, room (c .before .before .before))
+evaluate-requires : tie.Need-evaluate-requires Inv-loop μ-loop
+evaluate-requires c κs =
+    let s = c .before .before .before .before .before .before in
+    let d = c .before .before .before .before .degree in
+    omega (arith, length-prefix (s .args .t1) (d .result) (s .good .0 .1 .0 .1) (d .ensures .0))
 
-element-copy-out-places : tie.Need-element-copy-out-places Inv-loop μ-loop
-element-copy-out-places c = search needs
+list-zeros-requires : tie.Need-list-zeros-requires Inv-loop μ-loop
+list-zeros-requires c κs =
+    let l = c .before .before .before .before .before .loop in
+    (omega (arith, l .inv .1), searched-room _ _ _ _ _ (l .inv .4) _ _ (omega (arith, l .inv .1)) (l .inv .3) (next (c .before .before)) (c .before .before .before .before .before .before .before .before .before .pre))
 
-array-write-places : tie.Need-array-write-places Inv-loop μ-loop
-array-write-places c = omega (arith, room (c .before .before .before .before))
-
-add-count : tie.Need-add-count Inv-loop μ-loop
-add-count c = record { fits = omega (arith, room (c .before .before .before .before)) }
+next-powers-requires : tie.Need-next-powers-requires Inv-loop μ-loop
+next-powers-requires c κs = search needs
 
 add-i : tie.Need-add-i Inv-loop μ-loop
 add-i c = search needs
@@ -46,14 +73,16 @@ loop-less c = search needs
 
 loop-again : tie.Need-loop-again Inv-loop μ-loop
 loop-again c =
-    let s = c .before .before .before .before in
-    let l = c .before .before .before .loop in
-    ⊎-elim
-    (λ w. searched-as (w .2) (w .3) (w .4) (searched-more _ _ _ _ _ _ (s .pre .0) (search needs) (l .inv) (room (c .before .before .before)) (w .0 .taken)))
-    (λ w. searched-as (w .1) (w .2) (w .3) (searched-skip _ _ _ _ _ _ (s .pre .0) (search needs) (l .inv) (w .0 .left))) (c .if1 .came)
+    let l = c .before .before .before .before .before .before .before .loop in (
+      omega (arith, l .inv .1),
+      omega (arith, l .inv .1),
+      c .next-powers .ok .1 .0 .1,
+      powers-next _ _ _ (l .inv .2) (c .next-powers .ensures) (l .inv .3),
+      searched-more _ _ _ _ _ (l .inv .4) _ _ (omega (arith, l .inv .1)) (l .inv .3) (next (c .before .before .before .before)) _ _ _ (c .before .list-zeros .ensures),
+    )
 
 returns : tie.Need-returns Inv-loop μ-loop
-returns c = searched-all _ _ _ _ _ _ (search needs) (c .before .loop .inv)
+returns c = searched-all _ _ _ _ _ (c .before .loop .inv .4) (omega (arith, c .before .loop .inv .0))
 
 pub find-roots-spec : {M : Type 1} → statement M
 find-roots-spec =
@@ -61,13 +90,16 @@ find-roots-spec =
     (tie.spec
     Inv-loop
     μ-loop
+    slice-aggregate-degree
+    degree-requires
+    add-end
+    first-powers-requires
     loop-holds
-    cast-at
-    shared-slice-read-if1
-    array-write-degrees
-    element-copy-out-places
-    array-write-places
-    add-count
+    array-share-prefix-q
+    slice-aggregate-evaluate
+    evaluate-requires
+    list-zeros-requires
+    next-powers-requires
     add-i
     loop-less
     loop-again

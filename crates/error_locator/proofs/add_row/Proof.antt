@@ -1,8 +1,8 @@
 -- `error_locator::add_row` meets its contract.
 -- Assumes nothing.
-use mathlib.Core.Path.{ap, ap₂, _∙_}
+use mathlib.Core.Path.{ap₂, _∙_}
 use Rattle.algebra.specs.Polynomial.{plus}
-use Rattle.galois.specs.Field256.{numbers, scaled}
+use Rattle.galois.specs.Field256.{numbers}
 use Rattle.error_locator.proofs.KeyEquations.{added-row}
 use borrow.Author.Needs.{needs}
 use Rattle.error_locator.proofs.add_row.Statement.{statement}
@@ -13,9 +13,6 @@ mul-sixteen c = search needs
 
 sixteen-requires : tie.Need-sixteen-requires
 sixteen-requires c κs = search needs
-
-scale-requires : tie.Need-scale-requires
-scale-requires c κs = search needs
 
 mul-sixteen-2 : tie.Need-mul-sixteen-2
 mul-sixteen-2 c = search needs
@@ -40,10 +37,9 @@ same-length c = search needs
 
 returns : tie.Need-returns
 returns c =
-    let s = c .before .before .before .before .before .before .before .before .before .before .before .before in
-    added-row (s .args .m .now) _ (s .args .i) (s .args .a) (s .pre .0) (s .pre .1) (s .args .j) (c .before .before .before .before .before .sum .result) (s .pre .2)
-    (c .before .before .before .before .before .sum .ensures ∙ ap₂ (plus numbers) (c .before .before .before .before .before .before .sixteen2 .ensures) (c .before .before .before .before .before .before .before .before .scale .ensures ∙ ap (scaled (s .args .a)) (c .before .before .before .before .before .before .before .before .before .sixteen .ensures)))
-    (c .before .before .put .ensures)
+    let s = c .before .before .before .before .before .before .before .before .before .before .before in
+    added-row (s .args .m .now) _ (c .before .before .before .before .before .sum .result) (s .args .i) (s .args .j) (s .pre .0) (s .pre .1) (s .pre .2)
+    (c .before .before .before .before .before .sum .ensures ∙ ap₂ (plus numbers) (c .before .before .before .before .before .before .before .before .sixteen .ensures) (c .before .before .before .before .before .before .sixteen2 .ensures)) (c .before .before .put .ensures)
 
 pub add-row-spec : {M : Type 1} → statement M
 add-row-spec =
@@ -51,7 +47,6 @@ add-row-spec =
     (tie.spec
     mul-sixteen
     sixteen-requires
-    scale-requires
     mul-sixteen-2
     sixteen-requires-2
     sum-requires

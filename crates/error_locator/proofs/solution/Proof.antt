@@ -9,10 +9,10 @@ use Rattle.error_locator.proofs.solution.Statement.{statement}
 use Rattle.error_locator.proofs.solution.Tie as tie
 
 abbrev Inv-loop : tie.InvT-loop
-Inv-loop m k q₀ c₀ q c = Each (SolutionAt m k) 9 q c
+Inv-loop m k d q₀ c₀ q c = Each (SolutionAt m k d) 9 q c
 
 abbrev μ-loop : tie.MeasureT-loop
-μ-loop m k q₀ c₀ q c = 9 - c
+μ-loop m k d q₀ c₀ q c = 9 - c
 
 loop-holds : tie.Need-loop-holds Inv-loop μ-loop
 loop-holds c = each-none refl

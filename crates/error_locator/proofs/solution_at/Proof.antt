@@ -15,13 +15,13 @@ shared-slice-read-result : tie.Need-shared-slice-read-result
 shared-slice-read-result c = search needs
 
 returns : tie.Need-returns
-returns c = solution-below _ _ _ (c .before .if1 .taken)
+returns c = solution-below _ _ _ _ (c .before .if1 .taken)
 
 returns-2 : tie.Need-returns-2
-returns-2 c = solution-own _ _ _ (c .if2 .taken)
+returns-2 c = solution-own _ _ _ _ (c .if2 .taken)
 
 returns-3 : tie.Need-returns-3
-returns-3 c = solution-above _ _ _ (c .before .if1 .left) (c .if2 .left)
+returns-3 c = solution-above _ _ _ _ (c .before .if1 .left) (c .if2 .left)
 
 pub solution-at-spec : {M : Type 1} → statement M
 solution-at-spec =

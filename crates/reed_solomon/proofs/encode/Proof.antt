@@ -3,11 +3,9 @@
 use mathlib.Core.Path.{_≡_, refl, ap, ap₂, _∙_}
 use mathlib.Core.List.{List, _++_}
 use Prim.Native.Nat.{ℕ, _+_}
-use native.Mathlib.Omega.{arith}
 use native.Mathlib.Nat.{zero-add}
 use borrow.Author.Tests.{lt-ltb, le-ltb, eq-eqb, ne-eqb}
 use lib.ListN.{length, take, drop}
-use lib.Seq.{take-all}
 use Rattle.common.proofs.Lists.{put-after}
 use Rattle.reed_solomon.specs.Encode.{checkBytes}
 use Rattle.reed_solomon.proofs.LongDivision.{check-remainder}
@@ -50,9 +48,8 @@ returns-3 c =
     let s = k .before .before .before .before .before in
     let m = s .args .message .now in
     let n : length m ≡ 188 = k .before .before .if1 .left in
-    let e : k .check-bytes .result ≡ checkBytes m = k .check-bytes .ensures ∙ ap checkBytes (take-all 188 m (omega arith)) in
     simp (eq-eqb _ _ (k .before .before .if1 .left), le-ltb _ _ (k .before .if2 .left))
-    (refl, c .before .before .put2 .ensures ∙ written m (s .args .room .now) (p .put .last .1 .1 .0) (k .check-bytes .result) n e (p .put .ensures))
+    (refl, c .before .before .put2 .ensures ∙ written m (s .args .room .now) (p .put .last .1 .1 .0) (k .check-bytes .result) n (k .check-bytes .ensures) (p .put .ensures))
 
 pub encode-spec : {M : Type 1} → statement M
 encode-spec =

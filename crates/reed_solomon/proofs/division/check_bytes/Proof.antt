@@ -1,18 +1,18 @@
 -- `reed_solomon::division::check_bytes` meets its contract.
 -- Assumes nothing.
-use mathlib.Core.Path.{_∙_}
-use borrow.Author.Needs.{needs}
+use Prim.{tt}
+use Rattle.common.proofs.Entries.{bytes-of}
+use Rattle.reed_solomon.proofs.Residue.{check-of-values}
+use borrow.Author.Needs.{needs, elem-fits}
+use mir.Syntax.{w8}
 use Rattle.reed_solomon.proofs.division.check_bytes.Statement.{statement}
 use Rattle.reed_solomon.proofs.division.check_bytes.Tie as tie
 
-divide-message-requires : tie.Need-divide-message-requires
-divide-message-requires c κs = search needs
-
-bytes-requires : tie.Need-bytes-requires
-bytes-requires c κs = search needs
+remainder-requires : tie.Need-remainder-requires
+remainder-requires c κs = search needs
 
 returns : tie.Need-returns
-returns c = c .bytes .ensures ∙ c .before .divide-message .ensures
+returns c = check-of-values _ _ (c .before .before .pre) (c .remainder .ok .1 .0 .1) (bytes-of (c .remainder .result) (λ i. elem-fits w8 w8 (c .remainder .result) _ i (c .remainder .ok .1 .1) tt .fits)) (c .remainder .ensures)
 
 pub check-bytes-spec : {M : Type 1} → statement M
-check-bytes-spec = tie.close (tie.spec divide-message-requires bytes-requires returns)
+check-bytes-spec = tie.close (tie.spec remainder-requires returns)

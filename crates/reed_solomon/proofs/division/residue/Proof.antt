@@ -1,32 +1,18 @@
 -- `reed_solomon::division::residue` meets its contract.
 -- Assumes nothing.
-use mathlib.Core.Path.{ap₂, _∙_}
-use native.Mathlib.Omega.{arith}
-use lib.ListN.{drop, length-drop}
-use lib.Seq.{take-all}
-use Rattle.algebra.specs.Polynomial.{plus}
-use Rattle.galois.specs.Field256.{numbers}
-use Rattle.reed_solomon.specs.Steps.{residueOf}
-use borrow.Author.Needs.{needs}
+use Prim.{tt}
+use Rattle.common.proofs.Entries.{bytes-of}
+use Rattle.reed_solomon.proofs.Residue.{residue-of-values}
+use borrow.Author.Needs.{needs, elem-fits}
+use mir.Syntax.{w8}
 use Rattle.reed_solomon.proofs.division.residue.Statement.{statement}
 use Rattle.reed_solomon.proofs.division.residue.Tie as tie
 
-check-bytes-requires : tie.Need-check-bytes-requires
-check-bytes-requires c κs = search needs
-
-sixteen-requires : tie.Need-sixteen-requires
-sixteen-requires c κs = search needs
-
-sum-requires : tie.Need-sum-requires
-sum-requires c κs = search needs
+remainder-requires : tie.Need-remainder-requires
+remainder-requires c κs = search needs
 
 returns : tie.Need-returns
-unfolding residueOf
-returns c =
-    let b = c .before .before .before .before .args .block .now in
-    c .sum .ensures
-    ∙ ap₂ (plus numbers) (c .before .before .check-bytes .ensures)
-    (c .before .sixteen .ensures ∙ take-all 16 (drop 188 b) (omega (arith, length-drop 188 b)))
+returns c = residue-of-values _ (c .before .before .pre) _ (c .remainder .ok .1 .0 .1) (bytes-of (c .before .before .args .block .now) (λ i. c .before .shared-slice-known .given i .fits)) (bytes-of (c .remainder .result) (λ i. elem-fits w8 w8 (c .remainder .result) _ i (c .remainder .ok .1 .1) tt .fits)) (c .remainder .ensures)
 
 pub residue-spec : {M : Type 1} → statement M
-residue-spec = tie.close (tie.spec check-bytes-requires sixteen-requires sum-requires returns)
+residue-spec = tie.close (tie.spec remainder-requires returns)

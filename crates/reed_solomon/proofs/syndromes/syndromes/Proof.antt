@@ -11,16 +11,14 @@ reversed-requires c κs = search needs
 slice-aggregate-evaluate : tie.Need-slice-aggregate-evaluate
 slice-aggregate-evaluate c = search needs
 
-sixteen-requires : tie.Need-sixteen-requires
-sixteen-requires c κs = search needs
+first-powers-requires : tie.Need-first-powers-requires
+first-powers-requires c κs = search needs
 
 evaluate-requires : tie.Need-evaluate-requires
 evaluate-requires c κs = search needs
 
 returns : tie.Need-returns
-returns c =
-    let s = c .before .before .before .before .before in
-    syndromes-of (s .args .residue) (s .args .x .now) _ _ _ (s .pre) (c .before .before .before .before .reversed .ensures) (c .before .sixteen .ensures) (c .evaluate .ensures)
+returns c = syndromes-of _ _ _ _ (c .before .before .before .reversed .ensures) (c .before .first-powers .ensures) (c .evaluate .ensures)
 
 pub syndromes-spec : {M : Type 1} → statement M
 syndromes-spec =
@@ -28,6 +26,6 @@ syndromes-spec =
     (tie.spec
     reversed-requires
     slice-aggregate-evaluate
-    sixteen-requires
+    first-powers-requires
     evaluate-requires
     returns)
