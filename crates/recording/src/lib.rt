@@ -17,9 +17,9 @@ pub struct Recorded {
 }
 
 // How many bytes of packets were written, and the receiver after it.
-struct Batch {
-    count: usize,
-    receiver: Receiver,
+pub struct Batch {
+    pub count: usize,
+    pub receiver: Receiver,
 }
 
 // How many bytes of packet a call gives.
@@ -34,7 +34,7 @@ fn given_bytes(answer: Answer) -> usize
 }
 
 // Takes the whole blocks, each with a call. Its packet goes into the room after the one before.
-fn receive_blocks(receiver: Receiver, bytes: &[u8], room: &mut [u8]) -> Batch
+pub fn receive_blocks(receiver: Receiver, bytes: &[u8], room: &mut [u8]) -> Batch
     requires { ⌜ 188 * (length (now bytes) / 204) ≤ length (now room) ⌝ }
     ensures { λ r. ⌜ Takes receiver (now (bytes .entry)) (now (room .entry)) (r .count) (r .receiver) (now (room .exit)) ⌝ }
 {
