@@ -21,7 +21,7 @@ uint8_t PLAIN(rs_decode)(uint8_t *block, size_t block_len, uint8_t *count, size_
 uint64_t PLAIN(send_run)(uint8_t rate, const uint8_t *packets, size_t packets_len, uint8_t *room, size_t room_len,
                          uint8_t *answer, size_t answer_len);
 uint64_t PLAIN(receive_run)(const uint8_t *blocks, size_t blocks_len, uint8_t *room, size_t room_len,
-                            uint8_t *counts, size_t counts_len);
+                            uint8_t *counts, size_t counts_len, uint8_t *answer, size_t answer_len);
 
 void PLAIN(scale)(uint8_t *lanes, size_t lanes_len, const uint8_t *factors, size_t factors_len);
 void PLAIN(interleave)(const uint8_t *blocks, size_t blocks_len, uint8_t *room, size_t room_len);
