@@ -59,6 +59,11 @@ module _ {bytes written : List ℕ} {i : StreamReceiver} (r : Reception bytes wr
   pub reception-capacity : capacityOf i ≡ 204 * 4294967295 - length bytes
   reception-capacity = omega (arith, reception-taken, reception-held, r .few)
 
+-- At the last block that can be counted there is no rest, and no byte more can come.
+pub reception-full : {bytes written : List ℕ} {i : StreamReceiver} → Reception bytes written i → i .receiver .counts .taken ≡ 4294967295
+    → (i .held ≡ 0) × (capacityOf i ≡ 0)
+reception-full r e = (omega (arith, reception-held r, reception-taken r, r .few, e), omega (arith, reception-capacity r, reception-taken r, r .few, e))
+
 -- ---- none
 
 pub reception-none : Reception [] [] freshStream
