@@ -130,7 +130,7 @@ unfolding randomizedFrom
 coded-count n [] = refl
 coded-count n (p ∷ ps) = ap suc (coded-count (n + 1) ps)
 
-blocks-count : (cs : List Call) → length (blocksOf cs) ≡ length cs
+pub blocks-count : (cs : List Call) → length (blocksOf cs) ≡ length cs
 blocks-count [] = refl
 blocks-count (c ∷ cs) = ap suc (blocks-count cs)
 
@@ -142,7 +142,7 @@ module _ (packets : List (List ℕ)) (ws : All Packet packets) where
   stream : coded ≡ map encoded (randomizedFrom 0 packets)
   stream = ap (map encoded) (sym (randomized-stream packets (packet-lengths packets ws)))
 
-  coded-size : length coded ≡ length packets
+  pub coded-size : length coded ≡ length packets
   coded-size = ap length stream ∙ coded-count 0 packets
 
   coded-blocks : All (Length 204) coded

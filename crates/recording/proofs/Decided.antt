@@ -28,11 +28,13 @@ use Rattle.receiver.specs.Receive.{freshReceiver, delayedBlock, stepOf, stateAf
 use Rattle.receiver.specs.Run.{Call, Calls, answerOf, after, roomOf, afterCalls, Roomy, blocksOf, packetsGiven}
 use Rattle.receiver.specs.declared.Receiver.{Receiver}
 use Rattle.receiver.proofs.Calls.{ready-number, ready-state, ready-room, left-length}
+use Rattle.interleaver.proofs.Blocks.{length-flatten}
 use Rattle.receiver.proofs.Outcomes.{packet-length}
+use Rattle.receiver.proofs.Reception.{blocks-count}
 use Rattle.receiver.proofs.Reached.{Sound, sound-range, sound-fresh, sound-call, Refused, ready-or-refused}
 use Rattle.recording.specs.Recording.{Recording}
 use Rattle.recording.proofs.Recordings.{givenBy, step-place, recorded-more}
-use Rattle.recording.proofs.Joins.{recording-few, length-whole, blocks-length}
+use Rattle.recording.proofs.Joins.{recording-few}
 
 -- ---- a call on the same block, with room for a packet
 
@@ -134,7 +136,7 @@ cut-block s bytes c cs rest k =
 cut-length : (s : Receiver) (bytes : List ℕ) (cs : List Call) (rest : List ℕ) → Cut s bytes cs rest → length cs ≡ length bytes / 204
 cut-length s bytes cs rest k =
     let w = flatten (blocksOf cs) in
-    omega (arith, length-whole (blocksOf cs) (k .sizes), blocks-length cs, ap length (k .whole), length-append w rest, k .short)
+    omega (arith, length-flatten 204 (blocksOf cs) (k .sizes), blocks-count cs, ap length (k .whole), length-append w rest, k .short)
 
 cuts-same : (s : Receiver) (bytes : List ℕ) (xs ys : List Call) (r t : List ℕ) → Cut s bytes xs r → Cut s bytes ys t → SameCalls s xs ys
 cuts-same s bytes [] [] r t p q = record { given = refl; state = refl }

@@ -12,9 +12,10 @@ use lib.ListN.{length, take, drop, length-append, length-drop, length-take, take
 use lib.Seq.{take-at, drop-at, drop-append-le, drop-drop, take-append-le, length-take-le}
 use Rattle.common.specs.Choice.{pick}
 use Rattle.common.specs.Lists.{All, Length}
-use Rattle.interleaver.proofs.Blocks.{flatten-join}
+use Rattle.interleaver.proofs.Blocks.{flatten-join, length-flatten}
 use Rattle.receiver.specs.Run.{Call, Calls, answerOf, roomOf, after, afterCalls, Roomy, blocksOf, packetsGiven}
 use Rattle.receiver.specs.declared.Receiver.{Receiver}
+use Rattle.receiver.proofs.Reception.{blocks-count}
 use Rattle.recording.specs.Recording.{restOf, Recording, Takes}
 
 -- ---- calls after calls
@@ -43,11 +44,6 @@ given-join s (c ∷ a) b =
 
 -- ---- the rest
 
-pub length-whole : (blocks : List (List ℕ)) → All (Length 204) blocks → length (flatten blocks) ≡ 204 * length blocks
-unfolding flatten
-length-whole [] h = refl
-length-whole (b ∷ bs) h = omega (arith, length-append b (flatten bs), h .0, length-whole bs (h .1))
-
 pub rest-at : (whole rest : List ℕ) (n : ℕ) → length whole ≡ 204 * n → length rest < 204 → restOf (whole ++ rest) ≡ rest
 rest-at whole rest n e h =
     let l = length-append whole rest in
@@ -57,7 +53,7 @@ module _ {s : Receiver} {bytes : List ℕ} {packets : List (List ℕ)} {last : R
   pub recording-rest : r .rest ≡ restOf bytes
   recording-rest =
       let w = flatten (blocksOf (r .calls)) in
-      sym (ap restOf (r .whole) ∙ rest-at w (r .rest) (length (blocksOf (r .calls))) (length-whole (blocksOf (r .calls)) (r .sizes)) (r .short))
+      sym (ap restOf (r .whole) ∙ rest-at w (r .rest) (length (blocksOf (r .calls))) (length-flatten 204 (blocksOf (r .calls)) (r .sizes)) (r .short))
 
 -- ---- the join
 
@@ -141,17 +137,13 @@ given-few s (c ∷ cs) =
     one true = let l = length-append (take 188 (roomOf s c)) [] in omega (arith, l, length-take-most 188 (roomOf s c))
     one false = omega arith
 
-pub blocks-length : (cs : List Call) → length (blocksOf cs) ≡ length cs
-blocks-length [] = refl
-blocks-length (c ∷ cs) = ap suc (blocks-length cs)
-
 -- at most a packet for each whole block
 pub takes-count : {s last : Receiver} {bytes room exit : List ℕ} {count : ℕ} → Takes s bytes room count last exit → count ≤ 188 * (length bytes / 204)
 takes-count {s} {last} {bytes} t =
     let r = t .recording in
     let w = flatten (blocksOf (r .calls)) in
-    let a = length-whole (blocksOf (r .calls)) (r .sizes) in
-    let b = blocks-length (r .calls) in
+    let a = length-flatten 204 (blocksOf (r .calls)) (r .sizes) in
+    let b = blocks-count (r .calls) in
     let l = ap length (r .whole) ∙ length-append w (r .rest) in
     let g : length (flatten (t .packets)) ≤ 188 * length (r .calls) = subst (λ (p : List (List ℕ)). length (flatten p) ≤ 188 * length (r .calls)) (sym (r .given)) (given-few s (r .calls)) in
     omega (arith, t .counted, r .short, a, b, l, g)

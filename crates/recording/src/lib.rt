@@ -5,6 +5,7 @@ ghost use lib.ListN.{length};
 ghost use Rattle.answer.specs.Number.{numberOf};
 ghost use Rattle.receiver.specs.Receive.{freshReceiver};
 ghost use Rattle.recording.specs.Recording.{givenBytes, Takes, ReceivesRecording};
+ghost use Rattle.recording.specs.Returned.{Returns};
 use answer::Answer;
 use receiver::Receiver;
 use reception_counts::Counts;
@@ -94,9 +95,10 @@ pub fn receive_recording(receiver: Receiver, bytes: &[u8], room: &mut [u8]) -> R
     }
 }
 
-// A fresh receiver over a whole recording.
+// A fresh receiver over a whole recording. Where that is what a fresh sender sent, its packets come back.
 pub fn receive_run(bytes: &[u8], room: &mut [u8]) -> Recorded
     ensures { λ r. ⌜ ReceivesRecording freshReceiver (now (bytes .entry)) (now (room .entry)) (numberOf (r .answer)) (r .count) (r .receiver) (now (room .exit)) ⌝ }
+    ensures { λ r. ⌜ Returns (now (bytes .entry)) (now (room .entry)) (numberOf (r .answer)) (r .count) (now (room .exit)) ⌝ }
 {
     let receiver = Receiver::new();
     receive_recording(receiver, bytes, room)

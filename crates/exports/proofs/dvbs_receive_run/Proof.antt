@@ -70,7 +70,7 @@ returns-3 : tie.Need-returns-3
 returns-3 c =
     let r = c .before .before .before .before in
     let a = c .before .before .before .before .before .before .before .before .before .before .before .before .args in
-    let f = run-refused (r .receive-run .ensures) (λ e. c .if3 .taken (c .before .number .ensures ∙ e)) in
+    let f = run-refused (r .receive-run .ensures .0) (λ e. c .if3 .taken (c .before .number .ensures ∙ e)) in
     let n = c .before .number .ensures ∙ f .0 ∙ sym (enough-counts (a .blocks .now) (a .room .now) (a .counts .now) (r .before .before .if2 .left)) in
     refused (r .before .before .before .if1 .left) (subst (λ (k : ℕ). 0 < k) n (some _ (c .if3 .taken))) refl (f .1) refl (ap (set (a .answer .now) 0) n)
 
@@ -92,7 +92,7 @@ returns-4 c =
     let e = p .before .before .before .before in
     let r = e .before .before .before .before in
     let a = r .before .before .before .before .before .before .before .before .args in
-    let t = run-taken (r .receive-run .ensures) (sym (e .before .number .ensures) ∙ e .if3 .left) in
+    let t = run-taken (r .receive-run .ensures .0) (sym (e .before .number .ensures) ∙ e .if3 .left) in
     taken (r .before .before .before .if1 .left) (enough-counts (a .blocks .now) (a .room .now) (a .counts .now) (r .before .before .if2 .left) ∙ t .0)
     (r .receive-run .result .receiver) (t .1) (p .put-counts .ensures) (ap (set (a .answer .now) 0) (e .if3 .left))
 

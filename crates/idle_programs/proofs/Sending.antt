@@ -16,11 +16,12 @@ use Rattle.puncturing.specs.Mode.{modeOf}
 use Rattle.puncturing.specs.Step.{patternLength, symbolsIn}
 use Rattle.sender.specs.Standard.{onAir}
 use Rattle.sender.specs.Input.{packetsFor}
-use Rattle.sender.proofs.Inputs.{packets-kept, bytes-replicate}
+use Rattle.sender.proofs.Inputs.{packets-kept}
 use Rattle.sender.proofs.Counts.{length-on-air}
 use Rattle.sender.proofs.Distinct.{same-bits}
 use Rattle.transmission.specs.Run.{packetsOf, runSymbols, runRefusal, Runs}
 use Rattle.transmission.proofs.Buffers.{packets-none, packets-more}
+use Rattle.idle_programs.proofs.Samples.{samples, samples-packets, samples-length, samples-front, last-byte}
 
 -- what a program leaves after a run
 pub record Left : Type 0 where
@@ -78,35 +79,6 @@ kept f keeps ps room g h =
       counted = r .counted ∙ simp z n;
       written = r .written ∙ simp z (ap₂ (λ (a : List ℕ) (k : ℕ). a ++ drop k room) (ap (onAir (modeOf 0)) e) n);
     }
-
--- ---- lists of k + 1 packets
-
-sample : ℕ → List ℕ
-sample v = 0x47 ∷ replicate 187 v
-
-sample-packet : (v : ℕ) → v < 256 → Packet (sample v)
-unfolding sample
-sample-packet v h = record { size = ap suc (length-replicate {A = ℕ} 187 v); bytes = (omega arith, bytes-replicate 187 v h); sync = refl }
-
-samples : ℕ → ℕ → List (List ℕ)
-samples k v = replicate k (sample 0) ++ sample v ∷ []
-
-samples-packets : (k v : ℕ) → v < 256 → All Packet (samples k v)
-unfolding samples
-samples-packets zero v h = (sample-packet v h, tt)
-samples-packets (suc k) v h = (sample-packet 0 (omega arith), samples-packets k v h)
-
-samples-length : (k v : ℕ) → length (samples k v) ≡ k + 1
-unfolding samples
-samples-length k v = length-append (replicate k (sample 0)) (sample v ∷ []) ∙ ap (λ (n : ℕ). n + 1) (length-replicate {A = List ℕ} k (sample 0))
-
-samples-front : (k v : ℕ) → take k (samples k v) ≡ replicate k (sample 0)
-unfolding samples
-samples-front k v = take-at (replicate k (sample 0)) (sample v ∷ []) k (length-replicate {A = List ℕ} k (sample 0))
-
-last-byte : (k v : ℕ) → getD (getD (samples k v) k []) 12 0 % 2 ≡ v % 2
-unfolding samples sample
-last-byte k v = ap (λ (p : List ℕ). getD p 12 0 % 2) (getD-at (replicate k (sample 0)) (sample v) [] [] k (length-replicate {A = List ℕ} k (sample 0)))
 
 -- a room for n packets
 room-of : ℕ → ℕ → List ℕ
