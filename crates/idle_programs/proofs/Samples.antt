@@ -2,11 +2,11 @@
 -- Assumes nothing.
 use mathlib.Core.Path.{_≡_, refl, ap, _∙_}
 use mathlib.Core.List.{List, [], _∷_, _++_}
-use Prim.Native.Nat.{ℕ, zero, suc, _+_, _%_, _<_}
+use Prim.Native.Nat.{ℕ, zero, suc, _+_, _%_, _≤_, _<_}
 use Prim.{tt}
 use native.Mathlib.Omega.{arith}
 use lib.ListN.{length, getD, take, replicate, length-append, length-replicate}
-use lib.Seq.{take-at, getD-at}
+use lib.Seq.{take-append-le, getD-at}
 use Rattle.common.specs.Lists.{All}
 use Rattle.randomizer.specs.Stream.{Packet}
 use Rattle.sender.proofs.Inputs.{bytes-replicate}
@@ -30,9 +30,10 @@ pub samples-length : (k v : ℕ) → length (samples k v) ≡ k + 1
 unfolding samples
 samples-length k v = length-append (replicate k (sample 0)) (sample v ∷ []) ∙ ap (λ (n : ℕ). n + 1) (length-replicate {A = List ℕ} k (sample 0))
 
-pub samples-front : (k v : ℕ) → take k (samples k v) ≡ replicate k (sample 0)
+pub samples-front : (j k v : ℕ) → j ≤ k → take j (samples k v) ≡ take j (replicate k (sample 0))
 unfolding samples
-samples-front k v = take-at (replicate k (sample 0)) (sample v ∷ []) k (length-replicate {A = List ℕ} k (sample 0))
+samples-front j k v h =
+    take-append-le (replicate k (sample 0)) (sample v ∷ []) j (omega (arith, length-replicate {A = List ℕ} k (sample 0)))
 
 pub last-byte : (k v : ℕ) → getD (getD (samples k v) k []) 12 0 % 2 ≡ v % 2
 unfolding samples sample

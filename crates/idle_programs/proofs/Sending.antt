@@ -1,23 +1,33 @@
--- Three idle programs do not fit the promise of a run: one answer for all, nothing written, and symbols that only the first packets decide.
--- Each is refuted on lists of more than k packets, whatever k is, so on lists longer than a group.
+-- Three idle programs do not fit the promise of `send_run`, at any rate: one answer for all, nothing written, and symbols that only the first
+-- packets decide. Each would leave the same for two lists of packets that differ in the last one, and the symbols tell those apart.
+-- The lists have more than k packets, whatever k is, and make whole puncturing patterns.
 -- Assumes nothing.
 use mathlib.Core.Path.{_≡_, refl, ap, ap₂, sym, _∙_}
-use mathlib.Core.List.{List, [], _∷_, _++_, flatten}
-use Prim.Native.Nat.{ℕ, zero, suc, _+_, _*_, _%_, _≤_, _<_}
+use mathlib.Core.List.{List, [], _∷_, _++_, append-nil, flatten}
+use Prim.Native.Nat.{ℕ, zero, suc, _+_, _-_, _*_, _%_, _≤_, _<_}
 use native.Mathlib.Omega.{arith}
-use borrow.Author.Tests.{eq-eqb, le-ltb}
-use lib.ListN.{length, getD, take, drop, replicate, length-append, length-replicate, getD-replicate, List·getD-append}
-use lib.Seq.{take-at, drop-at, getD-at}
+use borrow.Author.Tests.{eq-eqb, lt-ltb, le-ltb}
+use lib.ListN.{length, take, replicate, length-append, length-replicate, drop-of-length-le}
+use lib.Seq.{take-at, drop-at}
 use Rattle.common.specs.Lists.{All, Length}
 use Rattle.randomizer.specs.Stream.{Packet}
 use Rattle.randomizer.proofs.Whole.{packet-lengths}
 use Rattle.interleaver.proofs.Blocks.{length-flatten}
+use Rattle.convolutional_code.specs.Bits.{bitsOf, Bits}
+use Rattle.convolutional_code.proofs.Bits.{bits-bits}
 use Rattle.puncturing.specs.Mode.{modeOf}
 use Rattle.puncturing.specs.Step.{patternLength, symbolsIn}
-use Rattle.sender.specs.Standard.{onAir}
+use Rattle.inner_code.specs.Stream.{symbols}
+use Rattle.inner_code.specs.Step.{symbolsOf}
+use Rattle.inner_code.specs.Encode.{freshCoder}
+use Rattle.inner_code.proofs.Stream.{symbols-fresh}
+use Rattle.run_reader.specs.Cost.{coderAt}
+use Rattle.run_reader.proofs.Patterns.{sent-whole}
+use Rattle.run_reader.proofs.Unharmed.{hard-decoded, own-best}
+use Rattle.sender.specs.Standard.{interleavedBlocks, onAir}
 use Rattle.sender.specs.Input.{packetsFor}
 use Rattle.sender.proofs.Inputs.{packets-kept}
-use Rattle.sender.proofs.Counts.{length-on-air}
+use Rattle.sender.proofs.Counts.{block-bits, length-on-air}
 use Rattle.sender.proofs.Distinct.{same-bits}
 use Rattle.transmission.specs.Run.{packetsOf, runSymbols, runRefusal, Runs}
 use Rattle.transmission.proofs.Buffers.{packets-none, packets-more}
@@ -47,91 +57,104 @@ packets-flatten (p ∷ ps) g =
     ∙ ap₂ (λ (a : List ℕ) (b : List (List ℕ)). a ∷ b) (take-at p (flatten ps) 188 (g .0))
     (ap packetsOf (drop-at p (flatten ps) 188 (g .0)) ∙ packets-flatten ps (g .1))
 
--- ---- rate 1/2 gives a symbol for each bit
+-- ---- the symbols of whole patterns decide the bits
 
-each-bit : (n : ℕ) → symbolsIn 0 0 n ≡ n
-unfolding symbolsIn patternLength modeOf
-each-bit zero = refl
-each-bit (suc n) = ap (λ (m : ℕ). 1 + m) (each-bit n) ∙ one-more n
-  where
-    one-more : (n : ℕ) → 1 + n ≡ suc n
-    one-more n = omega arith
+decided : (rate : ℕ) → rate < 5 → {bs cs : List ℕ} → Bits bs → Bits cs → length bs % patternLength rate ≡ 0 → length cs % patternLength rate ≡ 0
+    → symbols (modeOf rate) bs ≡ symbols (modeOf rate) cs → bs ≡ cs
+unfolding freshCoder
+decided rate h {bs} {cs} b c m n e =
+    let ss = symbolsOf (coderAt rate 0) bs in
+    let q = sent-whole rate 0 h (omega arith) bs b m ss refl in
+    let d = hard-decoded rate 0 h (omega arith) ss (q .0) .decoded in
+    let f : ss ≡ symbolsOf (coderAt rate 0) cs = symbols-fresh rate h b ∙ e ∙ sym (symbols-fresh rate h c) in
+    sym (own-best rate 0 h (omega arith) b m ss refl d .0) ∙ own-best rate 0 h (omega arith) c n ss f d .0
 
-half-length : (ps : List (List ℕ)) → length (onAir (modeOf 0) ps) ≡ 1632 * length ps
-half-length ps = length-on-air 0 (omega arith) ps ∙ each-bit (1632 * length ps)
+-- 35 blocks make whole patterns at every rate
+whole-patterns : (rate j : ℕ) → rate < 5 → 1632 * (35 * j) % patternLength rate ≡ 0
+unfolding patternLength modeOf
+whole-patterns zero j h = omega arith
+whole-patterns (suc zero) j h = omega arith
+whole-patterns (suc (suc zero)) j h = omega arith
+whole-patterns (suc (suc (suc zero))) j h = omega arith
+whole-patterns (suc (suc (suc (suc zero)))) j h = omega arith
+whole-patterns (suc (suc (suc (suc (suc rate))))) j h = absurd (omega arith)
 
--- ---- what the promise says of a list of packets, at rate 1/2
+-- ---- what the promise says of a list of packets
 
-pub record Kept (f : Program) (ps : List (List ℕ)) (room : List ℕ) : Type 0 where
-  pub counted : f 0 (flatten ps) room .count ≡ 1632 * length ps
-  pub written : f 0 (flatten ps) room .room ≡ onAir (modeOf 0) ps ++ drop (1632 * length ps) room
+-- just room enough for n packets
+roomFor : ℕ → ℕ → List ℕ
+roomFor rate n = replicate (symbolsIn rate 0 (1632 * n)) 0
 
-kept : (f : Program) → Keeps f → (ps : List (List ℕ)) (room : List ℕ) → All Packet ps → 1632 * length ps ≤ length room → Kept f ps room
-kept f keeps ps room g h =
-    let l = packet-lengths ps g in
-    let e : packetsFor (packetsOf (flatten ps)) ≡ ps = ap packetsFor (packets-flatten ps l) ∙ packets-kept ps g in
-    let n : length (runSymbols 0 (flatten ps)) ≡ 1632 * length ps = ap (λ (x : List (List ℕ)). length (onAir (modeOf 0) x)) e ∙ half-length ps in
-    let w : length (flatten ps) % 188 ≡ 0 = (let m = length-flatten 188 ps l in omega arith) in
-    let t : length (runSymbols 0 (flatten ps)) ≤ length room = omega arith in
-    let z : runRefusal 0 (flatten ps) room ≡ 0 = simp (eq-eqb _ _ w, le-ltb _ _ t) in
-    let r = keeps 0 (flatten ps) room in
-    record {
-      counted = r .counted ∙ simp z n;
-      written = r .written ∙ simp z (ap₂ (λ (a : List ℕ) (k : ℕ). a ++ drop k room) (ap (onAir (modeOf 0)) e) n);
-    }
+module _ (f : Program) (keeps : Keeps f) (rate : ℕ) (h : rate < 5) where
+  kept : (ps : List (List ℕ)) → All Packet ps → f rate (flatten ps) (roomFor rate (length ps)) .room ≡ onAir (modeOf rate) ps
+  unfolding roomFor
+  kept ps g =
+      let l = packet-lengths ps g in
+      let room = roomFor rate (length ps) in
+      let e : packetsFor (packetsOf (flatten ps)) ≡ ps = ap packetsFor (packets-flatten ps l) ∙ packets-kept ps g in
+      let n : length (runSymbols rate (flatten ps)) ≡ symbolsIn rate 0 (1632 * length ps) = ap (λ (x : List (List ℕ)). length (onAir (modeOf rate) x)) e ∙ length-on-air rate h ps in
+      let k : length room ≡ symbolsIn rate 0 (1632 * length ps) = length-replicate {A = ℕ} (symbolsIn rate 0 (1632 * length ps)) 0 in
+      let w : length (flatten ps) % 188 ≡ 0 = (let m = length-flatten 188 ps l in omega arith) in
+      let t : length (runSymbols rate (flatten ps)) ≤ length room = omega arith in
+      let z : runRefusal rate (flatten ps) room ≡ 0 = simp (lt-ltb _ _ h, eq-eqb _ _ w, le-ltb _ _ t) in
+      keeps rate (flatten ps) room .written ∙ simp z
+      (ap (λ (d : List ℕ). runSymbols rate (flatten ps) ++ d) (drop-of-length-le room {i = length (runSymbols rate (flatten ps))} (omega arith))
+      ∙ append-nil (runSymbols rate (flatten ps)) ∙ ap (onAir (modeOf rate)) e)
 
--- a room for n packets
-room-of : ℕ → ℕ → List ℕ
-room-of n v = replicate (1632 * n) v
+  module _ (k : ℕ) where
+    -- how many packets come before the last
+    before : ℕ
+    before = 35 * (k + 1) - 1
 
-room-length : (n v : ℕ) → length (room-of n v) ≡ 1632 * n
-unfolding room-of
-room-length n v = length-replicate {A = ℕ} (1632 * n) v
+    size : (v : ℕ) → length (samples before v) ≡ 35 * (k + 1)
+    unfolding before
+    size v = samples-length before v ∙ omega arith
 
-room-start : (k v : ℕ) → getD (room-of (k + 1) v) 0 0 ≡ v
-unfolding room-of
-room-start k v = getD-replicate (1632 * (k + 1)) 0 v 0 (omega arith)
+    room : List ℕ
+    room = roomFor rate (35 * (k + 1))
 
-module _ (f : Program) (keeps : Keeps f) (k : ℕ) where
-  sampled : (n v w : ℕ) → v < 256 → Kept f (samples n v) (room-of (n + 1) w)
-  sampled n v w h = kept f keeps (samples n v) (room-of (n + 1) w) (samples-packets n v h) (omega (arith, samples-length n v, room-length (n + 1) w))
+    -- the two lists are told apart
+    told-apart : f rate (flatten (samples before 0)) room .room ≡ f rate (flatten (samples before 1)) room .room → ⊥
+    unfolding room onAir
+    told-apart e =
+        let h0 = samples-packets before 0 (omega arith) in
+        let h1 = samples-packets before 1 (omega arith) in
+        let air : onAir (modeOf rate) (samples before 0) ≡ onAir (modeOf rate) (samples before 1) =
+        sym (kept (samples before 0) h0) ∙ ap (λ (n : ℕ). f rate (flatten (samples before 0)) (roomFor rate n) .room) (size 0)
+        ∙ e ∙ ap (λ (n : ℕ). f rate (flatten (samples before 1)) (roomFor rate n) .room) (sym (size 1)) ∙ kept (samples before 1) h1 in
+        let bits = λ (v : ℕ). flatten (interleavedBlocks (samples before v)) in
+        let whole : (v : ℕ) → length (bitsOf (bits v)) % patternLength rate ≡ 0 =
+        λ v. ap (λ (n : ℕ). n % patternLength rate) (block-bits (samples before v) ∙ ap (λ (n : ℕ). 1632 * n) (size v)) ∙ whole-patterns rate (k + 1) h in
+        let s = decided rate h (bits-bits (bits 0)) (bits-bits (bits 1)) (whole 0) (whole 1) air in
+        let b =
+        same-bits (samples before 0) (samples before 1) (packet-lengths (samples before 0) h0) (packet-lengths (samples before 1) h1) s before
+        (omega (arith, samples-length before 0)) (omega (arith, samples-length before 1)) in
+        let z : _≡_ {A = ℕ} 0 1 = sym (last-byte before 0) ∙ b ∙ last-byte before 1 in
+        omega arith
 
-  -- one answer for all lists of more than k packets
-  pub one-answer : (left : Left) → ((ps : List (List ℕ)) → All Packet ps → k < length ps → (room : List ℕ) → f 0 (flatten ps) room ≡ left) → ⊥
-  one-answer left same = omega (arith, count k (omega arith), count (k + 1) (omega arith))
-    where
-      count : (n : ℕ) → k ≤ n → left .count ≡ 1632 * (n + 1)
-      count n h =
-          let e = same (samples n 0) (samples-packets n 0 (omega arith)) (omega (arith, samples-length n 0)) (room-of (n + 1) 0) in
-          sym (ap (λ (x : Left). x .count) e) ∙ sampled n 0 0 (omega arith) .counted ∙ ap (λ (m : ℕ). 1632 * m) (samples-length n 0)
+    many : (v : ℕ) → k < length (samples before v)
+    many v = omega (arith, size v)
 
-  -- nothing is written for lists of more than k packets
-  pub writes-nothing : ((ps : List (List ℕ)) → All Packet ps → k < length ps → (room : List ℕ) → f 0 (flatten ps) room .room ≡ room) → ⊥
-  writes-nothing same = let z : _≡_ {A = ℕ} 0 1 = sym (first 0) ∙ first 1 in omega arith
-    where
-      first : (w : ℕ) → getD (onAir (modeOf 0) (samples k 0)) 0 0 ≡ w
-      first w =
-          let n = half-length (samples k 0) in
-          let m = samples-length k 0 in
-          let e = sym (same (samples k 0) (samples-packets k 0 (omega arith)) (omega arith) (room-of (k + 1) w)) ∙ sampled k 0 w (omega arith) .written in
-          sym (List·getD-append (onAir (modeOf 0) (samples k 0)) (drop (1632 * length (samples k 0)) (room-of (k + 1) w)) 0 0 (omega arith))
-          ∙ ap (λ (l : List ℕ). getD l 0 0) (sym e)
-          ∙ room-start k w
+    -- one answer for all lists of more than k packets
+    pub one-answer : (left : Left) → ((ps : List (List ℕ)) → All Packet ps → k < length ps → (room : List ℕ) → f rate (flatten ps) room ≡ left) → ⊥
+    one-answer left same = told-apart (ap (λ (x : Left). x .room) (at 0 (omega arith) ∙ sym (at 1 (omega arith))))
+      where
+        at : (v : ℕ) → v < 256 → f rate (flatten (samples before v)) room ≡ left
+        at v l = same (samples before v) (samples-packets before v l) (many v) room
 
-  -- The first k packets, and how many there are, decide what is written. With k = 1 that is a program that codes the first packet and pretends after.
-  pub pretends-after : ((ps qs : List (List ℕ)) → All Packet ps → All Packet qs → take k ps ≡ take k qs → length ps ≡ length qs → (room : List ℕ)
-      → f 0 (flatten ps) room .room ≡ f 0 (flatten qs) room .room) → ⊥
-  pretends-after same =
-      let h0 = samples-packets k 0 (omega arith) in
-      let h1 = samples-packets k 1 (omega arith) in
-      let n0 = samples-length k 0 in
-      let n1 = samples-length k 1 in
-      let e = same (samples k 0) (samples k 1) h0 h1 (samples-front k 0 ∙ sym (samples-front k 1)) (n0 ∙ sym n1) (room-of (k + 1) 0) in
-      let d = sym (sampled k 0 0 (omega arith) .written) ∙ e ∙ sampled k 1 0 (omega arith) .written in
-      let air : onAir (modeOf 0) (samples k 0) ≡ onAir (modeOf 0) (samples k 1) = sym (front 0) ∙ ap (take (1632 * (k + 1))) d ∙ front 1 in
-      let b = same-bits (samples k 0) (samples k 1) (packet-lengths (samples k 0) h0) (packet-lengths (samples k 1) h1) air k (omega arith) (omega arith) in
-      let z : _≡_ {A = ℕ} 0 1 = sym (last-byte k 0) ∙ b ∙ last-byte k 1 in
-      omega arith
-    where
-      front : (v : ℕ) → take (1632 * (k + 1)) (onAir (modeOf 0) (samples k v) ++ drop (1632 * length (samples k v)) (room-of (k + 1) 0)) ≡ onAir (modeOf 0) (samples k v)
-      front v = take-at (onAir (modeOf 0) (samples k v)) _ (1632 * (k + 1)) (half-length (samples k v) ∙ ap (λ (n : ℕ). 1632 * n) (samples-length k v))
+    -- nothing is written for lists of more than k packets
+    pub writes-nothing : ((ps : List (List ℕ)) → All Packet ps → k < length ps → (room : List ℕ) → f rate (flatten ps) room .room ≡ room) → ⊥
+    writes-nothing same = told-apart (at 0 (omega arith) ∙ sym (at 1 (omega arith)))
+      where
+        at : (v : ℕ) → v < 256 → f rate (flatten (samples before v)) room .room ≡ room
+        at v l = same (samples before v) (samples-packets before v l) (many v) room
+
+    -- The first k packets, and how many there are, decide what is written. With k = 1 that is a program that codes the first packet and
+    -- pretends after.
+    pub pretends-after : ((ps qs : List (List ℕ)) → All Packet ps → All Packet qs → take k ps ≡ take k qs → length ps ≡ length qs → (room : List ℕ)
+        → f rate (flatten ps) room .room ≡ f rate (flatten qs) room .room) → ⊥
+    unfolding before
+    pretends-after same =
+        told-apart
+        (same (samples before 0) (samples before 1) (samples-packets before 0 (omega arith)) (samples-packets before 1 (omega arith))
+        (samples-front k before 0 (omega arith) ∙ sym (samples-front k before 1 (omega arith))) (size 0 ∙ sym (size 1)) room)
