@@ -150,10 +150,10 @@ module _ (f : Program) (keeps : Keeps f) (k : ℕ) (few : k + 12 ≤ 4294967294)
 
   -- nothing is written for recordings of more than k packets
   pub writes-nothing : ((ps : List (List ℕ)) → All Packet ps → k < length ps → (room : List ℕ) → f (sentBytes ps) room .room ≡ room) → ⊥
+  unfolding room-of
   writes-nothing same = let z : _≡_ {A = ℕ} 0 1 = sym (first 0) ∙ first 1 in omega arith
     where
       first : (w : ℕ) → getD (flatten (samples k 0)) 0 0 ≡ w
-      unfolding room-of
       first w =
           sym (first-byte w)
           ∙ ap (λ (l : List ℕ). getD l 0 0) (same (sent k 0) (sent-packets k 0 (omega arith)) (omega (arith, sent-length k 0)) (room-of k w))
@@ -162,6 +162,7 @@ module _ (f : Program) (keeps : Keeps f) (k : ℕ) (few : k + 12 ≤ 4294967294)
   -- The first k packets, and how many there are, decide what is written: a program that gives the first ones and pretends after.
   pub pretends-after : ((ps qs : List (List ℕ)) → All Packet ps → All Packet qs → take k ps ≡ take k qs → length ps ≡ length qs → (room : List ℕ)
       → f (sentBytes ps) room .room ≡ f (sentBytes qs) room .room) → ⊥
+  unfolding sent samples sample flatten
   pretends-after same =
       let e =
       same (sent k 0) (sent k 1) (sent-packets k 0 (omega arith)) (sent-packets k 1 (omega arith)) (front 0 ∙ sym (front 1)) (sent-length k 0 ∙ sym (sent-length k 1)) (room-of k 0) in
@@ -170,14 +171,12 @@ module _ (f : Program) (keeps : Keeps f) (k : ℕ) (few : k + 12 ≤ 4294967294)
       omega arith
     where
       front : (v : ℕ) → take k (sent k v) ≡ replicate k (sample 0)
-      unfolding sent samples
       front v =
           ap (take k) (append-assoc (replicate k (sample 0)) (sample v ∷ []) (replicate 11 (sample 0)))
           ∙ take-at (replicate k (sample 0)) ((sample v ∷ []) ++ replicate 11 (sample 0)) k (length-replicate {A = List ℕ} k (sample 0))
 
       -- byte 12 of the last packet given
       last : (v : ℕ) → v < 256 → getD (flatten (samples k v) ++ drop (188 * (k + 1)) (room-of k 0)) (188 * k + 12) 0 ≡ v
-      unfolding samples sample flatten
       last v h =
           let a = flatten (replicate k (sample 0)) in
           let rest = drop (188 * (k + 1)) (room-of k 0) in

@@ -33,9 +33,8 @@ samples-length k v = length-append (replicate k (sample 0)) (sample v ∷ []) �
 pub samples-front : (j k v : ℕ) → j ≤ k → take j (samples k v) ≡ take j (replicate k (sample 0))
 unfolding samples
 samples-front j k v h =
-    take-append-le (replicate k (sample 0)) (sample v ∷ []) j (omega (arith, length-replicate {A = List ℕ} k (sample 0)))
+    take-append-le j (replicate k (sample 0)) (sample v ∷ []) (omega (arith, length-replicate {A = List ℕ} k (sample 0)))
 
 pub last-byte : (k v : ℕ) → getD (getD (samples k v) k []) 12 0 % 2 ≡ v % 2
 unfolding samples sample
 last-byte k v = ap (λ (p : List ℕ). getD p 12 0 % 2) (getD-at (replicate k (sample 0)) (sample v) [] [] k (length-replicate {A = List ℕ} k (sample 0)))
-

@@ -61,7 +61,6 @@ packets-flatten (p ∷ ps) g =
 
 decided : (rate : ℕ) → rate < 5 → {bs cs : List ℕ} → Bits bs → Bits cs → length bs % patternLength rate ≡ 0 → length cs % patternLength rate ≡ 0
     → symbols (modeOf rate) bs ≡ symbols (modeOf rate) cs → bs ≡ cs
-unfolding freshCoder
 decided rate h {bs} {cs} b c m n e =
     let ss = symbolsOf (coderAt rate 0) bs in
     let q = sent-whole rate 0 h (omega arith) bs b m ss refl in
@@ -113,19 +112,24 @@ module _ (f : Program) (keeps : Keeps f) (rate : ℕ) (h : rate < 5) where
     room : List ℕ
     room = roomFor rate (35 * (k + 1))
 
+    -- the bytes of the interleaved blocks, and that their bits make whole patterns
+    sent : ℕ → List ℕ
+    sent v = flatten (interleavedBlocks (samples before v))
+
+    whole : (v : ℕ) → length (bitsOf (sent v)) % patternLength rate ≡ 0
+    unfolding sent
+    whole v = ap (λ (n : ℕ). n % patternLength rate) (block-bits (samples before v) ∙ ap (λ (n : ℕ). 1632 * n) (size v)) ∙ whole-patterns rate (k + 1) h
+
     -- the two lists are told apart
     told-apart : f rate (flatten (samples before 0)) room .room ≡ f rate (flatten (samples before 1)) room .room → ⊥
-    unfolding room onAir
+    unfolding room onAir sent
     told-apart e =
         let h0 = samples-packets before 0 (omega arith) in
         let h1 = samples-packets before 1 (omega arith) in
         let air : onAir (modeOf rate) (samples before 0) ≡ onAir (modeOf rate) (samples before 1) =
         sym (kept (samples before 0) h0) ∙ ap (λ (n : ℕ). f rate (flatten (samples before 0)) (roomFor rate n) .room) (size 0)
         ∙ e ∙ ap (λ (n : ℕ). f rate (flatten (samples before 1)) (roomFor rate n) .room) (sym (size 1)) ∙ kept (samples before 1) h1 in
-        let bits = λ (v : ℕ). flatten (interleavedBlocks (samples before v)) in
-        let whole : (v : ℕ) → length (bitsOf (bits v)) % patternLength rate ≡ 0 =
-        λ v. ap (λ (n : ℕ). n % patternLength rate) (block-bits (samples before v) ∙ ap (λ (n : ℕ). 1632 * n) (size v)) ∙ whole-patterns rate (k + 1) h in
-        let s = decided rate h (bits-bits (bits 0)) (bits-bits (bits 1)) (whole 0) (whole 1) air in
+        let s = decided rate h (bits-bits (sent 0)) (bits-bits (sent 1)) (whole 0) (whole 1) air in
         let b =
         same-bits (samples before 0) (samples before 1) (packet-lengths (samples before 0) h0) (packet-lengths (samples before 1) h1) s before
         (omega (arith, samples-length before 0)) (omega (arith, samples-length before 1)) in
