@@ -1,6 +1,6 @@
 #!/bin/bash
 # The tests: the Rattle gate, then what stands beside the crates: the exported functions against the second coder and
-# decoder of reference/, the commands of README.md, and the usage lines of the programs.
+# decoder of reference/, the programs on inputs in pieces, the commands of README.md, and the usage lines of the programs.
 # The gate's line `N passed, 0 failed` comes last, and only where all of it passed.
 set -euo pipefail
 cd "$(dirname "$0")"
@@ -35,15 +35,10 @@ tool rustc rustc
 
 # rt waits for the whole of a batch. With four at a time two processors are seldom left idle by the longest one.
 export RT_JOBS=${RT_JOBS:-4}
-if ! rt ci | tee "$work/gate" | sed '$d'; then
-    tail -n 1 "$work/gate"
-    exit 1
-fi
+# Its last line is held back: where something failed, no line of this script reads as if all had passed.
+rt ci | tee "$work/gate" | sed '$d' || fail "rt ci, which ended: $(tail -n 1 "$work/gate")"
 last=$(tail -n 1 "$work/gate")
-if ! [[ $last =~ ^[0-9]+\ passed,\ 0\ failed$ ]]; then
-    echo "$last"
-    exit 1
-fi
+[[ $last =~ ^[0-9]+\ passed,\ 0\ failed$ ]] || fail "rt ci, which ended: $last"
 
 # Nothing is written to a home folder.
 export CARGO_HOME=$PWD/target/cargo-home CARGO_TARGET_DIR=$PWD/target/cargo
@@ -53,6 +48,8 @@ quietly cargo build "${in_reference[@]}"
 quietly cargo test "${in_reference[@]}"
 EXPORTS_DIR=$PWD/target/staticlib cargo run --quiet "${in_reference[@]}" --bin compare
 cargo run --quiet "${in_reference[@]}" --bin compare_calls target/bin/send_calls
+
+bash tests/pieces.sh
 
 # The commands of README.md that use what was built, as they stand there.
 sed -n '/^## The programs/,/^## Reading/s/^    //p' README.md > "$work/commands"

@@ -208,7 +208,8 @@ static void receive(const struct kernel *k, int side, int n)
 {
     const uint8_t *stream = k->argument ? harmed_stream : clean_stream;
     (void)n;
-    sink += (side == LIBRARY ? dvbs_receive_run : PLAIN(receive_run))(stream, sizeof clean_stream, room, sizeof room, counts, sizeof counts);
+    sink += (side == LIBRARY ? dvbs_receive_run : PLAIN(receive_run))(stream, sizeof clean_stream, room, sizeof room, counts, sizeof counts,
+                                                                      answer, 1);
 }
 
 enum { TWO = 3, THREE = 7 };

@@ -326,10 +326,13 @@ uint64_t PLAIN(send_run)(uint8_t rate, const uint8_t *packets, size_t packets_le
 }
 
 uint64_t PLAIN(receive_run)(const uint8_t *blocks, size_t blocks_len, uint8_t *room, size_t room_len,
-                            uint8_t *counts, size_t counts_len)
+                            uint8_t *counts, size_t counts_len, uint8_t *answer, size_t answer_len)
 {
     size_t count = blocks_len / BLOCK;
-    if (counts_len < 64 || room_len < PACKET * count)
+    if (answer_len < 1)
+        return 0;
+    answer[0] = counts_len < 64 || room_len < PACKET * count ? 4 : 0;
+    if (answer[0])
         return 0;
     enum { TAKEN, FILLING, DELIVERED, LOST, WAITING, OUTOFSTEP, CHANGED, BITS };
     uint64_t tally[8] = {0}, written = 0;

@@ -16,14 +16,15 @@
  *   5  a number is out of its range: here a place above 7, a memory above 63, or
  *      a number of blocks that is not the recording's
  *   6  a rate other than 0 to 4
+ *   7  the receiver has taken 4,294,967,295 blocks
  *   8  no codeword within eight bytes
  *  12  symbols that do not make whole puncturing patterns
  *  13  a run of more than 1,632 bits
  *  14  a symbol above 3
  *  15  done, with a null packet put in
  *  16  the recording has no such block
- * Where several are due, the first in the order 6, 5, 16, 1 or 3, 2, 12, 13, 14, 4
- * is given. */
+ * Where several are due, the first in the order 6, 5, 16, 1 or 3, 2, 12, 13, 14,
+ * 4, 7 is given. */
 #ifndef DVBS_H
 #define DVBS_H
 
@@ -85,13 +86,17 @@ uint64_t dvbs_read_run(uint8_t rate, uint8_t memory,
 
 /* What a fresh receiver gives for the whole blocks of a recording; bytes after
  * the last of them are left alone. Returns how many bytes of packets were
- * written. counts: taken, filling, delivered, lost, waiting, outofstep, changed,
- * bits, eight bytes each, lowest first. Lend 188 bytes of room for each whole
- * block. Where counts is shorter than 64 bytes, the room is too short for that, or
- * there are more than 4,294,967,295 blocks: returns 0, writes nothing. */
+ * written; answer[0] is the answer, by which a refused run is told from one that
+ * gave no packet yet. counts: taken, filling, delivered, lost, waiting,
+ * outofstep, changed, bits, eight bytes each, lowest first. Lend 188 bytes for
+ * each whole block. Where counts is shorter than 64 bytes, or the room is too
+ * short for that: 4. More than 4,294,967,295 blocks: 7. In both cases nothing
+ * else is written, and 0 is returned. Where no byte is lent for the answer:
+ * returns 0, writes nothing. */
 uint64_t dvbs_receive_run(const uint8_t *blocks, size_t blocks_len,
                           uint8_t *room, size_t room_len,
-                          uint8_t *counts, size_t counts_len);
+                          uint8_t *counts, size_t counts_len,
+                          uint8_t *answer, size_t answer_len);
 
 /* Block p of a recording, repaired, p from 0: the 204 bytes, the counts and the
  * answer 8 that a fresh receiver's repair has at its call p + 12. A view of the

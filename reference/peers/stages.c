@@ -88,8 +88,10 @@ int main(int argc, char **argv)
     } else if (!strcmp(stage, "send") && argc > 2) {
         send((uint8_t)atoi(argv[2]));
     } else if (!strcmp(stage, "receive")) {
-        uint8_t counts[DVBS_COUNTS];
-        out_len = dvbs_receive_run(in, in_len, out, 16 * in_len + 4096, counts, sizeof counts);
+        uint8_t counts[DVBS_COUNTS], answer;
+        out_len = dvbs_receive_run(in, in_len, out, 16 * in_len + 4096, counts, sizeof counts, &answer, 1);
+        if (answer)
+            fail("the run was refused");
     } else {
         fail("which stage?");
     }

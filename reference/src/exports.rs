@@ -107,14 +107,16 @@ pub mod expected {
         }
     }
 
-    /// A rest of the recording shorter than a block is left alone. Where the
-    /// room has not 188 bytes for each whole block, nothing is written.
-    pub fn receive_run(blocks: &[u8], room: &mut [u8], counts: &mut [u8]) -> u64 {
-        if counts.len() < COUNTS_LENGTH {
+    /// A rest of the recording shorter than a block is left alone. Where no
+    /// byte is lent for the answer, nothing is done. Short room for the counts
+    /// or for 188 bytes for each whole block is 4, and only that is written.
+    pub fn receive_run(blocks: &[u8], room: &mut [u8], counts: &mut [u8], answer: &mut [u8]) -> u64 {
+        if answer.is_empty() {
             return 0;
         }
         let whole = blocks.len() / BLOCK_LENGTH;
-        if room.len() < PACKET_LENGTH * whole {
+        if counts.len() < COUNTS_LENGTH || room.len() < PACKET_LENGTH * whole {
+            answer[0] = Answer::ShortRoom.number();
             return 0;
         }
         let mut receiver = Receiver::fresh();
@@ -127,6 +129,7 @@ pub mod expected {
         for (bytes, count) in counts.chunks_exact_mut(8).zip(receiver.counts().in_order()) {
             bytes.copy_from_slice(&count.to_le_bytes());
         }
+        answer[0] = Answer::Done.number();
         written as u64
     }
 
@@ -192,6 +195,8 @@ pub mod library {
                 room_len: usize,
                 counts: *mut u8,
                 counts_len: usize,
+                answer: *mut u8,
+                answer_len: usize,
             ) -> u64;
             pub fn dvbs_recording_block(
                 recording: *const u8,
@@ -256,7 +261,7 @@ pub mod library {
         }
     }
 
-    pub fn receive_run(blocks: &[u8], room: &mut [u8], counts: &mut [u8]) -> u64 {
+    pub fn receive_run(blocks: &[u8], room: &mut [u8], counts: &mut [u8], answer: &mut [u8]) -> u64 {
         unsafe {
             c::dvbs_receive_run(
                 blocks.as_ptr(),
@@ -265,6 +270,8 @@ pub mod library {
                 room.len(),
                 counts.as_mut_ptr(),
                 counts.len(),
+                answer.as_mut_ptr(),
+                answer.len(),
             )
         }
     }

@@ -88,18 +88,30 @@ pub extern "C" fn dvbs_send_run(rate: u8, packets: &[u8], room: &mut [u8], answe
     run.count as u64
 }
 
-// Takes the whole blocks of a recording with a fresh receiver: the number of bytes of packets written. The counts go to lent bytes.
+// Takes the whole blocks of a recording with a fresh receiver: the number of bytes of packets written. The counts go to lent bytes, and the
+// first byte of answer has the number of the answer.
 #[no_mangle]
-pub extern "C" fn dvbs_receive_run(blocks: &[u8], room: &mut [u8], counts: &mut [u8]) -> u64
+pub extern "C" fn dvbs_receive_run(
+    blocks: &[u8],
+    room: &mut [u8],
+    counts: &mut [u8],
+    answer: &mut [u8],
+) -> u64
     ensures { λ r. ⌜
-        ReceiveRunExported (now (blocks .entry)) (now (room .entry)) (now (room .exit)) (now (counts .entry)) (now (counts .exit)) r ⌝ }
+        ReceiveRunExported (now (blocks .entry)) (now (room .entry)) (now (room .exit)) (now (counts .entry)) (now (counts .exit)) (now (answer .entry)) (now (answer .exit)) r ⌝ }
 {
+    if answer.len() < 1 {
+        return 0;
+    }
     if counts.len() < 64 {
+        answer[0] = 4;
         return 0;
     }
     let recorded = recording::receive_run(blocks, room);
-    let answer = recorded.answer;
-    if answer.number() != 0 {
+    let given = recorded.answer;
+    let number = given.number();
+    answer[0] = number;
+    if number != 0 {
         return 0;
     }
     let last = recorded.receiver;

@@ -1,179 +1,148 @@
-// A pass read from a file: the receiver over received bytes of any length, in pieces of whole blocks.
-// No contract can say what is read or written; what a block does is the contract of `receiver::Receiver::receive`.
+// A pass: received bytes of any length from a file or a pipe, piece after piece as they are read.
+// No contract can say what a read reads or a write writes. `read_piece` of input_pieces ties the bytes that came to the read, and
+// `receive_piece` says that these and no others are fed; the rest is proved over all the bytes that came.
 ghost use mathlib.Core.Path.{_≡_};
-ghost use Prim.Native.Nat.{_*_, _≤_, _<_, min};
+ghost use Prim.Native.Nat.{_≤_, min};
 ghost use lib.ListN.{length};
+ghost use Rattle.pass.specs.Turn.{Turns, Passes};
+ghost use Rattle.stream_receiver.specs.History.{Came};
+use input_pieces::Piece;
+use libc::STDERR_FILENO;
 use libc::STDOUT_FILENO;
-use receiver::Receiver;
-use reception_counts::Counts;
+use stream_receiver::StreamReceiver;
 
 // What a pass came to.
 pub struct Pass {
-    pub counts: Counts,
-    // The bytes after the last whole block: 0 to 203.
-    pub rest: u64,
-    // A read or a write failed: the counts are those of a part.
+    pub stream: StreamReceiver,
+    // How many bytes came in all.
+    pub came: u64,
+    // What the last read answered.
+    pub last: isize,
+    // A read or a write failed: what came is a part.
     pub failed: bool,
 }
 
-// How much of a buffer was filled.
-struct Piece {
-    length: usize,
-    failed: bool,
+// One read, how many bytes of packets were given, and the stream receiver after it.
+struct Turn {
+    piece: Piece,
+    count: usize,
+    stream: StreamReceiver,
 }
 
-// The receiver after a piece, how many bytes came, and whether a read or a write failed.
-struct Step {
-    receiver: Receiver,
-    length: usize,
-    failed: bool,
-}
-
-// Reads until so many bytes are in the buffer, the input ends or a read fails.
-fn fill(fd: i32, buffer: &mut [u8], want: usize) -> Piece
-    requires { ⌜ want ≤ length (now buffer) ⌝ }
-    ensures { λ r. ⌜ r .length ≤ want ⌝ }
+// The smaller of two numbers.
+fn smaller(capacity: u64, length: usize) -> usize
+    ensures { λ r. ⌜ r ≡ min capacity length ⌝ }
 {
-    let mut done: usize = 0;
-    while done < want {
-        let got = libc::read(fd, &mut buffer[done..want]);
-        if got < 0 {
-            return Piece {
-                length: done,
-                failed: true,
-            };
-        }
-        let n = io::count(got, &buffer[done..want]);
-        if n == 0 {
-            return Piece {
-                length: done,
-                failed: false,
-            };
-        }
-        done += n;
-    }
-    Piece {
-        length: done,
-        failed: false,
+    if capacity < length as u64 {
+        capacity as usize
+    } else {
+        length
     }
 }
 
-// The smaller of a number of blocks and 320.
-fn piece_blocks(left: u64) -> u64
-    ensures { λ r. ⌜ r ≡ min left 320 ⌝ }
+// Reads once and takes what came. Nothing is read past the blocks that can be counted.
+fn receive_piece(fd: i32, stream: StreamReceiver, buffer: &mut [u8], packets: &mut [u8]) -> Turn
+    requires { ⌜ (Came stream) × (length (now buffer) ≡ 65536) × (length (now packets) ≡ 65536) ⌝ }
+    ensures { λ r. ⌜ Turns stream (now (buffer .entry)) (now (buffer .exit)) (now (packets .entry)) (now (packets .exit)) r ⌝ }
 {
-    if left < 320 { left } else { 320 }
-}
-
-// Reads a piece of so many blocks, takes them, and writes their packets where that is wanted.
-fn receive_piece(
-    fd: i32,
-    receiver: Receiver,
-    blocks: usize,
-    buffer: &mut [u8],
-    packets: &mut [u8],
-    wanted: bool,
-) -> Step
-    requires { ⌜ (blocks ≤ 320) × (65280 ≤ length (now buffer)) × (60160 ≤ length (now packets)) ⌝ }
-    ensures { λ r. ⌜ r .length ≤ 204 * blocks ⌝ }
-{
-    let want = Receiver::BLOCK_LENGTH * blocks;
-    let piece = fill(fd, buffer, want);
+    let most = smaller(stream.capacity(), buffer.len());
+    let piece = input_pieces::read_piece(fd, buffer, most);
     let n = piece.length;
-    if piece.failed {
-        return Step {
-            receiver,
-            length: n,
-            failed: true,
-        };
-    }
-    let recorded = recording::receive_recording(receiver, &buffer[..n], packets);
-    let answer = recorded.answer;
-    let next = recorded.receiver;
-    let written = recorded.count;
-    if answer.number() != 0 {
-        return Step {
-            receiver: next,
-            length: n,
-            failed: true,
-        };
-    }
-    if wanted {
-        if !io::write_all(STDOUT_FILENO, &packets[..written]) {
-            return Step {
-                receiver: next,
-                length: n,
-                failed: true,
-            };
-        }
-    }
-    Step {
-        receiver: next,
-        length: n,
-        failed: false,
+    let fed = stream.feed(&buffer[..n], packets);
+    let count = fed.count;
+    let stream = fed.stream;
+    Turn {
+        piece,
+        count,
+        stream,
     }
 }
 
-// A fresh receiver over a file, up to the blocks that it can count, by way of these buffers.
-fn receive_all(fd: i32, wanted: bool, buffer: &mut [u8], packets: &mut [u8]) -> Pass
-    requires { ⌜ (65280 ≤ length (now buffer)) × (60160 ≤ length (now packets)) ⌝ }
-    ensures { λ r. ⌜ r .rest < 204 ⌝ }
+// Writes packets to standard output where they are wanted: whether that did not fail.
+fn hand_on(packets: &[u8], count: usize, wanted: bool) -> bool
+    requires { ⌜ count ≤ length (now packets) ⌝ }
 {
-    let mut receiver = Receiver::new();
-    let mut left: u64 = Counts::MOST;
-    while left > 0 {
-        let blocks = piece_blocks(left);
-        let step = receive_piece(fd, receiver, blocks as usize, buffer, packets, wanted);
-        let next = step.receiver;
-        let length = step.length;
-        let failed = step.failed;
-        receiver = next;
-        if failed {
-            let counts = receiver.counts;
+    if wanted {
+        io::write_all(STDOUT_FILENO, &packets[..count])
+    } else {
+        true
+    }
+}
+
+// A fresh stream receiver over a file, by way of these buffers, until the input ends, a read or a write fails, or no more blocks can be counted.
+fn receive_all(fd: i32, wanted: bool, buffer: &mut [u8], packets: &mut [u8]) -> Pass
+    requires { ⌜ (length (now buffer) ≡ 65536) × (length (now packets) ≡ 65536) ⌝ }
+    ensures { λ r. ⌜ Passes r ⌝ }
+{
+    let mut stream = StreamReceiver::new();
+    let mut came: u64 = 0;
+    loop {
+        let turn = receive_piece(fd, stream, buffer, packets);
+        let piece = turn.piece;
+        let last = piece.got;
+        let length = piece.length;
+        let count = turn.count;
+        stream = turn.stream;
+        came += length as u64;
+        if last < 0 {
             return Pass {
-                counts,
-                rest: 0,
+                stream,
+                came,
+                last,
                 failed: true,
             };
         }
-        if length < Receiver::BLOCK_LENGTH * (blocks as usize) {
-            let counts = receiver.counts;
+        if !hand_on(packets, count, wanted) {
             return Pass {
-                counts,
-                rest: (length % Receiver::BLOCK_LENGTH) as u64,
+                stream,
+                came,
+                last,
+                failed: true,
+            };
+        }
+        if length == 0 {
+            return Pass {
+                stream,
+                came,
+                last,
                 failed: false,
             };
         }
-        left -= blocks;
-    }
-    let counts = receiver.counts;
-    Pass {
-        counts,
-        rest: 0,
-        failed: false,
     }
 }
 
 // The pass in a file that is open for reading. The packets go to standard output where they are wanted.
 pub fn receive_file(fd: i32, wanted: bool) -> Pass
-    ensures { λ r. ⌜ r .rest < 204 ⌝ }
+    ensures { λ r. ⌜ Passes r ⌝ }
 {
     let mut buffer = io::large_buffer();
     let mut packets = io::large_buffer();
     receive_all(fd, wanted, &mut buffer, &mut packets)
 }
 
-// Writes the report of a pass, or says that there is none. A report of a part would look like that of a whole.
+// Writes a text with a single write. Where the write does not take all of it, that is said: what was written then lacks its last line feed.
+fn write_whole(fd: i32, text: &[u8]) {
+    let got = libc::write(fd, text);
+    if got < 0 {
+        os::fail(b"report");
+        return;
+    }
+    if io::count(got, text) < text.len() {
+        io::write_all(STDERR_FILENO, b"report: not written whole\n");
+    }
+}
+
+// Writes the report of a pass, or says that there is none: a report of a part would look like that of a whole.
 pub fn write_report(fd: i32, pass: Pass) {
     if pass.failed {
         os::fail(b"pass");
         return;
     }
-    let counts = pass.counts;
+    let stream = pass.stream;
     let mut text = [0u8; 256];
-    let written = report::write_report(counts, pass.rest, &mut text);
+    let written = stream.report(&mut text);
     let n = written.length;
     if n <= 256 {
-        io::write_all(fd, &text[..n]);
+        write_whole(fd, &text[..n]);
     }
 }

@@ -4,4 +4,4 @@ pub mod Histories
 pub mod Outcomes
 pub mod Decoding
 pub mod Reception
-pub mod Idle
+pub mod Promised

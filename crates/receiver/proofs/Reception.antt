@@ -142,7 +142,7 @@ module _ (packets : List (List ℕ)) (ws : All Packet packets) where
   stream : coded ≡ map encoded (randomizedFrom 0 packets)
   stream = ap (map encoded) (sym (randomized-stream packets (packet-lengths packets ws)))
 
-  coded-size : length coded ≡ length packets
+  pub coded-size : length coded ≡ length packets
   coded-size = ap length stream ∙ coded-count 0 packets
 
   coded-blocks : All (Length 204) coded

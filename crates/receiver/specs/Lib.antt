@@ -1,3 +1,4 @@
 pub mod Receive
 pub mod Run
 pub mod Begun
+pub mod Kept

@@ -107,9 +107,6 @@ impl Receiver {
     // The bytes of a block.
     pub const BLOCK_LENGTH: usize = 204;
 
-    // The packets of a group.
-    pub const GROUP_LENGTH: u8 = GroupSync::GROUP_LENGTH;
-
     // All cells and counts 0, the place not known.
     pub fn new() -> Receiver
         ensures { λ r. ⌜ r ≡ freshReceiver ⌝ }

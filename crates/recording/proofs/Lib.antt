@@ -1,1 +1,4 @@
 pub mod Recordings
+pub mod Joins
+pub mod Decided
+pub mod Returned

@@ -37,7 +37,7 @@ use Rattle.recording.specs.Recording.{Recording, Takes, givenBytes}
 -- ---- the room after a call
 
 -- the packet that a call gives, or none
-abbrev givenBy : ℕ → List ℕ → List (List ℕ)
+abbrev pub givenBy : ℕ → List ℕ → List (List ℕ)
 givenBy number exit = pick (eqb number 0) (take 188 exit ∷ []) []
 
 record Filled (number : ℕ) (room exit : List ℕ) : Type 0 where
@@ -62,7 +62,7 @@ refused-filled n a room b h =
     simp e (record { size = simp e; after-it = simp e })
 
 module _ (s : Receiver) (c : Call) (d : Decodes (delayedBlock s (c .block)) (c .left) (c .decoded)) where
-  step-place : Ready s (c .block) (c .room) → PlaceOf (stepOf s (c .left) (c .decoded) .outcome)
+  pub step-place : Ready s (c .block) (c .room) → PlaceOf (stepOf s (c .left) (c .decoded) .outcome)
   step-place y = by (decLt (s .counts .taken) 11)
     where
       by : Dec (s .counts .taken < 11) → PlaceOf (stepOf s (c .left) (c .decoded) .outcome)
@@ -85,7 +85,7 @@ module _ (s : Receiver) (c : Call) (d : Decodes (delayedBlock s (c .block)) (c .
           (roomAfter (stepOf s (c .left) (c .decoded) .outcome) (c .left) (c .room)) (f .some)
 
   -- a call on the first block, before those on the blocks after it
-  recorded-more : (bytes : List ℕ) (packets : List (List ℕ)) (last : Receiver) → c .block ≡ take 204 bytes → 204 ≤ length bytes → Roomy c
+  pub recorded-more : (bytes : List ℕ) (packets : List (List ℕ)) (last : Receiver) → c .block ≡ take 204 bytes → 204 ≤ length bytes → Roomy c
       → Recording (after s c) (drop 204 bytes) packets last → Recording s bytes (givenBy (answerOf s c) (roomOf s c) ++ packets) last
   unfolding flatten
   recorded-more bytes packets last e h o r = record {

@@ -2,7 +2,7 @@
 -- Assumes nothing.
 use mathlib.Core.Path.{_≡_}
 use mathlib.Core.List.{List, _++_, flatten}
-use Prim.Native.Nat.{ℕ, _-_, _*_, _/_, _<_}
+use Prim.Native.Nat.{ℕ, _-_, _*_, _/_, _%_, _<_}
 use lib.Dec.{ltb, eqb}
 use lib.ListN.{length, drop}
 use Rattle.common.specs.Choice.{pick}
@@ -10,6 +10,10 @@ use Rattle.common.specs.Lists.{All, Length}
 use Rattle.receiver.specs.Receive.{inRange}
 use Rattle.receiver.specs.Run.{Call, Calls, Roomy, blocksOf, packetsGiven, afterCalls}
 use Rattle.receiver.specs.declared.Receiver.{Receiver}
+
+-- the bytes after the last whole block
+abbrev pub restOf : List ℕ → List ℕ
+restOf bytes = drop (length bytes - length bytes % 204) bytes
 
 -- The recording is cut into blocks of 204 bytes, and the fewer than 204 bytes after the last of them are in none.
 -- There is one call for each block, in their order, with room for a packet. These are the packets given and the state after the calls.

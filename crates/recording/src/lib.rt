@@ -5,6 +5,7 @@ ghost use lib.ListN.{length};
 ghost use Rattle.answer.specs.Number.{numberOf};
 ghost use Rattle.receiver.specs.Receive.{freshReceiver};
 ghost use Rattle.recording.specs.Recording.{givenBytes, Takes, ReceivesRecording};
+ghost use Rattle.recording.specs.Returned.{Returns};
 use answer::Answer;
 use receiver::Receiver;
 use reception_counts::Counts;
@@ -17,9 +18,9 @@ pub struct Recorded {
 }
 
 // How many bytes of packets were written, and the receiver after it.
-struct Batch {
-    count: usize,
-    receiver: Receiver,
+pub struct Batch {
+    pub count: usize,
+    pub receiver: Receiver,
 }
 
 // How many bytes of packet a call gives.
@@ -34,7 +35,7 @@ fn given_bytes(answer: Answer) -> usize
 }
 
 // Takes the whole blocks, each with a call. Its packet goes into the room after the one before.
-fn receive_blocks(receiver: Receiver, bytes: &[u8], room: &mut [u8]) -> Batch
+pub fn receive_blocks(receiver: Receiver, bytes: &[u8], room: &mut [u8]) -> Batch
     requires { ⌜ 188 * (length (now bytes) / 204) ≤ length (now room) ⌝ }
     ensures { λ r. ⌜ Takes receiver (now (bytes .entry)) (now (room .entry)) (r .count) (r .receiver) (now (room .exit)) ⌝ }
 {
@@ -94,9 +95,10 @@ pub fn receive_recording(receiver: Receiver, bytes: &[u8], room: &mut [u8]) -> R
     }
 }
 
-// A fresh receiver over a whole recording.
+// A fresh receiver over a whole recording. Where that is what a fresh sender sent, its packets come back.
 pub fn receive_run(bytes: &[u8], room: &mut [u8]) -> Recorded
     ensures { λ r. ⌜ ReceivesRecording freshReceiver (now (bytes .entry)) (now (room .entry)) (numberOf (r .answer)) (r .count) (r .receiver) (now (room .exit)) ⌝ }
+    ensures { λ r. ⌜ Returns (now (bytes .entry)) (now (room .entry)) (numberOf (r .answer)) (r .count) (now (room .exit)) ⌝ }
 {
     let receiver = Receiver::new();
     receive_recording(receiver, bytes, room)

@@ -48,7 +48,7 @@ length-blocks packets =
     ∙ ap (λ (k : ℕ). 204 * k)
     (length-delayed Sending coded ∙ length-map (randomizedStream packets) encoded ∙ length-packets (length packets) (dispersed 0 (flatten packets)))
 
-block-bits : (packets : List (List ℕ)) → length (bitsOf (flatten (interleavedBlocks packets))) ≡ 1632 * length packets
+pub block-bits : (packets : List (List ℕ)) → length (bitsOf (flatten (interleavedBlocks packets))) ≡ 1632 * length packets
 block-bits packets = let e = length-blocks packets in length-bits (flatten (interleavedBlocks packets)) ∙ omega arith
 
 pub length-on-air : (rate : ℕ) → rate < 5 → (packets : List (List ℕ)) → length (onAir (modeOf rate) packets) ≡ symbolsIn rate 0 (1632 * length packets)

@@ -1,7 +1,7 @@
--- At rate 1/2 the symbols of EN 300 421 tell packets apart: two lists with the same symbols agree in a bit of each packet.
+-- The interleaved bits tell packets apart: two lists with the same bits agree in a bit of each packet.
 -- The bit is the lowest of byte 12, which the interleaver does not delay.
 -- Assumes nothing.
-use mathlib.Core.Path.{_≡_, refl, ap, ap₂, sym, _∙_}
+use mathlib.Core.Path.{_≡_, refl, ap, sym, _∙_}
 use mathlib.Core.List.{List, [], _∷_, _++_, map, flatten}
 use Prim.Native.Nat.{ℕ, zero, suc, _+_, _-_, _*_, _%_, _<_}
 use native.Mathlib.Nat.{not-suc-le-zero, le-of-suc-le-suc}
@@ -23,44 +23,8 @@ use Rattle.delay_branches.specs.declared.Side.the-variants.{Sending}
 use Rattle.interleaver.specs.Stream.{earlier, interleaved}
 use Rattle.interleaver.proofs.Streams.{length-delayed, delayed-at, delayed-lengths}
 use Rattle.interleaver.proofs.Blocks.{flatten-at}
-use Rattle.convolutional_code.specs.Bits.{bitsOf, Bits, none, more}
-use Rattle.convolutional_code.specs.Code.{tapsX, tapsY, convolved}
-use Rattle.convolutional_code.proofs.Bits.{bits-bits}
-use Rattle.puncturing.specs.Mode.{modeOf}
-use Rattle.inner_code.specs.Stream.{sentAt, symbolsAfter, symbols}
-use Rattle.sender.specs.Standard.{interleavedBlocks, onAir}
-
--- ---- symbols and bits
-
--- at rate 1/2 each bit completes the symbol (X,Y)
-half-step : (past : List ℕ) (b : ℕ) (bs : List ℕ)
-    → symbolsAfter (modeOf 0) past (b ∷ bs) ≡ (2 * convolved tapsX (b ∷ past) + convolved tapsY (b ∷ past)) ∷ symbolsAfter (modeOf 0) (b ∷ past) bs
-unfolding symbolsAfter modeOf
-half-step past b bs =
-    let e : length past % 1 ≡ 0 = omega arith in
-    ap (λ (n : ℕ). sentAt (modeOf 0) (n + 1) (b ∷ past) ++ symbolsAfter (modeOf 0) (b ∷ past) bs) e
-
--- X tells the newest bit
-newest : (b c t u v : ℕ) → b < 2 → c < 2 → 2 * ((b + t) % 2) + u % 2 ≡ 2 * ((c + t) % 2) + v % 2 → b ≡ c
-newest b c t u v h k e = omega arith
-
-ends : {x : ℕ} {l : List ℕ} → [] ≡ x ∷ l → ⊥
-ends e = let n = ap length e in omega arith
-
-no-bits : (past : List ℕ) → [] ≡ symbolsAfter (modeOf 0) past []
-unfolding symbolsAfter
-no-bits past = refl
-
--- the symbols decide the bits
-bits-decided : (past : List ℕ) {bs cs : List ℕ} → Bits bs → Bits cs → symbolsAfter (modeOf 0) past bs ≡ symbolsAfter (modeOf 0) past cs → bs ≡ cs
-bits-decided past none none e = refl
-bits-decided past none (more {b = c} {l = cs} h t) e = absurd (ends (no-bits past ∙ e ∙ half-step past c cs))
-bits-decided past (more {b = b} {l = bs} h t) none e = absurd (ends (no-bits past ∙ sym e ∙ half-step past b bs))
-bits-decided past (more {b = b} {l = bs} h t) (more {b = c} {l = cs} k u) e =
-    let f = sym (half-step past b bs) ∙ e ∙ half-step past c cs in
-    let q : b ≡ c = newest b c _ _ _ h k (ap (λ (l : List ℕ). getD l 0 0) f) in
-    let r = bits-decided (b ∷ past) t u (ap (drop 1) f ∙ ap (λ (x : ℕ). symbolsAfter (modeOf 0) (x ∷ past) cs) (sym q)) in
-    ap₂ (λ (x : ℕ) (l : List ℕ). x ∷ l) q r
+use Rattle.convolutional_code.specs.Bits.{bitsOf}
+use Rattle.sender.specs.Standard.{interleavedBlocks}
 
 -- ---- bits and bytes
 
@@ -129,12 +93,11 @@ module _ (ps : List (List ℕ)) (g : All (Length 188) ps) (b : ℕ) (h : b < len
       ∙ not-delayed blocks b (omega (arith, coded-length))
       ∙ coded-byte)
 
--- two lists with the same symbols agree in that bit of each packet
-pub same-bits : (ps qs : List (List ℕ)) → All (Length 188) ps → All (Length 188) qs → onAir (modeOf 0) ps ≡ onAir (modeOf 0) qs
+-- two lists with the same interleaved bits agree in that bit of each packet
+pub same-bits : (ps qs : List (List ℕ)) → All (Length 188) ps → All (Length 188) qs
+    → bitsOf (flatten (interleavedBlocks ps)) ≡ bitsOf (flatten (interleavedBlocks qs))
     → (b : ℕ) → b < length ps → b < length qs → getD (getD ps b []) 12 0 % 2 ≡ getD (getD qs b []) 12 0 % 2
-unfolding onAir symbols
-same-bits ps qs g h e b k l =
-    let s = bits-decided [] (bits-bits (flatten (interleavedBlocks ps))) (bits-bits (flatten (interleavedBlocks qs))) e in
+same-bits ps qs g h s b k l =
     let x = getD (getD ps b []) 12 0 in
     let y = getD (getD qs b []) 12 0 in
     let m = mask b % 2 in

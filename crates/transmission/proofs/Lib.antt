@@ -2,4 +2,3 @@ pub mod Counting
 pub mod Buffers
 pub mod Progress
 pub mod Outcome
-pub mod Idle

@@ -1,17 +1,17 @@
--- Every row of the table holds, by computation; and the damaged block is no codeword.
+-- Every row of the table holds: the equalities by computation, and one block is no codeword.
 -- Assumes nothing.
 use mathlib.Core.Path.{_≡_, refl, ap, _∙_}
-use mathlib.Core.List.{List, [], _++_, map, zipWith}
+use mathlib.Core.List.{List, _++_, zipWith}
 use Prim.Native.Nat.{ℕ}
+use Prim.{tt}
 use native.Mathlib.Omega.{arith}
 use lib.ListN.{getD}
-use Rattle.common.specs.Lists.{listOf}
+use Rattle.common.specs.Lists.{All, listOf}
 use Rattle.common.proofs.Entries.{bytes-of, every-byte}
 use Rattle.algebra.specs.Polynomial.{power, plus, scale, product}
 use Rattle.galois.specs.Field256.{timesX, rounds, mul}
 use Rattle.reed_solomon.specs.Code as code
 use Rattle.reed_solomon.specs.Encode.{generatorTail, divided, remainderFrom, checkBytes, encoded}
-use Rattle.reed_solomon.specs.Steps.{residueOf}
 use Rattle.reed_solomon.proofs.LongDivision.{encoded-only}
 use Rattle.randomizer.specs.Prbs.{loaded, output, stepped, steps, bits, sequence, generator, enabled, masks}
 use Rattle.randomizer.specs.Packet.{randomized}
@@ -23,19 +23,21 @@ use Rattle.puncturing.specs.Mode.{modes, modeOf}
 use Rattle.puncturing.specs.Step.{patternLength, punctured, heldAfter}
 use Rattle.inner_code.specs.Stream.{symbolsAfter, symbols}
 use Rattle.inner_code.specs.Step.{symbolsOf, coderAfter}
-use Rattle.worked_cases.specs.Table.{Case, unit, coefficients, damaged, cases}
+use Rattle.worked_cases.specs.Table.{Holds, unit, coefficients, damaged, cases}
 
-pub cases-hold : map (λ (c : Case). c .given) cases ≡ map (λ (c : Case). c .wanted) cases
-unfolding listOf power plus scale product timesX rounds mul loaded output stepped steps bits sequence generator enabled masks randomized zipWith code.factors code.generator generatorTail divided remainderFrom checkBytes residueOf baseOf queue column fresh leaving blockOut modes modeOf bitsOf symbolsAfter symbols patternLength punctured heldAfter symbolsOf coderAfter
-cases-hold = refl
-
--- the check bytes of the message, as the table has them
+-- the check bytes of the message 1
 unit-coded : checkBytes unit ≡ coefficients
-unit-coded = ap (λ (l : List (List ℕ)). getD l 5 []) cases-hold
+unfolding power plus scale product timesX rounds mul code.factors code.generator generatorTail divided remainderFrom checkBytes
+unit-coded = refl
 
 -- The damaged block begins with the message, and the only codeword that does ends in 3B.
-pub damaged-no-codeword : code.Codeword damaged → ⊥
+damaged-no-codeword : code.Codeword damaged → ⊥
 damaged-no-codeword c =
     let e : damaged ≡ encoded unit = encoded-only unit refl (bytes-of unit (every-byte unit tt)) damaged c refl in
     let f : _≡_ {A = ℕ} 0x00 0x3B = ap (λ (l : List ℕ). getD l 203 0) e ∙ ap (λ (l : List ℕ). getD (unit ++ l) 203 0) unit-coded in
     omega arith
+
+-- every row of the table holds
+pub cases-hold : All Holds cases
+unfolding listOf power plus scale product timesX rounds mul loaded output stepped steps bits sequence generator enabled masks randomized zipWith code.factors code.generator generatorTail divided remainderFrom checkBytes baseOf queue column fresh leaving blockOut modes modeOf bitsOf symbolsAfter symbols patternLength punctured heldAfter symbolsOf coderAfter
+cases-hold = (refl, (refl, (refl, (refl, (refl, (unit-coded, (damaged-no-codeword, (refl, (refl, (refl, (refl, (refl, (refl, (refl, tt))))))))))))))

@@ -142,15 +142,20 @@ fn send_run(s: &mut Score, rate: u8, packets: &[u8], room: Vec<u8>, answer: Vec<
 }
 
 fn receive_run(s: &mut Score, blocks: &[u8], room: Vec<u8>, counts: Vec<u8>) -> (Vec<u8>, [u64; 8]) {
+    receive_run_told(s, blocks, room, counts, vec![0xA5])
+}
+
+fn receive_run_told(s: &mut Score, blocks: &[u8], room: Vec<u8>, counts: Vec<u8>, answer: Vec<u8>) -> (Vec<u8>, [u64; 8]) {
     let (mut a, mut b) = (room.clone(), room);
     let (mut m, mut n) = (counts.clone(), counts);
-    let want = expected::receive_run(blocks, &mut a, &mut m);
-    let got = library::receive_run(blocks, &mut b, &mut n);
-    let inputs = format!("blocks of {}, room of {}, counts of {}", blocks.len(), a.len(), m.len());
+    let (mut t, mut u) = (answer.clone(), answer);
+    let want = expected::receive_run(blocks, &mut a, &mut m, &mut t);
+    let got = library::receive_run(blocks, &mut b, &mut n, &mut u);
+    let inputs = format!("blocks of {}, room of {}, counts of {}, answer of {}", blocks.len(), a.len(), m.len(), t.len());
     s.same(
         &inputs,
-        &[("bytes", &want.to_le_bytes()), ("counts", &m), ("room", &a)],
-        &[("bytes", &got.to_le_bytes()), ("counts", &n), ("room", &b)],
+        &[("bytes", &want.to_le_bytes()), ("counts", &m), ("answer", &t), ("room", &a)],
+        &[("bytes", &got.to_le_bytes()), ("counts", &n), ("answer", &u), ("room", &b)],
     );
     let mut eight = [0; 8];
     if m.len() >= COUNTS_LENGTH {
@@ -828,12 +833,16 @@ fn receive_kinds(s: &mut Score) {
         let count = case as usize % 30;
         let p = packets(r, count);
         let stream = interleaved_stream(&p);
-        for counts in [0, 1, 56, 63, 64, 65] {
-            receive_run(s, &stream, r.bytes(188 * count), vec![0xA5; counts]);
+        for (counts, answer) in [0, 1, 56, 63, 64, 65].into_iter().flat_map(|c| [0, 1, 2].map(|a| (c, a))) {
+            let mut lent = |room: usize| {
+                let room = r.bytes(room);
+                receive_run_told(s, &stream, room, vec![0xA5; counts], vec![0xA5; answer]);
+            };
+            lent(188 * count);
             if count > 0 {
-                receive_run(s, &stream, r.bytes(188 * count - 1), vec![0xA5; counts]);
+                lent(188 * count - 1);
             }
-            receive_run(s, &stream, vec![], vec![0xA5; counts]);
+            lent(0);
         }
     });
     if total != [0; 8] {

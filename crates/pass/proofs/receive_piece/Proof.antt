@@ -1,119 +1,71 @@
--- `pass::receive_piece` is safe.
+-- `pass::receive_piece` meets its contract.
 -- Assumes nothing.
-use mathlib.Core.Path.{sym, ap}
-use mathlib.Core.List.{List, flatten}
-use Prim.Native.Nat.{ℕ, _≤_}
+use mathlib.Core.Path.{_≡_, sym, ap, _∙_}
+use Prim.Native.Nat.{ℕ, _≤_, min}
+use native.Mathlib.Nat.{min-le-right}
 use native.Mathlib.Omega.{arith}
-use lib.ListN.{length, drop, length-append}
+use lib.ListN.{length}
 use lib.Seq.{length-take-le}
-use Rattle.receiver.specs.declared.Receiver.{Receiver}
-use Rattle.recording.specs.Recording.{ReceivesRecording, refused, taken}
+use Rattle.pass.proofs.Turns.{read-most, capacity-is, turns}
 use borrow.Author.Needs.{needs}
 use Rattle.pass.proofs.receive_piece.Statement.{statement}
 use Rattle.pass.proofs.receive_piece.Tie as tie
 
--- the packets written fit the room
-fits : {s last : Receiver} {bytes room exit : List ℕ} {number count : ℕ} → ReceivesRecording s bytes room number count last exit → count ≤ length exit
-fits (refused n h c l e) = omega arith
-fits {room = room} {count = count} (taken h n t) = omega (arith, t .counted, ap length (t .written), length-append (flatten (t .packets)) (drop count room))
+capacity-requires : tie.Need-capacity-requires
+capacity-requires c κs = search needs
 
-mul-want : tie.Need-mul-want
-mul-want c = search needs
+smaller-requires : tie.Need-smaller-requires
+smaller-requires c κs = search needs
 
-fill-requires : tie.Need-fill-requires
-fill-requires c κs = search needs
+read-piece-requires : tie.Need-read-piece-requires
+read-piece-requires c κs = search needs
+
+-- what was read stands within the buffer
+read-within : (c : tie.After-read-piece) → c .read-piece .result .length ≤ length (c .read-piece .last .1 .0)
+read-within c =
+    let r = c .read-piece in
+    let m = c .before .before .smaller in
+    omega (arith, read-most (r .ensures), m .ensures, r .kept .1 .0, min-le-right (c .before .before .before .capacity .result) (length (c .before .before .before .before .before .before .args .buffer .now)))
+
+slice-reshare-prefix-feed : tie.Need-slice-reshare-prefix-feed
+slice-reshare-prefix-feed c = read-within (c .before .before)
+
+slice-aggregate-feed : tie.Need-slice-aggregate-feed
+slice-aggregate-feed c =
+    let r = c .before .before .before .read-piece in
+    sym (length-take-le (r .result .length) (r .last .1 .0) (read-within (c .before .before .before)))
+
+feed-requires : tie.Need-feed-requires
+feed-requires c κs = search needs
 
 same-length : tie.Need-same-length
 same-length c = search needs
 
-returns : tie.Need-returns
-returns c = search needs
-
-slice-reshare-prefix-receive-recording : tie.Need-slice-reshare-prefix-receive-recording
-slice-reshare-prefix-receive-recording c = search needs
-
-slice-aggregate-receive-recording : tie.Need-slice-aggregate-receive-recording
-slice-aggregate-receive-recording c =
-    let f = c .before .before .before .before .fill in
-    sym (length-take-le (f .result .length) (f .last .1 .0) (omega (arith, f .ensures)))
-
-receive-recording-requires : tie.Need-receive-recording-requires
-receive-recording-requires c κs = search needs
-
-number-requires : tie.Need-number-requires
-number-requires c κs = search needs
-
 same-length-2 : tie.Need-same-length-2
 same-length-2 c = search needs
 
-same-length-3 : tie.Need-same-length-3
-same-length-3 c = search needs
-
-returns-2 : tie.Need-returns-2
-returns-2 c = search needs
-
-slice-reshare-prefix-write-all : tie.Need-slice-reshare-prefix-write-all
-slice-reshare-prefix-write-all c = fits (c .before .before .before .before .before .before .receive-recording .ensures)
-
-slice-aggregate-write-all : tie.Need-slice-aggregate-write-all
-slice-aggregate-write-all c =
-    let w = c .before .before .before .before .before .before .before .receive-recording in
-    sym (length-take-le (w .result .count) (w .last .1 .1 .0) (fits (w .ensures)))
-
-write-all-requires : tie.Need-write-all-requires
-write-all-requires c κs = search needs
-
-same-length-4 : tie.Need-same-length-4
-same-length-4 c = search needs
-
-same-length-5 : tie.Need-same-length-5
-same-length-5 c = search needs
-
-returns-3 : tie.Need-returns-3
-returns-3 c = search needs
-
-same-length-6 : tie.Need-same-length-6
-same-length-6 c = search needs
-
-same-length-7 : tie.Need-same-length-7
-same-length-7 c = search needs
-
-returns-4 : tie.Need-returns-4
-returns-4 c = search needs
-
-same-length-8 : tie.Need-same-length-8
-same-length-8 c = search needs
-
-same-length-9 : tie.Need-same-length-9
-same-length-9 c = search needs
-
-returns-5 : tie.Need-returns-5
-returns-5 c = search needs
+returns : tie.Need-returns
+returns c =
+    let s = c .before .before .before .before .before .before .before .before .before .before .before .before .before .before in
+    let r = c .before .before .before .before .before .before .before .before .read-piece in
+    let f = c .before .before .before .feed in
+    let m = c .before .before .before .before .before .before .before .before .before .before .smaller in
+    let k = c .before .before .before .before .before .before .before .before .before .before .before .capacity in
+    let b = s .args .buffer .now in
+    turns (s .pre .0) b (r .last .1 .0) (s .args .packets .now) (f .last .1 .1 .0) (r .result) (m .result) _ (f .result .count) (f .result .stream)
+    (s .pre .1) (omega (arith, r .kept .1 .0, s .pre .1)) (s .pre .2)
+    (m .ensures ∙ ap (λ (n : ℕ). min n (length b)) (capacity-is (s .pre .0) (k .ensures))) (r .ensures) (f .ensures)
 
 pub receive-piece-spec : {M : Type 1} → statement M
 receive-piece-spec =
     tie.close
     (tie.spec
-    mul-want
-    fill-requires
+    capacity-requires
+    smaller-requires
+    read-piece-requires
+    slice-reshare-prefix-feed
+    slice-aggregate-feed
+    feed-requires
     same-length
-    returns
-    slice-reshare-prefix-receive-recording
-    slice-aggregate-receive-recording
-    receive-recording-requires
-    number-requires
     same-length-2
-    same-length-3
-    returns-2
-    slice-reshare-prefix-write-all
-    slice-aggregate-write-all
-    write-all-requires
-    same-length-4
-    same-length-5
-    returns-3
-    same-length-6
-    same-length-7
-    returns-4
-    same-length-8
-    same-length-9
-    returns-5)
+    returns)

@@ -17,23 +17,23 @@ fail-requires c κs = search needs
 returns : tie.Need-returns
 returns c = search needs
 
-slice-aggregate-write-report : tie.Need-slice-aggregate-write-report
-slice-aggregate-write-report c = search needs
+slice-aggregate-report : tie.Need-slice-aggregate-report
+slice-aggregate-report c = search needs
 
-write-report-requires : tie.Need-write-report-requires
-write-report-requires c κs = search needs
+report-requires : tie.Need-report-requires
+report-requires c κs = search needs
 
 array-share-prefix-text : tie.Need-array-share-prefix-text
 array-share-prefix-text c = search needs
 
-slice-aggregate-write-all : tie.Need-slice-aggregate-write-all
-slice-aggregate-write-all c =
-    let w = c .before .before .before .write-report in
-    let h : w .result .length ≤ length (w .last .1 .1 .0) = search needs in
-    sym (length-take-le (w .result .length) (w .last .1 .1 .0) h)
+slice-aggregate-write-whole : tie.Need-slice-aggregate-write-whole
+slice-aggregate-write-whole c =
+    let w = c .before .before .before .report in
+    let h : w .result .length ≤ length (w .last .1 .0) = search needs in
+    sym (length-take-le (w .result .length) (w .last .1 .0) h)
 
-write-all-requires : tie.Need-write-all-requires
-write-all-requires c κs = search needs
+write-whole-requires : tie.Need-write-whole-requires
+write-whole-requires c κs = search needs
 
 returns-2 : tie.Need-returns-2
 returns-2 c = search needs
@@ -48,10 +48,10 @@ write-report-spec =
     slice-aggregate-fail
     fail-requires
     returns
-    slice-aggregate-write-report
-    write-report-requires
+    slice-aggregate-report
+    report-requires
     array-share-prefix-text
-    slice-aggregate-write-all
-    write-all-requires
+    slice-aggregate-write-whole
+    write-whole-requires
     returns-2
     returns-3)

@@ -4,6 +4,7 @@ use mathlib.Core.Path.{subst}
 use Rattle.answer.specs.Number.{numberOf}
 use Rattle.receiver.specs.declared.Receiver.{Receiver}
 use Rattle.recording.specs.Recording.{ReceivesRecording}
+use Rattle.recording.proofs.Returned.{returned}
 use borrow.Author.Needs.{needs}
 use Rattle.recording.proofs.receive_run.Statement.{statement}
 use Rattle.recording.proofs.receive_run.Tie as tie
@@ -22,8 +23,11 @@ returns c =
     let r = c .before .before in
     let n = r .before .before in
     let a = n .before .before .before .args in
-    subst (λ (s : Receiver). ReceivesRecording s (a .bytes .now) (a .room .now) (numberOf (r .receive-recording .result .answer)) (r .receive-recording .result .count) (r .receive-recording .result .receiver) (r .receive-recording .last .1 .1 .0))
-    (n .new .ensures) (r .receive-recording .ensures)
+    let k = r .receive-recording in
+    let p =
+    subst (λ (s : Receiver). ReceivesRecording s (a .bytes .now) (a .room .now) (numberOf (k .result .answer)) (k .result .count) (k .result .receiver) (k .last .1 .1 .0))
+    (n .new .ensures) (k .ensures) in
+    (p, returned (a .bytes .now) (a .room .now) (numberOf (k .result .answer)) (k .result .count) (k .result .receiver) (k .last .1 .1 .0) p)
 
 pub receive-run-spec : {M : Type 1} → statement M
 receive-run-spec = tie.close (tie.spec new-requires receive-recording-requires same-length returns)

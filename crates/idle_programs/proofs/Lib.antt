@@ -1,0 +1,4 @@
+pub mod Decoding
+pub mod Samples
+pub mod Sending
+pub mod Receiving

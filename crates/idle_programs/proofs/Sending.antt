@@ -1,0 +1,164 @@
+-- Three idle programs do not fit the promise of `send_run`, at any rate: one answer for all, nothing written, and symbols that only the first
+-- packets decide. Each would leave the same for two lists of packets that differ in the last one, and the symbols tell those apart.
+-- The lists have more than k packets, whatever k is, and make whole puncturing patterns.
+-- Assumes nothing.
+use mathlib.Core.Path.{_≡_, refl, ap, ap₂, sym, _∙_}
+use mathlib.Core.List.{List, [], _∷_, _++_, append-nil, flatten}
+use Prim.Native.Nat.{ℕ, zero, suc, _+_, _-_, _*_, _%_, _≤_, _<_}
+use native.Mathlib.Omega.{arith}
+use borrow.Author.Tests.{eq-eqb, lt-ltb, le-ltb}
+use lib.ListN.{length, take, replicate, length-append, length-replicate, drop-of-length-le}
+use lib.Seq.{take-at, drop-at}
+use Rattle.common.specs.Lists.{All, Length}
+use Rattle.randomizer.specs.Stream.{Packet}
+use Rattle.randomizer.proofs.Whole.{packet-lengths}
+use Rattle.interleaver.proofs.Blocks.{length-flatten}
+use Rattle.convolutional_code.specs.Bits.{bitsOf, Bits}
+use Rattle.convolutional_code.proofs.Bits.{bits-bits}
+use Rattle.puncturing.specs.Mode.{modeOf}
+use Rattle.puncturing.specs.Step.{patternLength, symbolsIn}
+use Rattle.inner_code.specs.Stream.{symbols}
+use Rattle.inner_code.specs.Step.{symbolsOf}
+use Rattle.inner_code.specs.Encode.{freshCoder}
+use Rattle.inner_code.proofs.Stream.{symbols-fresh}
+use Rattle.run_reader.specs.Cost.{coderAt}
+use Rattle.run_reader.proofs.Patterns.{sent-whole}
+use Rattle.run_reader.proofs.Unharmed.{hard-decoded, own-best}
+use Rattle.sender.specs.Standard.{interleavedBlocks, onAir}
+use Rattle.sender.specs.Input.{packetsFor}
+use Rattle.sender.proofs.Inputs.{packets-kept}
+use Rattle.sender.proofs.Counts.{block-bits, length-on-air}
+use Rattle.sender.proofs.Distinct.{same-bits}
+use Rattle.transmission.specs.Run.{packetsOf, runSymbols, runRefusal, Runs}
+use Rattle.transmission.proofs.Buffers.{packets-none, packets-more}
+use Rattle.idle_programs.proofs.Samples.{samples, samples-packets, samples-length, samples-front, last-byte}
+
+-- what a program leaves after a run
+pub record Left : Type 0 where
+  pub number : ℕ
+  pub count : ℕ
+  pub room : List ℕ
+
+-- a program: what it leaves for a rate, the bytes of the packets and a room
+abbrev pub Program : Type 0
+Program = ℕ → List ℕ → List ℕ → Left
+
+-- it keeps the promise of `send_run`
+abbrev pub Keeps : Program → Type 0
+Keeps f = (rate : ℕ) (bytes room : List ℕ) → Runs rate bytes room (f rate bytes room .number) (f rate bytes room .count) (f rate bytes room .room)
+
+-- ---- the packets of a list, one after the other
+
+packets-flatten : (ps : List (List ℕ)) → All (Length 188) ps → packetsOf (flatten ps) ≡ ps
+unfolding flatten
+packets-flatten [] g = packets-none [] refl
+packets-flatten (p ∷ ps) g =
+    packets-more (p ++ flatten ps) (omega (arith, length-append p (flatten ps), g .0))
+    ∙ ap₂ (λ (a : List ℕ) (b : List (List ℕ)). a ∷ b) (take-at p (flatten ps) 188 (g .0))
+    (ap packetsOf (drop-at p (flatten ps) 188 (g .0)) ∙ packets-flatten ps (g .1))
+
+-- ---- the symbols of whole patterns decide the bits
+
+decided : (rate : ℕ) → rate < 5 → {bs cs : List ℕ} → Bits bs → Bits cs → length bs % patternLength rate ≡ 0 → length cs % patternLength rate ≡ 0
+    → symbols (modeOf rate) bs ≡ symbols (modeOf rate) cs → bs ≡ cs
+decided rate h {bs} {cs} b c m n e =
+    let ss = symbolsOf (coderAt rate 0) bs in
+    let q = sent-whole rate 0 h (omega arith) bs b m ss refl in
+    let d = hard-decoded rate 0 h (omega arith) ss (q .0) .decoded in
+    let f : ss ≡ symbolsOf (coderAt rate 0) cs = symbols-fresh rate h b ∙ e ∙ sym (symbols-fresh rate h c) in
+    sym (own-best rate 0 h (omega arith) b m ss refl d .0) ∙ own-best rate 0 h (omega arith) c n ss f d .0
+
+-- 35 blocks make whole patterns at every rate
+whole-patterns : (rate j : ℕ) → rate < 5 → 1632 * (35 * j) % patternLength rate ≡ 0
+unfolding patternLength modeOf
+whole-patterns zero j h = omega arith
+whole-patterns (suc zero) j h = omega arith
+whole-patterns (suc (suc zero)) j h = omega arith
+whole-patterns (suc (suc (suc zero))) j h = omega arith
+whole-patterns (suc (suc (suc (suc zero)))) j h = omega arith
+whole-patterns (suc (suc (suc (suc (suc rate))))) j h = absurd (omega arith)
+
+-- ---- what the promise says of a list of packets
+
+-- just room enough for n packets
+roomFor : ℕ → ℕ → List ℕ
+roomFor rate n = replicate (symbolsIn rate 0 (1632 * n)) 0
+
+module _ (f : Program) (keeps : Keeps f) (rate : ℕ) (h : rate < 5) where
+  kept : (ps : List (List ℕ)) → All Packet ps → f rate (flatten ps) (roomFor rate (length ps)) .room ≡ onAir (modeOf rate) ps
+  unfolding roomFor
+  kept ps g =
+      let l = packet-lengths ps g in
+      let room = roomFor rate (length ps) in
+      let e : packetsFor (packetsOf (flatten ps)) ≡ ps = ap packetsFor (packets-flatten ps l) ∙ packets-kept ps g in
+      let n : length (runSymbols rate (flatten ps)) ≡ symbolsIn rate 0 (1632 * length ps) = ap (λ (x : List (List ℕ)). length (onAir (modeOf rate) x)) e ∙ length-on-air rate h ps in
+      let k : length room ≡ symbolsIn rate 0 (1632 * length ps) = length-replicate {A = ℕ} (symbolsIn rate 0 (1632 * length ps)) 0 in
+      let w : length (flatten ps) % 188 ≡ 0 = (let m = length-flatten 188 ps l in omega arith) in
+      let t : length (runSymbols rate (flatten ps)) ≤ length room = omega arith in
+      let z : runRefusal rate (flatten ps) room ≡ 0 = simp (lt-ltb _ _ h, eq-eqb _ _ w, le-ltb _ _ t) in
+      keeps rate (flatten ps) room .written ∙ simp z
+      (ap (λ (d : List ℕ). runSymbols rate (flatten ps) ++ d) (drop-of-length-le room {i = length (runSymbols rate (flatten ps))} (omega arith))
+      ∙ append-nil (runSymbols rate (flatten ps)) ∙ ap (onAir (modeOf rate)) e)
+
+  module _ (k : ℕ) where
+    -- how many packets come before the last
+    before : ℕ
+    before = 35 * (k + 1) - 1
+
+    size : (v : ℕ) → length (samples before v) ≡ 35 * (k + 1)
+    unfolding before
+    size v = samples-length before v ∙ omega arith
+
+    room : List ℕ
+    room = roomFor rate (35 * (k + 1))
+
+    -- the bytes of the interleaved blocks, and that their bits make whole patterns
+    sent : ℕ → List ℕ
+    sent v = flatten (interleavedBlocks (samples before v))
+
+    whole : (v : ℕ) → length (bitsOf (sent v)) % patternLength rate ≡ 0
+    unfolding sent
+    whole v = ap (λ (n : ℕ). n % patternLength rate) (block-bits (samples before v) ∙ ap (λ (n : ℕ). 1632 * n) (size v)) ∙ whole-patterns rate (k + 1) h
+
+    -- the two lists are told apart
+    told-apart : f rate (flatten (samples before 0)) room .room ≡ f rate (flatten (samples before 1)) room .room → ⊥
+    unfolding room onAir sent
+    told-apart e =
+        let h0 = samples-packets before 0 (omega arith) in
+        let h1 = samples-packets before 1 (omega arith) in
+        let air : onAir (modeOf rate) (samples before 0) ≡ onAir (modeOf rate) (samples before 1) =
+        sym (kept (samples before 0) h0) ∙ ap (λ (n : ℕ). f rate (flatten (samples before 0)) (roomFor rate n) .room) (size 0)
+        ∙ e ∙ ap (λ (n : ℕ). f rate (flatten (samples before 1)) (roomFor rate n) .room) (sym (size 1)) ∙ kept (samples before 1) h1 in
+        let s = decided rate h (bits-bits (sent 0)) (bits-bits (sent 1)) (whole 0) (whole 1) air in
+        let b =
+        same-bits (samples before 0) (samples before 1) (packet-lengths (samples before 0) h0) (packet-lengths (samples before 1) h1) s before
+        (omega (arith, samples-length before 0)) (omega (arith, samples-length before 1)) in
+        let z : _≡_ {A = ℕ} 0 1 = sym (last-byte before 0) ∙ b ∙ last-byte before 1 in
+        omega arith
+
+    many : (v : ℕ) → k < length (samples before v)
+    many v = omega (arith, size v)
+
+    -- one answer for all lists of more than k packets
+    pub one-answer : (left : Left) → ((ps : List (List ℕ)) → All Packet ps → k < length ps → (room : List ℕ) → f rate (flatten ps) room ≡ left) → ⊥
+    one-answer left same = told-apart (ap (λ (x : Left). x .room) (at 0 (omega arith) ∙ sym (at 1 (omega arith))))
+      where
+        at : (v : ℕ) → v < 256 → f rate (flatten (samples before v)) room ≡ left
+        at v l = same (samples before v) (samples-packets before v l) (many v) room
+
+    -- nothing is written for lists of more than k packets
+    pub writes-nothing : ((ps : List (List ℕ)) → All Packet ps → k < length ps → (room : List ℕ) → f rate (flatten ps) room .room ≡ room) → ⊥
+    writes-nothing same = told-apart (at 0 (omega arith) ∙ sym (at 1 (omega arith)))
+      where
+        at : (v : ℕ) → v < 256 → f rate (flatten (samples before v)) room .room ≡ room
+        at v l = same (samples before v) (samples-packets before v l) (many v) room
+
+    -- The first k packets, and how many there are, decide what is written. With k = 1 that is a program that codes the first packet and
+    -- pretends after.
+    pub pretends-after : ((ps qs : List (List ℕ)) → All Packet ps → All Packet qs → take k ps ≡ take k qs → length ps ≡ length qs → (room : List ℕ)
+        → f rate (flatten ps) room .room ≡ f rate (flatten qs) room .room) → ⊥
+    unfolding before
+    pretends-after same =
+        told-apart
+        (same (samples before 0) (samples before 1) (samples-packets before 0 (omega arith)) (samples-packets before 1 (omega arith))
+        (samples-front k before 0 (omega arith) ∙ sym (samples-front k before 1 (omega arith))) (size 0 ∙ sym (size 1)) room)

@@ -1,0 +1,17 @@
+-- What one read leaves in a buffer.
+-- Assumes nothing.
+use mathlib.Core.Path.{_≡_}
+use mathlib.Core.List.{List}
+use Prim.Native.Nat.{ℕ}
+use lib.ListN.{drop}
+use lib.IntN.{ℤ}
+use Rattle.io.specs.Counts.{clamped}
+use Rattle.libc.specs.Io.{Moved}
+use Rattle.input_pieces.specs.declared.Piece.{Piece}
+
+-- A read of at most so many bytes. Its answer is kept, the length is what it answered, and nothing of the buffer was lent to it but its front.
+-- Which bytes a read puts there no contract can say.
+pub record Reads (most : ℕ) (before buffer : List ℕ) (r : Piece) : Type 0 where
+  pub moved : Moved most (r .got)
+  pub length-is : r .length ≡ clamped (r .got) most
+  pub beyond : drop most buffer ≡ drop most before

@@ -1,0 +1,135 @@
+-- A turn of the loop: the stream receiver is fed with what was read, and nothing refuses it.
+-- Assumes nothing.
+use mathlib.Core.Path.{_≡_, refl, sym, ap, subst, subst₂, _∙_}
+use mathlib.Core.Bool.{Bool, true, false, true≢false}
+use mathlib.Core.List.{List, [], _++_, flatten}
+use Prim.Native.Nat.{ℕ, _+_, _-_, _*_, _/_, _%_, _≤_, _<_, min}
+use native.Mathlib.Nat.{min-le-left, min-le-right, min-eq-left}
+use native.Mathlib.Omega.{arith}
+use borrow.Author.Tests.{le-ltb}
+use lib.Dec.{ltb}
+use lib.IntN.{ℤ, pos, negsuc}
+use lib.Signed.{ltZ}
+use lib.ListN.{length, take, drop, length-append}
+use lib.Seq.{length-take-le}
+use Rattle.common.specs.Choice.{pick}
+use Rattle.io.specs.Counts.{clamped}
+use Rattle.libc.specs.Io.{Moved}
+use Rattle.input_pieces.specs.Read.{Reads}
+use Rattle.input_pieces.specs.declared.Piece.{Piece}
+use Rattle.stream_receiver.specs.Feed.{freshStream, capacityOf, streamInRange, feedNumber, Feeds, refused, fed}
+use Rattle.stream_receiver.specs.History.{Reception, Came}
+use Rattle.stream_receiver.specs.declared.StreamReceiver.{StreamReceiver}
+use Rattle.stream_receiver.proofs.Laws.{reception-none, reception-range, reception-capacity}
+use Rattle.stream_receiver.proofs.Histories.{reception-number, reception-feeds}
+use Rattle.pass.specs.Turn.{Turns, Passes}
+use Rattle.pass.specs.declared.Turn.{Turn}
+
+-- ---- what was read
+
+clamped-most : (z : ℤ) (most : ℕ) → clamped z most ≤ most
+clamped-most (pos k) most = min-le-right k most
+clamped-most (negsuc k) most = omega arith
+
+pub read-most : {most : ℕ} {before buffer : List ℕ} {r : Piece} → Reads most before buffer r → r .length ≤ most
+read-most {most} {r = r} h = subst (λ (n : ℕ). n ≤ most) (sym (h .length-is)) (clamped-most (r .got) most)
+
+none-moved : (z : ℤ) (most : ℕ) → Moved most z → ltZ z (pos 0) ≡ false → clamped z most ≡ 0 → z ≡ pos 0
+none-moved (pos k) most m w h = ap pos (sym (min-eq-left m) ∙ h)
+none-moved (negsuc k) most m w h = absurd (true≢false w)
+
+-- a read that did not fail and brought nothing answered 0
+pub nothing-read : {most : ℕ} {before buffer : List ℕ} {r : Piece} → Reads most before buffer r → ltZ (r .got) (pos 0) ≡ false → r .length ≡ 0 → r .got ≡ pos 0
+nothing-read {most} {r = r} d w h = none-moved (r .got) most (d .moved) w (sym (d .length-is) ∙ h)
+
+-- ---- a turn
+
+pub capacity-is : {s : StreamReceiver} → Came s → {n : ℕ} → n ≡ pick (streamInRange s) (capacityOf s) 0 → n ≡ capacityOf s
+capacity-is {s} k e = e ∙ ap (λ (t : Bool). pick t (capacityOf s) 0) (reception-range (k .reception))
+
+module _ {s : StreamReceiver} (k : Came s) (piece room : List ℕ) (fits : length piece ≤ capacityOf s) (few : length piece ≤ 65536) (enough : length room ≡ 65536) where
+  none-refuses : feedNumber s piece room ≡ 0
+  none-refuses =
+      let r = k .reception in
+      let b = k .bytes in
+      let p : 188 * ((length b % 204 + length piece) / 204) ≤ length room = omega arith in
+      let q : length piece ≤ 204 * 4294967295 - length b = omega (arith, reception-capacity r) in
+      reception-number r piece room ∙ simp (le-ltb _ _ p, le-ltb _ _ q)
+
+  done : {number count : ℕ} {next : StreamReceiver} {exit : List ℕ} → Feeds s piece room number count next exit → number ≡ 0
+  done (refused n h c t w) = absurd (omega (arith, n, none-refuses))
+  done (fed z n t) = n
+
+pub turns : {s : StreamReceiver} → Came s → (before buffer room exit : List ℕ) (piece : Piece) (most number count : ℕ) (next : StreamReceiver)
+    → length before ≡ 65536 → length buffer ≡ 65536 → length room ≡ 65536 → most ≡ min (capacityOf s) (length before)
+    → Reads most before buffer piece → Feeds s (take (piece .length) buffer) room number count next exit
+    → Turns s before buffer room exit (record { piece = piece; count = count; stream = next })
+turns {s} k before buffer room exit piece most number count next a b o m r f =
+    let n = read-most r in
+    let w : piece .length ≤ length buffer = omega (arith, min-le-right (capacityOf s) (length before)) in
+    let l = length-take-le (piece .length) buffer w in
+    let z = done k (take (piece .length) buffer) room (omega (arith, min-le-left (capacityOf s) (length before))) (omega arith) o f in
+    record {
+      read = subst (λ (n : ℕ). Reads n before buffer piece) m r;
+      fed = subst (λ (n : ℕ). Feeds s (take (piece .length) buffer) room n count next exit) z f;
+    }
+
+-- ---- the loop
+
+-- so many bytes came, and this is what they come to
+pub record Passing (s : StreamReceiver) (came : ℕ) : Type 0 where
+  pub bytes : List ℕ
+  pub written : List ℕ
+  pub reception : Reception bytes written s
+  pub all : length bytes ≡ came
+
+pub passing-none : {s : StreamReceiver} → s ≡ freshStream → Passing s 0
+passing-none {s} e = record { bytes = []; written = []; reception = subst (Reception [] []) (sym e) reception-none; all = refl }
+
+pub passing-came : {s : StreamReceiver} {came : ℕ} → Passing s came → Came s
+passing-came p = record { bytes = p .bytes; written = p .written; reception = p .reception }
+
+written-fits : {s : StreamReceiver} {piece room exit : List ℕ} {number count : ℕ} {next : StreamReceiver} → Feeds s piece room number count next exit
+    → count ≤ length exit
+written-fits (refused n h c t w) = omega arith
+written-fits {room = room} {count = count} (fed z n t) =
+    let k = t .takes in
+    omega (arith, k .counted, ap length (k .written), length-append (flatten (k .packets)) (drop count room))
+
+less : (m a b n : ℕ) → b ≡ a + n → b ≤ m → (n ≡ 0 → ⊥) → m - b < m - a
+less m a b n e h z = omega arith
+
+module _ {s : StreamReceiver} {came : ℕ} (p : Passing s came) {before buffer room packets : List ℕ} {r : Turn} (t : Turns s before buffer room packets r)
+    (size : length buffer ≡ length before) where
+  pub given-within : r .count ≤ length packets
+  given-within = written-fits (t .fed)
+
+  within : r .piece .length ≤ length buffer
+  within = omega (arith, read-most (t .read), min-le-right (capacityOf s) (length before))
+
+  pub passing-more : Passing (r .stream) (came + r .piece .length)
+  passing-more = record {
+    bytes = p .bytes ++ take (r .piece .length) buffer;
+    written = p .written ++ take (r .count) packets;
+    reception = reception-feeds (p .reception) (take (r .piece .length) buffer) room 0 (r .count) (r .stream) packets (t .fed);
+    all = omega (arith, length-append (p .bytes) (take (r .piece .length) buffer), length-take-le (r .piece .length) buffer within, p .all);
+  }
+
+  -- all that can come is fewer than 2 to the 40th bytes
+  pub passing-few : came + r .piece .length ≤ 204 * 4294967295
+  passing-few = omega (arith, passing-more .all, passing-more .reception .few)
+
+  pub fewer : (r .piece .length ≡ 0 → ⊥) → capacityOf (r .stream) < capacityOf s
+  fewer h =
+      subst₂ (λ (x y : ℕ). x < y) (sym (reception-capacity (passing-more .reception))) (sym (reception-capacity (p .reception)))
+      (less (204 * 4294967295) (length (p .bytes)) (length (passing-more .bytes)) (r .piece .length)
+      (passing-more .all ∙ ap (λ (n : ℕ). n + r .piece .length) (sym (p .all))) (passing-more .reception .few) h)
+
+-- a read or a write failed
+pub passes-part : {s : StreamReceiver} {came : ℕ} {last : ℤ} → Passing s came → Passes (record { stream = s; came = came; last = last; failed = true })
+passes-part p = record { bytes = p .bytes; written = p .written; reception = p .reception; all = p .all; ended = λ e. absurd (true≢false e) }
+
+-- the last read answered 0
+pub passes-whole : {s : StreamReceiver} {came : ℕ} {last : ℤ} → Passing s came → last ≡ pos 0
+    → Passes (record { stream = s; came = came; last = last; failed = false })
+passes-whole p z = record { bytes = p .bytes; written = p .written; reception = p .reception; all = p .all; ended = λ e. z }

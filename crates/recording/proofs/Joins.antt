@@ -1,0 +1,154 @@
+-- A recording after another: what both come to together.
+-- Assumes nothing.
+use mathlib.Core.Path.{_≡_, refl, sym, ap, ap₂, subst, subst₂, _∙_}
+use mathlib.Core.Bool.{Bool, true, false}
+use mathlib.Core.List.{List, [], _∷_, _++_, append-assoc, append-nil, flatten}
+use Prim.Native.Nat.{ℕ, zero, suc, _+_, _-_, _*_, _/_, _%_, _≤_, _<_}
+use Prim.{tt}
+use native.Mathlib.Nat.{min-le-left}
+use native.Mathlib.Omega.{arith}
+use lib.Dec.{eqb}
+use lib.ListN.{length, take, drop, length-append, length-drop, length-take, take-append-drop}
+use lib.Seq.{take-at, drop-at, drop-append-le, drop-drop, take-append-le, length-take-le}
+use Rattle.common.specs.Choice.{pick}
+use Rattle.common.specs.Lists.{All, Length}
+use Rattle.interleaver.proofs.Blocks.{flatten-join, length-flatten}
+use Rattle.receiver.specs.Run.{Call, Calls, answerOf, roomOf, after, afterCalls, Roomy, blocksOf, packetsGiven}
+use Rattle.receiver.specs.declared.Receiver.{Receiver}
+use Rattle.receiver.proofs.Reception.{blocks-count}
+use Rattle.recording.specs.Recording.{restOf, Recording, Takes}
+
+-- ---- calls after calls
+
+all-join : {A : Type 0} (P : A → Type 0) (a b : List A) → All P a → All P b → All P (a ++ b)
+all-join P [] b p q = q
+all-join P (x ∷ a) b p q = (p .0, all-join P a b (p .1) q)
+
+blocks-join : (a b : List Call) → blocksOf (a ++ b) ≡ blocksOf a ++ blocksOf b
+blocks-join [] b = refl
+blocks-join (c ∷ a) b = ap (λ (l : List (List ℕ)). c .block ∷ l) (blocks-join a b)
+
+after-join : (s : Receiver) (a b : List Call) → afterCalls s (a ++ b) ≡ afterCalls (afterCalls s a) b
+after-join s [] b = refl
+after-join s (c ∷ a) b = after-join (after s c) a b
+
+calls-join : (s : Receiver) (a b : List Call) → Calls s a → Calls (afterCalls s a) b → Calls s (a ++ b)
+calls-join s [] b p q = q
+calls-join s (c ∷ a) b p q = (p .0, calls-join (after s c) a b (p .1) q)
+
+given-join : (s : Receiver) (a b : List Call) → packetsGiven s (a ++ b) ≡ packetsGiven s a ++ packetsGiven (afterCalls s a) b
+given-join s [] b = refl
+given-join s (c ∷ a) b =
+    let g = pick (eqb (answerOf s c) 0) (take 188 (roomOf s c) ∷ []) [] in
+    ap (λ (l : List (List ℕ)). g ++ l) (given-join (after s c) a b) ∙ sym (append-assoc g (packetsGiven (after s c) a) (packetsGiven (afterCalls (after s c) a) b))
+
+-- ---- the rest
+
+pub rest-at : (whole rest : List ℕ) (n : ℕ) → length whole ≡ 204 * n → length rest < 204 → restOf (whole ++ rest) ≡ rest
+rest-at whole rest n e h =
+    let l = length-append whole rest in
+    drop-at whole rest (length (whole ++ rest) - length (whole ++ rest) % 204) (omega arith)
+
+module _ {s : Receiver} {bytes : List ℕ} {packets : List (List ℕ)} {last : Receiver} (r : Recording s bytes packets last) where
+  pub recording-rest : r .rest ≡ restOf bytes
+  recording-rest =
+      let w = flatten (blocksOf (r .calls)) in
+      sym (ap restOf (r .whole) ∙ rest-at w (r .rest) (length (blocksOf (r .calls))) (length-flatten 204 (blocksOf (r .calls)) (r .sizes)) (r .short))
+
+-- ---- the join
+
+module _ {s middle last : Receiver} {a : List ℕ} (b : List ℕ) {p q : List (List ℕ)} (f : Recording s a p middle) (g : Recording middle (restOf a ++ b) q last) where
+  pub recording-join : Recording s (a ++ b) (p ++ q) last
+  recording-join =
+      let x = f .calls in
+      let y = g .calls in
+      let t : Calls (afterCalls s x) y = subst (λ (m : Receiver). Calls m y) (f .state) (g .decodes) in
+      record {
+        calls = x ++ y;
+        rest = g .rest;
+        whole =
+            ap (λ (l : List ℕ). l ++ b) (f .whole) ∙ append-assoc (flatten (blocksOf x)) (f .rest) b
+            ∙ ap (λ (l : List ℕ). flatten (blocksOf x) ++ l) (ap (λ (l : List ℕ). l ++ b) (recording-rest f) ∙ g .whole)
+            ∙ sym (append-assoc (flatten (blocksOf x)) (flatten (blocksOf y)) (g .rest))
+            ∙ ap (λ (l : List ℕ). l ++ g .rest) (sym (flatten-join (blocksOf x) (blocksOf y)) ∙ ap flatten (sym (blocks-join x y)));
+        sizes = subst (All (Length 204)) (sym (blocks-join x y)) (all-join (Length 204) (blocksOf x) (blocksOf y) (f .sizes) (g .sizes));
+        short = g .short;
+        decodes = calls-join s x y (f .decodes) t;
+        roomy = all-join Roomy x y (f .roomy) (g .roomy);
+        given =
+            ap₂ (λ (u v : List (List ℕ)). u ++ v) (f .given) (g .given ∙ ap (λ (m : Receiver). packetsGiven m y) (f .state)) ∙ sym (given-join s x y);
+        state = g .state ∙ ap (λ (m : Receiver). afterCalls m y) (f .state) ∙ sym (after-join s x y);
+      }
+
+-- fewer bytes than a block
+pub recording-few : (s : Receiver) (bytes : List ℕ) → length bytes < 204 → Recording s bytes [] s
+unfolding flatten
+recording-few s bytes h = record {
+  calls = [];
+  rest = bytes;
+  whole = refl;
+  sizes = tt;
+  short = h;
+  decodes = tt;
+  roomy = tt;
+  given = refl;
+  state = refl;
+}
+
+pub takes-few : (s : Receiver) (bytes room : List ℕ) → length bytes < 204 → Takes s bytes room 0 s room
+unfolding flatten
+takes-few s bytes room h = record { packets = []; recording = recording-few s bytes h; counted = refl; written = refl }
+
+-- the room after two: the second is lent what the packets of the first leave of it
+module _ {s middle last : Receiver} {a : List ℕ} (b : List ℕ) {room exit exit′ : List ℕ} {m n : ℕ} where
+  pub takes-join : Takes s a room m middle exit → Takes middle (restOf a ++ b) (drop m exit) n last exit′
+      → Takes s (a ++ b) room (m + n) last (take m exit ++ exit′)
+  takes-join f g =
+      let x = flatten (f .packets) in
+      let y = flatten (g .packets) in
+      let front : take m exit ≡ x = ap (take m) (f .written) ∙ take-at x (drop m room) m (sym (f .counted)) in
+      let back : drop m exit ≡ drop m room = ap (drop m) (f .written) ∙ drop-at x (drop m room) m (sym (f .counted)) in
+      record {
+        packets = f .packets ++ g .packets;
+        recording = recording-join b (f .recording) (g .recording);
+        counted =
+            ap₂ (λ (i j : ℕ). i + j) (f .counted) (g .counted) ∙ sym (length-append x y) ∙ ap length (sym (flatten-join (f .packets) (g .packets)));
+        written =
+            ap₂ (λ (u v : List ℕ). u ++ v) front
+            (g .written ∙ ap (λ (l : List ℕ). y ++ drop n l) back ∙ ap (λ (l : List ℕ). y ++ l) (drop-drop n m room))
+            ∙ sym (append-assoc x y (drop (m + n) room))
+            ∙ ap (λ (l : List ℕ). l ++ drop (m + n) room) (sym (flatten-join (f .packets) (g .packets)));
+      }
+
+-- ---- how many bytes of packets
+
+length-take-most : (n : ℕ) (l : List ℕ) → length (take n l) ≤ n
+length-take-most n l = subst (λ (k : ℕ). k ≤ n) (sym (length-take n l)) (min-le-left n (length l))
+
+given-few : (s : Receiver) (cs : List Call) → length (flatten (packetsGiven s cs)) ≤ 188 * length cs
+unfolding flatten
+given-few s [] = omega arith
+given-few s (c ∷ cs) =
+    let g = pick (eqb (answerOf s c) 0) (take 188 (roomOf s c) ∷ []) [] in
+    let j = ap length (flatten-join g (packetsGiven (after s c) cs)) ∙ length-append (flatten g) (flatten (packetsGiven (after s c) cs)) in
+    omega (arith, j, one (eqb (answerOf s c) 0), given-few (after s c) cs)
+  where
+    one : (t : Bool) → length (flatten (pick t (take 188 (roomOf s c) ∷ []) [])) ≤ 188
+    one true = let l = length-append (take 188 (roomOf s c)) [] in omega (arith, l, length-take-most 188 (roomOf s c))
+    one false = omega arith
+
+-- at most a packet for each whole block
+pub takes-count : {s last : Receiver} {bytes room exit : List ℕ} {count : ℕ} → Takes s bytes room count last exit → count ≤ 188 * (length bytes / 204)
+takes-count {s} {last} {bytes} t =
+    let r = t .recording in
+    let w = flatten (blocksOf (r .calls)) in
+    let a = length-flatten 204 (blocksOf (r .calls)) (r .sizes) in
+    let b = blocks-count (r .calls) in
+    let l = ap length (r .whole) ∙ length-append w (r .rest) in
+    let g : length (flatten (t .packets)) ≤ 188 * length (r .calls) = subst (λ (p : List (List ℕ)). length (flatten p) ≤ 188 * length (r .calls)) (sym (r .given)) (given-few s (r .calls)) in
+    omega (arith, t .counted, r .short, a, b, l, g)
+
+pub takes-length : {s last : Receiver} {bytes room exit : List ℕ} {count : ℕ} → Takes s bytes room count last exit → 188 * (length bytes / 204) ≤ length room
+    → length exit ≡ length room
+takes-length {s} {last} {bytes} {room} {exit} {count} t h =
+    omega (arith, takes-count t, ap length (t .written), length-append (flatten (t .packets)) (drop count room), length-drop count room, t .counted)

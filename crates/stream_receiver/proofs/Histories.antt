@@ -1,0 +1,134 @@
+-- The theorem: after any history of calls from a fresh stream receiver, the state and the packets are those of all the bytes as one recording.
+-- So any two cuttings of the same bytes give the same.
+-- Assumes nothing.
+use mathlib.Core.Path.{_≡_, refl, sym, ap, ap₂, subst, subst₂, _∙_}
+use mathlib.Core.Bool.{Bool, true, false}
+use mathlib.Core.List.{List, [], _∷_, _++_, append-assoc, append-nil, flatten}
+use Prim.Native.Nat.{ℕ, _+_, _-_, _*_, _/_, _%_, _≤_, _<_}
+use native.Mathlib.Omega.{arith}
+use borrow.Author.Tests.{lt-ltb, le-ltb, eq-eqb, ne-eqb, ltb-false}
+use lib.Dec.{ltb, eqb}
+use lib.ListN.{length, take, drop, length-append}
+use Rattle.common.specs.Choice.{pick}
+use Rattle.receiver.specs.Receive.{freshReceiver}
+use Rattle.receiver.specs.declared.Receiver.{Receiver}
+use Rattle.recording.specs.Recording.{restOf, Recording}
+use Rattle.recording.proofs.Decided.{recording-unique, recording-total}
+use Rattle.report.specs.Text.{reportText, reportNumber, reportLength, reportRoom}
+use Rattle.stream_receiver.specs.Feed.{holding, freshStream, streamInRange, capacityOf, feedNumber, streamReportNumber, streamReportLength, streamReportRoom, Feeds, refused, fed}
+use Rattle.stream_receiver.specs.History.{Feeding, Feedings, afterFeedings, bytesIn, bytesOut, Reception, PassReport, textNumber, textLength, textRoom, Reports}
+use Rattle.stream_receiver.specs.declared.StreamReceiver.{StreamReceiver}
+use Rattle.stream_receiver.proofs.Laws.{reception-none, reception-held, reception-range, reception-capacity, reception-taken-piece}
+
+-- ---- the number of the answer, over the bytes that came
+
+pub reception-number : {bytes written : List ℕ} {i : StreamReceiver} → Reception bytes written i → (piece room : List ℕ)
+    → feedNumber i piece room
+    ≡ pick (ltb (length room) (188 * ((length bytes % 204 + length piece) / 204))) 4 (pick (ltb (204 * 4294967295 - length bytes) (length piece)) 7 0)
+reception-number {bytes} {written} {i} r piece room =
+    ap (λ (t : Bool). pick t (pick (ltb (length room) (188 * ((i .held + length piece) / 204))) 4 (pick (ltb (capacityOf i) (length piece)) 7 0)) 5) (reception-range r)
+    ∙ ap₂ (λ (h k : ℕ). pick (ltb (length room) (188 * ((h + length piece) / 204))) 4 (pick (ltb k (length piece)) 7 0)) (reception-held r) (reception-capacity r)
+
+-- ---- a call more
+
+none-refused : (a b : Bool) → _≡_ {A = ℕ} (pick a 4 (pick b 7 0)) 0 → b ≡ false
+none-refused true b e = absurd (omega arith)
+none-refused false true e = absurd (omega arith)
+none-refused false false e = refl
+
+pub reception-feeds : {bytes written : List ℕ} {i : StreamReceiver} → Reception bytes written i
+    → (piece room : List ℕ) (number count : ℕ) (next : StreamReceiver) (exit : List ℕ) → Feeds i piece room number count next exit
+    → Reception (bytes ++ pick (eqb number 0) piece []) (written ++ take count exit) next
+reception-feeds {bytes} {written} {i} r piece room number count next exit (refused n p e s w) =
+    let t = ne-eqb number 0 (λ z. omega arith) in
+    let b : bytes ≡ bytes ++ pick (eqb number 0) piece [] = sym (ap (λ (x : Bool). bytes ++ pick x piece []) t ∙ append-nil bytes) in
+    let o : written ≡ written ++ take count exit = sym (ap (λ (k : ℕ). written ++ take k exit) e ∙ append-nil written) in
+    subst (Reception (bytes ++ pick (eqb number 0) piece []) (written ++ take count exit)) (sym s)
+    (subst₂ (λ (x y : List ℕ). Reception x y i) b o r)
+reception-feeds {bytes} {written} {i} r piece room number count next exit (fed z n t) =
+    let l = ltb-false (204 * 4294967295 - length bytes) (length piece)
+    (none-refused (ltb (length room) (188 * ((length bytes % 204 + length piece) / 204))) (ltb (204 * 4294967295 - length bytes) (length piece))
+    (sym (reception-number r piece room) ∙ z)) in
+    subst (λ (x : List ℕ). Reception (bytes ++ x) (written ++ take count exit) next)
+    (sym (ap (λ (x : Bool). pick x piece []) (eq-eqb number 0 n)))
+    (reception-taken-piece r t (omega (arith, l, r .few)))
+
+-- ---- the theorem
+
+reception-calls : (cs : List Feeding) {bytes written : List ℕ} {i : StreamReceiver} → Reception bytes written i → Feedings i cs
+    → Reception (bytes ++ bytesIn cs) (written ++ bytesOut cs) (afterFeedings i cs)
+reception-calls [] {bytes} {written} {i} r d = subst₂ (λ (x y : List ℕ). Reception x y i) (sym (append-nil bytes)) (sym (append-nil written)) r
+reception-calls (c ∷ cs) {bytes} {written} {i} r d =
+    let b = pick (eqb (c .number) 0) (c .piece) [] in
+    let o = take (c .count) (c .exit) in
+    subst₂ (λ (x y : List ℕ). Reception x y (afterFeedings (c .next) cs)) (append-assoc bytes b (bytesIn cs)) (append-assoc written o (bytesOut cs))
+    (reception-calls cs (reception-feeds r (c .piece) (c .room) (c .number) (c .count) (c .next) (c .exit) (d .0)) (d .1))
+
+pub every-history : (cs : List Feeding) → Feedings freshStream cs → Reception (bytesIn cs) (bytesOut cs) (afterFeedings freshStream cs)
+every-history cs d = reception-calls cs reception-none d
+
+-- ---- what bytes come to is decided
+
+pub record SameReception (written written′ : List ℕ) (i i′ : StreamReceiver) : Type 0 where
+  pub out : written ≡ written′
+  pub state : i ≡ i′
+
+pub reception-unique : {bytes w v : List ℕ} {i j : StreamReceiver} → Reception bytes w i → Reception bytes v j → SameReception w v i j
+reception-unique {bytes} a b =
+    let e = recording-unique (a .recording) (b .recording) in
+    record {
+      out = a .given ∙ ap flatten (e .given) ∙ sym (b .given);
+      state = a .kept ∙ ap (λ (s : Receiver). holding s (restOf bytes)) (e .state) ∙ sym (b .kept);
+    }
+
+-- any two cuttings of the same bytes
+pub any-pieces : (cs ds : List Feeding) → Feedings freshStream cs → Feedings freshStream ds → bytesIn cs ≡ bytesIn ds
+    → SameReception (bytesOut cs) (bytesOut ds) (afterFeedings freshStream cs) (afterFeedings freshStream ds)
+any-pieces cs ds p q e =
+    reception-unique
+    (subst (λ (x : List ℕ). Reception x (bytesOut cs) (afterFeedings freshStream cs)) e (every-history cs p)) (every-history ds q)
+
+pub record ReceptionOf (bytes : List ℕ) : Type 0 where
+  pub written : List ℕ
+  pub stream : StreamReceiver
+  pub reception : Reception bytes written stream
+
+pub reception-total : (bytes : List ℕ) → length bytes ≤ 204 * 4294967295 → ReceptionOf bytes
+reception-total bytes h =
+    let r = recording-total freshReceiver bytes in
+    record {
+      written = flatten (r .packets);
+      stream = holding (r .last) (restOf bytes);
+      reception = record { packets = r .packets; recording = r .recording; given = refl; kept = refl; few = h };
+    }
+
+-- ---- the report
+
+-- the text of the report on all that came
+report-text : {bytes written text : List ℕ} {i : StreamReceiver} → Reception bytes written i → PassReport bytes text → reportText (i .receiver .counts) (i .held) ≡ text
+report-text {bytes} r p =
+    let e = recording-unique (r .recording) (p .recording) in
+    ap₂ (λ (s : Receiver) (n : ℕ). reportText (s .counts) n) (e .state) (reception-held r) ∙ sym (p .text-is)
+
+pub report-total : (bytes written : List ℕ) (i : StreamReceiver) → Reception bytes written i → PassReport bytes (reportText (i .receiver .counts) (i .held))
+report-total bytes written i r = record {
+  packets = r .packets;
+  last = i .receiver;
+  recording = r .recording;
+  text-is = ap (reportText (i .receiver .counts)) (reception-held r);
+}
+
+pub reports : (i : StreamReceiver) (room : List ℕ) (number count : ℕ) (exit : List ℕ)
+    → number ≡ streamReportNumber i room → count ≡ streamReportLength i room → exit ≡ streamReportRoom i room → Reports i room number count exit
+reports i room number count exit n c w = record {
+  number-is = n;
+  count-is = c;
+  exit-is = w;
+  whole = λ bytes written text r p.
+      let e = report-text r p in
+      let g = reception-range r in (
+        n ∙ ap (λ (t : Bool). pick t (reportNumber (i .receiver .counts) (i .held) room) 5) g ∙ ap (λ (x : List ℕ). textNumber x room) e,
+        c ∙ ap (λ (t : Bool). pick t (reportLength (i .receiver .counts) (i .held) room) 0) g ∙ ap (λ (x : List ℕ). textLength x room) e,
+        w ∙ ap (λ (t : Bool). pick t (reportRoom (i .receiver .counts) (i .held) room) room) g ∙ ap (λ (x : List ℕ). textRoom x room) e,
+      );
+}

@@ -1,0 +1,113 @@
+-- Laws of what bytes come to: none, one piece after another, and that it is decided.
+-- Assumes nothing.
+use mathlib.Core.Path.{_≡_, refl, sym, ap, ap₂, subst, subst₂, _∙_}
+use mathlib.Core.Bool.{Bool, true, false}
+use mathlib.Core.List.{List, [], _∷_, _++_, append-assoc, append-nil, flatten}
+use Prim.Native.Nat.{ℕ, zero, _+_, _-_, _*_, _/_, _%_, _≤_, _<_}
+use native.Mathlib.Omega.{arith}
+use borrow.Author.Tests.{lt-ltb, le-ltb, eq-eqb, ne-eqb, ltb-false}
+use lib.Dec.{ltb, eqb}
+use lib.ListN.{length, take, drop, replicate, length-append, length-drop, take-append-drop}
+use lib.Seq.{take-at, length-take-le, drop-append-add}
+use Rattle.common.specs.Choice.{pick}
+use Rattle.interleaver.proofs.Blocks.{flatten-join}
+use Rattle.receiver.specs.Receive.{freshReceiver, inRange}
+use Rattle.receiver.specs.declared.Receiver.{Receiver}
+use Rattle.receiver.proofs.Reached.{Sound, sound-range, sound-fresh}
+use Rattle.recording.specs.Recording.{restOf, Recording, Takes}
+use Rattle.recording.proofs.Joins.{recording-join, recording-few}
+use Rattle.recording.proofs.Decided.{recording-unique, recording-total, recording-taken}
+use Rattle.report.specs.Text.{reportText}
+use Rattle.stream_receiver.specs.Feed.{padded, holding, heldBytes, freshStream, streamInRange, capacityOf, feedNumber, TakesPiece, Feeds, refused, fed}
+use Rattle.stream_receiver.specs.History.{Reception, PassReport}
+use Rattle.stream_receiver.specs.declared.StreamReceiver.{StreamReceiver}
+
+-- ---- the bytes held
+
+held-holding : (s : Receiver) (rest : List ℕ) → heldBytes (holding s rest) ≡ rest
+held-holding s rest = take-at rest (replicate (204 - length rest) zero) (length rest) refl
+
+length-rest : (bytes : List ℕ) → length (restOf bytes) ≡ length bytes % 204
+length-rest bytes = length-drop (length bytes - length bytes % 204) bytes ∙ back (length bytes)
+  where
+    back : (n : ℕ) → n - (n - n % 204) ≡ n % 204
+    back n = omega arith
+
+module _ {bytes written : List ℕ} {i : StreamReceiver} (r : Reception bytes written i) where
+  pub reception-held : i .held ≡ length bytes % 204
+  reception-held = ap (λ (j : StreamReceiver). j .held) (r .kept) ∙ length-rest bytes
+
+  pub reception-bytes : heldBytes i ≡ restOf bytes
+  reception-bytes = ap heldBytes (r .kept) ∙ held-holding (i .receiver) (restOf bytes)
+
+  sound-taken : Sound (i .receiver) × (i .receiver .counts .taken ≡ length bytes / 204)
+  unfolding freshReceiver
+  sound-taken =
+      let t = recording-taken sound-fresh (r .recording) (omega (arith, r .few)) in
+      (t .0, omega (arith, t .1))
+
+  -- the count of document 01: the whole blocks
+  pub reception-taken : i .receiver .counts .taken ≡ length bytes / 204
+  reception-taken = sound-taken .1
+
+  pub reception-range : streamInRange i ≡ true
+  reception-range =
+      let h : i .held < 204 = omega (arith, reception-held) in
+      simp (sound-range (i .receiver) (sound-taken .0), lt-ltb _ _ h)
+
+  -- how many bytes more can come
+  pub reception-capacity : capacityOf i ≡ 204 * 4294967295 - length bytes
+  reception-capacity = omega (arith, reception-taken, reception-held, r .few)
+
+-- At the last block that can be counted there is no rest, and no byte more can come.
+pub reception-full : {bytes written : List ℕ} {i : StreamReceiver} → Reception bytes written i → i .receiver .counts .taken ≡ 4294967295
+    → (i .held ≡ 0) × (capacityOf i ≡ 0)
+reception-full r e = (omega (arith, reception-held r, reception-taken r, r .few, e), omega (arith, reception-capacity r, reception-taken r, r .few, e))
+
+-- ---- none
+
+pub reception-none : Reception [] [] freshStream
+unfolding freshStream flatten
+reception-none = record {
+  packets = [];
+  recording = recording-few freshReceiver [] (omega arith);
+  given = refl;
+  kept = refl;
+  few = omega arith;
+}
+
+-- ---- one piece more
+
+takes-out : {s last : Receiver} {bytes room exit : List ℕ} {count : ℕ} (t : Takes s bytes room count last exit) → take count exit ≡ flatten (t .packets)
+takes-out {s} {last} {bytes} {room} {exit} {count} t = ap (take count) (t .written) ∙ take-at (flatten (t .packets)) (drop count room) count (sym (t .counted))
+
+rest-join : (a b : List ℕ) → restOf (restOf a ++ b) ≡ restOf (a ++ b)
+rest-join a b =
+    let k = length a - length a % 204 in
+    let w = take k a in
+    let split : a ++ b ≡ w ++ (restOf a ++ b) = ap (λ (l : List ℕ). l ++ b) (sym (take-append-drop k a)) ∙ append-assoc w (restOf a) b in
+    let n : length w ≡ k = length-take-le k a (omega arith) in
+    let l : length (a ++ b) ≡ k + length (restOf a ++ b) = ap length split ∙ length-append w (restOf a ++ b) ∙ ap (λ (j : ℕ). j + length (restOf a ++ b)) n in
+    let e : length (a ++ b) - length (a ++ b) % 204 ≡ length w + (length (restOf a ++ b) - length (restOf a ++ b) % 204)
+    = ap (λ (j : ℕ). j - j % 204) l ∙ shift (length a) (length (restOf a ++ b)) ∙ ap (λ (j : ℕ). j + (length (restOf a ++ b) - length (restOf a ++ b) % 204)) (sym n) in
+    sym
+    (ap₂ drop e split ∙ drop-append-add w (restOf a ++ b) (length (restOf a ++ b) - length (restOf a ++ b) % 204))
+  where
+    shift : (n m : ℕ) → n - n % 204 + m - (n - n % 204 + m) % 204 ≡ n - n % 204 + (m - m % 204)
+    shift n m = omega arith
+
+module _ {bytes written : List ℕ} {i : StreamReceiver} (r : Reception bytes written i) {piece room exit : List ℕ} {count : ℕ} {next : StreamReceiver} where
+  pub reception-taken-piece : TakesPiece i piece room count next exit → length bytes + length piece ≤ 204 * 4294967295
+      → Reception (bytes ++ piece) (written ++ take count exit) next
+  reception-taken-piece t h =
+      let k = t .takes in
+      let g : Recording (i .receiver) (restOf bytes ++ piece) (k .packets) (next .receiver)
+      = subst (λ (x : List ℕ). Recording (i .receiver) (x ++ piece) (k .packets) (next .receiver)) (reception-bytes r) (k .recording) in
+      record {
+        packets = r .packets ++ k .packets;
+        recording = recording-join piece (r .recording) g;
+        given = ap₂ (λ (x y : List ℕ). x ++ y) (r .given) (takes-out k) ∙ sym (flatten-join (r .packets) (k .packets));
+        kept =
+            t .kept ∙ ap (holding (next .receiver)) (ap (λ (x : List ℕ). restOf (x ++ piece)) (reception-bytes r) ∙ rest-join bytes piece);
+        few = omega (arith, length-append bytes piece);
+      }

@@ -1,0 +1,205 @@
+-- Lists of bytes in pieces: an array with bytes at its front, and what is held after a piece.
+-- Assumes nothing.
+use mathlib.Core.Path.{_≡_, sym, ap, ap₂, subst, subst₂, _∙_}
+use mathlib.Core.List.{List, [], _∷_, _++_, append-assoc, append-nil}
+use Prim.Native.Nat.{ℕ, _+_, _-_, _*_, _/_, _%_, _≤_, _<_}
+use native.Mathlib.Nat.{zero-add, mod-le}
+use native.Mathlib.Decide.{ℕ-discrete}
+use native.Mathlib.Omega.{arith}
+use mathlib.Core.Bool.{true}
+use borrow.Author.Tests.{ltb-true}
+use lib.Dec.{ltb}
+use lib.ListN.{length, take, drop, replicate, length-append, length-drop, length-replicate, replicate-append-replicate, take-append-drop, drop-of-length-le}
+use borrow.Rule.Slice.PartMut.{putMid, midOf}
+use lib.Seq.{take-all, drop-at, length-take-le, drop-append-add}
+use Rattle.common.proofs.Choice.{both-true}
+use Rattle.common.proofs.Lists.{put-after}
+use Rattle.receiver.specs.Receive.{inRange}
+use Rattle.recording.specs.Recording.{restOf, Takes}
+use Rattle.recording.proofs.Joins.{takes-join, takes-few, takes-count, takes-length}
+use Rattle.receiver.specs.declared.Receiver.{Receiver}
+use Rattle.stream_receiver.specs.Feed.{padded, holding, heldBytes, streamInRange, TakesPiece}
+use Rattle.stream_receiver.specs.declared.StreamReceiver.{StreamReceiver}
+
+abbrev zeros : ℕ → List ℕ
+zeros n = replicate n 0
+
+drop-zeros : (k n : ℕ) → k ≤ n → drop k (zeros n) ≡ zeros (n - k)
+drop-zeros k n h =
+    let z : ℕ = 0 in
+    let m : k + (n - k) ≡ n = omega arith in
+    sym (ap (λ (j : ℕ). drop k (zeros j)) m) ∙ sym (ap (drop k) (replicate-append-replicate k (n - k) z))
+    ∙ drop-at (zeros k) (zeros (n - k)) k (length-replicate k z)
+
+-- two lists put into zeros
+pub joined-zeros : (a b first second : List ℕ) (n : ℕ) → length a ≡ n → n + length b ≤ 204
+    → first ≡ take 0 (zeros 204) ++ a ++ drop (0 + length a) (zeros 204)
+    → second ≡ take n first ++ b ++ drop (n + length b) first
+    → second ≡ padded (a ++ b)
+joined-zeros a b first second n e h p q =
+    let z = zeros 204 in
+    let l : length (a ++ b) ≡ n + length b = length-append a b ∙ ap (λ (k : ℕ). k + length b) e in
+    let f : first ≡ a ++ drop n z = p ∙ ap (λ (k : ℕ). a ++ drop k z) (zero-add (length a) ∙ e) in
+    q ∙ ap (λ (x : List ℕ). take n x ++ b ++ drop (n + length b) x) f ∙ put-after a b z n e
+    ∙ ap (λ (x : List ℕ). (a ++ b) ++ x) (drop-zeros (n + length b) 204 h ∙ ap (λ (k : ℕ). zeros (204 - k)) (sym l))
+
+-- ---- the ranges
+
+pub stream-range : (i : StreamReceiver) → streamInRange i ≡ true → (inRange (i .receiver) ≡ true) × (i .held < 204)
+stream-range i e =
+    let p = both-true (inRange (i .receiver)) (ltb (i .held) 204) e in
+    (p .0, ltb-true (i .held) 204 (p .1))
+
+-- ---- an array with bytes at its front
+
+padded-full : (bytes : List ℕ) → length bytes ≡ 204 → padded bytes ≡ bytes
+padded-full bytes e =
+    let z : 204 - length bytes ≡ 0 = omega arith in
+    ap (λ (k : ℕ). bytes ++ zeros k) z ∙ append-nil bytes
+
+kept-state : (s : Receiver) (rest : List ℕ) {array : List ℕ} {n : ℕ} → array ≡ padded rest → n ≡ length rest
+    → _≡_ {A = StreamReceiver} (record { receiver = s; pending = array; held = n }) (holding s rest)
+kept-state s rest p e = ap₂ (λ (x : List ℕ) (k : ℕ). record { receiver = s; pending = x; held = k }) p e
+
+-- where the bytes after the last whole block begin, in all that came and in the piece
+rest-none : (l start : ℕ) → start ≡ 0 → l - l % 204 ≡ l - (l - start) % 204
+rest-none l start e = omega arith
+
+rest-some : (m : ℕ) → 204 + m - (204 + m) % 204 ≡ 204 + (m - m % 204)
+rest-some m = omega arith
+
+shifted : (h l start m r : ℕ) → h + start ≡ 204 → l ≡ start + m → r ≤ m → 204 + (m - r) ≡ h + (l - r)
+shifted h l start m r a b c = omega arith
+
+rest-start : (h l start : ℕ) → h < 204 → 204 ≤ h + l → start ≡ (204 - h) % 204 → h + l - (h + l) % 204 ≡ h + (l - (l - start) % 204)
+rest-start h l start small enough e = by (ℕ-discrete h 0)
+  where
+    by : Dec (h ≡ 0) → h + l - (h + l) % 204 ≡ h + (l - (l - start) % 204)
+    by (yes z) = let o : h + l ≡ l = omega arith in let d = rest-none l start (omega arith) in omega arith
+    by (no z) =
+        let s : start ≡ 204 - h = omega arith in
+        let m : h + l ≡ 204 + (l - start) = omega arith in
+        let n : l ≡ start + (l - start) = omega arith in
+        ap (λ (k : ℕ). k - k % 204) m ∙ rest-some (l - start)
+        ∙ shifted h l start (l - start) ((l - start) % 204) (omega arith) n (mod-le (l - start) 204)
+
+-- ---- what a stream receiver does with a piece
+
+module _ (i : StreamReceiver) (size : length (i .pending) ≡ 204) (small : i .held < 204) where
+  pub held-length : length (heldBytes i) ≡ i .held
+  held-length = length-take-le (i .held) (i .pending) (omega arith)
+
+  length-came : (piece : List ℕ) → length (heldBytes i ++ piece) ≡ i .held + length piece
+  length-came piece = length-append (heldBytes i) piece ∙ ap (λ (k : ℕ). k + length piece) held-length
+
+  -- no byte is held, and none completes a block
+  pub finish-none : (filler room : List ℕ) → length filler ≡ (204 - i .held) % 204 → i .held ≡ 0
+      → Takes (i .receiver) (heldBytes i ++ filler) room 0 (i .receiver) room
+  finish-none filler room e z = takes-few (i .receiver) (heldBytes i ++ filler) room (omega (arith, length-came filler))
+
+  -- the block that the bytes held begin
+  pub finish-block : (filler : List ℕ) {block room exit : List ℕ} {count : ℕ} {last : Receiver} → length filler ≡ (204 - i .held) % 204 → (i .held ≡ 0 → ⊥)
+      → block ≡ padded (heldBytes i ++ filler) → Takes (i .receiver) block room count last exit
+      → Takes (i .receiver) (heldBytes i ++ filler) room count last exit
+  finish-block filler {block} {room} {exit} {count} {last} e z p t =
+      subst (λ (x : List ℕ). Takes (i .receiver) x room count last exit) (p ∙ padded-full (heldBytes i ++ filler) (omega (arith, length-came filler))) t
+
+  -- no block is whole yet
+  pub keep-piece : (piece room array : List ℕ) → i .held + length piece < 204 → array ≡ padded (heldBytes i ++ piece)
+      → TakesPiece i piece room 0 (record { receiver = i .receiver; pending = array; held = i .held + length piece }) room
+  keep-piece piece room array h p =
+      let came = heldBytes i ++ piece in
+      let l = length-came piece in
+      let z : length came - length came % 204 ≡ 0 = omega arith in
+      let r : restOf came ≡ came = ap (λ (k : ℕ). drop k came) z in
+      record {
+        takes = takes-few (i .receiver) came room (omega arith);
+        kept = kept-state (i .receiver) (restOf came) (p ∙ ap padded (sym r)) (sym (ap length r ∙ l));
+      }
+
+  -- a piece that completes at least one block
+  module _ (piece room : List ℕ) (enough : 204 ≤ i .held + length piece) (fits : 188 * ((i .held + length piece) / 204) ≤ length room)
+      (start : ℕ) (e : start ≡ (204 - i .held) % 204) where
+    first : List ℕ
+    first = heldBytes i ++ take start piece
+
+    pub start-within : start ≤ length piece
+    start-within = omega arith
+
+    pub filler-length : length (take start piece) ≡ start
+    filler-length = length-take-le start piece start-within
+
+    length-first : length first ≡ i .held + start
+    unfolding first
+    length-first = length-came (take start piece) ∙ ap (λ (k : ℕ). i .held + k) filler-length
+
+    first-rest : restOf first ≡ []
+    first-rest = drop-of-length-le first {i = length first - length first % 204} (omega (arith, length-first))
+
+    came-split : first ++ drop start piece ≡ heldBytes i ++ piece
+    unfolding first
+    came-split = append-assoc (heldBytes i) (take start piece) (drop start piece) ∙ ap (λ (l : List ℕ). heldBytes i ++ l) (take-append-drop start piece)
+
+    -- the bytes after the last whole block
+    rest-piece : (end : ℕ) → end ≡ length piece - (length piece - start) % 204 → restOf (heldBytes i ++ piece) ≡ drop end piece
+    rest-piece end d =
+        let came = heldBytes i ++ piece in
+        let n = length-came piece in
+        let k : length came - length came % 204 ≡ length (heldBytes i) + end
+        = ap (λ (j : ℕ). j - j % 204) n ∙ rest-start (i .held) (length piece) start small enough e ∙ ap₂ (λ (j k : ℕ). j + k) (sym held-length) (sym d) in
+        ap (λ (j : ℕ). drop j came) k ∙ drop-append-add (heldBytes i) piece end
+
+    module _ {m : ℕ} {middle : Receiver} {exit : List ℕ} (f : Takes (i .receiver) (heldBytes i ++ take start piece) room m middle exit) where
+      pub first-count : m ≤ 188
+      unfolding first
+      first-count = omega (arith, takes-count f, length-first)
+
+      pub first-length : length exit ≡ length room
+      unfolding first
+      first-length = takes-length f (omega (arith, length-first))
+
+      pub first-within : m ≤ length exit
+      unfolding first
+      first-within = omega (arith, takes-count f, first-length, length-first)
+
+      pub room-left : 188 * (length (take (length piece - start) (drop start piece)) / 204) ≤ length (midOf m (length exit - m) exit)
+      unfolding first
+      room-left =
+          omega (
+            arith,
+            length-take-le (length piece - start) (drop start piece) (omega (arith, length-drop start piece)),
+            length-take-le (length exit - m) (drop m exit) (omega (arith, length-drop m exit)),
+            takes-count f,
+            first-length,
+            length-first,
+          )
+
+      module _ {n : ℕ} {last : Receiver} {exit′ : List ℕ}
+          (g : Takes middle (take (length piece - start) (drop start piece)) (midOf m (length exit - m) exit) n last exit′) where
+        pub count-within : m + n ≤ length room
+        count-within = omega (arith, takes-count g, room-left, first-within, first-length, length-take-le (length exit - m) (drop m exit) (omega (arith, length-drop m exit)))
+
+        pub take-pieces : (array : List ℕ) (rest end : ℕ) → rest ≡ (length piece - start) % 204 → end ≡ length piece - rest
+            → array ≡ padded (take 0 (i .pending) ++ take (length piece - end) (drop end piece))
+            → TakesPiece i piece room (m + n) (record { receiver = last; pending = array; held = rest }) (putMid m (length exit - m) exit exit′)
+        unfolding first
+        take-pieces array rest end p q a =
+            let b = drop start piece in
+            let came = heldBytes i ++ piece in
+            let d : end ≡ length piece - (length piece - start) % 204 = omega arith in
+            let tail : restOf came ≡ take (length piece - end) (drop end piece)
+            = rest-piece end d ∙ sym (take-all (length piece - end) (drop end piece) (omega (arith, length-drop end piece))) in
+            let c : take (length piece - start) b ≡ restOf first ++ b
+            = take-all (length piece - start) b (omega (arith, length-drop start piece)) ∙ sym (ap (λ (l : List ℕ). l ++ b) first-rest) in
+            let o : midOf m (length exit - m) exit ≡ drop m exit = take-all (length exit - m) (drop m exit) (omega (arith, length-drop m exit)) in
+            let t : Takes middle (restOf first ++ b) (drop m exit) n last exit′ = subst₂ (λ (x y : List ℕ). Takes middle x y n last exit′) c o g in
+            let w : exit′ ++ drop (length exit - m) (drop m exit) ≡ exit′
+            = ap (λ (l : List ℕ). exit′ ++ l) (drop-of-length-le (drop m exit) {i = length exit - m} (omega (arith, length-drop m exit))) ∙ append-nil exit′ in
+            record {
+              takes =
+                  subst₂ (λ (x y : List ℕ). Takes (i .receiver) x room (m + n) last y) came-split (sym (ap (λ (l : List ℕ). take m exit ++ l) w))
+                  (takes-join b f t);
+              kept =
+                  kept-state last (restOf came) (a ∙ ap padded (sym tail))
+                  (sym (ap length (rest-piece end d) ∙ omega (arith, length-drop end piece, start-within)));
+            }

@@ -1,0 +1,35 @@
+-- `stream_receiver::StreamReceiver::report` meets its contract.
+-- Assumes nothing.
+use mathlib.Core.Path.{_≡_, refl, sym, _∙_}
+use Rattle.stream_receiver.specs.Feed.{streamInRange}
+use Rattle.stream_receiver.proofs.Histories.{reports}
+use borrow.Author.Tests.{not-true, not-false}
+use borrow.Author.Needs.{needs}
+use Rattle.stream_receiver.proofs.StreamReceiver.report.Statement.{statement}
+use Rattle.stream_receiver.proofs.StreamReceiver.report.Tie as tie
+
+in-range-requires : tie.Need-in-range-requires
+in-range-requires c κs = search needs
+
+returns : tie.Need-returns
+returns c =
+    let a = c .before .before .before .before .before .args in
+    let e = sym (c .before .in-range .ensures) ∙ not-true _ (c .if1 .taken) in
+    reports (a .self) (a .room .now) _ _ _ (simp e) (simp e) (simp e)
+
+write-report-requires : tie.Need-write-report-requires
+write-report-requires c κs = search needs
+
+same-length : tie.Need-same-length
+same-length c = search needs
+
+returns-2 : tie.Need-returns-2
+returns-2 c =
+    let a = c .before .before .before .before .before .before .before .before .before .args in
+    let e = sym (c .before .before .before .before .before .in-range .ensures) ∙ not-false _ (c .before .before .before .before .if1 .left) in
+    let w = c .before .before .write-report .ensures in
+    reports (a .self) (a .room .now) _ _ _ (w .0 ∙ simp e) (w .1 ∙ simp e) (w .2 ∙ simp e)
+
+pub report-spec : {M : Type 1} → statement M
+report-spec =
+    tie.close (tie.spec in-range-requires returns write-report-requires same-length returns-2)

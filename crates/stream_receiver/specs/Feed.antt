@@ -1,0 +1,65 @@
+-- A reception in progress: what feeding it with a piece does, and what it comes to over all the bytes that came, whatever the pieces.
+-- Assumes nothing.
+use mathlib.Core.Path.{_≡_}
+use mathlib.Core.Bool.{Bool, false}
+use mathlib.Core.List.{List, _++_}
+use Prim.Native.Nat.{ℕ, _+_, _-_, _*_, _/_, _<_}
+use lib.Dec.{ltb}
+use lib.ListN.{length, take, replicate}
+use Rattle.common.specs.Choice.{pick}
+use Rattle.receiver.specs.Receive.{freshReceiver, inRange}
+use Rattle.receiver.specs.declared.Receiver.{Receiver}
+use Rattle.recording.specs.Recording.{restOf, Takes}
+use Rattle.report.specs.Text.{reportNumber, reportLength, reportRoom}
+use Rattle.stream_receiver.specs.declared.StreamReceiver.{StreamReceiver}
+
+-- bytes at the front of an array of 204, and 0 after them
+abbrev pub padded : List ℕ → List ℕ
+padded bytes = bytes ++ replicate (204 - length bytes) 0
+
+-- a receiver, and the bytes of a block that is not whole yet
+abbrev pub holding : Receiver → List ℕ → StreamReceiver
+holding s bytes = record { receiver = s; pending = padded bytes; held = length bytes }
+
+abbrev pub heldBytes : StreamReceiver → List ℕ
+heldBytes i = take (i .held) (i .pending)
+
+-- a fresh receiver, and no byte
+unfoldable pub freshStream : StreamReceiver
+freshStream = record { receiver = freshReceiver; pending = replicate 204 0; held = 0 }
+
+-- fewer bytes than a block has are held
+abbrev pub streamInRange : StreamReceiver → Bool
+streamInRange i = pick (inRange (i .receiver)) (ltb (i .held) 204) false
+
+-- how many bytes more can come: those of the blocks that can be counted
+abbrev pub capacityOf : StreamReceiver → ℕ
+capacityOf i = 204 * (4294967295 - i .receiver .counts .taken) - i .held
+
+-- What a piece comes to, after the bytes held: a recording of both, with the packets in the room. The bytes after its last whole block are held.
+pub record TakesPiece (i : StreamReceiver) (piece room : List ℕ) (count : ℕ) (next : StreamReceiver) (exit : List ℕ) : Type 0 where
+  pub takes : Takes (i .receiver) (heldBytes i ++ piece) room count (next .receiver) exit
+  pub kept : next ≡ holding (next .receiver) (restOf (heldBytes i ++ piece))
+
+-- The tests before the work, in the order of document 01: 5 for a state out of range, 4 where there is not room for a packet for each block
+-- that is whole then, 7 where not all the bytes can be taken; 0 where none refuses.
+abbrev pub feedNumber : StreamReceiver → List ℕ → List ℕ → ℕ
+feedNumber i piece room =
+    pick (streamInRange i)
+    (pick (ltb (length room) (188 * ((i .held + length piece) / 204))) 4 (pick (ltb (capacityOf i) (length piece)) 7 0))
+    5
+
+-- what feeding promises: all as before, or the whole piece taken
+pub data Feeds (i : StreamReceiver) (piece room : List ℕ) (number count : ℕ) (next : StreamReceiver) (exit : List ℕ) : Type 0 where
+  refused : number ≡ feedNumber i piece room → 0 < number → count ≡ 0 → next ≡ i → exit ≡ room → Feeds i piece room number count next exit
+  fed : feedNumber i piece room ≡ 0 → number ≡ 0 → TakesPiece i piece room count next exit → Feeds i piece room number count next exit
+
+-- what writing the report of all that came answers, and the room after it: 5 for a state out of range, and else what the report crate says of the counts and the bytes held
+abbrev pub streamReportNumber : StreamReceiver → List ℕ → ℕ
+streamReportNumber i room = pick (streamInRange i) (reportNumber (i .receiver .counts) (i .held) room) 5
+
+abbrev pub streamReportLength : StreamReceiver → List ℕ → ℕ
+streamReportLength i room = pick (streamInRange i) (reportLength (i .receiver .counts) (i .held) room) 0
+
+abbrev pub streamReportRoom : StreamReceiver → List ℕ → List ℕ
+streamReportRoom i room = pick (streamInRange i) (reportRoom (i .receiver .counts) (i .held) room) room

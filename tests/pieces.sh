@@ -1,0 +1,68 @@
+#!/bin/bash
+# The programs on inputs that come in pieces, on inputs that end beside a buffer's end, and on inputs and outputs that fail.
+#   tests/pieces.sh      from the top of the repository, after the programs and reference/ are built
+# Prints a line for each kind of case, and stops at the first that fails.
+set -euo pipefail
+bin=$PWD/target/bin
+reference=$PWD/target/cargo/release
+work=$(mktemp -d)
+trap 'rm -rf "$work"' EXIT
+cd "$work"
+
+fail() {
+    echo "FAILED: $*"
+    exit 1
+}
+
+# A recording of 1,200 blocks, harmed so that packets are lost and bytes corrected, and cut off inside a block.
+packets=$OLDPWD/reference/tests/data/packets.ts
+for _ in $(seq 30); do cat "$packets"; done > packets
+"$reference/interleaved" < packets > recording
+for at in 5000 70001 70300 131072 200000; do
+    head -c 97 /dev/zero | tr '\0' '\377' | dd of=recording bs=1 seek="$at" conv=notrunc status=none
+done
+truncate -s -57 recording
+
+# report_of LENGTH: on so many bytes of the recording, from a file and through a pipe, the report is the reference's.
+report_of() {
+    head -c "$1" recording > part
+    "$reference/pass_report" < part > wanted
+    "$bin/pass_report" < part | cmp - wanted || fail "report of $1 bytes from a file"
+    cat part | "$bin/pass_report" | cmp - wanted || fail "report of $1 bytes through a pipe"
+}
+for n in 0 1 203 204 205 2244 65535 65536 65537 130559 130560 130561 131071 131072 131073 244743; do report_of "$n"; done
+echo "reports at the ends of the buffers: as the reference's"
+
+"$reference/pieces" 1000 65536 "$bin/pass_report" < recording > report
+"$reference/pass_report" < recording | cmp - report || fail "pass_report in pieces"
+"$reference/pieces" 200 65536 "$bin/dvbs_receive" < recording > received 2> report.2
+cmp report report.2 || fail "the report of dvbs_receive in pieces"
+"$bin/dvbs_receive" < recording 2> /dev/null | cmp - received || fail "the packets of dvbs_receive in pieces"
+[ "$(wc -c < received)" = $((188 * $(sed -n 's/^delivered=//p' report))) ] || fail "as many packets as the report says"
+echo "a recording in 1,200 cuttings: one report, one packet stream"
+
+# A live feed: the packet of a block comes out when the block is whole, and not when a buffer is full.
+mkfifo feed
+"$bin/dvbs_receive" < feed > live 2> /dev/null &
+exec 3> feed
+head -c $((204 * 12)) recording >&3
+for _ in $(seq 100); do [ "$(wc -c < live)" = 188 ] && break; sleep 0.1; done
+[ "$(wc -c < live)" = 188 ] || fail "a live feed's packet comes when its block is whole"
+exec 3>&-
+wait
+echo "a live feed: as it comes"
+
+# no_report WHAT WANTED COMMAND..: nothing on standard output, and this line on standard error.
+no_report() {
+    local what=$1 wanted=$2
+    shift 2
+    "$@" > out 2> err || true
+    [ ! -s out ] && [ "$(cat err)" = "$wanted" ] || fail "$what: $(cat out err)"
+}
+no_report "a directory as input" "pass: Is a directory" bash -c "'$bin/pass_report' < ."
+no_report "a closed input" "pass: Bad file descriptor" bash -c "'$bin/pass_report' <&-"
+no_report "a full device for the report" "report: No space left on device" bash -c "'$bin/pass_report' < recording > /dev/full"
+no_report "a closed output for the report" "report: Bad file descriptor" bash -c "'$bin/pass_report' < recording >&-"
+no_report "a full device for packets" "pass: No space left on device" bash -c "'$bin/dvbs_receive' < recording > /dev/full"
+no_report "a directory as input of dvbs_receive" "pass: Is a directory" bash -c "'$bin/dvbs_receive' < ."
+echo "inputs and outputs that fail: no report, and a message"
