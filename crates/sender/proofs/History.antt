@@ -121,7 +121,7 @@ unfolding callsSender
 sender-append s [] qs = refl
 sender-append s (p ∷ ps) qs = sender-append (senderAfter s p) ps qs
 
-ready-calls : (s : Sender) (packets : List (List ℕ)) → Ready s → Ready (callsSender s packets)
+pub ready-calls : (s : Sender) (packets : List (List ℕ)) → Ready s → Ready (callsSender s packets)
 unfolding callsSender
 ready-calls s [] g = g
 ready-calls s (p ∷ ps) g = ready-calls (senderAfter s p) ps (ready-after s p g)

@@ -2,12 +2,12 @@
 -- came. So any two ways of cutting the same bytes give the same.
 -- Assumes nothing.
 use mathlib.Core.Path.{_≡_, refl, ap, ap₂, sym, subst, _∙_}
-use mathlib.Core.Bool.{Bool, true}
+use mathlib.Core.Bool.{Bool, true, false}
 use mathlib.Core.List.{List, [], _∷_, _++_, append-assoc, append-nil, map, flatten}
 use Prim.Native.Nat.{ℕ, _+_, _/_, _<_}
 use native.Mathlib.Omega.{arith}
-use borrow.Author.Tests.{eq-eqb, ne-eqb, lt-ltb}
-use lib.Dec.{eqb}
+use borrow.Author.Tests.{eq-eqb, ne-eqb, ltb-true}
+use lib.Dec.{ltb, eqb}
 use lib.ListN.{length, take, drop, length-append, length-map}
 use lib.Seq.{take-at, take-append-seam}
 use Rattle.common.specs.Choice.{pick}
@@ -15,11 +15,10 @@ use Rattle.common.specs.Lists.{All, Length}
 use Rattle.puncturing.specs.Mode.{modeOf}
 use Rattle.sender.specs.Standard.{onAir}
 use Rattle.sender.specs.Input.{packetFor, packetsFor, sentNumber}
+use Rattle.sender.specs.Send.{newNumber}
 use Rattle.sender.specs.Calls.{callsSymbols, callsSender, senderOf}
 use Rattle.sender.specs.declared.Sender.{Sender}
 use Rattle.sender.proofs.Inputs.{packet-lengths}
-use Rattle.sender.proofs.Stages.{range-test}
-use Rattle.sender.proofs.Ready.{ready-range}
 use Rattle.sender.proofs.Stream.{calls-on-air, calls-sender}
 use Rattle.sender.proofs.History.{history, ready-sent, sent-further}
 use Rattle.sender.proofs.Counts.{length-packets}
@@ -28,7 +27,8 @@ use Rattle.transmission.proofs.Buffers.{packets-none, packets-inputs}
 use Rattle.sending.specs.Sending.{holding, heldBytes, freshSending, sendingInRange, restOf, fedSymbols, fedAnswers, FeedsAll, Feeds, refused, fed}
 use Rattle.sending.specs.History.{Feedings, none, feeding, Transmitted}
 use Rattle.sending.specs.declared.Sending.{Sending}
-use Rattle.sending.proofs.Pieces.{cut, length-rest}
+use Rattle.sending.proofs.Pieces.{cut}
+use Rattle.sending.proofs.Laws.{holding-range}
 
 map-append : {A B : Type 0} (f : A → B) (xs ys : List A) → map f (xs ++ ys) ≡ map f xs ++ map f ys
 map-append f [] ys = refl
@@ -179,7 +179,13 @@ module _ (rate : ℕ) (h : rate < 5) where
     -- no call refuses it with 5
     pub transmitted-range : sendingInRange w ≡ true
     transmitted-range =
-        let s = senderOf rate (packetsFor (packetsOf bytes)) in
-        let r = range-test s (ready-range s (ready-sent rate h (packetsFor (packetsOf bytes)) (sizes bytes))) in
-        let n = lt-ltb (length (restOf bytes)) 188 (omega (arith, length-rest bytes)) in
-        ap sendingInRange (t .state) ∙ simp (r, n)
+        let packets = packetsFor (packetsOf bytes) in
+        ap sendingInRange (t .state) ∙ holding-range (senderOf rate packets) bytes (ready-sent rate h packets (sizes bytes))
+
+-- a fresh one that was not refused is in range
+pub fresh-range : (rate : ℕ) → newNumber rate ≡ 0 → sendingInRange (freshSending rate) ≡ true
+fresh-range rate e = let h = known (ltb rate 5) refl e in transmitted-range rate h (every-history rate h none)
+  where
+    known : (t : Bool) → ltb rate 5 ≡ t → _≡_ {A = ℕ} (pick t 0 6) 0 → rate < 5
+    known true f e = ltb-true rate 5 f
+    known false f e = absurd (omega arith)
