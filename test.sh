@@ -71,4 +71,33 @@ usage dvbs_send 2 2
 usage dvbs_receive 0
 usage pass_report 0
 echo "usage lines: as expected"
+
+# dvbs_send through a pipe, in pieces of many lengths, more than its buffer takes at once, with two packets that are none and a
+# rest: always the symbols of the list with null packets put in, and the same text on standard error.
+data=reference/tests/data/packets.ts
+null_packet() {
+    printf '\x47\x1f\xff\x10'
+    head -c 184 /dev/zero | tr '\0' '\377'
+}
+for _ in 1 2 3 4 5 6 7; do cat "$data"; done > "$work/good"
+{ head -c 188 /dev/zero; cat "$work/good"; head -c 188 /dev/zero; head -c 57 "$data"; } > "$work/packets"
+{ null_packet; cat "$work/good"; null_packet; } > "$work/put_in"
+printf 'packet=0 answer=15\npacket=281 answer=15\nrest=57\n' > "$work/told"
+for rate in 0 1 2 3 4; do
+    target/bin/dvbs_send $rate < "$work/put_in" > "$work/symbols" 2> "$work/err"
+    [ -s "$work/symbols" ] && [ ! -s "$work/err" ] || fail "dvbs_send $rate on packets"
+    for size in 1 57 187 188 189 375 4096 47939 47940 47941 65535; do
+        dd if="$work/packets" bs=$size status=none | target/bin/dvbs_send $rate > "$work/out" 2> "$work/err"
+        cmp -s "$work/out" "$work/symbols" || fail "dvbs_send $rate in pieces of $size: symbols"
+        diff "$work/told" "$work/err" || fail "dvbs_send $rate in pieces of $size: standard error"
+    done
+done
+# What cannot be read or written is said, and no rest is.
+target/bin/dvbs_send 0 < "$work" > "$work/out" 2> "$work/err"
+[ ! -s "$work/out" ] && grep -q '^standard input: ' "$work/err" && ! grep -q '^rest=' "$work/err" || fail "dvbs_send on a directory"
+target/bin/dvbs_send 0 <&- > "$work/out" 2> "$work/err"
+[ ! -s "$work/out" ] && grep -q '^standard input: ' "$work/err" || fail "dvbs_send on a closed descriptor"
+target/bin/dvbs_send 0 < "$work/packets" 2> "$work/err" > /dev/full
+grep -q '^standard output: ' "$work/err" && ! grep -q '^rest=' "$work/err" || fail "dvbs_send to a full device"
+echo "dvbs_send in pieces: as expected"
 echo "$last"

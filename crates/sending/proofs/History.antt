@@ -4,7 +4,7 @@
 use mathlib.Core.Path.{_≡_, refl, ap, ap₂, sym, subst, _∙_}
 use mathlib.Core.Bool.{Bool, true, false}
 use mathlib.Core.List.{List, [], _∷_, _++_, append-assoc, append-nil, map, flatten}
-use Prim.Native.Nat.{ℕ, _+_, _/_, _<_}
+use Prim.Native.Nat.{ℕ, _+_, _/_, _%_, _<_}
 use native.Mathlib.Omega.{arith}
 use borrow.Author.Tests.{eq-eqb, ne-eqb, ltb-true}
 use lib.Dec.{ltb, eqb}
@@ -27,7 +27,7 @@ use Rattle.transmission.proofs.Buffers.{packets-none, packets-inputs}
 use Rattle.sending.specs.Sending.{holding, heldBytes, freshSending, sendingInRange, restOf, fedSymbols, fedAnswers, FeedsAll, Feeds, refused, fed}
 use Rattle.sending.specs.History.{Feedings, none, feeding, Transmitted}
 use Rattle.sending.specs.declared.Sending.{Sending}
-use Rattle.sending.proofs.Pieces.{cut}
+use Rattle.sending.proofs.Pieces.{cut, length-rest}
 use Rattle.sending.proofs.Laws.{holding-range}
 
 map-append : {A B : Type 0} (f : A → B) (xs ys : List A) → map f (xs ++ ys) ≡ map f xs ++ map f ys
@@ -175,6 +175,9 @@ module _ (rate : ℕ) (h : rate < 5) where
     -- the last bytes, exactly, and so many
     pub held-bytes : heldBytes w ≡ restOf bytes
     held-bytes = ap heldBytes (t .state) ∙ held-are (senderOf rate (packetsFor (packetsOf bytes))) (restOf bytes)
+
+    pub held-count : w .held ≡ length bytes % 188
+    held-count = ap (λ (x : Sending). x .held) (t .state) ∙ length-rest bytes
 
     -- no call refuses it with 5
     pub transmitted-range : sendingInRange w ≡ true

@@ -2,21 +2,21 @@
 -- Assumes nothing.
 use mathlib.Core.Path.{_≡_, refl, ap, ap₂, sym, _∙_}
 use mathlib.Core.Bool.{true}
-use mathlib.Core.List.{List, [], _∷_, _++_, append-assoc, append-nil}
-use Prim.Native.Nat.{ℕ, zero, suc, _+_, _-_, _*_, _/_, _%_, _≤_, _<_}
+use mathlib.Core.List.{List, [], _∷_, _++_, append-nil}
+use Prim.Native.Nat.{ℕ, zero, suc, _+_, _-_, _/_, _%_, _≤_, _<_}
 use native.Mathlib.Nat.{zero-add}
 use native.Mathlib.Omega.{arith}
 use borrow.Author.Tests.{ltb-true}
 use lib.Dec.{ltb}
-use lib.ListN.{length, take, drop, replicate, length-append, length-drop, length-replicate, take-append-drop, replicate-append-replicate}
-use lib.Seq.{take-at, drop-at, take-append-le, drop-append-le, drop-drop, length-take-le}
+use lib.ListN.{length, take, drop, replicate, length-append, length-drop, length-replicate, replicate-append-replicate}
+use lib.Seq.{drop-at, take-append-le, drop-append-le, drop-drop}
 use Rattle.common.proofs.Choice.{both-true}
 use Rattle.common.proofs.Lists.{put-after}
 use Rattle.randomizer.specs.Stream.{inPackets}
 use Rattle.sender.specs.Send.{inRange}
 use Rattle.transmission.specs.Run.{packetsOf}
-use Rattle.transmission.proofs.Buffers.{packets-none, packets-more}
-use Rattle.sending.specs.Sending.{padded, heldBytes, sendingInRange, restOf}
+use Rattle.transmission.proofs.Buffers.{packets-more}
+use Rattle.sending.specs.Sending.{padded, sendingInRange, restOf}
 use Rattle.sending.specs.declared.Sending.{Sending}
 
 -- ---- the rest of some bytes
@@ -110,6 +110,3 @@ pub sending-range : (w : Sending) → sendingInRange w ≡ true → (inRange (w 
 sending-range w e =
     let p = both-true (inRange (w .sender)) (ltb (w .held) 188) e in
     (p .0, ltb-true (w .held) 188 (p .1))
-
-pub held-length : (w : Sending) → length (w .pending) ≡ 188 → w .held < 188 → length (heldBytes w) ≡ w .held
-held-length w size small = length-take-le (w .held) (w .pending) (omega arith)

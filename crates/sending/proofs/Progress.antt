@@ -4,7 +4,7 @@ use mathlib.Core.Path.{_≡_, refl, ap, ap₂, sym, subst, subst₂, _∙_}
 use mathlib.Core.Bool.{true}
 use mathlib.Core.Logic.{inr}
 use mathlib.Core.List.{List, [], _∷_, _++_, append-assoc, append-nil, flatten, map}
-use Prim.Native.Nat.{ℕ, suc, _+_, _-_, _*_, _/_, _%_, _≤_, _<_}
+use Prim.Native.Nat.{ℕ, suc, _+_, _-_, _*_, _/_, _≤_, _<_}
 use native.Mathlib.Omega.{arith}
 use native.Mathlib.Numerals.{add-one}
 use borrow.Rule.Slice.PartMut.{putMid, midOf}
@@ -23,7 +23,7 @@ use Rattle.sender.proofs.History.{Answered, input-sent}
 use Rattle.sender.proofs.Counts.{most-symbols}
 use Rattle.transmission.specs.Run.{packetsOf}
 use Rattle.transmission.proofs.Buffers.{packets-more}
-use Rattle.sending.specs.Sending.{padded, holding, heldBytes, restOf, wholePackets, wholeCount, fedSymbols, fedAnswers, fedSending, Roomy, FeedsAll}
+use Rattle.sending.specs.Sending.{padded, heldBytes, restOf, wholePackets, wholeCount, fedSymbols, fedAnswers, Roomy, FeedsAll}
 use Rattle.sending.specs.declared.Sending.{Sending}
 use Rattle.sending.proofs.Pieces.{rest-few, rest-more, packets-few}
 
@@ -126,9 +126,6 @@ module _ {w : Sending} {piece room₀ answers₀ room answers : List ℕ} {s : S
 
     last-rest : leftOf w piece held at ≡ restOf (heldBytes w ++ piece)
     last-rest = sym (rest-few (leftOf w piece held at) few-left) ∙ p .rest
-
-    pub progress-rest : held + (length piece - at) ≤ 188
-    progress-rest = omega (arith, p .short)
 
     pub progress-end : (pending : List ℕ) → pending ≡ padded (take held (w .pending) ++ take (length piece - at) (drop at piece))
         → FeedsAll w piece room₀ answers₀ 0 count packets (record { sender = s; pending = pending; held = held + (length piece - at) }) room answers

@@ -1,12 +1,11 @@
 // Sending in progress: transport packets from pieces of any length. The bytes of a packet that is not whole yet are held until the rest of it comes.
 ghost use mathlib.Core.Path.{_≡_};
-ghost use mathlib.Core.Bool.{true};
 ghost use mathlib.Core.List.{_++_};
 ghost use Prim.Native.Nat.{_+_, _/_, _<_, _≤_};
-ghost use lib.ListN.{length, take, drop};
+ghost use lib.ListN.{length, take};
 ghost use Rattle.answer.specs.Number.{numberOf};
 ghost use Rattle.sender.specs.Send.{newNumber, Sends};
-ghost use Rattle.sending.specs.Sending.{padded, freshSending, sendingInRange, wholeCount, Roomy, FeedsAll, Feeds};
+ghost use Rattle.sending.specs.Sending.{padded, freshSending, sendingInRange, Roomy, FeedsAll, Feeds};
 use answer::Answer;
 use sender::Sender;
 

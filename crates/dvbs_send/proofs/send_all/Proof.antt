@@ -1,6 +1,6 @@
 -- `dvbs_send::send_all` is safe and ends. The measure is the number of turns that are left.
 -- Assumes nothing.
-use mathlib.Core.Path.{_≡_, sym, _∙_}
+use mathlib.Core.Path.{sym, _∙_}
 use Prim.Native.Nat.{_≤_}
 use native.Mathlib.Omega.{arith}
 use lib.ListN.{length}
