@@ -66,3 +66,25 @@ no_report "a closed output for the report" "report: Bad file descriptor" bash -c
 no_report "a full device for packets" "pass: No space left on device" bash -c "'$bin/dvbs_receive' < recording > /dev/full"
 no_report "a directory as input of dvbs_receive" "pass: Is a directory" bash -c "'$bin/dvbs_receive' < ."
 echo "inputs and outputs that fail: no report, and a message"
+
+# dvbs_send: more than its buffer takes at once, with two packets that are none and a rest. In all pieces the symbols are those of the list
+# with null packets put in, and the text on standard error is the same.
+null_packet() {
+    printf '\x47\x1f\xff\x10'
+    head -c 184 /dev/zero | tr '\0' '\377'
+}
+for _ in 1 2 3 4 5 6 7; do cat "$packets"; done > good
+{ head -c 188 /dev/zero; cat good; head -c 188 /dev/zero; head -c 57 "$packets"; } > mixed
+{ null_packet; cat good; null_packet; } > put_in
+printf 'packet=0 answer=15\npacket=281 answer=15\nrest=57\n' > told
+for rate in 0 1 2 3 4; do
+    "$bin/dvbs_send" $rate < put_in > symbols 2> err
+    [ -s symbols ] && [ ! -s err ] || fail "dvbs_send $rate on packets"
+    "$reference/pieces" 60 47940 "$bin/dvbs_send" $rate < mixed > out 2> err || fail "dvbs_send $rate in pieces"
+    cmp out symbols || fail "dvbs_send $rate in pieces: symbols"
+    diff told err || fail "dvbs_send $rate in pieces: standard error"
+done
+no_report "a directory as input of dvbs_send" "standard input: Is a directory" bash -c "'$bin/dvbs_send' 0 < ."
+no_report "a closed input of dvbs_send" "standard input: Bad file descriptor" bash -c "'$bin/dvbs_send' 0 <&-"
+no_report "a full device for symbols" "standard output: No space left on device" bash -c "'$bin/dvbs_send' 0 < good > /dev/full"
+echo "dvbs_send in 300 cuttings: one stream of symbols, one text on standard error"

@@ -1,29 +1,23 @@
 // dvbs_send RATE < packets > symbols
 // Sends the transport packets of standard input at a rate 0 to 4, and writes the symbols, one byte each, to standard output.
+// No contract can say what is read or written. What is read stands at the front of a buffer, and is what the sending is fed with: `next_turn`.
 ghost use mathlib.Core.Path.{_≡_};
-ghost use Prim.Native.Nat.{_-_, _+_, _<_, _≤_};
+ghost use mathlib.Core.Bool.{true};
+ghost use Prim.Native.Nat.{_≤_};
 ghost use lib.ListN.{length};
+ghost use Rattle.sending.specs.Sending.{sendingInRange};
+ghost use Rattle.dvbs_send.specs.Turn.{Ready, Turns};
 use libc::STDERR_FILENO;
 use libc::STDIN_FILENO;
 use libc::STDOUT_FILENO;
-use sender::Sender;
+use sending::Sending;
 
-// What is carried from one read to the next: the sender, how many packets came, and how many bytes
-// of a packet that is not whole yet stand at the start of the input buffer.
-struct Feed {
-    sender: Sender,
-    packets: u64,
-    rest: usize,
-    more: bool,
-}
-
-// What the packets of one read gave: the sender and the number of packets after them, how many
-// bytes they were, and how many symbols.
-struct Batch {
-    sender: Sender,
-    packets: u64,
-    taken: usize,
+// What `read` answered, how many symbols and packets came of it, and the sending after it.
+struct Turn {
+    got: isize,
     count: usize,
+    packets: usize,
+    sending: Sending,
 }
 
 // Writes a key and its number to standard error.
@@ -33,11 +27,20 @@ fn report(key: &[u8], n: u64, end: &[u8]) {
     io::write_all(STDERR_FILENO, end);
 }
 
-// Says what became of a packet that was not sent as it came. The first packet has number 0.
+// Says what became of a packet that was not sent as it came.
 fn report_answer(packet: u64, answer: u8) {
     if answer != 0 {
         report(b"packet=", packet, b" ");
         report(b"answer=", answer as u64, b"\n");
+    }
+}
+
+// The same of each of some packets, of which the first has this number.
+fn report_answers(first: u64, answers: &[u8]) {
+    let mut i: usize = 0;
+    while i < answers.len() {
+        report_answer(std::num::wrapping_add_u64(first, i as u64), answers[i]);
+        i += 1;
     }
 }
 
@@ -48,114 +51,72 @@ fn report_rest(rest: usize) {
     }
 }
 
-// Sends the whole packets of the input; for one that does not begin with the sync byte, a null packet.
-fn send_whole(sender: Sender, packets: u64, input: &[u8], output: &mut [u8]) -> Batch
-    ensures { λ r. ⌜ (r .taken ≤ length (now (input .entry))) × (length (now (input .entry)) - r .taken < 188) × (r .count ≤ length (now (output .entry))) ⌝ }
+// Reads once, and feeds what came: from the front of the buffer, as many bytes as `read` answered.
+fn next_turn(sending: Sending, buffer: &mut [u8], symbols: &mut [u8], answers: &mut [u8]) -> Turn
+    requires { ⌜ Ready sending (now buffer) (now symbols) (now answers) ⌝ }
+    ensures { λ r. ⌜
+        Turns sending (now (buffer .exit)) (now (symbols .entry)) (now (answers .entry)) r (now (symbols .exit)) (now (answers .exit)) ⌝ }
 {
-    let mut sender = sender;
-    let mut packets = packets;
-    let mut taken: usize = 0;
-    let mut count: usize = 0;
-    while input.len() - taken >= Sender::PACKET_LENGTH {
-        let end = taken + Sender::PACKET_LENGTH;
-        let sent = sender.send(&input[taken..end], &mut output[count..]);
-        let answer = sent.answer;
-        report_answer(packets, answer.number());
-        sender = sent.sender;
-        packets = std::num::wrapping_add_u64(packets, 1);
-        count += sent.count;
-        taken = end;
-    }
-    Batch {
-        sender,
-        packets,
-        taken,
-        count,
+    let got = libc::read(STDIN_FILENO, buffer);
+    let n = io::count(got, buffer);
+    let fed = sending.feed(&buffer[..n], symbols, answers);
+    let next = fed.sending;
+    Turn {
+        got,
+        count: fed.count,
+        packets: fed.packets,
+        sending: next,
     }
 }
 
-// Moves the bytes from a place to the end of the data to the start of the buffer.
-fn keep_rest(buffer: &mut [u8], from: usize, end: usize)
-    requires { ⌜ (from ≤ end) × (end ≤ length (now buffer)) ⌝ }
+// Writes the first so many symbols to standard output: whether that did not fail.
+fn write_symbols(symbols: &[u8], count: usize) -> bool
+    requires { ⌜ count ≤ length (now symbols) ⌝ }
 {
-    let mut i: usize = 0;
-    while i < end - from {
-        buffer[i] = buffer[from + i];
-        i += 1;
-    }
+    io::write_all(STDOUT_FILENO, &symbols[..count])
 }
 
-// Nothing more is read.
-fn stopped(feed: Feed) -> Feed
-    ensures { λ r. ⌜ r .rest ≡ feed .rest ⌝ }
+// Sends until the input ends, or a read or a write fails. A proved loop has to end, and nothing says that an input does: the
+// loop counts its turns down, from a number that no run uses up.
+fn send_all(sending: Sending, buffer: &mut [u8], symbols: &mut [u8], answers: &mut [u8])
+    requires { ⌜ Ready sending (now buffer) (now symbols) (now answers) ⌝ }
 {
-    let mut last = feed;
-    last.more = false;
-    last
-}
-
-// Sends the packets that are whole in the input up to its end, and keeps the rest.
-fn forward(feed: Feed, input: &mut [u8], end: usize, output: &mut [u8]) -> Feed
-    requires { ⌜ (feed .rest < 188) × (end ≤ length (now input)) ⌝ }
-    ensures { λ r. ⌜ r .rest < 188 ⌝ }
-{
-    let sender = feed.sender;
-    let batch = send_whole(sender, feed.packets, &input[..end], output);
-    let count = batch.count;
-    let taken = batch.taken;
-    if !io::write_all(STDOUT_FILENO, &output[..count]) {
-        os::fail(b"standard output");
-        return stopped(feed);
-    }
-    keep_rest(input, taken, end);
-    let sender = batch.sender;
-    Feed {
-        sender,
-        packets: batch.packets,
-        rest: end - taken,
-        more: true,
-    }
-}
-
-// Reads once, and sends the packets that are whole then.
-fn send_some(feed: Feed, input: &mut [u8], output: &mut [u8]) -> Feed
-    requires { ⌜ (feed .rest < 188) × (188 ≤ length (now input)) ⌝ }
-    ensures { λ r. ⌜ r .rest < 188 ⌝ }
-{
-    let rest = feed.rest;
-    let got = libc::read(STDIN_FILENO, &mut input[rest..]);
-    if got < 0 {
-        os::fail(b"standard input");
-        return stopped(feed);
-    }
-    if got == 0 {
-        report_rest(rest);
-        return stopped(feed);
-    }
-    let n = io::count(got, &input[rest..]);
-    forward(feed, input, rest + n, output)
-}
-
-// Sends until the input ends. A proved loop has to end, and nothing says that an input does: the
-// loop counts its turns down, from a number that no run uses up. The buffers are for 256 packets
-// of 188 bytes, and for the 1,632 symbols that each gives at most.
-fn send_all(sender: Sender) {
-    let mut input = [0u8; 48128];
-    let mut output = [0u8; 417792];
-    let mut feed = Feed {
-        sender,
-        packets: 0,
-        rest: 0,
-        more: true,
-    };
-    let mut more = true;
+    let mut sending = sending;
+    let mut packets: u64 = 0;
     let mut turns = u64::MAX;
-    while turns > 0 && more {
-        let next = send_some(feed, &mut input, &mut output);
-        more = next.more;
-        feed = next;
+    while turns > 0 {
+        let turn = next_turn(sending, buffer, symbols, answers);
+        let got = turn.got;
+        let count = turn.count;
+        let whole = turn.packets;
+        let next = turn.sending;
+        if got < 0 {
+            os::fail(b"standard input");
+            return;
+        }
+        if got == 0 {
+            report_rest(next.held);
+            return;
+        }
+        if !write_symbols(symbols, count) {
+            os::fail(b"standard output");
+            return;
+        }
+        report_answers(packets, &answers[..whole]);
+        packets = std::num::wrapping_add_u64(packets, whole as u64);
+        sending = next;
         turns -= 1;
     }
+}
+
+// The buffers are for a piece of 255 packets, for the symbols that they give at most, and for an answer for each.
+fn send(sending: Sending)
+    requires { ⌜ sendingInRange sending ≡ true ⌝ }
+{
+    let mut buffer = [0u8; 47940];
+    let mut symbols = [0u8; 416160];
+    let mut answers = [0u8; 255];
+    send_all(sending, &mut buffer, &mut symbols, &mut answers);
 }
 
 fn usage() {
@@ -177,12 +138,12 @@ fn main() {
         usage();
         return;
     }
-    let created = Sender::new(digit - b'0');
-    let answer = created.answer;
+    let begun = Sending::new(digit - b'0');
+    let answer = begun.answer;
     if answer.number() != 0 {
         usage();
         return;
     }
-    let sender = created.sender;
-    send_all(sender);
+    let sending = begun.sending;
+    send(sending);
 }

@@ -24,7 +24,7 @@ use Rattle.puncturing.proofs.Places.{tested-at}
 use Rattle.puncturing.proofs.BlockCounts.{table, block-symbols}
 use Rattle.puncturing.proofs.Parts.{place-after}
 use Rattle.puncturing.proofs.Steps.{some-bits, next-lt}
-use Rattle.inner_code.specs.Step.{coderStep, coderAfter}
+use Rattle.inner_code.specs.Step.{InRange, coderStep, coderAfter}
 use Rattle.inner_code.specs.Encode.{freshCoder, blockCoder, symbolCount}
 use Rattle.inner_code.specs.declared.InnerCoder.{InnerCoder}
 use Rattle.inner_code.proofs.Coder.{range-test, fresh-in-range, coder-in-range, length-symbols, coder-rate, coder-place}
@@ -73,6 +73,18 @@ call-count rate h packets =
     (coder-place (freshCoder rate) (bitsOf bytes)
     ∙ place-after rate 0 (length (bitsOf bytes)) (some-bits rate h)
     ∙ ap (λ (n : ℕ). n % patternLength rate) (zero-add _ ∙ block-bits packets)))
+
+-- a packet gives at most a symbol for each bit
+most-at : (r p : ℕ) → r < 5 → p < patternLength r → T (leb (getD table (r * 7 + p) 0) 1632)
+unfolding table patternLength modeOf
+most-at r p h k = tested-at (λ r p. leb (getD table (r * 7 + p) 0) 1632) tt r p h k
+
+pub most-symbols : (c : InnerCoder) → InRange c → symbolCount c ≤ 1632
+most-symbols c g =
+    let e : symbolCount c ≡ symbolsIn (c .rate) (c .place) 1632 = simp (range-test c g) in
+    let b = block-symbols (c .rate) (c .place) (g .rate) (g .place) in
+    let m = leb→le (getD table (c .rate * 7 + c .place) 0) 1632 (most-at (c .rate) (c .place) (g .rate) (g .place)) in
+    omega arith
 
 -- at every place of a pattern the number is one of document 01's
 within : ℕ → ℕ → Bool

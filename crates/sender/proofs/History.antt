@@ -121,7 +121,7 @@ unfolding callsSender
 sender-append s [] qs = refl
 sender-append s (p ∷ ps) qs = sender-append (senderAfter s p) ps qs
 
-ready-calls : (s : Sender) (packets : List (List ℕ)) → Ready s → Ready (callsSender s packets)
+pub ready-calls : (s : Sender) (packets : List (List ℕ)) → Ready s → Ready (callsSender s packets)
 unfolding callsSender
 ready-calls s [] g = g
 ready-calls s (p ∷ ps) g = ready-calls (senderAfter s p) ps (ready-after s p g)
@@ -143,14 +143,17 @@ pub packets-on-air : (rate : ℕ) → rate < 5 → {packets : List (List ℕ)} {
 packets-on-air rate h {packets} g c =
     rw (packets-kept packets g) at (sent-on-air rate h (All-map Packet Input (λ p a. inr (a .size)) packets g) c)
 
--- a sender that has sent packets since it was fresh goes on where they end
+-- a sender that has sent packets since it was fresh is ready for more, and goes on where they end
+pub ready-sent : (rate : ℕ) → rate < 5 → (sent : List (List ℕ)) → All (Length 188) sent → Ready (senderOf rate sent)
+ready-sent rate h sent f = subst Ready (calls-sender rate h sent f) (ready-calls (freshSender rate) sent (ready-fresh rate h))
+
 pub sent-further : (rate : ℕ) → rate < 5 → (sent : List (List ℕ)) {inputs : List (List ℕ)} {symbols : List ℕ} {last : Sender}
     → All (Length 188) sent → All Input inputs → Calls (senderOf rate sent) inputs symbols last
     → (onAir (modeOf rate) sent ++ symbols ≡ onAir (modeOf rate) (sent ++ packetsFor inputs)) × (last ≡ senderOf rate (sent ++ packetsFor inputs))
 sent-further rate h sent {inputs} f g c =
     let packets = packetsFor inputs in
     let e = calls-sender rate h sent f in
-    let t = told (subst Ready e (ready-calls (freshSender rate) sent (ready-fresh rate h))) g c in
+    let t = told (ready-sent rate h sent f) g c in
     let l = all-append (Length 188) sent packets f (packet-lengths inputs g) in (
       ap₂ (λ (a b : List ℕ). a ++ b) (sym (calls-on-air rate h sent f))
           (t .symbols ∙ ap (λ (s : Sender). flatten (callsSymbols s packets)) (sym e))

@@ -1,30 +1,109 @@
 -- `dvbs_send::send_all` is safe and ends. The measure is the number of turns that are left.
 -- Assumes nothing.
-use mathlib.Core.Path.{_≡_}
-use Prim.Native.Nat.{ℕ, _<_}
+use mathlib.Core.Path.{sym, _∙_}
+use Prim.Native.Nat.{_≤_}
 use native.Mathlib.Omega.{arith}
-use lib.ListN.{length, length-replicate}
+use lib.ListN.{length}
+use lib.Seq.{length-take-le}
+use Rattle.dvbs_send.specs.Turn.{Ready}
 use borrow.Author.Needs.{needs}
 use Rattle.dvbs_send.proofs.send_all.Statement.{statement}
 use Rattle.dvbs_send.proofs.send_all.Tie as tie
 
 abbrev Inv-loop : tie.InvT-loop
-Inv-loop input₀ output₀ feed₀ more₀ turns₀ input output feed more turns = (feed .rest < 188) × (length input ≡ 48128) × (length output ≡ 417792)
+Inv-loop buffer₀ symbols₀ answers₀ sending₀ packets₀ turns₀ t13 t14 buffer symbols answers sending packets turns =
+    Ready sending buffer symbols answers
 
 abbrev μ-loop : tie.MeasureT-loop
-μ-loop input₀ output₀ feed₀ more₀ turns₀ input output feed more turns = turns
+μ-loop buffer₀ symbols₀ answers₀ sending₀ packets₀ turns₀ t13 t14 buffer symbols answers sending packets turns = turns
+
+-- how many packets a turn tells of
+packets-whole : (c : tie.After-next-turn Inv-loop μ-loop) → c .next-turn .result .packets ≤ length (c .next-turn .last .1 .1 .1 .0)
+packets-whole c = omega (arith, c .next-turn .ensures .packets-fit, c .next-turn .kept .1 .1 .1 .0)
 
 loop-holds : tie.Need-loop-holds Inv-loop μ-loop
-loop-holds c = (omega arith, length-replicate {A = ℕ} 48128 0, length-replicate {A = ℕ} 417792 0)
+loop-holds c = search needs
 
-slice-aggregate-send-some : tie.Need-slice-aggregate-send-some Inv-loop μ-loop
-slice-aggregate-send-some c = search needs
+next-turn-requires : tie.Need-next-turn-requires Inv-loop μ-loop
+next-turn-requires c κs = search needs
 
-slice-aggregate-send-some-2 : tie.Need-slice-aggregate-send-some-2 Inv-loop μ-loop
-slice-aggregate-send-some-2 c = search needs
+slice-aggregate-fail : tie.Need-slice-aggregate-fail Inv-loop μ-loop
+slice-aggregate-fail c = search needs
 
-send-some-requires : tie.Need-send-some-requires Inv-loop μ-loop
-send-some-requires c κs = search needs
+fail-requires : tie.Need-fail-requires Inv-loop μ-loop
+fail-requires c κs = search needs
+
+same-length : tie.Need-same-length Inv-loop μ-loop
+same-length c = search needs
+
+same-length-2 : tie.Need-same-length-2 Inv-loop μ-loop
+same-length-2 c = search needs
+
+same-length-3 : tie.Need-same-length-3 Inv-loop μ-loop
+same-length-3 c = search needs
+
+returns : tie.Need-returns Inv-loop μ-loop
+returns c = search needs
+
+report-rest-requires : tie.Need-report-rest-requires Inv-loop μ-loop
+report-rest-requires c κs = search needs
+
+same-length-4 : tie.Need-same-length-4 Inv-loop μ-loop
+same-length-4 c = search needs
+
+same-length-5 : tie.Need-same-length-5 Inv-loop μ-loop
+same-length-5 c = search needs
+
+same-length-6 : tie.Need-same-length-6 Inv-loop μ-loop
+same-length-6 c = search needs
+
+returns-2 : tie.Need-returns-2 Inv-loop μ-loop
+returns-2 c = search needs
+
+write-symbols-requires : tie.Need-write-symbols-requires Inv-loop μ-loop
+write-symbols-requires c κs = c .before .before .before .before .before .before .before .before .before .before .before .next-turn .ensures .count-fits
+
+slice-aggregate-fail-2 : tie.Need-slice-aggregate-fail-2 Inv-loop μ-loop
+slice-aggregate-fail-2 c = search needs
+
+fail-requires-2 : tie.Need-fail-requires-2 Inv-loop μ-loop
+fail-requires-2 c κs = search needs
+
+same-length-7 : tie.Need-same-length-7 Inv-loop μ-loop
+same-length-7 c =
+    let t = c .before .before .before .before .before .before .before .before .before .before .before .before .before .before .before in
+    let l = t .before .before .before .before .before in
+    let s = l .before .before .before .before in
+    omega (arith, t .next-turn .kept .1 .0, l .loop .inv .piece, s .pre .piece)
+
+same-length-8 : tie.Need-same-length-8 Inv-loop μ-loop
+same-length-8 c =
+    let t = c .before .before .before .before .before .before .before .before .before .before .before .before .before .before .before in
+    let l = t .before .before .before .before .before in
+    let s = l .before .before .before .before in
+    omega (arith, t .next-turn .kept .1 .1 .0, l .loop .inv .room, s .pre .room)
+
+same-length-9 : tie.Need-same-length-9 Inv-loop μ-loop
+same-length-9 c =
+    let t = c .before .before .before .before .before .before .before .before .before .before .before .before .before .before .before in
+    let l = t .before .before .before .before .before in
+    let s = l .before .before .before .before in
+    omega (arith, t .next-turn .kept .1 .1 .1 .0, l .loop .inv .numbers, s .pre .numbers)
+
+returns-3 : tie.Need-returns-3 Inv-loop μ-loop
+returns-3 c = search needs
+
+slice-reshare-prefix-report-answers : tie.Need-slice-reshare-prefix-report-answers Inv-loop μ-loop
+slice-reshare-prefix-report-answers c = packets-whole (c .before .before .before .before .before .before .before .before .before .before .before .before .before)
+
+slice-aggregate-report-answers : tie.Need-slice-aggregate-report-answers Inv-loop μ-loop
+slice-aggregate-report-answers c = sym (length-take-le _ _ (packets-whole (c .before .before .before .before .before .before .before .before .before .before .before .before .before .before)))
+
+report-answers-requires : tie.Need-report-answers-requires Inv-loop μ-loop
+report-answers-requires c κs = search needs
+
+wrapping-add-u64-requires : tie.Need-wrapping-add-u64-requires Inv-loop μ-loop
+wrapping-add-u64-requires c κs = search needs
 
 sub-turns : tie.Need-sub-turns Inv-loop μ-loop
 sub-turns c = search needs
@@ -33,13 +112,27 @@ loop-less : tie.Need-loop-less Inv-loop μ-loop
 loop-less c = search needs
 
 loop-again : tie.Need-loop-again Inv-loop μ-loop
-loop-again c = search needs
+loop-again c =
+    let t = c .before .before .before .before .before .before .before .before .before .before .before .before .before .before .before .before in
+    let l = t .before .before .before .before .before .loop .inv in
+    record {
+      range = t .next-turn .ensures .range;
+      piece = t .next-turn .kept .1 .0 ∙ l .piece;
+      room = t .next-turn .kept .1 .1 .0 ∙ l .room;
+      numbers = t .next-turn .kept .1 .1 .1 .0 ∙ l .numbers;
+    }
 
-returns : tie.Need-returns Inv-loop μ-loop
-returns c = search needs
+same-length-10 : tie.Need-same-length-10 Inv-loop μ-loop
+same-length-10 c = search needs
 
-returns-2 : tie.Need-returns-2 Inv-loop μ-loop
-returns-2 c = search needs
+same-length-11 : tie.Need-same-length-11 Inv-loop μ-loop
+same-length-11 c = search needs
+
+same-length-12 : tie.Need-same-length-12 Inv-loop μ-loop
+same-length-12 c = search needs
+
+returns-4 : tie.Need-returns-4 Inv-loop μ-loop
+returns-4 c = search needs
 
 pub send-all-spec : {M : Type 1} → statement M
 send-all-spec =
@@ -48,11 +141,33 @@ send-all-spec =
     Inv-loop
     μ-loop
     loop-holds
-    slice-aggregate-send-some
-    slice-aggregate-send-some-2
-    send-some-requires
+    next-turn-requires
+    slice-aggregate-fail
+    fail-requires
+    same-length
+    same-length-2
+    same-length-3
+    returns
+    report-rest-requires
+    same-length-4
+    same-length-5
+    same-length-6
+    returns-2
+    write-symbols-requires
+    slice-aggregate-fail-2
+    fail-requires-2
+    same-length-7
+    same-length-8
+    same-length-9
+    returns-3
+    slice-reshare-prefix-report-answers
+    slice-aggregate-report-answers
+    report-answers-requires
+    wrapping-add-u64-requires
     sub-turns
     loop-less
     loop-again
-    returns
-    returns-2)
+    same-length-10
+    same-length-11
+    same-length-12
+    returns-4)

@@ -1,7 +1,6 @@
 -- `send_calls::call_input` is safe.
 -- Assumes nothing.
 use mathlib.Core.Path.{sym}
-use native.Mathlib.Omega.{arith}
 use lib.Seq.{length-take-le}
 use borrow.Author.Needs.{needs}
 use Rattle.send_calls.proofs.call_input.Statement.{statement}

@@ -1,0 +1,194 @@
+-- The theorem: after any history of calls from a fresh sending, the symbols written, the answers and the state are those of all the bytes that
+-- came. So any two ways of cutting the same bytes give the same.
+-- Assumes nothing.
+use mathlib.Core.Path.{_≡_, refl, ap, ap₂, sym, subst, _∙_}
+use mathlib.Core.Bool.{Bool, true, false}
+use mathlib.Core.List.{List, [], _∷_, _++_, append-assoc, append-nil, map, flatten}
+use Prim.Native.Nat.{ℕ, _+_, _/_, _%_, _<_}
+use native.Mathlib.Omega.{arith}
+use borrow.Author.Tests.{eq-eqb, ne-eqb, ltb-true}
+use lib.Dec.{ltb, eqb}
+use lib.ListN.{length, take, drop, length-append, length-map}
+use lib.Seq.{take-at, take-append-seam}
+use Rattle.common.specs.Choice.{pick}
+use Rattle.common.specs.Lists.{All, Length}
+use Rattle.puncturing.specs.Mode.{modeOf}
+use Rattle.sender.specs.Standard.{onAir}
+use Rattle.sender.specs.Input.{packetFor, packetsFor, sentNumber}
+use Rattle.sender.specs.Send.{newNumber}
+use Rattle.sender.specs.Calls.{callsSymbols, callsSender, senderOf}
+use Rattle.sender.specs.declared.Sender.{Sender}
+use Rattle.sender.proofs.Inputs.{packet-lengths}
+use Rattle.sender.proofs.Stream.{calls-on-air, calls-sender}
+use Rattle.sender.proofs.History.{history, ready-sent, sent-further}
+use Rattle.sender.proofs.Counts.{length-packets}
+use Rattle.transmission.specs.Run.{packetsOf}
+use Rattle.transmission.proofs.Buffers.{packets-none, packets-inputs}
+use Rattle.sending.specs.Sending.{holding, heldBytes, freshSending, sendingInRange, restOf, fedSymbols, fedAnswers, FeedsAll, Feeds, refused, fed}
+use Rattle.sending.specs.History.{Feedings, none, feeding, Transmitted}
+use Rattle.sending.specs.declared.Sending.{Sending}
+use Rattle.sending.proofs.Pieces.{cut, length-rest}
+use Rattle.sending.proofs.Laws.{holding-range}
+
+map-append : {A B : Type 0} (f : A → B) (xs ys : List A) → map f (xs ++ ys) ≡ map f xs ++ map f ys
+map-append f [] ys = refl
+map-append {A} {B} f (x ∷ xs) ys = ap (λ (l : List B). f x ∷ l) (map-append f xs ys)
+
+count-packets : (bytes : List ℕ) → length (packetsOf bytes) ≡ length bytes / 188
+unfolding packetsOf
+count-packets bytes = length-packets (length bytes / 188) bytes
+
+-- the bytes held
+pub held-are : (s : Sender) (bytes : List ℕ) → heldBytes (holding s bytes) ≡ bytes
+held-are s bytes = take-append-seam bytes _
+
+module _ (rate : ℕ) (h : rate < 5) where
+  sizes : (bytes : List ℕ) → All (Length 188) (packetsFor (packetsOf bytes))
+  sizes bytes = packet-lengths (packetsOf bytes) (packets-inputs bytes)
+
+  transmitted-none : Transmitted rate [] [] [] (freshSending rate)
+  unfolding freshSending restOf callsSymbols callsSender flatten
+  transmitted-none =
+      let e = sym (packets-none [] refl) in
+      record {
+        on-air = calls-on-air rate h [] tt ∙ ap (λ (l : List (List ℕ)). onAir (modeOf rate) (packetsFor l)) e;
+        answered = ap (map sentNumber) e;
+        state = ap (λ (s : Sender). holding s []) (calls-sender rate h [] tt ∙ ap (λ (l : List (List ℕ)). senderOf rate (packetsFor l)) e);
+      }
+
+  -- a piece more
+  module _ (bytes piece room answers : List ℕ) {number count packets : ℕ} {next : Sending} {left told : List ℕ}
+      (f : FeedsAll (holding (senderOf rate (packetsFor (packetsOf bytes))) (restOf bytes)) piece room answers number count packets next left told) where
+    before : List (List ℕ)
+    before = packetsFor (packetsOf bytes)
+
+    came : List ℕ
+    came = restOf bytes ++ piece
+
+    w : Sending
+    w = holding (senderOf rate (packetsFor (packetsOf bytes))) (restOf bytes)
+
+    held : heldBytes w ≡ restOf bytes
+    unfolding w
+    held = held-are (senderOf rate (packetsFor (packetsOf bytes))) (restOf bytes)
+
+    packets-are : packetsOf (heldBytes w ++ piece) ≡ packetsOf came
+    unfolding came
+    packets-are = ap (λ (x : List ℕ). packetsOf (x ++ piece)) held
+
+    all-packets : packetsFor (packetsOf (bytes ++ piece)) ≡ before ++ packetsFor (packetsOf came)
+    unfolding before came
+    all-packets = ap packetsFor (cut bytes piece .packets) ∙ map-append packetFor (packetsOf bytes) (packetsOf (restOf bytes ++ piece))
+
+    -- what the sender sends after the packets before
+    further : (onAir (modeOf rate) before ++ flatten (callsSymbols (senderOf rate before) (packetsFor (packetsOf came)))
+        ≡ onAir (modeOf rate) (before ++ packetsFor (packetsOf came)))
+        × (callsSender (senderOf rate before) (packetsFor (packetsOf came)) ≡ senderOf rate (before ++ packetsFor (packetsOf came)))
+    unfolding before
+    further =
+        sent-further rate h before (sizes bytes) (packets-inputs came)
+        (history (senderOf rate before) (packetsOf came) (ready-sent rate h before (sizes bytes)) (packets-inputs came))
+
+    sent : take count left ≡ flatten (callsSymbols (senderOf rate before) (packetsFor (packetsOf came)))
+    unfolding before w
+    sent =
+        ap (take count) (f .written)
+        ∙ take-at (fedSymbols w piece) (drop count room) count (sym (f .counted))
+        ∙ ap (λ (l : List (List ℕ)). flatten (callsSymbols (senderOf rate before) (packetsFor l))) packets-are
+
+    answers-count : length (fedAnswers w piece) ≡ packets
+    unfolding w
+    answers-count =
+        length-map (packetsOf (heldBytes w ++ piece)) sentNumber
+        ∙ count-packets (heldBytes w ++ piece)
+        ∙ ap (λ (n : ℕ). n / 188) (length-append (heldBytes w) piece ∙ ap (λ (l : List ℕ). length l + length piece) held)
+        ∙ sym (f .whole)
+
+    numbers-told : take packets told ≡ map sentNumber (packetsOf came)
+    unfolding w
+    numbers-told =
+        ap (take packets) (f .answers-written)
+        ∙ take-at (fedAnswers w piece) (drop packets answers) packets answers-count
+        ∙ ap (map sentNumber) packets-are
+
+    transmitted-more : {symbols numbers : List ℕ} → symbols ≡ onAir (modeOf rate) (packetsFor (packetsOf bytes)) → numbers ≡ map sentNumber (packetsOf bytes)
+        → Transmitted rate (bytes ++ piece) (symbols ++ take count left) (numbers ++ take packets told) next
+    unfolding before came w
+    transmitted-more {symbols} {numbers} a n = record {
+      on-air = ap₂ (λ (x y : List ℕ). x ++ y) a sent ∙ further .0 ∙ ap (onAir (modeOf rate)) (sym all-packets);
+      answered =
+          ap₂ (λ (x y : List ℕ). x ++ y) n numbers-told
+          ∙ sym (map-append sentNumber (packetsOf bytes) (packetsOf came))
+          ∙ ap (map sentNumber) (sym (cut bytes piece .packets));
+      state =
+          f .sending
+          ∙ ap (λ (x : List ℕ). holding (callsSender (senderOf rate before) (packetsFor (packetsOf (x ++ piece)))) (restOf (x ++ piece))) held
+          ∙ ap₂ holding (further .1 ∙ ap (senderOf rate) (sym all-packets)) (sym (cut bytes piece .rest));
+    }
+
+  transmitted-feeds : {bytes symbols numbers : List ℕ} {w : Sending} → Transmitted rate bytes symbols numbers w
+      → (piece room answers : List ℕ) {number count packets : ℕ} {next : Sending} {left told : List ℕ} → Feeds w piece room answers number count packets next left told
+      → Transmitted rate (bytes ++ pick (eqb number 0) piece []) (symbols ++ take count left) (numbers ++ take packets told) next
+  transmitted-feeds {bytes} {symbols} {numbers} {w} t piece room answers (refused {number = n} e z) =
+      let b : bytes ++ pick (eqb n 0) piece [] ≡ bytes = ap (λ (x : Bool). bytes ++ pick x piece []) (ne-eqb n 0 z) ∙ append-nil bytes in
+      record {
+        on-air = append-nil symbols ∙ t .on-air ∙ ap (λ (l : List ℕ). onAir (modeOf rate) (packetsFor (packetsOf l))) (sym b);
+        answered = append-nil numbers ∙ t .answered ∙ ap (λ (l : List ℕ). map sentNumber (packetsOf l)) (sym b);
+        state = t .state ∙ ap (λ (l : List ℕ). holding (senderOf rate (packetsFor (packetsOf l))) (restOf l)) (sym b);
+      }
+  transmitted-feeds {bytes} {symbols} {numbers} {w} t piece room answers (fed {number = n} {count = c} {packets = k} {next = next} {left = left} {told = told} z f) =
+      subst (λ (x : Bool). Transmitted rate (bytes ++ pick x piece []) (symbols ++ take c left) (numbers ++ take k told) next) (sym (eq-eqb n 0 (f .done)))
+      (transmitted-more bytes piece room answers (subst (λ (x : Sending). FeedsAll x piece room answers n c k next left told) (t .state) f) (t .on-air) (t .answered))
+
+  transmitted-feedings : {bytes symbols numbers b s n : List ℕ} {w last : Sending} → Transmitted rate bytes symbols numbers w → Feedings w b s n last
+      → Transmitted rate (bytes ++ b) (symbols ++ s) (numbers ++ n) last
+  transmitted-feedings {bytes} {symbols} {numbers} t none = record {
+    on-air = append-nil symbols ∙ t .on-air ∙ ap (λ (l : List ℕ). onAir (modeOf rate) (packetsFor (packetsOf l))) (sym (append-nil bytes));
+    answered = append-nil numbers ∙ t .answered ∙ ap (λ (l : List ℕ). map sentNumber (packetsOf l)) (sym (append-nil bytes));
+    state = t .state ∙ ap (λ (l : List ℕ). holding (senderOf rate (packetsFor (packetsOf l))) (restOf l)) (sym (append-nil bytes));
+  }
+  transmitted-feedings {bytes} {symbols} {numbers} t (feeding {bytes = b} {symbols = s} {numbers = n} piece room answers left told number count packets f g) =
+      let r = transmitted-feedings (transmitted-feeds t piece room answers f) g in
+      rw (append-assoc bytes (pick (eqb number 0) piece []) b, append-assoc symbols (take count left) s, append-assoc numbers (take packets told) n) at r
+
+  -- whatever the pieces
+  pub every-history : {bytes symbols numbers : List ℕ} {last : Sending} → Feedings (freshSending rate) bytes symbols numbers last
+      → Transmitted rate bytes symbols numbers last
+  every-history g = transmitted-feedings transmitted-none g
+
+  pub record Same (s s′ n n′ : List ℕ) (w w′ : Sending) : Type 0 where
+    pub symbols : s ≡ s′
+    pub numbers : n ≡ n′
+    pub state : w ≡ w′
+
+  -- any two ways of cutting the same bytes
+  pub any-pieces : {bytes s s′ n n′ : List ℕ} {w w′ : Sending} → Feedings (freshSending rate) bytes s n w → Feedings (freshSending rate) bytes s′ n′ w′
+      → Same s s′ n n′ w w′
+  any-pieces a b =
+      let t = every-history a in
+      let u = every-history b in
+      record { symbols = t .on-air ∙ sym (u .on-air); numbers = t .answered ∙ sym (u .answered); state = t .state ∙ sym (u .state) }
+
+  -- ---- what is held
+
+  module _ {bytes symbols numbers : List ℕ} {w : Sending} (t : Transmitted rate bytes symbols numbers w) where
+    -- the last bytes, exactly, and so many
+    pub held-bytes : heldBytes w ≡ restOf bytes
+    held-bytes = ap heldBytes (t .state) ∙ held-are (senderOf rate (packetsFor (packetsOf bytes))) (restOf bytes)
+
+    pub held-count : w .held ≡ length bytes % 188
+    held-count = ap (λ (x : Sending). x .held) (t .state) ∙ length-rest bytes
+
+    -- no call refuses it with 5
+    pub transmitted-range : sendingInRange w ≡ true
+    transmitted-range =
+        let packets = packetsFor (packetsOf bytes) in
+        ap sendingInRange (t .state) ∙ holding-range (senderOf rate packets) bytes (ready-sent rate h packets (sizes bytes))
+
+-- a fresh one that was not refused is in range
+pub fresh-range : (rate : ℕ) → newNumber rate ≡ 0 → sendingInRange (freshSending rate) ≡ true
+fresh-range rate e = let h = known (ltb rate 5) refl e in transmitted-range rate h (every-history rate h none)
+  where
+    known : (t : Bool) → ltb rate 5 ≡ t → _≡_ {A = ℕ} (pick t 0 6) 0 → rate < 5
+    known true f e = ltb-true rate 5 f
+    known false f e = absurd (omega arith)

@@ -1,0 +1,51 @@
+-- For callers: with room enough nothing is refused, and a sending in range stays so.
+-- Assumes nothing.
+use mathlib.Core.Path.{_≡_, refl, ap, _∙_}
+use mathlib.Core.Bool.{true}
+use mathlib.Core.List.{List, _++_}
+use Prim.Native.Nat.{ℕ}
+use native.Mathlib.Omega.{arith}
+use borrow.Author.Tests.{lt-ltb, le-ltb}
+use lib.ListN.{length}
+use Rattle.sender.specs.Input.{packetsFor}
+use Rattle.sender.specs.Calls.{callsSender}
+use Rattle.sender.specs.declared.Sender.{Sender}
+use Rattle.sender.proofs.Stages.{range-test}
+use Rattle.sender.proofs.Ready.{Ready, ready-range}
+use Rattle.sender.proofs.History.{ready-calls}
+use Rattle.sending.specs.Sending.{holding, heldBytes, sendingInRange, restOf, wholePackets, feedNumber, Roomy, FeedsAll, Feeds, refused, fed}
+use Rattle.sending.specs.declared.Sending.{Sending}
+use Rattle.sending.proofs.Pieces.{length-rest, sending-range}
+use Rattle.sending.proofs.Progress.{ready-of}
+
+pub holding-range : (s : Sender) (bytes : List ℕ) → Ready s → sendingInRange (holding s (restOf bytes)) ≡ true
+holding-range s bytes g =
+    simp (range-test s (ready-range s g), lt-ltb (length (restOf bytes)) 188 (omega (arith, length-rest bytes)))
+
+module _ {w : Sending} {piece room answers : List ℕ} {number count packets : ℕ} {next : Sending} {left told : List ℕ}
+    (f : Feeds w piece room answers number count packets next left told) where
+  pub feeds-all : Roomy w piece room answers → FeedsAll w piece room answers 0 count packets next left told
+  feeds-all g = by f
+    where
+      none : feedNumber w piece room answers ≡ 0
+      none = simp (g .range, le-ltb _ _ (g .symbols), le-ltb _ _ (g .answers-fit))
+
+      by : {n c k : ℕ} {x : Sending} {l t : List ℕ} → Feeds w piece room answers n c k x l t → FeedsAll w piece room answers 0 c k x l t
+      by (refused e z) = absurd (z (e ∙ none))
+      by (fed z a) = record {
+        done = refl;
+        counted = a .counted;
+        whole = a .whole;
+        sending = a .sending;
+        written = a .written;
+        answers-written = a .answers-written;
+      }
+
+-- its arrays are whole
+pub fed-range : {w : Sending} {piece room answers : List ℕ} {number count packets : ℕ} {next : Sending} {left told : List ℕ}
+    → length (w .sender .interleaver .branches .cells) ≡ 1122 → length (w .sender .interleaver .branches .positions) ≡ 12 → sendingInRange w ≡ true
+    → FeedsAll w piece room answers number count packets next left told → sendingInRange next ≡ true
+fed-range {w} {piece} n m e f =
+    let g = ready-of (w .sender) n m (sending-range w e .0) in
+    let packets = packetsFor (wholePackets w piece) in
+    ap sendingInRange (f .sending) ∙ holding-range (callsSender (w .sender) packets) (heldBytes w ++ piece) (ready-calls (w .sender) packets g)

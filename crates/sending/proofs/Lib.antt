@@ -1,0 +1,4 @@
+pub mod Pieces
+pub mod Progress
+pub mod Laws
+pub mod History

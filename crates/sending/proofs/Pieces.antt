@@ -1,0 +1,112 @@
+-- Bytes cut into packets: the packets and the rest of two lists of bytes, one after the other; bytes held at the front of an array.
+-- Assumes nothing.
+use mathlib.Core.Path.{_≡_, refl, ap, ap₂, sym, _∙_}
+use mathlib.Core.Bool.{true}
+use mathlib.Core.List.{List, [], _∷_, _++_, append-nil}
+use Prim.Native.Nat.{ℕ, zero, suc, _+_, _-_, _/_, _%_, _≤_, _<_}
+use native.Mathlib.Nat.{zero-add}
+use native.Mathlib.Omega.{arith}
+use borrow.Author.Tests.{ltb-true}
+use lib.Dec.{ltb}
+use lib.ListN.{length, take, drop, replicate, length-append, length-drop, length-replicate, replicate-append-replicate}
+use lib.Seq.{drop-at, take-append-le, drop-append-le, drop-drop}
+use Rattle.common.proofs.Choice.{both-true}
+use Rattle.common.proofs.Lists.{put-after}
+use Rattle.randomizer.specs.Stream.{inPackets}
+use Rattle.sender.specs.Send.{inRange}
+use Rattle.transmission.specs.Run.{packetsOf}
+use Rattle.transmission.proofs.Buffers.{packets-more}
+use Rattle.sending.specs.Sending.{padded, sendingInRange, restOf}
+use Rattle.sending.specs.declared.Sending.{Sending}
+
+-- ---- the rest of some bytes
+
+pub rest-few : (l : List ℕ) → length l < 188 → restOf l ≡ l
+unfolding restOf
+rest-few l h = let z : length l - length l % 188 ≡ 0 = omega arith in ap (λ (k : ℕ). drop k l) z
+
+-- it is what is left after a packet
+pub rest-more : (l : List ℕ) → 188 ≤ length l → restOf l ≡ restOf (drop 188 l)
+unfolding restOf
+rest-more l h =
+    let d = length-drop 188 l in
+    let k : length l - length l % 188 ≡ 188 + (length (drop 188 l) - length (drop 188 l) % 188) = omega arith in
+    ap (λ (k : ℕ). drop k l) k ∙ sym (drop-drop (length (drop 188 l) - length (drop 188 l) % 188) 188 l)
+
+pub length-rest : (l : List ℕ) → length (restOf l) ≡ length l % 188
+unfolding restOf
+length-rest l = length-drop (length l - length l % 188) l ∙ omega arith
+
+-- no packet is whole
+pub packets-few : (l : List ℕ) → length l < 188 → packetsOf l ≡ []
+unfolding packetsOf inPackets
+packets-few l h = let z : length l / 188 ≡ 0 = omega arith in ap (λ (n : ℕ). inPackets n l) z
+
+-- ---- one list of bytes after another
+
+-- The whole packets of the first, then those of its rest and the second; and the rest is that of the rest and the second.
+pub record Cut (a b : List ℕ) : Type 0 where
+  pub packets : packetsOf (a ++ b) ≡ packetsOf a ++ packetsOf (restOf a ++ b)
+  pub rest : restOf (a ++ b) ≡ restOf (restOf a ++ b)
+
+cut-from : (n : ℕ) (a b : List ℕ) → length a / 188 ≡ n → Cut a b
+cut-from zero a b e =
+    let h : length a < 188 = omega arith in
+    let r = rest-few a h in
+    record {
+      packets = sym (ap₂ (λ (x : List (List ℕ)) (y : List ℕ). x ++ packetsOf (y ++ b)) (packets-few a h) r);
+      rest = ap (λ (x : List ℕ). restOf (x ++ b)) (sym r);
+    }
+cut-from (suc n) a b e =
+    let h : 188 ≤ length a = omega arith in
+    let c = cut-from n (drop 188 a) b (omega (arith, length-drop 188 a)) in
+    let l : 188 ≤ length (a ++ b) = omega (arith, length-append a b) in
+    let t = take-append-le 188 a b h in
+    let d = drop-append-le 188 a b h in
+    let r = rest-more a h in
+    record {
+      packets =
+          packets-more (a ++ b) l
+          ∙ ap₂ (λ (x : List ℕ) (y : List (List ℕ)). x ∷ y) t (ap packetsOf d ∙ c .packets)
+          ∙ ap₂ (λ (x : List (List ℕ)) (y : List ℕ). x ++ packetsOf (y ++ b)) (sym (packets-more a h)) (sym r);
+      rest = rest-more (a ++ b) l ∙ ap restOf d ∙ c .rest ∙ ap (λ (x : List ℕ). restOf (x ++ b)) (sym r);
+    }
+
+pub cut : (a b : List ℕ) → Cut a b
+cut a b = cut-from (length a / 188) a b refl
+
+-- ---- bytes at the front of an array
+
+abbrev zeros : ℕ → List ℕ
+zeros n = replicate n 0
+
+drop-zeros : (k n : ℕ) → k ≤ n → drop k (zeros n) ≡ zeros (n - k)
+drop-zeros k n h =
+    let z : ℕ = 0 in
+    let m : k + (n - k) ≡ n = omega arith in
+    sym (ap (λ (j : ℕ). drop k (zeros j)) m)
+    ∙ sym (ap (drop k) (replicate-append-replicate k (n - k) z))
+    ∙ drop-at (zeros k) (zeros (n - k)) k (length-replicate k z)
+
+-- two lists put into zeros
+pub joined-zeros : (a b first second : List ℕ) (n : ℕ) → length a ≡ n → n + length b ≤ 188
+    → first ≡ take 0 (zeros 188) ++ a ++ drop (0 + length a) (zeros 188)
+    → second ≡ take n first ++ b ++ drop (n + length b) first
+    → second ≡ padded (a ++ b)
+joined-zeros a b first second n e h p q =
+    let z = zeros 188 in
+    let l : length (a ++ b) ≡ n + length b = length-append a b ∙ ap (λ (k : ℕ). k + length b) e in
+    let f : first ≡ a ++ drop n z = p ∙ ap (λ (k : ℕ). a ++ drop k z) (zero-add (length a) ∙ e) in
+    q ∙ ap (λ (x : List ℕ). take n x ++ b ++ drop (n + length b) x) f
+    ∙ put-after a b z n e
+    ∙ ap (λ (x : List ℕ). (a ++ b) ++ x) (drop-zeros (n + length b) 188 h ∙ ap (λ (k : ℕ). zeros (188 - k)) (sym l))
+
+pub padded-full : (bytes : List ℕ) → length bytes ≡ 188 → padded bytes ≡ bytes
+padded-full bytes e = let z : 188 - length bytes ≡ 0 = omega arith in ap (λ (k : ℕ). bytes ++ zeros k) z ∙ append-nil bytes
+
+-- ---- a sending in range
+
+pub sending-range : (w : Sending) → sendingInRange w ≡ true → (inRange (w .sender) ≡ true) × (w .held < 188)
+sending-range w e =
+    let p = both-true (inRange (w .sender)) (ltb (w .held) 188) e in
+    (p .0, ltb-true (w .held) 188 (p .1))

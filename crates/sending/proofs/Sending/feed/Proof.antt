@@ -1,0 +1,90 @@
+-- `sending::Sending::feed` meets its contract.
+-- Assumes nothing.
+use mathlib.Core.Path.{_≡_, sym, _∙_}
+use mathlib.Core.Bool.{true}
+use mathlib.Core.List.{List}
+use Prim.Native.Nat.{ℕ, _<_}
+use native.Mathlib.Omega.{arith}
+use borrow.Author.Tests.{lt-ltb, le-ltb, not-true, not-false}
+use Rattle.sending.specs.Sending.{sendingInRange, feedNumber, Roomy, Feeds, refused, fed}
+use Rattle.sending.specs.declared.Sending.{Sending}
+use Rattle.sending.proofs.Pieces.{sending-range}
+use borrow.Author.Needs.{needs}
+use Rattle.sending.proofs.Sending.feed.Statement.{statement}
+use Rattle.sending.proofs.Sending.feed.Tie as tie
+
+refuse : (w : Sending) (piece room answers : List ℕ) (n : ℕ) → feedNumber w piece room answers ≡ n → 0 < n → Feeds w piece room answers n 0 0 w room answers
+refuse w piece room answers n e h = refused (sym e) (λ z. omega arith)
+
+in-range-requires : tie.Need-in-range-requires
+in-range-requires c κs = search needs
+
+returns : tie.Need-returns
+returns c =
+    let s = c .before .before .before .before .before in
+    refuse (s .args .self) (s .args .piece .now) (s .args .room .now) (s .args .answers .now) 5
+    (simp (sym (c .before .in-range .ensures) ∙ not-true _ (c .if1 .taken))) (omega arith)
+
+-- past the first test
+good : (c : tie.Else1) → sendingInRange (c .before .before .before .before .before .args .self) ≡ true
+good c = sym (c .before .in-range .ensures) ∙ not-false _ (c .if1 .left)
+
+whole-count-requires : tie.Need-whole-count-requires
+whole-count-requires c κs = sending-range (c .before .before .before .before .before .args .self) (good c) .1
+
+returns-2 : tie.Need-returns-2
+returns-2 c =
+    let e = c .before .before in
+    let s = e .before .before .before .before .before in
+    refuse (s .args .self) (s .args .piece .now) (s .args .room .now) (s .args .answers .now) 4
+    (simp (good e, lt-ltb _ _ (rw (c .before .whole-count .ensures) at (c .if2 .taken)))) (omega arith)
+
+returns-3 : tie.Need-returns-3
+returns-3 c =
+    let n = c .before .before in
+    let e = n .before in
+    let s = e .before .before .before .before .before in
+    refuse (s .args .self) (s .args .piece .now) (s .args .room .now) (s .args .answers .now) 4
+    (simp (good e, le-ltb _ _ (rw (n .whole-count .ensures) at (c .before .if2 .left)), lt-ltb _ _ (rw (n .whole-count .ensures) at (c .if3 .taken)))) (omega arith)
+
+-- past the others
+roomy : (c : tie.Else3)
+    → let a = c .before .before .before .before .before .before .before .before .args in
+    Roomy (a .self) (a .piece .now) (a .room .now) (a .answers .now)
+roomy c =
+    let n = c .before .before in
+    record {
+      range = good (n .before);
+      symbols = rw (n .whole-count .ensures) at (c .before .if2 .left);
+      answers-fit = rw (n .whole-count .ensures) at (c .if3 .left);
+    }
+
+send-whole-requires : tie.Need-send-whole-requires
+send-whole-requires c κs = roomy (c .before .before)
+
+same-length : tie.Need-same-length
+same-length c = search needs
+
+same-length-2 : tie.Need-same-length-2
+same-length-2 c = search needs
+
+returns-4 : tie.Need-returns-4
+returns-4 c =
+    let r = c .before .before .before .before in
+    let d = r .before .before .before in
+    let g = roomy d in
+    fed (simp (g .range, le-ltb _ _ (g .symbols), le-ltb _ _ (g .answers-fit))) (r .send-whole .ensures)
+
+pub feed-spec : {M : Type 1} → statement M
+feed-spec =
+    tie.close
+    (tie.spec
+    in-range-requires
+    returns
+    whole-count-requires
+    returns-2
+    returns-3
+    send-whole-requires
+    same-length
+    same-length-2
+    returns-4)

@@ -1,0 +1,30 @@
+-- Feeding after feeding, and what all the bytes come to, whatever pieces they came in.
+-- Assumes nothing.
+use mathlib.Core.Path.{_≡_}
+use mathlib.Core.List.{List, [], _++_, map}
+use Prim.Native.Nat.{ℕ}
+use lib.Dec.{eqb}
+use lib.ListN.{take}
+use Rattle.common.specs.Choice.{pick}
+use Rattle.puncturing.specs.Mode.{modeOf}
+use Rattle.sender.specs.Standard.{onAir}
+use Rattle.sender.specs.Input.{packetsFor, sentNumber}
+use Rattle.sender.specs.Calls.{senderOf}
+use Rattle.transmission.specs.Run.{packetsOf}
+use Rattle.sending.specs.Sending.{holding, restOf, Feeds}
+use Rattle.sending.specs.declared.Sending.{Sending}
+
+-- A history of calls, each with the sending that the one before it left: the bytes that came, those of pieces that were not refused; and
+-- what the calls wrote, one after the other, of symbols and of answers.
+pub data Feedings : Sending → List ℕ → List ℕ → List ℕ → Sending → Type 0 where
+  none : {w : Sending} → Feedings w [] [] [] w
+  feeding : {w next last : Sending} {bytes symbols numbers : List ℕ} (piece room answers left told : List ℕ) (number count packets : ℕ)
+      → Feeds w piece room answers number count packets next left told → Feedings next bytes symbols numbers last
+      → Feedings w (pick (eqb number 0) piece [] ++ bytes) (take count left ++ symbols) (take packets told ++ numbers) last
+
+-- What bytes come to, from a fresh sending: the symbols of EN 300 421 for their whole packets, with null packets put in; for each packet the
+-- number that says whether it was replaced; the sender that has sent them; and the bytes after the last whole packet, held.
+pub record Transmitted (rate : ℕ) (bytes symbols numbers : List ℕ) (w : Sending) : Type 0 where
+  pub on-air : symbols ≡ onAir (modeOf rate) (packetsFor (packetsOf bytes))
+  pub answered : numbers ≡ map sentNumber (packetsOf bytes)
+  pub state : w ≡ holding (senderOf rate (packetsFor (packetsOf bytes))) (restOf bytes)

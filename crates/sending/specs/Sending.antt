@@ -1,0 +1,83 @@
+-- Sending in progress: what feeding it with a piece gives. The bytes held and those of the piece are cut into packets of 188 bytes.
+-- Assumes nothing.
+use mathlib.Core.Path.{_≡_}
+use mathlib.Core.Bool.{Bool, true, false}
+use mathlib.Core.List.{List, _++_, map, flatten}
+use Prim.Native.Nat.{ℕ, _+_, _-_, _/_, _%_, _≤_}
+use lib.Dec.{ltb}
+use lib.ListN.{length, take, drop, replicate}
+use Rattle.common.specs.Choice.{pick}
+use Rattle.sender.specs.Input.{packetsFor, sentNumber}
+use Rattle.sender.specs.Send.{freshSender, inRange}
+use Rattle.sender.specs.Calls.{callsSymbols, callsSender}
+use Rattle.sender.specs.declared.Sender.{Sender}
+use Rattle.transmission.specs.Run.{packetsOf}
+use Rattle.sending.specs.declared.Sending.{Sending}
+
+-- bytes at the front of an array of 188, and zeros after them
+abbrev pub padded : List ℕ → List ℕ
+padded bytes = bytes ++ replicate (188 - length bytes) 0
+
+-- a sender, and the bytes of a packet that is not whole yet
+abbrev pub holding : Sender → List ℕ → Sending
+holding s bytes = record { sender = s; pending = padded bytes; held = length bytes }
+
+abbrev pub heldBytes : Sending → List ℕ
+heldBytes w = take (w .held) (w .pending)
+
+-- a fresh sender, and no byte
+unfoldable pub freshSending : ℕ → Sending
+freshSending rate = record { sender = freshSender rate; pending = replicate 188 0; held = 0 }
+
+-- fewer bytes than a packet has are held
+abbrev pub sendingInRange : Sending → Bool
+sendingInRange w = pick (inRange (w .sender)) (ltb (w .held) 188) false
+
+-- the bytes after the last whole packet
+unfoldable pub restOf : List ℕ → List ℕ
+restOf bytes = drop (length bytes - length bytes % 188) bytes
+
+-- the packets that are whole with a piece, and how many they are
+abbrev pub wholePackets : Sending → List ℕ → List (List ℕ)
+wholePackets w piece = packetsOf (heldBytes w ++ piece)
+
+abbrev pub wholeCount : Sending → List ℕ → ℕ
+wholeCount w piece = (w .held + length piece) / 188
+
+-- what is sent for them, with null packets put in: the symbols, the number of the answer for each, and the sending after it
+abbrev pub fedSymbols : Sending → List ℕ → List ℕ
+fedSymbols w piece = flatten (callsSymbols (w .sender) (packetsFor (wholePackets w piece)))
+
+abbrev pub fedAnswers : Sending → List ℕ → List ℕ
+fedAnswers w piece = map sentNumber (wholePackets w piece)
+
+abbrev pub fedSending : Sending → List ℕ → Sending
+fedSending w piece = holding (callsSender (w .sender) (packetsFor (wholePackets w piece))) (restOf (heldBytes w ++ piece))
+
+-- 5 for a state out of range, 4 where there is not room for 1,632 symbols, the most that a packet gives, or not a byte for the answer, for each
+-- packet that is whole; 0 where nothing is refused
+abbrev pub feedNumber : Sending → List ℕ → List ℕ → List ℕ → ℕ
+feedNumber w piece room answers =
+    pick (sendingInRange w) (pick (ltb (length room / 1632) (wholeCount w piece)) 4 (pick (ltb (length answers) (wholeCount w piece)) 4 0)) 5
+
+-- what the tests tell
+pub record Roomy (w : Sending) (piece room answers : List ℕ) : Type 0 where
+  pub range : sendingInRange w ≡ true
+  pub symbols : wholeCount w piece ≤ length room / 1632
+  pub answers-fit : wholeCount w piece ≤ length answers
+
+-- what is left where nothing is refused
+pub record FeedsAll (w : Sending) (piece room answers : List ℕ) (number count packets : ℕ) (next : Sending) (left told : List ℕ) : Type 0 where
+  pub done : number ≡ 0
+  pub counted : count ≡ length (fedSymbols w piece)
+  pub whole : packets ≡ wholeCount w piece
+  pub sending : next ≡ fedSending w piece
+  pub written : left ≡ fedSymbols w piece ++ drop count room
+  pub answers-written : told ≡ fedAnswers w piece ++ drop packets answers
+
+-- What a call promises: the answer, the number of symbols and of packets, the sending, the room and the answers after it. After a refusal
+-- nothing is written, and all is as before.
+pub data Feeds (w : Sending) (piece room answers : List ℕ) : ℕ → ℕ → ℕ → Sending → List ℕ → List ℕ → Type 0 where
+  refused : {number : ℕ} → number ≡ feedNumber w piece room answers → (number ≡ 0 → ⊥) → Feeds w piece room answers number 0 0 w room answers
+  fed : {number count packets : ℕ} {next : Sending} {left told : List ℕ} → feedNumber w piece room answers ≡ 0
+      → FeedsAll w piece room answers number count packets next left told → Feeds w piece room answers number count packets next left told
