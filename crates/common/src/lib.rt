@@ -1,4 +1,5 @@
 // What several crates use and belongs to none of them: lemmas, and the copying of bytes.
+// Inner: its functions may require what the crates above have tested. docs/ARCHITECTURE.md names the public surface.
 ghost use mathlib.Core.Path.{_≡_};
 ghost use mathlib.Core.List.{_++_};
 ghost use Prim.Native.Nat.{_+_, _≤_};

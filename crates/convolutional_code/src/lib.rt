@@ -1,4 +1,5 @@
 // The convolutional mother code: G1 = 171 octal gives X, G2 = 133 octal gives Y.
+// Inner: its functions may require what the crates above have tested. docs/ARCHITECTURE.md names the public surface.
 ghost use mathlib.Core.Path.{_≡_};
 ghost use mathlib.Core.List.{[], _∷_, _++_};
 ghost use Prim.Native.Nat.{_+_, _*_, _%_, _≤_, _<_};

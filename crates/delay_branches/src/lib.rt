@@ -1,4 +1,5 @@
 // The delay branches of convolutional interleaving: EN 300 421, 4.4.2.
+// Inner: its functions may require what the crates above have tested. docs/ARCHITECTURE.md names the public surface.
 ghost use mathlib.Core.Path.{_≡_};
 ghost use mathlib.Core.Bool.{true};
 ghost use mathlib.Core.List.{_++_};

@@ -1,5 +1,6 @@
 // The error locator: a polynomial that vanishes at every place of error, found as a solution of eight linear equations in nine unknowns.
 // The matrix is eight rows of sixteen bytes, one after the other; the first nine columns count.
+// Inner: its functions may require what the crates above have tested. docs/ARCHITECTURE.md names the public surface.
 ghost use mathlib.Core.Path.{_≡_};
 ghost use Prim.Native.Nat.{_<_, _≤_};
 ghost use lib.ListN.{length};

@@ -1,4 +1,5 @@
 // One read of a program's input: a piece of any length, at the front of a buffer.
+// Inner: its functions may require what the crates above have tested. docs/ARCHITECTURE.md names the public surface.
 ghost use Prim.Native.Nat.{_≤_};
 ghost use lib.ListN.{length};
 ghost use Rattle.input_pieces.specs.Read.{Reads};

@@ -1,4 +1,5 @@
 // The counts of a receiver.
+// Inner: its functions may require what the crates above have tested. docs/ARCHITECTURE.md names the public surface.
 ghost use mathlib.Core.Path.{_≡_};
 ghost use Prim.Native.Nat.{_+_, min};
 ghost use Rattle.reception_counts.specs.Counts.{Room, zeroCounts, countsInRange, outcomeNumber, counted};

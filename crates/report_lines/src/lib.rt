@@ -1,4 +1,5 @@
 // Lines of a report: a key, an equals sign, a number in decimal and a line feed.
+// Inner: its functions may require what the crates above have tested. docs/ARCHITECTURE.md names the public surface.
 ghost use Prim.Native.Nat.{_+_, _≤_};
 ghost use lib.ListN.{length};
 ghost use Rattle.report_lines.specs.Line.{decimal, lineText, Appended};

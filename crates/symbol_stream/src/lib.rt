@@ -1,4 +1,5 @@
 // A stream of received symbols, read as they come: runs that overlap, so that no decision is kept that few symbols stand behind.
+// Inner: its functions may require what the crates above have tested. docs/ARCHITECTURE.md names the public surface.
 ghost use mathlib.Core.Path.{_≡_};
 ghost use mathlib.Core.List.{[]};
 ghost use Prim.Native.Nat.{_<_, _≤_};
