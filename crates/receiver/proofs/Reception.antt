@@ -134,6 +134,22 @@ pub blocks-count : (cs : List Call) → length (blocksOf cs) ≡ length cs
 blocks-count [] = refl
 blocks-count (c ∷ cs) = ap suc (blocks-count cs)
 
+-- ---- the blocks that are repaired
+
+module _ (cs : List Call) where
+  came-count : length (drop 11 (run Receiving fresh (blocksOf cs))) ≡ length cs - 11
+  came-count =
+      length-drop 11 (run Receiving fresh (blocksOf cs))
+      ∙ ap (λ (i : ℕ). i - 11) (length-run Receiving fresh (blocksOf cs) ∙ blocks-count cs)
+
+  -- call i + 12 repairs the block gathered from the bytes received
+  pub came-gathered : All (Length 204) (blocksOf cs) → (i : ℕ) → i + 11 < length cs
+      → getD (drop 11 (run Receiving fresh (blocksOf cs))) i [] ≡ gathered (flatten (blocksOf cs)) i
+  came-gathered sizes i k =
+      let e : 11 + i ≡ i + 11 = omega arith in
+      getD-drop 11 (run Receiving fresh (blocksOf cs)) i [] ∙ ap (λ (j : ℕ). getD (run Receiving fresh (blocksOf cs)) j []) e
+      ∙ run-gathered (blocksOf cs) sizes i (omega (arith, blocks-count cs))
+
 module _ (packets : List (List ℕ)) (ws : All Packet packets) where
   -- the coded packets, as the standard gives them and call after call
   abbrev coded : List (List ℕ)
@@ -147,6 +163,19 @@ module _ (packets : List (List ℕ)) (ws : All Packet packets) where
 
   coded-blocks : All (Length 204) coded
   coded-blocks = subst (All (Length 204)) (sym stream) (coded-lengths 0 packets ws)
+
+  -- the block that was sent is gathered from the bytes sent
+  pub coded-gathered : (m i : ℕ) → m + (i + 11) < length packets → getD (drop m coded) i [] ≡ gathered (flatten (drop m (interleaved coded))) i
+  coded-gathered m i h =
+      getD-drop m coded i []
+      ∙ sent-gathered coded m i (omega (arith, coded-size)) (All-at (Length 204) coded [] (m + i) coded-blocks (omega (arith, coded-size)))
+
+  pub coded-nears : (m : ℕ) (cs : List Call) → m + length cs ≤ length packets
+      → ((i : ℕ) → i + 11 < length cs → differ (getD (drop 11 (run Receiving fresh (blocksOf cs))) i []) (getD (drop m coded) i []) ≤ 8)
+      → Nears (drop 11 (run Receiving fresh (blocksOf cs))) (drop m coded)
+  coded-nears m cs h f =
+      nears-of (drop 11 (run Receiving fresh (blocksOf cs))) (drop m coded) (omega (arith, came-count cs, length-drop m coded, coded-size))
+      (λ i k. f i (omega (arith, came-count cs)))
 
   -- ---- at most eight bytes of each block wrong
 
@@ -213,28 +242,17 @@ module _ (packets : List (List ℕ)) (ws : All Packet packets) where
         ap flatten (sym (take-append-drop (length cs) air)) ∙ flatten-join (take (length cs) air) (drop (length cs) air)
         ∙ ap (λ (x : List (List ℕ)). flatten x ++ flatten (drop (length cs) air)) (sym b)
 
-    many : length (run Receiving fresh (blocksOf cs)) ≡ length cs
-    many = length-run Receiving fresh (blocksOf cs) ∙ blocks-count cs
-
     -- the block that call i + 12 repairs is the one that was sent
     each : (i : ℕ) → i + 11 < length cs → getD (drop 11 (run Receiving fresh (blocksOf cs))) i [] ≡ getD (drop m coded) i []
     unfolding air
     each i k =
-        let e : 11 + i ≡ i + 11 = omega arith in
-        getD-drop 11 (run Receiving fresh (blocksOf cs)) i [] ∙ ap (λ (j : ℕ). getD (run Receiving fresh (blocksOf cs)) j []) e
-        ∙ run-gathered (blocksOf cs) sizes i (omega (arith, blocks-count cs))
+        came-gathered cs sizes i k
         ∙ sym (gathered-front (flatten (blocksOf cs)) (flatten (drop (length cs) air)) i (omega (arith, length-flatten 204 (blocksOf cs) sizes, blocks-count cs)))
         ∙ ap (λ (x : List ℕ). gathered x i) (sym front)
-        ∙ sym (getD-drop m coded i [] ∙ sent-gathered coded m i (omega (arith, coded-size)) (All-at (Length 204) coded [] (m + i) coded-blocks (omega (arith, coded-size))))
+        ∙ sym (coded-gathered m i (omega arith))
 
     nears : Nears (drop 11 (run Receiving fresh (blocksOf cs))) (drop m coded)
-    nears =
-        nears-of (drop 11 (run Receiving fresh (blocksOf cs))) (drop m coded)
-        (omega (arith, length-drop 11 (run Receiving fresh (blocksOf cs)), length-drop m coded, many, coded-size))
-        (λ i k. same i (omega (arith, length-drop 11 (run Receiving fresh (blocksOf cs)), many)))
-      where
-        same : (i : ℕ) → i + 11 < length cs → differ (getD (drop 11 (run Receiving fresh (blocksOf cs))) i []) (getD (drop m coded) i []) ≤ 8
-        same i k = rw (each i k) (omega (arith, differ-none (getD (drop m coded) i [])))
+    nears = coded-nears m cs h (λ i k. rw (each i k) (omega (arith, differ-none (getD (drop m coded) i []))))
 
     -- the theorem
     pub begun-anywhere : BegunAt m packets cs
