@@ -1,3 +1,4 @@
 pub mod Places
 pub mod Bursts
+pub mod OneByteMore
 pub mod Hold

@@ -694,6 +694,22 @@ fn stream_of(blocks: &[Vec<u8>]) -> Vec<u8> {
     stream
 }
 
+/// Receives a stream from any of its blocks on, with bursts of wrong bytes from these bytes on; all are in blocks that are repaired.
+/// The packets that came, those that come where nothing is lost, and the counts.
+fn burst_from(s: &mut Score, r: &mut Xorshift, length: usize, starts: &[usize]) -> (Vec<u8>, Vec<u8>, [u64; 8]) {
+    let from = r.below(16);
+    let blocks = (starts[starts.len() - 1] + length) / 204 + 13;
+    let p = packets(r, from + blocks);
+    let mut stream = interleaved_stream(&p).split_off(204 * from);
+    for start in starts {
+        harm(r, &mut stream, length, *start, start + length);
+    }
+    let room = room_of(r, stream.len() / 204 * 188);
+    let (got, eight) = receive_run(s, &stream, room, vec![0xA5; COUNTS_LENGTH]);
+    let first = (from + 7) / 8 * 8;
+    (got, p[188 * first..188 * (from + blocks - 11)].to_vec(), eight)
+}
+
 fn receive_kinds(s: &mut Score) {
     let mut total = [0u64; 8];
     let mut add = |eight: [u64; 8]| total.iter_mut().zip(eight).for_each(|(t, c)| *t += c);
@@ -747,6 +763,30 @@ fn receive_kinds(s: &mut Score) {
         let from = case as usize % 24;
         let room = room_for(r, &stream[204 * from..]);
         add(receive_run(s, &stream[204 * from..], room, vec![0xA5; COUNTS_LENGTH]).1);
+    });
+    // Bursts of 96 bytes, at every offset of twelve blocks and as near to each other as document 02, P9, allows: none in 2,448
+    // bytes with another, so 2,448 bytes from the last wrong one to the next. Every packet is given.
+    s.kind("receive_run: bursts of 96 bytes", 2448, |s, r, case| {
+        let starts = [0, 95 + 2448].map(|at| 2448 + case as usize + at);
+        let (got, sent, eight) = burst_from(s, r, 96, &starts);
+        assert_eq!(got, sent);
+        assert_eq!([eight[3], eight[5], eight[6]], [0, 0, 2 * 96], "{eight:?}");
+        add(eight);
+    });
+    // One of 97. Bytes of one block that arrive together are twelve apart, and thirteen where they cross from one received block into
+    // the next; so nine of them are wrong exactly where all 97 are in one received block.
+    s.kind("receive_run: a burst of 97 bytes", 2448, |s, r, case| {
+        // From the twenty-first block on, so that the place in the group is known when one is lost.
+        let start = 20 * 204 + case as usize;
+        let (got, sent, eight) = burst_from(s, r, 97, &[start]);
+        if start % 204 + 97 <= 204 {
+            assert_eq!([eight[3], eight[6]], [1, 88], "{eight:?}");
+            assert_eq!(got.len() + 188, sent.len());
+        } else {
+            assert_eq!([eight[3], eight[6]], [0, 97], "{eight:?}");
+            assert_eq!(got, sent);
+        }
+        add(eight);
     });
     s.kind("receive_run: blocks dropped, doubled or strange", 160, |s, r, case| {
         // Cut before the delays, so that the blocks stay codewords and the
