@@ -23,14 +23,14 @@ use Rattle.algebra.proofs.Terms.{terms}
 use Rattle.galois.proofs.Instance.{bytes, byte}
 use Rattle.reed_solomon.specs.Code.{Codeword, unequal, distance, differ, changes}
 use Rattle.reed_solomon.specs.Decode.{Decodes}
-use Rattle.reed_solomon.specs.Marks.{Marks, noMarks, marked, unmarked, cost, AcceptedMarked, DecodesMarked, MarksTest}
+use Rattle.reed_solomon.specs.Marks.{Marks, noMarks, marked, unmarked, cost, AcceptedMarked, DecodesMarked}
 use Rattle.reed_solomon.specs.declared.Decoded.{Decoded}
 use Rattle.reed_solomon.specs.declared.Decoded.the-variants.{Corrected, Uncorrectable, BlockLength, MarkValue}
 use Rattle.reed_solomon.specs.declared.Changed.{Changed}
 use Rattle.byte_lanes.specs.Lanes.{elements}
-use Rattle.byte_lanes.proofs.Powers.{zeros-at}
 use Rattle.error_correction.specs.Correction.{zerosFrom}
 use Rattle.reed_solomon.proofs.Codewords.{codeword-length}
+use Rattle.reed_solomon.proofs.Marks.{mark, mark-clear, mark-marked, marked-append, no-marks}
 use Rattle.reed_solomon.proofs.Distance.{unequal-same, unequal-other, unequal-le, same-codeword}
 
 -- ---- one place
@@ -39,21 +39,11 @@ use Rattle.reed_solomon.proofs.Distance.{unequal-same, unequal-other, u
 abbrev apart : ℕ → ℕ → ℕ → ℕ
 apart m x y = pick (eqb m 0) (unequal x y) 0
 
--- 1 where a byte is marked
-abbrev mark : ℕ → ℕ
-mark m = pick (eqb m 0) 0 1
-
 apart-clear : (m x y : ℕ) → m ≡ 0 → apart m x y ≡ unequal x y
 apart-clear m x y e = simp (eq-eqb m 0 e)
 
 apart-marked : (m x y : ℕ) → (m ≡ 0 → ⊥) → apart m x y ≡ 0
 apart-marked m x y n = simp (ne-eqb m 0 n)
-
-mark-clear : (m : ℕ) → m ≡ 0 → mark m ≡ 0
-mark-clear m e = simp (eq-eqb m 0 e)
-
-mark-marked : (m : ℕ) → (m ≡ 0 → ⊥) → mark m ≡ 1
-mark-marked m n = simp (ne-eqb m 0 n)
 
 -- x and z differ only if one of them differs from y or the byte is marked
 unequal-between : (m x y z : ℕ) → unequal x z ≤ apart m y x + apart m y z + mark m
@@ -125,9 +115,6 @@ unmarked-none (suc n) (x ∷ a) (y ∷ b) h = ap (λ (k : ℕ). unequal x y + k)
 cost-none : (came c : List ℕ) → length came ≡ 204 → cost noMarks came c ≡ 2 * differ came c
 cost-none came c n = omega (arith, unmarked-none 204 came c (omega arith), marked-none 204)
 
-pub no-marks : Marks noMarks
-no-marks = record { size = refl; bits = λ i h. omega (arith, zeros-at 204 i) }
-
 -- with no byte marked, decoding is that without marks
 pub without-marks : (came left : List ℕ) (r : Decoded) → DecodesMarked noMarks came left r → Decodes came left r
 without-marks came left (Corrected changed) d =
@@ -154,11 +141,6 @@ as-without-marks came left BlockLength d = d
 as-without-marks came left MarkValue d = absurd d
 
 -- ---- from the last place to the first
-
-marked-append : (a b : List ℕ) → marked (a ++ b) ≡ marked a + marked b
-unfolding marked
-marked-append [] b = omega arith
-marked-append (m ∷ a) b = omega (arith, marked-append a b)
 
 pub marked-reverse : (ms : List ℕ) → marked (reverse ms) ≡ marked ms
 unfolding marked
@@ -254,87 +236,6 @@ unmarked-zeros n (m ∷ ms) (x ∷ a) (y ∷ b) (z ∷ l) e h =
     one (no k) q = omega (arith, apart-marked m x y k)
     one (yes k) (yes q) = omega (arith, apart-clear m x y k, unequal-same x y q)
     one (yes k) (no q) = rw (eq-eqb z 0 (h 0 (omega arith) k q)) (omega (arith, apart-clear m x y k, unequal-other x y q))
-
--- ---- counting the marks
-
-mark-bit : (m : ℕ) → m ≤ 1 → mark m ≡ m
-mark-bit m h = go (ℕ-discrete m 0)
-  where
-    go : Dec (m ≡ 0) → mark m ≡ m
-    go (yes e) = mark-clear m e ∙ sym e
-    go (no n) = omega (arith, mark-marked m n)
-
-pub marked-most : (l : List ℕ) → marked l ≤ length l
-unfolding marked
-marked-most [] = omega arith
-marked-most (m ∷ l) = omega (arith, one (ℕ-discrete m 0), marked-most l)
-  where
-    one : Dec (m ≡ 0) → mark m ≤ 1
-    one (yes e) = omega (arith, mark-clear m e)
-    one (no n) = omega (arith, mark-marked m n)
-
--- where none is counted, none is marked
-pub marked-zero : (ms : List ℕ) → marked ms ≡ 0 → (i : ℕ) → getD ms i 0 ≡ 0
-unfolding marked
-marked-zero [] h i = refl
-marked-zero (m ∷ ms) h zero = go (ℕ-discrete m 0)
-  where
-    go : Dec (m ≡ 0) → m ≡ 0
-    go (yes e) = e
-    go (no n) = absurd (omega (arith, mark-marked m n))
-marked-zero (m ∷ ms) h (suc i) = marked-zero ms (omega arith) i
-
--- the first i marks are counted
-pub record CountedTo (marks : List ℕ) (count i : ℕ) : Type 0 where
-  pub most : i ≤ 204
-  pub total : count ≡ marked (take i marks)
-  pub fits : count ≤ i
-
-pub counted-none : (marks : List ℕ) → CountedTo marks 0 0
-unfolding marked
-counted-none marks = record { most = omega arith; total = refl; fits = omega arith }
-
-pub counted-more : (marks : List ℕ) (count i : ℕ) → Marks marks → i < 204 → CountedTo marks count i → CountedTo marks (count + getD marks i 0) (i + 1)
-unfolding marked
-counted-more marks count i m l c =
-    let b = m .bits i l in
-    let n = m .size in
-    let e : take (i + 1) marks ≡ take i marks ++ getD marks i 0 ∷ [] = ap (λ (k : ℕ). take k marks) (add-one i) ∙ take-suc marks i 0 (omega arith) in
-    record {
-      most = omega arith;
-      total = omega (arith, c .total, ap marked e, marked-append (take i marks) (getD marks i 0 ∷ []), mark-bit (getD marks i 0) b);
-      fits = omega (arith, c .fits);
-    }
-
-pub counted-all : (marks : List ℕ) (count i : ℕ) → Marks marks → 204 ≤ i → CountedTo marks count i → count ≡ marked marks
-counted-all marks count i m l c = c .total ∙ ap marked (take-all i marks (omega (arith, m .size)))
-
--- the first i marks are at most the largest, which is at most 1 where they are
-pub record LargestTo (marks : List ℕ) (most i : ℕ) : Type 0 where
-  pub each : (k : ℕ) → k < i → getD marks k 0 ≤ most
-  pub least : ((k : ℕ) → k < i → getD marks k 0 ≤ 1) → most ≤ 1
-
-pub largest-none : (marks : List ℕ) → LargestTo marks 0 0
-largest-none marks = record { each = λ k h. absurd (omega arith); least = λ h. omega arith }
-
-pub largest-more : (marks : List ℕ) (most next i : ℕ) → most ≤ next → getD marks i 0 ≤ next → (most ≤ 1 → getD marks i 0 ≤ 1 → next ≤ 1) → LargestTo marks most i → LargestTo marks next (i + 1)
-largest-more marks most next i a b g c =
-    record { each = λ k h. go k h (ℕ-discrete k i); least = λ h. g (c .least (λ k l. h k (omega arith))) (h i (omega arith)) }
-  where
-    go : (k : ℕ) → k < i + 1 → Dec (k ≡ i) → getD marks k 0 ≤ next
-    go k h (yes e) = subst (λ (j : ℕ). getD marks j 0 ≤ next) (sym e) b
-    go k h (no n) = omega (arith, c .each k (omega arith))
-
-pub largest-test : (marks : List ℕ) (most i : ℕ) (b : Bool) → length marks ≡ 204 → 204 ≤ i → b ≡ leb most 1 → LargestTo marks most i → MarksTest marks b
-largest-test marks most i b n l e c = subst (MarksTest marks) (sym e) (go (decLe most 1))
-  where
-    go : Dec (most ≤ 1) → MarksTest marks (leb most 1)
-    go (yes h) = subst (MarksTest marks) (sym (le-leb most 1 h)) (record { size = n; bits = λ k b. omega (arith, c .each k (omega arith)) })
-    go (no h) = subst (MarksTest marks) (sym (lt-leb most 1 (omega arith))) (λ m. h (c .least (λ k b. inside m k (decLt k 204))))
-      where
-        inside : Marks marks → (k : ℕ) → Dec (k < 204) → getD marks k 0 ≤ 1
-        inside m k (yes b) = m .bits k b
-        inside m k (no b) = omega (arith, List·getD-eq-default marks 0 {n = k} (omega arith))
 
 -- ---- a block and itself
 

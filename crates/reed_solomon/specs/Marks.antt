@@ -1,10 +1,10 @@
 -- What decoding a block means where some of its bytes are marked as doubtful: errors and erasures decoding. A mark is 0 or 1, and a marked byte is an erasure.
 -- Assumes nothing.
 use mathlib.Core.Path.{_≡_}
-use mathlib.Core.Bool.{Bool, true, false}
+use mathlib.Core.Bool.{Bool, false}
 use mathlib.Core.List.{List, [], _∷_}
-use Prim.Native.Nat.{ℕ, _+_, _*_, _≤_, _<_}
-use lib.Dec.{eqb}
+use Prim.Native.Nat.{ℕ, _+_, _*_, _≤_, _<_, max}
+use lib.Dec.{eqb, ltb}
 use lib.ListN.{length, getD, replicate}
 use Rattle.common.specs.Choice.{pick}
 use Rattle.reed_solomon.specs.Code.{Codeword, unequal, changes}
@@ -16,6 +16,15 @@ use Rattle.reed_solomon.specs.declared.Decoded.the-variants.{Corrected, 
 pub record Marks (marks : List ℕ) : Type 0 where
   pub size : length marks ≡ 204
   pub bits : (i : ℕ) → i < 204 → getD marks i 0 ≤ 1
+
+-- the largest of a list, and 0 of none
+unfoldable pub largest : List ℕ → ℕ
+largest [] = 0
+largest (x ∷ l) = max x (largest l)
+
+-- whether there is a mark, 0 or 1, for each byte of a block
+abbrev pub areMarks : List ℕ → Bool
+areMarks marks = pick (eqb (length marks) 204) (ltb (largest marks) 2) false
 
 -- no byte is marked
 abbrev pub noMarks : List ℕ
@@ -56,8 +65,3 @@ DecodesMarked marks came left (Corrected changed) = (length came ≡ 204) × Mar
 DecodesMarked marks came left Uncorrectable = (length came ≡ 204) × Marks marks × RejectedMarked marks came left
 DecodesMarked marks came left BlockLength = (length came ≡ 204 → ⊥) × (left ≡ came)
 DecodesMarked marks came left MarkValue = (length came ≡ 204) × (Marks marks → ⊥) × (left ≡ came)
-
--- what the test of the marks gives
-abbrev pub MarksTest : List ℕ → Bool → Type 0
-MarksTest marks true = Marks marks
-MarksTest marks false = Marks marks → ⊥

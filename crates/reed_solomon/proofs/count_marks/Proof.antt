@@ -2,7 +2,7 @@
 -- Assumes nothing.
 use Prim.Native.Nat.{_-_}
 use native.Mathlib.Omega.{arith}
-use Rattle.reed_solomon.proofs.MarkedDistance.{CountedTo, counted-none, counted-more, counted-all}
+use Rattle.reed_solomon.proofs.Marks.{CountedTo, counted-none, counted-more, counted-all}
 use borrow.Author.Needs.{needs}
 use Rattle.reed_solomon.proofs.count_marks.Statement.{statement}
 use Rattle.reed_solomon.proofs.count_marks.Tie as tie

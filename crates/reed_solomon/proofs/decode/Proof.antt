@@ -7,7 +7,8 @@ use Rattle.reed_solomon.specs.Code.{noChange}
 use Rattle.reed_solomon.specs.Marks.{noMarks}
 use Rattle.reed_solomon.specs.Steps.{allZero}
 use Rattle.reed_solomon.specs.declared.Decoded.the-variants.{Corrected}
-use Rattle.reed_solomon.proofs.MarkedDistance.{no-marks, marked-none, without-marks}
+use Rattle.reed_solomon.proofs.Marks.{no-marks}
+use Rattle.reed_solomon.proofs.MarkedDistance.{marked-none, without-marks}
 use Rattle.reed_solomon.proofs.Outcome.{clean}
 use borrow.Author.Needs.{needs}
 use Rattle.reed_solomon.proofs.decode.Statement.{statement}

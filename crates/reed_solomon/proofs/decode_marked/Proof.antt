@@ -2,10 +2,11 @@
 -- Assumes nothing.
 use mathlib.Core.Path.{refl, sym, ap, _∙_}
 use native.Mathlib.Omega.{arith}
-use Rattle.common.proofs.Choice.{flag-false, flag-true}
+use borrow.Author.Tests.{not-true, not-false}
 use Rattle.common.proofs.Entries.{bytes-of}
-use Rattle.reed_solomon.specs.Marks.{Marks, MarksTest}
+use Rattle.reed_solomon.specs.Marks.{Marks}
 use Rattle.reed_solomon.specs.Steps.{allZero}
+use Rattle.reed_solomon.proofs.Marks.{marks-of, marks-not}
 use Rattle.reed_solomon.proofs.Outcome.{clean}
 use borrow.Author.Needs.{needs}
 use Rattle.reed_solomon.proofs.decode_marked.Statement.{statement}
@@ -13,7 +14,7 @@ use Rattle.reed_solomon.proofs.decode_marked.Tie as tie
 
 -- the marks are 204, each 0 or 1
 valid : (c : tie.Else2) → Marks (c .before .before .before .before .before .args .marks .now)
-valid c = flag-true (MarksTest (c .before .before .before .before .before .args .marks .now)) (c .before .are-marks .result) (c .if2 .left) (c .before .are-marks .ensures)
+valid c = marks-of (c .before .before .before .before .before .args .marks .now) (sym (c .before .are-marks .ensures) ∙ not-false _ (c .if2 .left))
 
 returns : tie.Need-returns
 returns c = search needs
@@ -22,7 +23,7 @@ are-marks-requires : tie.Need-are-marks-requires
 are-marks-requires c κs = search needs
 
 returns-2 : tie.Need-returns-2
-returns-2 c = (c .before .before .if1 .left, flag-false (MarksTest (c .before .before .before .before .before .args .marks .now)) (c .before .are-marks .result) (c .if2 .taken) (c .before .are-marks .ensures), refl)
+returns-2 c = (c .before .before .if1 .left, marks-not (c .before .before .before .before .before .args .marks .now) (sym (c .before .are-marks .ensures) ∙ not-true _ (c .if2 .taken)), refl)
 
 count-marks-requires : tie.Need-count-marks-requires
 count-marks-requires c κs = valid c

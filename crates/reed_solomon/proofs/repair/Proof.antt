@@ -11,7 +11,7 @@ use Rattle.reed_solomon.specs.Steps.{SyndromesOf}
 use Rattle.error_locator.specs.Locator.{Modified}
 use Rattle.error_correction.specs.Correction.{rootsOf, Explained}
 use Rattle.reed_solomon.proofs.Completeness.{roots-most}
-use Rattle.reed_solomon.proofs.MarkedDistance.{marked-zero}
+use Rattle.reed_solomon.proofs.Marks.{marked-zero}
 use Rattle.reed_solomon.proofs.Outcome.{Decoding, rejected, repaired, degrees-range}
 use Rattle.reed_solomon.proofs.Zeros.{erasures-count}
 use borrow.Author.Needs.{needs}
