@@ -39,8 +39,8 @@ module _ (positions : List ℕ) where
   none-stays g = zeros-only 1122 (after Receiving none noMarks .cells) (good-after Receiving none noMarks g .cells) (entries-after (λ x. x ≡ 0) refl Receiving none noMarks (zeros-at 1122) (zeros-at 204))
 
 -- a state without a mark and a block without one: what is decoded has none, and decoding is that without marks
-pub plain-decodes : (s : Receiver) (came left : List ℕ) (decoded : Decoded) → Unmarked s → DecodesMarked (delayedMarks s noMarks) came left decoded → Decodes came left decoded
-plain-decodes s came left decoded u d =
+pub none-decodes : (s : Receiver) (came left : List ℕ) (decoded : Decoded) → Unmarked s → DecodesMarked (delayedMarks s noMarks) came left decoded → Decodes came left decoded
+none-decodes s came left decoded u d =
     without-marks came left decoded
     (subst (λ (m : List ℕ). DecodesMarked m came left decoded)
     (ap (λ (c : List ℕ). blockOut Receiving (markBranches c (s .deinterleaver .branches .positions)) noMarks) u ∙ none-leaves (s .deinterleaver .branches .positions)) d)
