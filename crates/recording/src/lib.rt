@@ -59,12 +59,7 @@ fn receive_at(
 }
 
 // Takes the whole blocks, each with a call. Its packet goes into the room after the one before. There is a mark for each byte, or none at all.
-fn receive_marked_blocks(
-    receiver: Receiver,
-    bytes: &[u8],
-    marks: &[u8],
-    room: &mut [u8],
-) -> Batch
+fn receive_marked_blocks(receiver: Receiver, bytes: &[u8], marks: &[u8], room: &mut [u8]) -> Batch
     requires { ⌜
         (188 * (length (now bytes) / 204) ≤ length (now room))
         × ((length (now marks) ≡ 0) ⊎ (length (now marks) ≡ length (now bytes))) ⌝ }
@@ -145,7 +140,7 @@ pub fn receive_recording(receiver: Receiver, bytes: &[u8], room: &mut [u8]) -> R
 }
 
 // Whether there is a mark, 0 or 1, for each byte.
-fn are_marks_for(bytes: &[u8], marks: &[u8]) -> bool
+pub fn are_marks_for(bytes: &[u8], marks: &[u8]) -> bool
     ensures { λ r. ⌜ r ≡ marksFor (now (bytes .entry)) (now (marks .entry)) ⌝ }
 {
     if marks.len() != bytes.len() {
