@@ -48,8 +48,10 @@ quietly cargo build "${in_reference[@]}"
 quietly cargo test "${in_reference[@]}"
 EXPORTS_DIR=$PWD/target/staticlib cargo run --quiet "${in_reference[@]}" --bin compare
 cargo run --quiet "${in_reference[@]}" --bin compare_calls target/bin/send_calls
+cargo run --quiet "${in_reference[@]}" --bin compare_reports target/bin/report_calls
 
 bash tests/pieces.sh
+bash tests/reports.sh
 
 # The commands of README.md that use what was built, as they stand there.
 sed -n '/^## The programs/,/^## Reading/s/^    //p' README.md > "$work/commands"
@@ -70,6 +72,11 @@ usage dvbs_read 5
 usage dvbs_read 2 2
 usage dvbs_receive 0
 usage pass_report 0
+usage report_form
+usage report_form 0
+usage report_form 3
+usage report_form 11
+usage report_form 1 1
 usage recording_block
 usage recording_block crates/recording_block/data/recording
 usage recording_block crates/recording_block/data/recording 1x

@@ -20,6 +20,9 @@ pub enum Answer {
     NoSymbol = 14,
     NullPacket = 15,
     NoSuchBlock = 16,
+    NotReport = 17,
+    WrongSums = 18,
+    FormKept = 19,
 }
 
 impl Answer {

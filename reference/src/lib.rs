@@ -15,6 +15,7 @@ pub mod randomizer;
 pub mod receiver;
 pub mod recording;
 pub mod reed_solomon;
+pub mod report;
 pub mod sender;
 pub mod xorshift;
 

@@ -23,21 +23,21 @@ fn interleaved(input: &[u8]) -> Vec<u8> {
 
 #[test]
 fn zeros() {
-    let want = "form=1\ntaken=13\nfilling=11\ndelivered=0\nlost=0\nwaiting=2\noutofstep=0\nchanged=0\nrest=100\n";
+    let want = "form=2\ntaken=13\nfilling=11\ndelivered=0\nlost=0\nwaiting=2\noutofstep=0\nchanged=0\nbits=0\nrest=100\n";
     assert_eq!(report(&[0; 2752]), want);
 }
 
 #[test]
 fn nothing_and_the_ends_of_rest() {
     for (length, taken, rest) in [(0, 0, 0), (203, 0, 203), (204, 1, 0), (407, 1, 203)] {
-        let want = format!("form=1\ntaken={taken}\nfilling={taken}\ndelivered=0\nlost=0\nwaiting=0\noutofstep=0\nchanged=0\nrest={rest}\n");
+        let want = format!("form=2\ntaken={taken}\nfilling={taken}\ndelivered=0\nlost=0\nwaiting=0\noutofstep=0\nchanged=0\nbits=0\nrest={rest}\n");
         assert_eq!(report(&vec![0; length]), want);
     }
 }
 
 #[test]
 fn the_outside_stream() {
-    let want = "form=1\ntaken=40\nfilling=11\ndelivered=29\nlost=0\nwaiting=0\noutofstep=0\nchanged=0\nrest=0\n";
+    let want = "form=2\ntaken=40\nfilling=11\ndelivered=29\nlost=0\nwaiting=0\noutofstep=0\nchanged=0\nbits=0\nrest=0\n";
     assert_eq!(report(INTERLEAVED), want);
 }
 

@@ -37,6 +37,12 @@ pub enum Answer {
     NullPacket,
     // A recording has no such block, or a receiver would not take it.
     NoSuchBlock,
+    // A text is not that of a pass report, or a number in it is past its limit.
+    NotReport,
+    // The middle five counts of a report do not add up to taken, or filling is not the smaller of taken and 11.
+    WrongSums,
+    // A report that is to go back to form 1 tells its bits, or one is in the form wanted already.
+    FormKept,
 }
 
 impl Answer {
@@ -62,6 +68,9 @@ impl Answer {
             Answer::SymbolRange => 14,
             Answer::NullPacket => 15,
             Answer::NoSuchBlock => 16,
+            Answer::NotReport => 17,
+            Answer::WrongSums => 18,
+            Answer::FormKept => 19,
         }
     }
 }
