@@ -77,7 +77,7 @@ for _ in 1 2 3 4 5 6 7; do cat "$packets"; done > good
 { head -c 188 /dev/zero; cat good; head -c 188 /dev/zero; head -c 57 "$packets"; } > mixed
 { null_packet; cat good; null_packet; } > put_in
 printf 'packet=0 answer=15\npacket=281 answer=15\nrest=57\n' > told
-for rate in 0 1 2 3 4; do
+for rate in 0 1 2 3 4 5; do
     "$bin/dvbs_send" $rate < put_in > symbols 2> err
     [ -s symbols ] && [ ! -s err ] || fail "dvbs_send $rate on packets"
     "$reference/pieces" 60 47940 "$bin/dvbs_send" $rate < mixed > out 2> err || fail "dvbs_send $rate in pieces"

@@ -38,9 +38,8 @@ shared-slice-read-number-3 c = omega arith
 
 number-requires : tie.Need-number-requires Inv-loop μ-loop
 number-requires c κs =
-    let l = c .before .before .before .before .loop in
     let a = c .before .before .before .before .before .before .before .before in
-    (a .pre .0 (l .n), bits-at (a .pre .1) (544 + l .n), bits-at (a .pre .1) (l .n))
+    (a .pre .0 _, bits-at (a .pre .1) _, bits-at (a .pre .1) _)
 
 slice-write-room : tie.Need-slice-write-room Inv-loop μ-loop
 slice-write-room c =
