@@ -87,4 +87,4 @@ done
 no_report "a directory as input of dvbs_send" "standard input: Is a directory" bash -c "'$bin/dvbs_send' 0 < ."
 no_report "a closed input of dvbs_send" "standard input: Bad file descriptor" bash -c "'$bin/dvbs_send' 0 <&-"
 no_report "a full device for symbols" "standard output: No space left on device" bash -c "'$bin/dvbs_send' 0 < good > /dev/full"
-echo "dvbs_send in 300 cuttings: one stream of symbols, one text on standard error"
+echo "dvbs_send in 360 cuttings: one stream of symbols, one text on standard error"
