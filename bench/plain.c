@@ -285,9 +285,32 @@ static size_t inner_code(struct inner *c, const uint8_t *bytes, int count, uint8
     return written;
 }
 
+/* 16QAM 3/4 of EN 301 210: of three bytes the first is coded, beside the bit pairs of the others. */
+static size_t code_16qam(struct inner *c, const uint8_t *bytes, int count, uint8_t *room)
+{
+    size_t written = 0;
+    for (int n = 0; n + 3 <= count; n += 3) {
+        unsigned beside = (unsigned)bytes[n + 1] << 8 | bytes[n + 2];
+        for (int k = 7; k >= 0; k--) {
+            unsigned window = c->memory | (bytes[n] >> k & 1u) << 6;
+            unsigned xy = xy_table[window];
+            c->memory = window >> 1;
+            room[written++] = (uint8_t)(4 * (beside >> 2 * k & 3) + 2 * (xy & 1) + (xy >> 1));
+        }
+    }
+    return written;
+}
+
+static size_t code(struct inner *c, const uint8_t *bytes, int count, uint8_t *room)
+{
+    return c->rate == 5 ? code_16qam(c, bytes, count, room) : inner_code(c, bytes, count, room);
+}
+
 /* Symbols of so many bits from a fresh coder. */
 static uint64_t symbols_of(int rate, uint64_t bits)
 {
+    if (rate == 5)
+        return bits / 3;
     static const int bits_in[5] = {1, 2, 3, 5, 7}, bits_out[5] = {2, 3, 4, 6, 8};
     uint64_t out = bits / (uint64_t)bits_in[rate] * (uint64_t)bits_out[rate];
     for (uint64_t i = 0; i < bits % (uint64_t)bits_in[rate]; i++)
@@ -301,7 +324,7 @@ uint64_t PLAIN(send_run)(uint8_t rate, const uint8_t *packets, size_t packets_le
     if (answer_len < 1)
         return 0;
     answer[0] = 0;
-    if (rate > 4)
+    if (rate > 5)
         return answer[0] = 6, 0;
     if (packets_len % PACKET)
         return answer[0] = 1, 0;
@@ -320,7 +343,7 @@ uint64_t PLAIN(send_run)(uint8_t rate, const uint8_t *packets, size_t packets_le
         mask(p % GROUP, p % GROUP ? 0x47 : 0xb8, packet, block);
         check_bytes(block, block + PACKET);
         pass(&branches, 0, block, out);
-        written += inner_code(&inner, out, BLOCK, room + written);
+        written += code(&inner, out, BLOCK, room + written);
     }
     return written;
 }
@@ -427,12 +450,12 @@ void PLAIN(interleave)(const uint8_t *blocks, size_t blocks_len, uint8_t *room, 
 
 uint64_t PLAIN(inner_code)(uint8_t rate, const uint8_t *blocks, size_t blocks_len, uint8_t *room, size_t room_len)
 {
-    if (rate > 4 || room_len / 8 < blocks_len)
+    if (rate > 5 || room_len / 8 < blocks_len)
         return 0;
     struct inner inner = {rate, 0, -1, 0};
     uint64_t written = 0;
     for (size_t n = 0; blocks_len - n >= BLOCK; n += BLOCK)
-        written += inner_code(&inner, blocks + n, BLOCK, room + written);
+        written += code(&inner, blocks + n, BLOCK, room + written);
     return written;
 }
 

@@ -87,7 +87,7 @@ width-three q e = ap width e
 -- ---- the places of a run
 
 pub kind-lt : (rate place : ℕ) → rate < 5 → place < patternLength rate → (0 < kind rate place) × (kind rate place ≤ 3)
-unfolding kind patternLength modeOf flatten
+unfolding kind modeOf flatten
 kind-lt rate place h l = (
   ltb→lt 0 (kind rate place) (tested-at (λ r p. ltb 0 (kind r p)) tt rate place h l),
   leb→le (kind rate place) 3 (tested-at (λ r p. leb (kind r p) 3) tt rate place h l),
@@ -95,7 +95,7 @@ kind-lt rate place h l = (
 
 pub table-is : (rate place : ℕ) → rate < 5 → place < patternLength rate
     → getD (3 ∷ 0 ∷ 0 ∷ 0 ∷ 0 ∷ 0 ∷ 0 ∷ 3 ∷ 1 ∷ 3 ∷ 1 ∷ 0 ∷ 0 ∷ 0 ∷ 3 ∷ 1 ∷ 2 ∷ 0 ∷ 0 ∷ 0 ∷ 0 ∷ 3 ∷ 1 ∷ 2 ∷ 1 ∷ 2 ∷ 0 ∷ 0 ∷ 3 ∷ 1 ∷ 1 ∷ 1 ∷ 2 ∷ 1 ∷ 2 ∷ []) (7 * rate + place) 0 ≡ kind rate place
-unfolding kind patternLength modeOf flatten
+unfolding kind modeOf flatten
 table-is rate place h l =
     agreed-at (λ r p. getD (3 ∷ 0 ∷ 0 ∷ 0 ∷ 0 ∷ 0 ∷ 0 ∷ 3 ∷ 1 ∷ 3 ∷ 1 ∷ 0 ∷ 0 ∷ 0 ∷ 3 ∷ 1 ∷ 2 ∷ 0 ∷ 0 ∷ 0 ∷ 0 ∷ 3 ∷ 1 ∷ 2 ∷ 1 ∷ 2 ∷ 0 ∷ 0 ∷ 3 ∷ 1 ∷ 1 ∷ 1 ∷ 2 ∷ 1 ∷ 2 ∷ []) (7 * r + p) 0) kind tt rate place h l
 

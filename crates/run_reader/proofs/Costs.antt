@@ -35,7 +35,7 @@ whole-stream rate m {bits} hr hm w e =
     let q : holding rate (coderAfter c bits .place) (coderAfter c bits .held) ≡ [] =
     ap (λ (d : InnerCoder). holding rate (d .place) (d .held)) (coder-whole rate m hr hm w e) ∙ none-holding rate 0 hr in
     sym (ap (λ (l : List ℕ). l ++ stream rate 0 m bits) (none-holding rate 0 hr))
-    ∙ (stream-symbols c (at-start rate m hr hm) w ∙ (ap (λ (l : List ℕ). flat (symbolsOf c bits) ++ l) q ∙ append-nil (flat (symbolsOf c bits))))
+    ∙ (stream-symbols c (at-start rate m hr hm) hr w ∙ (ap (λ (l : List ℕ). flat (symbolsOf c bits) ++ l) q ∙ append-nil (flat (symbolsOf c bits))))
 
 -- so each of its symbols is one of four
 pub whole-bits : (rate m : ℕ) {bits : List ℕ} → rate < 5 → m < 64 → Bits bits → length bits % patternLength rate ≡ 0

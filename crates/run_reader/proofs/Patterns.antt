@@ -21,7 +21,7 @@ use Rattle.run_reader.specs.Cost.{coderAt}
 use Rattle.run_reader.specs.Read.{symbolsPerPattern, runLength}
 
 pub at-start : (rate m : ℕ) → rate < 5 → m < 64 → InRange (coderAt rate m)
-at-start rate m hr hm = record { rate = hr; memory = hm; place = some-bits rate hr; held = omega arith }
+at-start rate m hr hm = record { memory = hm; place = some-bits rate hr; held = omega arith }
 
 -- a pattern has symbols, and no more than bits
 pub some-symbols : (rate : ℕ) → rate < 5 → 0 < symbolsPerPattern rate
@@ -29,7 +29,7 @@ unfolding symbolsPerPattern modeOf
 some-symbols rate h = ltb→lt _ _ (computed.below-at (λ r. ltb 0 (symbolsPerPattern r)) 5 tt rate h)
 
 symbols-le : (rate : ℕ) → rate < 5 → symbolsPerPattern rate ≤ patternLength rate
-unfolding symbolsPerPattern patternLength modeOf
+unfolding symbolsPerPattern modeOf
 symbols-le rate h = leb→le _ _ (computed.below-at (λ r. leb (symbolsPerPattern r) (patternLength r)) 5 tt rate h)
 
 -- the coder after whole patterns stands at the start of one, with the memory of the bits

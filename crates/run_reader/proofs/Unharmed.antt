@@ -88,7 +88,7 @@ kind-apart ss (suc (suc (suc t))) j m b c h hb hc p q =
     x-apart m b c (getD (flat ss) j 0) hb hc u v
 
 sends : (rate k : ℕ) → rate < 5 → 0 < kindAt rate k
-unfolding kind patternLength modeOf flatten
+unfolding kind modeOf flatten
 sends rate k h = ltb→lt 0 (kindAt rate k) (tested-at (λ r p. ltb 0 (kind r p)) tt rate (k % patternLength rate) h (mod-lt k (some-bits rate h)))
 
 apart : (ss : List ℕ) (rate : ℕ) → rate < 5 → Apart (punctured rate (hard ss))

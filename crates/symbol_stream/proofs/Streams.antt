@@ -64,7 +64,7 @@ pub record Numbers (rate : ℕ) : Type 0 where
   pub full-whole : fullSymbols rate % symbolsPerPattern rate ≡ 0
 
 pub numbers : (rate : ℕ) → rate < 5 → Numbers rate
-unfolding fullSymbols keptSymbols keptBits runPatterns keptPatterns symbolsPerPattern patternLength modeOf
+unfolding fullSymbols keptSymbols keptBits runPatterns keptPatterns symbolsPerPattern modeOf
 numbers rate h = record {
   kept-fewer = leb→le _ _ (computed.below-at (λ r. leb (keptSymbols r) (fullSymbols r)) 5 tt rate h);
   kept-some = leb→le _ _ (computed.below-at (λ r. leb 1 (keptSymbols r)) 5 tt rate h);

@@ -4,7 +4,7 @@ use Prim.Native.Nat.{_-_, _*_}
 use native.Mathlib.Omega.{arith}
 use lib.ListN.{length-take}
 use Rattle.puncturing.proofs.Steps.{some-bits}
-use Rattle.puncturing.proofs.Places.{length-le}
+use Rattle.puncturing.proofs.Places.{length-le, up}
 use Rattle.run_reader.proofs.Decisions.{written-small}
 use Rattle.run_reader.proofs.Outcome.{first-few, steps-small}
 use Rattle.run_reader.proofs.Reading.{few, read-out}
@@ -37,7 +37,7 @@ spread-costs-requires c κs =
       a .pre .known,
       p,
       rw p (some-bits (a .args .rate) (a .pre .known)),
-      rw p (length-le (a .args .rate) (a .pre .known)),
+      rw p (length-le (a .args .rate) (up (a .args .rate) (a .pre .known))),
       omega (arith, first-few (a .args .rate) (a .args .count), a .pre .most, c .before .before .before .before .decision-costs .kept),
       omega (arith, a .pre .most),
     )
