@@ -8,6 +8,7 @@
 // The answer is its number, how many bytes were written, in two bytes, and the first of the room: so many as were written.
 //   4      four numbers of eight bytes: the answer is 1 where the product of the first two is less than that of the others, else 0, then 16 in
 //          two bytes, and the first product in sixteen
+//   5      a text: its season, as it is printed, after the number of its answer and its length
 ghost use Prim.Native.Nat.{_+_, _≤_, _<_};
 ghost use lib.ListN.{length};
 use answer::Answer;
@@ -133,6 +134,16 @@ fn write_products(bytes: &[u8]) {
     write_number(first[1]);
 }
 
+fn write_season(bytes: &[u8]) {
+    let mut text = [0u8; 160];
+    let read = season_totals::read_season(bytes);
+    let answer = read.answer;
+    let n = season_totals::compose(read, &mut text);
+    let head = [answer.number(), (n % 256) as u8, 0];
+    io::write_all(STDOUT_FILENO, &head);
+    io::write_all(STDOUT_FILENO, &text[..n]);
+}
+
 // Reads so many bytes and answers the case with them: whether they were there.
 fn answer_case(kind: u8, size: usize, bytes: &mut [u8], room: &mut [u8]) -> bool
     requires { ⌜ size ≤ length (now bytes) ⌝ }
@@ -143,6 +154,10 @@ fn answer_case(kind: u8, size: usize, bytes: &mut [u8], room: &mut [u8]) -> bool
     }
     if kind == 4 {
         write_products(&bytes[..size]);
+        return true;
+    }
+    if kind == 5 {
+        write_season(&bytes[..size]);
         return true;
     }
     let written = call(kind, &bytes[..size], room);

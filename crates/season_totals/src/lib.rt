@@ -21,7 +21,7 @@ use report_lines::put_line;
 // How many reports a season may have.
 const MOST: u64 = 4096;
 
-// The product of two numbers in two limbs, the lower first.
+// The product of two numbers in two limbs, the lower first: by four products of halves of 32 bits, none of which wraps with what is carried to it.
 pub fn product(a: u64, b: u64) -> [u64; 2]
     ensures { λ r. ⌜ wide r ≡ a * b ⌝ }
 {
@@ -36,19 +36,20 @@ pub fn product(a: u64, b: u64) -> [u64; 2]
     [other % 4294967296 * 4294967296 + low % 4294967296, high]
 }
 
-// Whether a number of two limbs is less than another. The limbs are parameters, whose ranges are known in the proof.
-fn limbs_below(a: u64, top: u64, b: u64, crown: u64) -> bool
-    ensures { λ r. ⌜ r ≡ ltb (a + 18446744073709551616 * top) (b + 18446744073709551616 * crown) ⌝ }
+// The same of the limbs by themselves, low and high of the one, bottom and top of the other: of parameters the proof knows the ranges.
+fn limbs_below(low: u64, high: u64, bottom: u64, top: u64) -> bool
+    ensures { λ r. ⌜ r ≡ ltb (low + 18446744073709551616 * high) (bottom + 18446744073709551616 * top) ⌝ }
 {
-    if top < crown {
+    if high < top {
         return true;
     }
-    if crown < top {
+    if top < high {
         return false;
     }
-    a < b
+    low < bottom
 }
 
+// Whether a number of two limbs is less than another.
 pub fn below(a: [u64; 2], b: [u64; 2]) -> bool
     ensures { λ r. ⌜ r ≡ ltb (wide a) (wide b) ⌝ }
 {

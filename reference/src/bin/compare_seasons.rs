@@ -1,6 +1,6 @@
 //! Compares the season of pass reports with the reference: lists of reports of both
-//! forms, good and bad, through the program `season`, and two-limb products through
-//! the program `report_calls`.
+//! forms, good and bad, through the program `season`, and where they are short as one
+//! text through the program `report_calls`, which has the two-limb products too.
 //!
 //! `compare_seasons SEASON REPORT_CALLS`, the programs in `target/bin`.
 
@@ -65,8 +65,17 @@ fn main() {
     let mut r = Xorshift::new(0x2_013);
     let (mut compared, mut different) = (0, 0);
     let mut answered = std::collections::BTreeMap::new();
+    // Cases for report_calls, and what it should answer.
+    let (mut framed, mut wanted) = (Vec::new(), Vec::new());
     let mut compare = |kind: &str, input: Vec<u8>| {
         let want = season(&input);
+        if input.len() <= 4096 {
+            framed.extend([5, 0, 0, input.len() as u8, (input.len() >> 8) as u8]);
+            framed.extend(&input);
+            let number = if want.starts_with("passes") { 0 } else { want.trim_end().parse().unwrap() };
+            wanted.extend([number, want.len() as u8, 0]);
+            wanted.extend(want.as_bytes());
+        }
         let answer = if want.starts_with("passes") { "totals" } else { want.trim_end() };
         *answered.entry(answer.to_string()).or_insert(0) += 1;
         let got = output(&program, input);
@@ -135,6 +144,9 @@ fn main() {
     }
     println!("season: {compared} lists compared, {different} different; cross products of up to {longest} bits; answered {answered:?}");
 
+    let unlike = output(&calls, framed) != wanted;
+    println!("the short ones as one text: {}", if unlike { "DIFFERENT" } else { "the same" });
+
     // Products of two limbs: any numbers, those at the ends of a limb and its halves, and pairs of products of 70 bits that differ in the last.
     let mut cases: Vec<[u64; 4]> = Vec::new();
     let edges = [0, 1, 2, (1 << 32) - 1, 1 << 32, (1 << 32) + 1, u64::MAX - 1, u64::MAX];
@@ -171,5 +183,5 @@ fn main() {
         }
     }
     println!("two-limb products: {} pairs compared, {wrong} different", cases.len());
-    exit((different + wrong > 0) as i32);
+    exit((unlike || different + wrong > 0) as i32);
 }

@@ -1,4 +1,4 @@
--- `season::accepted_of` meets its contract.
+-- `season_totals::accepted_of` meets its contract.
 -- Assumes nothing.
 use native.Mathlib.Omega.{arith}
 use Rattle.report.proofs.Counting.{fits-small}

@@ -1,4 +1,4 @@
--- `season::count_report` meets its contract.
+-- `season_totals::count_report` meets its contract.
 -- Assumes nothing.
 use mathlib.Core.Path.{_≡_, refl, sym, _∙_}
 use mathlib.Core.Bool.{true, false}

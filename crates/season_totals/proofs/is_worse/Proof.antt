@@ -1,4 +1,4 @@
--- `season::is_worse` meets its contract.
+-- `season_totals::is_worse` meets its contract.
 -- Assumes nothing.
 use mathlib.Core.Path.{_≡_, refl, sym, ap, ap₂, _∙_}
 use Prim.Native.Nat.{ℕ, _*_}

@@ -1,4 +1,4 @@
--- `season::product` meets its contract.
+-- `season_totals::product` meets its contract.
 -- Assumes nothing.
 use Prim.Native.Nat.{_+_, _*_, _/_, _%_, _<_}
 use native.Mathlib.Omega.{arith}
