@@ -1,6 +1,6 @@
 #!/bin/bash
 # The tests: the Rattle gate, then what stands beside the crates: the exported functions against the second coder and
-# decoder of reference/, the programs on inputs in pieces, the commands of README.md, and the usage lines of the programs.
+# decoder of reference/, the programs on inputs in pieces and on pass reports, the commands of README.md, and the usage lines of the programs.
 # The gate's line `N passed, 0 failed` comes last, and only where all of it passed.
 set -euo pipefail
 cd "$(dirname "$0")"
@@ -49,6 +49,7 @@ quietly cargo test "${in_reference[@]}"
 EXPORTS_DIR=$PWD/target/staticlib cargo run --quiet "${in_reference[@]}" --bin compare
 cargo run --quiet "${in_reference[@]}" --bin compare_calls target/bin/send_calls
 cargo run --quiet "${in_reference[@]}" --bin compare_reports target/bin/report_calls
+cargo run --quiet "${in_reference[@]}" --bin compare_seasons target/bin/season target/bin/report_calls
 
 bash tests/pieces.sh
 bash tests/reports.sh
@@ -77,6 +78,7 @@ usage report_form 0
 usage report_form 3
 usage report_form 11
 usage report_form 1 1
+usage season 0
 usage recording_block
 usage recording_block crates/recording_block/data/recording
 usage recording_block crates/recording_block/data/recording 1x

@@ -23,8 +23,8 @@
  *  14  a symbol above 3
  *  15  done, with a null packet put in
  *  16  the recording has no such block
- * 17 to 19 are answers about the text of a pass report, which the programs read
- * and write, and no function here.
+ * 17 to 19 and 21 are answers about the texts of pass reports, which the programs
+ * read and write, and no function here.
  * Where several are due, the first in the order 6, 5, 16, 1 or 3, 2, 12, 13, 14,
  * 4, 7 is given. */
 #ifndef DVBS_H

@@ -1,5 +1,5 @@
 #!/bin/bash
-# report_form on reports in pieces, on reports that are refused, and on inputs and outputs that fail.
+# report_form and season on reports in pieces, on reports that are refused, and on inputs and outputs that fail.
 #   tests/reports.sh      from the top of the repository, after the programs and reference/ are built
 # Prints a line for each kind of case, and stops at the first that fails.
 set -euo pipefail
@@ -42,3 +42,26 @@ refused "standard input: Is a directory" 1 < .
 "$bin/report_form" 2 < first > /dev/full 2> err || true
 [ "$(cat err)" = "report: No space left on device" ] || fail "a full device for report_form: $(cat err)"
 echo "report_form: there and back, in pieces, and refused where a report is cut off or spelt otherwise"
+
+# A season that is longer than the buffer of its program; 4,096 reports, and one more.
+three=$(cat first second told)
+for n in $(seq 1024); do
+    printf '%s\n' "$three" form=1 taken=$((11 + n)) filling=11 delivered=$n lost=0 waiting=0 outofstep=0 changed=$((2 * n)) rest=0
+done > most
+head -c 200000 most > cut
+# a turn of the loop writes 38 lines
+head -n $((38 * 230)) most > part
+for input in part cut most /dev/null; do
+    "$reference/season" < "$input" > wanted
+    "$bin/season" < "$input" | cmp - wanted || fail "season of $input"
+done
+"$reference/season" < part > wanted
+grep -q '^passes=' wanted && "$reference/pieces" 100 65536 "$bin/season" < part | cmp - wanted || fail "season in pieces"
+[ "$("$bin/season" < cut)" = 17 ] || fail "season of a report that is cut off"
+[ "$("$bin/season" < most | head -n 1)" = passes=4096 ] || fail "season of 4,096 reports"
+[ "$(cat most first | "$bin/season")" = 21 ] || fail "season of 4,097 reports"
+"$bin/season" < . > out 2> err || true
+[ ! -s out ] && [ "$(cat err)" = "standard input: Is a directory" ] || fail "a directory as input of season: $(cat out err)"
+"$bin/season" < part > /dev/full 2> err || true
+[ "$(cat err)" = "season: No space left on device" ] || fail "a full device for season: $(cat err)"
+echo "season: as the reference, in pieces, and refused at the first bad report"

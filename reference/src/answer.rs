@@ -23,6 +23,7 @@ pub enum Answer {
     NotReport = 17,
     WrongSums = 18,
     FormKept = 19,
+    TooManyReports = 21,
 }
 
 impl Answer {

@@ -16,6 +16,7 @@ pub mod receiver;
 pub mod recording;
 pub mod reed_solomon;
 pub mod report;
+pub mod season;
 pub mod sender;
 pub mod xorshift;
 

@@ -43,6 +43,8 @@ pub enum Answer {
     WrongSums,
     // A report that is to go back to form 1 tells its bits, or one is in the form wanted already.
     FormKept,
+    // Something follows the 4,096 reports of a season.
+    TooManyReports,
 }
 
 impl Answer {
@@ -71,6 +73,7 @@ impl Answer {
             Answer::NotReport => 17,
             Answer::WrongSums => 18,
             Answer::FormKept => 19,
+            Answer::TooManyReports => 21,
         }
     }
 }

@@ -6,6 +6,9 @@
 //   3      a report as numbers: what its bits are (0 absent, 1 a dash, 2 a number), then taken to changed, bits and rest, each in eight
 //          bytes, the lower first: it is written
 // The answer is its number, how many bytes were written, in two bytes, and the first of the room: so many as were written.
+//   4      four numbers of eight bytes: the answer is 1 where the product of the first two is less than that of the others, else 0, then 16 in
+//          two bytes, and the first product in sixteen
+//   5      a text: its season, as it is printed, after the number of its answer and its length
 ghost use Prim.Native.Nat.{_+_, _≤_, _<_};
 ghost use lib.ListN.{length};
 use answer::Answer;
@@ -103,6 +106,44 @@ fn write_answer(written: Written, room: &[u8]) {
     }
 }
 
+// Writes a number in eight bytes, the lower first.
+fn write_number(value: u64) {
+    let mut bytes = [0u8; 8];
+    let mut left = value;
+    let mut i: usize = 0;
+    while i < 8 {
+        bytes[i] = (left % 256) as u8;
+        left /= 256;
+        i += 1;
+    }
+    io::write_all(STDOUT_FILENO, &bytes);
+}
+
+fn write_products(bytes: &[u8]) {
+    if bytes.len() != 32 {
+        return;
+    }
+    let first = season_totals::product(number_at(bytes, 0), number_at(bytes, 8));
+    let second = season_totals::product(number_at(bytes, 16), number_at(bytes, 24));
+    if season_totals::below(first, second) {
+        io::write_all(STDOUT_FILENO, &[1, 16, 0]);
+    } else {
+        io::write_all(STDOUT_FILENO, &[0, 16, 0]);
+    }
+    write_number(first[0]);
+    write_number(first[1]);
+}
+
+fn write_season(bytes: &[u8]) {
+    let mut text = [0u8; 160];
+    let read = season_totals::read_season(bytes);
+    let answer = read.answer;
+    let n = season_totals::compose(read, &mut text);
+    let head = [answer.number(), (n % 256) as u8, 0];
+    io::write_all(STDOUT_FILENO, &head);
+    io::write_all(STDOUT_FILENO, &text[..n]);
+}
+
 // Reads so many bytes and answers the case with them: whether they were there.
 fn answer_case(kind: u8, size: usize, bytes: &mut [u8], room: &mut [u8]) -> bool
     requires { ⌜ size ≤ length (now bytes) ⌝ }
@@ -110,6 +151,14 @@ fn answer_case(kind: u8, size: usize, bytes: &mut [u8], room: &mut [u8]) -> bool
     let got = io::read_full(STDIN_FILENO, &mut bytes[..size]);
     if got != size {
         return false;
+    }
+    if kind == 4 {
+        write_products(&bytes[..size]);
+        return true;
+    }
+    if kind == 5 {
+        write_season(&bytes[..size]);
+        return true;
     }
     let written = call(kind, &bytes[..size], room);
     write_answer(written, room);
