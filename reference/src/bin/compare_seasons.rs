@@ -129,6 +129,16 @@ fn main() {
         let again = report(&mut r, a, c);
         compare("neighbours and a tie", text(&[other, one, again]));
     }
+    // Cross products of 65 to 67 bits: by their low limbs alone, half of these would come out otherwise.
+    for _ in 0..200 {
+        let list: Vec<Report> = (0..2 + r.below(3))
+            .map(|_| {
+                let (a, c) = ((1 << 31) + r.next() % (1 << 30), (1 << 34) + r.next() % (1 << 33));
+                report(&mut r, a, c)
+            })
+            .collect();
+        compare("large numbers", text(&list));
+    }
     // The most reports, and more.
     let list: Vec<Report> = (0..4097).map(|_| any(&mut r)).collect();
     for n in [4095, 4096, 4097] {
