@@ -6,15 +6,18 @@ use mathlib.Core.List.{List, [], _∷_}
 use Prim.Native.Nat.{ℕ, zero, suc, _+_, _-_, _*_, _/_, _%_, _^_, _≤_, _<_}
 use native.Mathlib.Omega.{arith}
 use native.Mathlib.Nat.{add-zero}
+use native.Mathlib.Decide.{ℕ-discrete}
 use borrow.Author.Tests.{eqb-true, eqb-false}
 use lib.Dec.{ltb, eqb}
+use lib.ListN.{length, getD, set, length-set}
+use lib.Seq.{getD-set-same, getD-set-other}
 use Rattle.common.specs.Choice.{pick}
 use Rattle.common.proofs.Computed as computed
 use Rattle.convolutional_code.specs.Code.{tapsX, tapsY, coded}
 use Rattle.trellis.specs.Metric.{from, via, choice}
 use Rattle.trellis.proofs.Paths.{choice-lt}
 use Rattle.viterbi_decoder.specs.Step.{at, decided, stepCost}
-use Rattle.viterbi_decoder.specs.Lanes.{lane, held, Tables, lesser, second, decision, Stepped}
+use Rattle.viterbi_decoder.specs.Lanes.{lane, held, CostRows, Tables, lesser, second, decision, Stepped}
 
 -- ---- costs
 
@@ -30,10 +33,10 @@ unfolding stepCost
 stepCost-le x0 x1 y0 y1 m b h0 h1 h2 h3 =
     omega (arith, decided-le x0 x1 (coded tapsX m b) h0 h1, decided-le y0 y1 (coded tapsY m b) h2 h3)
 
-flip : (c0 c1 v : ℕ) → v < 2 → decided c0 c1 (1 - v) + decided c0 c1 v ≡ c0 + c1
-flip c0 c1 zero h = omega arith
-flip c0 c1 (suc zero) h = omega arith
-flip c0 c1 (suc (suc v)) h = absurd (omega arith)
+exchanged : (c0 c1 v : ℕ) → v < 2 → decided c0 c1 (1 - v) ≡ decided c1 c0 v
+exchanged c0 c1 zero h = refl
+exchanged c0 c1 (suc zero) h = refl
+exchanged c0 c1 (suc (suc v)) h = absurd (omega arith)
 
 -- ---- lanes
 
@@ -93,49 +96,82 @@ xTable = 0 ∷ 1 ∷ 1 ∷ 0 ∷ 1 ∷ 0 ∷ 0 ∷ 1 ∷ 0 ∷ 1 ∷ 1 ∷ 0 ∷
 abbrev yTable : List ℕ
 yTable = 0 ∷ 0 ∷ 1 ∷ 1 ∷ 1 ∷ 1 ∷ 0 ∷ 0 ∷ 0 ∷ 0 ∷ 1 ∷ 1 ∷ 1 ∷ 1 ∷ 0 ∷ 0 ∷ 1 ∷ 1 ∷ 0 ∷ 0 ∷ 0 ∷ 0 ∷ 1 ∷ 1 ∷ 1 ∷ 1 ∷ 0 ∷ 0 ∷ 0 ∷ 0 ∷ 1 ∷ 1 ∷ []
 
-pub tables : Tables xTable yTable
+x-bits : (i : ℕ) → i < 32 → at xTable i ≡ coded tapsX (lane i) 0
 unfolding lane
-tables = record {
-  x = computed.agree-at (at xTable) (λ i. coded tapsX (lane i) 0) 32 tt;
-  y = computed.agree-at (at yTable) (λ i. coded tapsY (lane i) 0) 32 tt;
+x-bits = computed.agree-at (at xTable) (λ i. coded tapsX (lane i) 0) 32 tt
+
+y-bits : (i : ℕ) → i < 32 → at yTable i ≡ coded tapsY (lane i) 0
+unfolding lane
+y-bits = computed.agree-at (at yTable) (λ i. coded tapsY (lane i) 0) 32 tt
+
+pub tables : (xs ys : List (List ℕ)) → CostRows (at xTable) xs → CostRows (at yTable) ys → Tables xs ys
+tables xs ys p q = record {
+  x = record { size = p .size; cost = λ zero one h l i k. p .cost zero one h l i k ∙ ap (decided zero one) (x-bits i k) };
+  y = record { size = q .size; cost = λ zero one h l i k. q .cost zero one h l i k ∙ ap (decided zero one) (y-bits i k) };
+}
+
+-- the rows that are written so far
+pub record Written (bit : ℕ → ℕ) (rows : List (List ℕ)) (n : ℕ) : Type 0 where
+  pub size : length rows ≡ 64
+  pub done : (k : ℕ) → k < n → (i : ℕ) → i < 32 → at (getD rows k []) i ≡ decided (k / 8) (k % 8) (bit i)
+
+pub written-none : {bit : ℕ → ℕ} {rows : List (List ℕ)} → length rows ≡ 64 → Written bit rows 0
+written-none e = record { size = e; done = λ k h. absurd (omega arith) }
+
+pub written-more : {bit : ℕ → ℕ} {rows : List (List ℕ)} {n : ℕ} (row : List ℕ) → n < 64 → ((i : ℕ) → i < 32 → at row i ≡ decided (n / 8) (n % 8) (bit i))
+    → Written bit rows n → Written bit (set rows n row) (n + 1)
+written-more {bit} {rows} {n} row h e w =
+    record { size = length-set rows n row ∙ w .size; done = λ k l. go k l (ℕ-discrete k n) }
+  where
+    go : (k : ℕ) → k < n + 1 → Dec (k ≡ n) → (i : ℕ) → i < 32 → at (getD (set rows n row) k []) i ≡ decided (k / 8) (k % 8) (bit i)
+    go k l (yes q) i g = rw q (ap (λ (x : List ℕ). at x i) (getD-set-same rows n row [] (omega (arith, w .size))) ∙ e i g)
+    go k l (no q) i g = ap (λ (x : List ℕ). at x i) (getD-set-other rows n k row [] q) ∙ w .done k (omega arith) i g
+
+pub written-all : {bit : ℕ → ℕ} {rows : List (List ℕ)} {n : ℕ} → 64 ≤ n → Written bit rows n → CostRows bit rows
+written-all {bit} h w = record {
+  size = w .size;
+  cost = λ zero one z o i g.
+      let a : (8 * zero + one) / 8 ≡ zero = omega arith in
+      let b : (8 * zero + one) % 8 ≡ one = omega arith in
+      w .done (8 * zero + one) (omega arith) i g ∙ ap₂ (λ (v t : ℕ). decided v t (bit i)) a b;
 }
 
 -- the costs of the two bits out of the two memories
-pub record Costed (f : ℕ → ℕ → ℕ) (a c : List ℕ) : Type 0 where
-  pub even-zero : (i : ℕ) → i < 32 → f (lane i) 0 ≡ at a i
-  pub odd-one : (i : ℕ) → i < 32 → f (lane i + 1) 1 ≡ at a i
-  pub even-one : (i : ℕ) → i < 32 → f (lane i) 1 ≡ at c i
-  pub odd-zero : (i : ℕ) → i < 32 → f (lane i + 1) 0 ≡ at c i
+pub record Costed (f : ℕ → ℕ → ℕ) (a c : ℕ → ℕ) : Type 0 where
+  pub even-zero : (i : ℕ) → i < 32 → f (lane i) 0 ≡ a i
+  pub odd-one : (i : ℕ) → i < 32 → f (lane i + 1) 1 ≡ a i
+  pub even-one : (i : ℕ) → i < 32 → f (lane i) 1 ≡ c i
+  pub odd-zero : (i : ℕ) → i < 32 → f (lane i + 1) 0 ≡ c i
 
-module _ (xs ys : List ℕ) (t : Tables xs ys) (x0 x1 y0 y1 : ℕ) (a : List ℕ)
-    (ea : (i : ℕ) → i < 32 → at a i ≡ decided x0 x1 (at xs i) + decided y0 y1 (at ys i)) where
-  even : (i : ℕ) → i < 32 → at a i ≡ decided x0 x1 (coded tapsX (lane i) 0) + decided y0 y1 (coded tapsY (lane i) 0)
-  even i h = ea i h ∙ ap₂ (λ (v w : ℕ). decided x0 x1 v + decided y0 y1 w) (t .x i h) (t .y i h)
+-- a row of X and one of Y
+abbrev pub rowSum : List (List ℕ) → List (List ℕ) → ℕ → ℕ → ℕ → ℕ → ℕ → ℕ
+rowSum xs ys x0 x1 y0 y1 i = at (getD xs (8 * x0 + x1) []) i + at (getD ys (8 * y0 + y1) []) i
 
-  sums : (i : ℕ) → i < 32
-      → decided x0 x1 (1 - coded tapsX (lane i) 0) + decided y0 y1 (1 - coded tapsY (lane i) 0) + at a i ≡ x0 + x1 + y0 + y1
-  sums i h =
-      let ex = flip x0 x1 (coded tapsX (lane i) 0) (coded-lt tapsX (lane i) 0) in
-      let ey = flip y0 y1 (coded tapsY (lane i) 0) (coded-lt tapsY (lane i) 0) in
-      let e = even i h in
-      omega arith
+module _ (xs ys : List (List ℕ)) (t : Tables xs ys) (x0 x1 y0 y1 : ℕ) (h0 : x0 ≤ 7) (h1 : x1 ≤ 7) (h2 : y0 ≤ 7) (h3 : y1 ≤ 7) where
+  other : (i : ℕ) → i < 32 → decided x0 x1 (1 - coded tapsX (lane i) 0) + decided y0 y1 (1 - coded tapsY (lane i) 0) ≡ rowSum xs ys x1 x0 y1 y0 i
+  other i h =
+      ap₂ (λ (v w : ℕ). v + w) (exchanged x0 x1 (coded tapsX (lane i) 0) (coded-lt tapsX (lane i) 0)) (exchanged y0 y1 (coded tapsY (lane i) 0) (coded-lt tapsY (lane i) 0))
+      ∙ ap₂ (λ (v w : ℕ). v + w) (sym (t .x .cost x1 x0 h1 h0 i h)) (sym (t .y .cost y1 y0 h3 h2 i h))
 
-  pub within : (i : ℕ) → i < 32 → at a i ≤ x0 + x1 + y0 + y1
-  within i h = omega (arith, sums i h)
+  even : (i : ℕ) → i < 32 → decided x0 x1 (coded tapsX (lane i) 0) + decided y0 y1 (coded tapsY (lane i) 0) ≡ rowSum xs ys x0 x1 y0 y1 i
+  even i h = ap₂ (λ (v w : ℕ). v + w) (sym (t .x .cost x0 x1 h0 h1 i h)) (sym (t .y .cost y0 y1 h2 h3 i h))
 
-  pub costed : (c : List ℕ) → ((i : ℕ) → i < 32 → at c i ≡ x0 + x1 + y0 + y1 - at a i) → Costed (stepCost x0 x1 y0 y1) a c
+  pub row-fits : (i : ℕ) → i < 32 → rowSum xs ys x0 x1 y0 y1 i < 256
   unfolding stepCost
-  costed c ec = record {
-    even-zero = λ i h. sym (even i h);
-    odd-one = λ i h. ap₂ (λ (v w : ℕ). decided x0 x1 v + decided y0 y1 w) (x-flipped i h .odd-one) (y-flipped i h .odd-one) ∙ sym (even i h);
-    even-one = λ i h.
-        ap₂ (λ (v w : ℕ). decided x0 x1 v + decided y0 y1 w) (x-flipped i h .even-one) (y-flipped i h .even-one) ∙ other i h;
-    odd-zero = λ i h.
-        ap₂ (λ (v w : ℕ). decided x0 x1 v + decided y0 y1 w) (x-flipped i h .odd-zero) (y-flipped i h .odd-zero) ∙ other i h;
+  row-fits i h = omega (arith, even i h, stepCost-le x0 x1 y0 y1 (lane i) 0 h0 h1 h2 h3)
+
+  pub costed : (a c : ℕ → ℕ) → ((i : ℕ) → i < 32 → a i ≡ rowSum xs ys x0 x1 y0 y1 i) → ((i : ℕ) → i < 32 → c i ≡ rowSum xs ys x1 x0 y1 y0 i)
+      → Costed (stepCost x0 x1 y0 y1) a c
+  unfolding stepCost
+  costed a c ea ec = record {
+    even-zero = λ i h. even i h ∙ sym (ea i h);
+    odd-one = λ i h. step i (x-flipped i h .odd-one) (y-flipped i h .odd-one) ∙ (even i h ∙ sym (ea i h));
+    even-one = λ i h. step i (x-flipped i h .even-one) (y-flipped i h .even-one) ∙ (other i h ∙ sym (ec i h));
+    odd-zero = λ i h. step i (x-flipped i h .odd-zero) (y-flipped i h .odd-zero) ∙ (other i h ∙ sym (ec i h));
   }
     where
-      other : (i : ℕ) → i < 32 → decided x0 x1 (1 - coded tapsX (lane i) 0) + decided y0 y1 (1 - coded tapsY (lane i) 0) ≡ at c i
-      other i h = omega (arith, sums i h, ec i h)
+      step : (i : ℕ) {v v′ w w′ : ℕ} → v ≡ v′ → w ≡ w′ → decided x0 x1 v + decided y0 y1 w ≡ decided x0 x1 v′ + decided y0 y1 w′
+      step i e q = ap₂ (λ (v w : ℕ). decided x0 x1 v + decided y0 y1 w) e q
 
 -- ---- ways
 
@@ -181,21 +217,15 @@ case3 : (r : ℕ) → r < 64 → r / 2 / 16 + 2 * (r % 2) ≡ 3 → 2 * (r / 2 %
 case3 r h e = omega arith
 
 -- what the lanes hold
-pub record Lanes (m a c : List ℕ) (total : ℕ) (low high low′ high′ : List ℕ) : Type 0 where
-  pub low-is : (i : ℕ) → i < 32 → at low i ≡ lesser (at m i + at a i) (at m (i + 32) + (total - at a i))
-  pub high-is : (i : ℕ) → i < 32 → at high i ≡ lesser (at m i + at c i) (at m (i + 32) + (total - at c i))
-  pub low-chosen : (i : ℕ) → i < 32 → at low′ i ≡ second (at m i + at a i) (at m (i + 32) + (total - at a i))
-  pub high-chosen : (i : ℕ) → i < 32 → at high′ i ≡ second (at m i + at c i) (at m (i + 32) + (total - at c i))
+pub record Lanes (m : List ℕ) (a c : ℕ → ℕ) (low high low′ high′ : List ℕ) : Type 0 where
+  pub low-is : (i : ℕ) → i < 32 → at low i ≡ lesser (at m i + a i) (at m (i + 32) + c i)
+  pub high-is : (i : ℕ) → i < 32 → at high i ≡ lesser (at m i + c i) (at m (i + 32) + a i)
+  pub low-chosen : (i : ℕ) → i < 32 → at low′ i ≡ second (at m i + a i) (at m (i + 32) + c i)
+  pub high-chosen : (i : ℕ) → i < 32 → at high′ i ≡ second (at m i + c i) (at m (i + 32) + a i)
 
--- the two costs make the total
-pub record Shared (a c : List ℕ) (total : ℕ) : Type 0 where
-  pub within : (i : ℕ) → i < 32 → at a i ≤ total
-  pub rest : (i : ℕ) → i < 32 → at c i ≡ total - at a i
-
-module _ {m a c : List ℕ} {total : ℕ} {low high low′ high′ : List ℕ} (f : ℕ → ℕ → ℕ) (l : Lanes m a c total low high low′ high′) (k : Costed f a c)
-    (sh : Shared a c total) where
+module _ {m : List ℕ} {a c : ℕ → ℕ} {low high low′ high′ : List ℕ} (f : ℕ → ℕ → ℕ) (l : Lanes m a c low high low′ high′) (k : Costed f a c) where
   pub low-le : (i : ℕ) → i < 32 → (at low′ i ≤ 1) × (at high′ i ≤ 1)
-  low-le i h = (rw (l .low-chosen i h) (second-le (at m i + at a i) (at m (i + 32) + (total - at a i))), rw (l .high-chosen i h) (second-le (at m i + at c i) (at m (i + 32) + (total - at c i))))
+  low-le i h = (rw (l .low-chosen i h) (second-le (at m i + a i) (at m (i + 32) + c i)), rw (l .high-chosen i h) (second-le (at m i + c i) (at m (i + 32) + a i)))
 
   M : ℕ → ℕ
   M = held m
@@ -209,28 +239,26 @@ module _ {m a c : List ℕ} {total : ℕ} {low high low′ high′ : List ℕ} (
   there i h = ap M (sym (joins i h .odd)) ∙ ap (at m) (lane-lane (i + 32) (omega arith))
 
   -- the ways into lane 2 i
-  low-zero : (i : ℕ) → i < 32 → via M f (lane (2 * i)) 0 ≡ at m i + at a i
+  low-zero : (i : ℕ) → i < 32 → via M f (lane (2 * i)) 0 ≡ at m i + a i
   unfolding via
   low-zero i h =
       let e : lane (2 * i) % 32 * 2 + 0 ≡ lane i = add-zero (lane (2 * i) % 32 * 2) ∙ joins i h .low-from in
       rw (e, joins i h .low-bit, k .even-zero i h, here i h)
 
-  low-one : (i : ℕ) → i < 32 → via M f (lane (2 * i)) 1 ≡ at m (i + 32) + (total - at a i)
+  low-one : (i : ℕ) → i < 32 → via M f (lane (2 * i)) 1 ≡ at m (i + 32) + c i
   unfolding via
-  low-one i h = rw (joins i h .low-from, joins i h .low-bit, k .odd-zero i h, there i h, sh .rest i h)
+  low-one i h = rw (joins i h .low-from, joins i h .low-bit, k .odd-zero i h, there i h)
 
   -- the ways into lane 2 i + 1
-  high-zero : (i : ℕ) → i < 32 → via M f (lane (2 * i + 1)) 0 ≡ at m i + at c i
+  high-zero : (i : ℕ) → i < 32 → via M f (lane (2 * i + 1)) 0 ≡ at m i + c i
   unfolding via
   high-zero i h =
       let e : lane (2 * i + 1) % 32 * 2 + 0 ≡ lane i = add-zero (lane (2 * i + 1) % 32 * 2) ∙ joins i h .high-from in
       rw (e, joins i h .high-bit, k .even-one i h, here i h)
 
-  high-one : (i : ℕ) → i < 32 → via M f (lane (2 * i + 1)) 1 ≡ at m (i + 32) + (total - at c i)
+  high-one : (i : ℕ) → i < 32 → via M f (lane (2 * i + 1)) 1 ≡ at m (i + 32) + a i
   unfolding via
-  high-one i h =
-      let e : at a i ≡ total - at c i = omega (arith, sh .within i h, sh .rest i h) in
-      rw (joins i h .high-from, joins i h .high-bit, k .odd-one i h, there i h) (ap (λ (x : ℕ). at m (i + 32) + x) e)
+  high-one i h = rw (joins i h .high-from, joins i h .high-bit, k .odd-one i h, there i h)
 
   low-metric : (i : ℕ) → i < 32 → at low i ≡ via M f (lane (2 * i)) (choice M f (lane (2 * i)))
   low-metric i h = l .low-is i h ∙ (ap₂ lesser (sym (low-zero i h)) (sym (low-one i h)) ∙ lesser-is M f (lane (2 * i)))
@@ -289,15 +317,11 @@ module _ {m a c : List ℕ} {total : ℕ} {low high low′ high′ : List ℕ} (
     }
 
 -- the sums fit a byte
-pub fits : {f : ℕ → ℕ → ℕ} {a c : List ℕ} {total : ℕ} → Costed f a c → ((m b : ℕ) → f m b ≤ 14) → Shared a c total → (m : List ℕ)
-    → ((t : ℕ) → t < 64 → at m t ≤ 241)
-    → (i : ℕ) → i < 32 → ((at a i ≤ total) × (at m i + at a i < 256) × (at m (i + 32) + (total - at a i) < 256))
-    × ((at c i ≤ total) × (at m i + at c i < 256) × (at m (i + 32) + (total - at c i) < 256))
-fits {f} {a} {c} k small sh m b i h =
+pub fits : {f : ℕ → ℕ → ℕ} {a c : ℕ → ℕ} → Costed f a c → ((m b : ℕ) → f m b ≤ 14) → (m : List ℕ) → ((t : ℕ) → t < 64 → at m t ≤ 241)
+    → (i : ℕ) → i < 32 → ((at m i + a i < 256) × (at m (i + 32) + c i < 256)) × ((at m i + c i < 256) × (at m (i + 32) + a i < 256))
+fits {f} {a} {c} k small m b i h =
     let p : at m i ≤ 241 = b i (omega arith) in
     let q : at m (i + 32) ≤ 241 = b (i + 32) (omega arith) in
-    let ai : at a i ≤ 14 = rw (sym (k .even-zero i h)) (small (lane i) 0) in
-    let ci : at c i ≤ 14 = rw (sym (k .even-one i h)) (small (lane i) 1) in
-    let w = sh .within i h in
-    let r = sh .rest i h in
-    ((omega arith, omega arith, omega arith), (omega arith, omega arith, omega arith))
+    let ai : a i ≤ 14 = rw (sym (k .even-zero i h)) (small (lane i) 0) in
+    let ci : c i ≤ 14 = rw (sym (k .even-one i h)) (small (lane i) 1) in
+    ((omega arith, omega arith), (omega arith, omega arith))

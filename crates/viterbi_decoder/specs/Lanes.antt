@@ -2,13 +2,13 @@
 -- Assumes nothing.
 use mathlib.Core.Path.{_≡_}
 use mathlib.Core.List.{List, []}
-use Prim.Native.Nat.{ℕ, _+_, _*_, _/_, _%_, _^_, _<_}
+use Prim.Native.Nat.{ℕ, _+_, _*_, _/_, _%_, _^_, _≤_, _<_}
 use lib.Dec.{ltb}
 use lib.ListN.{length, getD}
 use Rattle.common.specs.Choice.{pick}
 use Rattle.convolutional_code.specs.Code.{tapsX, tapsY, coded}
 use Rattle.trellis.specs.Metric.{Costs, via, choice, metric, choices}
-use Rattle.viterbi_decoder.specs.Step.{at}
+use Rattle.viterbi_decoder.specs.Step.{at, decided}
 
 -- the lane of a memory: its six bits in the other order, so that the newest one counts 1
 unfoldable pub lane : ℕ → ℕ
@@ -18,10 +18,15 @@ lane s = s % 2 * 32 + s / 2 % 2 * 16 + s / 4 % 2 * 8 + s / 8 % 2 * 4 + s / 16 % 
 abbrev pub held : List ℕ → ℕ → ℕ
 held l s = at l (lane s)
 
--- the tables of X and of Y that bit 0 gives out of the memories of the first 32 lanes, whose oldest bit is 0
-pub record Tables (xs ys : List ℕ) : Type 0 where
-  pub x : (i : ℕ) → i < 32 → at xs i ≡ coded tapsX (lane i) 0
-  pub y : (i : ℕ) → i < 32 → at ys i ≡ coded tapsY (lane i) 0
+-- row 8 zero + one of a table has what the coded bits of 32 lanes cost, where deciding one as 0 costs zero, and as 1 one
+pub record CostRows (bit : ℕ → ℕ) (rows : List (List ℕ)) : Type 0 where
+  pub size : length rows ≡ 64
+  pub cost : (zero one : ℕ) → zero ≤ 7 → one ≤ 7 → (i : ℕ) → i < 32 → at (getD rows (8 * zero + one) []) i ≡ decided zero one (bit i)
+
+-- those of X and of Y that bit 0 gives out of the memories of the first 32 lanes, whose oldest bit is 0
+pub record Tables (xs ys : List (List ℕ)) : Type 0 where
+  pub x : CostRows (λ i. coded tapsX (lane i) 0) xs
+  pub y : CostRows (λ i. coded tapsY (lane i) 0) ys
 
 -- the lesser of two numbers, and whether it is the second
 abbrev pub lesser : ℕ → ℕ → ℕ

@@ -9,7 +9,7 @@ ghost use Rattle.common.specs.Choice.{pick};
 ghost use Rattle.trellis.specs.Best.{Decoded};
 ghost use Rattle.trellis.specs.Metric.{far, costFrom, path, Ends};
 ghost use Rattle.viterbi_decoder.specs.Step.{at, decided, stepCost, stepCosts, Small};
-ghost use Rattle.viterbi_decoder.specs.Lanes.{lane, held, Tables, lesser as lesserOf, second as secondOf, decision as decisionOf, Stepped, Forward, table};
+ghost use Rattle.viterbi_decoder.specs.Lanes.{lane, held, Tables, CostRows, lesser as lesserOf, second as secondOf, decision as decisionOf, Stepped, Forward, table};
 
 const XS: [u8; 32] = [
     0,
@@ -95,10 +95,11 @@ fn lesser(a: u8, b: u8) -> u8
     if b < a { b } else { a }
 }
 
+// Whether the lesser is the second. Asked of the lesser, since that is there already.
 fn second(a: u8, b: u8) -> u8
     ensures { λ r. ⌜ r ≡ secondOf a b ⌝ }
 {
-    if b < a { 1 } else { 0 }
+    if lesser(a, b) == a { 0 } else { 1 }
 }
 
 // The lane of a memory, and the memory of a lane.
@@ -109,57 +110,82 @@ fn lane_of(s: usize) -> usize
     s % 2 * 32 + s / 2 % 2 * 16 + s / 4 % 2 * 8 + s / 8 % 2 * 4 + s / 16 % 2 * 2 + s / 32 % 2
 }
 
-// What bit 0 costs out of each even memory.
-fn branch_costs(xs: &[u8; 32], ys: &[u8; 32], x0: u8, x1: u8, y0: u8, y1: u8) -> [u8; 32]
-    requires { ⌜ (x0 ≤ 7) × (x1 ≤ 7) × (y0 ≤ 7) × (y1 ≤ 7) ⌝ }
-    ensures { λ r. ⌜ ((i : ℕ) → i < 32 → at r i ≡ decided x0 x1 (at (now (xs .entry)) i) + decided y0 y1 (at (now (ys .entry)) i)) ⌝ }
+// What a coded bit costs in each lane, where deciding it as 0 costs zero, and as 1 one.
+fn coded_costs(bits: &[u8; 32], zero: u8, one: u8) -> [u8; 32]
+    requires { ⌜ (zero ≤ 7) × (one ≤ 7) ⌝ }
+    ensures { λ r. ⌜ ((i : ℕ) → i < 32 → at r i ≡ decided zero one (at (now (bits .entry)) i)) ⌝ }
 {
     let mut r = [0u8; 32];
     let mut i = 0;
     while i < 32 {
-        r[i] = decide(xs[i], x0, x1) + decide(ys[i], y0, y1);
+        r[i] = decide(bits[i], zero, one);
         i += 1;
     }
     r
 }
 
-// What the other bit costs there.
-fn complement(costs: &[u8; 32], total: u8) -> [u8; 32]
-    requires { ⌜ ((i : ℕ) → i < 32 → at (now costs) i ≤ total) ⌝ }
-    ensures { λ r. ⌜ ((i : ℕ) → i < 32 → at r i ≡ total - at (now (costs .entry)) i) ⌝ }
+// That for every two costs, so that a step has only to look it up: row 8 zero + one.
+fn write_costs(bits: &[u8; 32], rows: &mut [[u8; 32]; 64])
+    requires { ⌜ length (now rows) ≡ 64 ⌝ }
+    ensures { λ _. ⌜ CostRows (at (now (bits .entry))) (now (rows .exit)) ⌝ }
 {
-    let mut r = [0u8; 32];
-    let mut i = 0;
-    while i < 32 {
-        r[i] = total - costs[i];
-        i += 1;
+    let mut n = 0;
+    while n < 64 {
+        let row = coded_costs(bits, (n / 8) as u8, (n % 8) as u8);
+        rows[n] = row;
+        n += 1;
     }
-    r
 }
 
-// The lesser of two ways into each of 32 memories: from lane i at a cost, and from lane i + 32 at what the total leaves.
-fn lesser_ways(metrics: &[u8; 64], costs: &[u8; 32], total: u8) -> [u8; 32]
-    requires { ⌜ ((i : ℕ) → i < 32 → (at (now costs) i ≤ total) × (at (now metrics) i + at (now costs) i < 256) × (at (now metrics) (i + 32) + (total - at (now costs) i) < 256)) ⌝ }
-    ensures { λ r. ⌜ ((i : ℕ) → i < 32 → at r i ≡ lesserOf (at (now (metrics .entry)) i + at (now (costs .entry)) i) (at (now (metrics .entry)) (i + 32) + (total - at (now (costs .entry)) i))) ⌝ }
+pub struct Branches {
+    pub even: [u8; 32],
+    pub odd: [u8; 32],
+}
+
+// What bit 0 costs out of each even memory, and out of each odd one: the costs of X and of Y.
+fn branch_costs(x: &[u8; 32], y: &[u8; 32], v: &[u8; 32], w: &[u8; 32]) -> Branches
+    requires { ⌜ ((i : ℕ) → i < 32 → (at (now x) i + at (now y) i < 256) × (at (now v) i + at (now w) i < 256)) ⌝ }
+    ensures { λ r. ⌜
+        ((i : ℕ) → i < 32 → at (r .even) i ≡ at (now (x .entry)) i + at (now (y .entry)) i)
+        × ((i : ℕ) → i < 32 → at (r .odd) i ≡ at (now (v .entry)) i + at (now (w .entry)) i) ⌝ }
+{
+    let mut even = [0u8; 32];
+    let mut odd = [0u8; 32];
+    let mut i = 0;
+    while i < 32 {
+        even[i] = x[i] + y[i];
+        odd[i] = v[i] + w[i];
+        i += 1;
+    }
+    Branches {
+        even: even,
+        odd: odd,
+    }
+}
+
+// The lesser of two ways into each of 32 memories: from lane i, and from lane i + 32, each at its cost.
+fn lesser_ways(metrics: &[u8; 64], costs: &[u8; 32], others: &[u8; 32]) -> [u8; 32]
+    requires { ⌜ ((i : ℕ) → i < 32 → (at (now metrics) i + at (now costs) i < 256) × (at (now metrics) (i + 32) + at (now others) i < 256)) ⌝ }
+    ensures { λ r. ⌜ ((i : ℕ) → i < 32 → at r i ≡ lesserOf (at (now (metrics .entry)) i + at (now (costs .entry)) i) (at (now (metrics .entry)) (i + 32) + at (now (others .entry)) i)) ⌝ }
 {
     let mut r = [0u8; 32];
     let mut i = 0;
     while i < 32 {
-        r[i] = lesser(metrics[i] + costs[i], metrics[i + 32] + (total - costs[i]));
+        r[i] = lesser(metrics[i] + costs[i], metrics[i + 32] + others[i]);
         i += 1;
     }
     r
 }
 
 // Which way that is.
-fn ways_chosen(metrics: &[u8; 64], costs: &[u8; 32], total: u8) -> [u8; 32]
-    requires { ⌜ ((i : ℕ) → i < 32 → (at (now costs) i ≤ total) × (at (now metrics) i + at (now costs) i < 256) × (at (now metrics) (i + 32) + (total - at (now costs) i) < 256)) ⌝ }
-    ensures { λ r. ⌜ ((i : ℕ) → i < 32 → at r i ≡ secondOf (at (now (metrics .entry)) i + at (now (costs .entry)) i) (at (now (metrics .entry)) (i + 32) + (total - at (now (costs .entry)) i))) ⌝ }
+fn ways_chosen(metrics: &[u8; 64], costs: &[u8; 32], others: &[u8; 32]) -> [u8; 32]
+    requires { ⌜ ((i : ℕ) → i < 32 → (at (now metrics) i + at (now costs) i < 256) × (at (now metrics) (i + 32) + at (now others) i < 256)) ⌝ }
+    ensures { λ r. ⌜ ((i : ℕ) → i < 32 → at r i ≡ secondOf (at (now (metrics .entry)) i + at (now (costs .entry)) i) (at (now (metrics .entry)) (i + 32) + at (now (others .entry)) i)) ⌝ }
 {
     let mut r = [0u8; 32];
     let mut i = 0;
     while i < 32 {
-        r[i] = second(metrics[i] + costs[i], metrics[i + 32] + (total - costs[i]));
+        r[i] = second(metrics[i] + costs[i], metrics[i + 32] + others[i]);
         i += 1;
     }
     r
@@ -225,17 +251,29 @@ pub struct Row {
 }
 
 // One step: the metrics and the choices of all memories.
-fn step(xs: &[u8; 32], ys: &[u8; 32], metrics: &[u8; 64], x0: u8, x1: u8, y0: u8, y1: u8) -> Row
+fn step(
+    xs: &[[u8; 32]; 64],
+    ys: &[[u8; 32]; 64],
+    metrics: &[u8; 64],
+    x0: u8,
+    x1: u8,
+    y0: u8,
+    y1: u8,
+) -> Row
     requires { ⌜ (Tables (now xs) (now ys)) × ((t : ℕ) → t < 64 → at (now metrics) t ≤ 241) × (x0 ≤ 7) × (x1 ≤ 7) × (y0 ≤ 7) × (y1 ≤ 7) ⌝ }
     ensures { λ r. ⌜ Stepped (held (now (metrics .entry))) (stepCost x0 x1 y0 y1) (r .metrics) (r .choices) ⌝ }
 {
-    let total = x0 + x1 + y0 + y1;
-    let a = branch_costs(xs, ys, x0, x1, y0, y1);
-    let c = complement(&a, total);
-    let low = lesser_ways(metrics, &a, total);
-    let high = lesser_ways(metrics, &c, total);
-    let low_chosen = ways_chosen(metrics, &a, total);
-    let high_chosen = ways_chosen(metrics, &c, total);
+    let x = xs[(8 * x0 + x1) as usize];
+    let y = ys[(8 * y0 + y1) as usize];
+    let v = xs[(8 * x1 + x0) as usize];
+    let w = ys[(8 * y1 + y0) as usize];
+    let costs = branch_costs(&x, &y, &v, &w);
+    let a = costs.even;
+    let c = costs.odd;
+    let low = lesser_ways(metrics, &a, &c);
+    let high = lesser_ways(metrics, &c, &a);
+    let low_chosen = ways_chosen(metrics, &a, &c);
+    let high_chosen = ways_chosen(metrics, &c, &a);
     let next = woven(&low, &high);
     let choices = packed(&low_chosen, &high_chosen);
     Row {
@@ -306,14 +344,19 @@ fn forward(steps: &[u8], memory: usize, n: usize, rows: &mut [[u8; 16]; 1632]) -
     ensures { λ r. ⌜ Forward (stepCosts (now (steps .entry))) memory n (r .metrics) (r .offset) (now (rows .exit)) ⌝ }
 {
     let xs = XS;
+    let mut x_costs = [[0u8; 32]; 64];
+    write_costs(&xs, &mut x_costs);
     let ys = YS;
+    let mut y_costs = [[0u8; 32]; 64];
+    write_costs(&ys, &mut y_costs);
     let mut metrics = start(memory);
     let mut offset = 0;
+    let mut left: usize = 5;
     let mut k = 0;
     while k < n {
         let row = step(
-            &xs,
-            &ys,
+            &x_costs,
+            &y_costs,
             &metrics,
             steps[4 * k],
             steps[4 * k + 1],
@@ -323,12 +366,14 @@ fn forward(steps: &[u8], memory: usize, n: usize, rows: &mut [[u8; 16]; 1632]) -
         let next = row.metrics;
         let choices = row.choices;
         rows[k] = choices;
-        if k % 6 == 5 {
+        if left == 0 {
+            left = 5;
             let level = levelled(&next, offset);
             let lower = level.metrics;
             metrics = lower;
             offset = level.offset;
         } else {
+            left -= 1;
             metrics = next;
         }
         k += 1;
