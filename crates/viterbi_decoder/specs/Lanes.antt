@@ -3,7 +3,7 @@
 use mathlib.Core.Path.{_≡_}
 use mathlib.Core.List.{List, []}
 use Prim.Native.Nat.{ℕ, _+_, _*_, _/_, _%_, _^_, _≤_, _<_}
-use lib.Dec.{ltb}
+use lib.Dec.{eqb, ltb}
 use lib.ListN.{length, getD}
 use Rattle.common.specs.Choice.{pick}
 use Rattle.convolutional_code.specs.Code.{tapsX, tapsY, coded}
@@ -35,9 +35,22 @@ lesser a b = pick (ltb b a) b a
 abbrev pub second : ℕ → ℕ → ℕ
 second a b = pick (ltb b a) 1 0
 
--- the choice of lane r in a row: byte j has those of lanes 2 j, 2 j + 32, 2 j + 1 and 2 j + 33
+-- a weight where a choice is not 0, and a byte of four choices with weights
+abbrev pub weightOf : ℕ → ℕ → ℕ
+weightOf chosen weight = pick (eqb chosen 0) 0 weight
+
+abbrev pub packedByte : ℕ → ℕ → ℕ → ℕ → ℕ → ℕ
+packedByte weight a b c d = weightOf a weight + weightOf b (4 * weight) + weightOf c (16 * weight) + weightOf d (64 * weight)
+
+-- eight bytes of a row, from byte j on, as one number, the first counting least
+abbrev pub wordOf : List ℕ → ℕ → ℕ
+wordOf row j =
+    at row j + 256 * at row (j + 1) + 65536 * at row (j + 2) + 16777216 * at row (j + 3) + 4294967296 * at row (j + 4) + 1099511627776 * at row (j + 5)
+    + 281474976710656 * at row (j + 6) + 72057594037927936 * at row (j + 7)
+
+-- the choice of lane r in a row, whose two halves together have one bit for each lane
 unfoldable pub decision : List ℕ → ℕ → ℕ
-decision row r = at row (r / 2 % 16) / 2 ^ (r / 2 / 16 + 2 * (r % 2)) % 2
+decision row r = (wordOf row 0 + wordOf row 8) % 18446744073709551616 / 2 ^ (4 * (r % 16) + r / 16) % 2
 
 -- the metrics and the choices after a step
 pub record Stepped (M : ℕ → ℕ) (f : ℕ → ℕ → ℕ) (next row : List ℕ) : Type 0 where

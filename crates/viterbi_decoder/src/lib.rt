@@ -2,14 +2,14 @@
 // Inner: its functions may require what the crates above have tested. docs/ARCHITECTURE.md names the public surface.
 ghost use mathlib.Core.Path.{_≡_};
 ghost use mathlib.Core.List.{reverse};
-ghost use Prim.Native.Nat.{ℕ, _+_, _-_, _*_, _/_, _<_, _≤_};
+ghost use Prim.Native.Nat.{ℕ, _+_, _-_, _*_, _<_, _≤_};
 ghost use lib.Dec.{eqb};
 ghost use lib.ListN.{length};
 ghost use Rattle.common.specs.Choice.{pick};
 ghost use Rattle.trellis.specs.Best.{Decoded};
 ghost use Rattle.trellis.specs.Metric.{far, costFrom, path, Ends};
 ghost use Rattle.viterbi_decoder.specs.Step.{at, decided, stepCost, stepCosts, Small};
-ghost use Rattle.viterbi_decoder.specs.Lanes.{lane, held, Tables, CostRows, lesser as lesserOf, second as secondOf, decision as decisionOf, Stepped, Forward, table};
+ghost use Rattle.viterbi_decoder.specs.Lanes.{lane, held, Tables, CostRows, lesser as lesserOf, second as secondOf, weightOf, packedByte, wordOf, decision as decisionOf, Stepped, Forward, table};
 
 const XS: [u8; 32] = [
     0,
@@ -80,6 +80,9 @@ const YS: [u8; 32] = [
     1,
     1,
 ];
+
+// What a choice counts in each byte of a row.
+const WEIGHTS: [u8; 16] = [1, 1, 1, 1, 1, 1, 1, 1, 2, 2, 2, 2, 2, 2, 2, 2];
 
 // What a coded bit costs.
 fn decide(bit: u8, zero: u8, one: u8) -> u8
@@ -191,22 +194,29 @@ fn ways_chosen(metrics: &[u8; 64], costs: &[u8; 32], others: &[u8; 32]) -> [u8; 
     r
 }
 
-fn four_bits(a: u8, b: u8, c: u8, d: u8) -> u8
-    requires { ⌜ (a ≤ 1) × (b ≤ 1) × (c ≤ 1) × (d ≤ 1) ⌝ }
-    ensures { λ r. ⌜ r ≡ a + 2 * b + 4 * c + 8 * d ⌝ }
+// A weight where a way was chosen.
+fn weighed(chosen: u8, weight: u8) -> u8
+    ensures { λ r. ⌜ (r ≡ weightOf chosen weight) × (r ≤ weight) ⌝ }
 {
-    a + 2 * b + 4 * c + 8 * d
+    if chosen == 0 { 0 } else { weight }
 }
 
-// The choices of the 64 memories, four to a byte.
-fn packed(low: &[u8; 32], high: &[u8; 32]) -> [u8; 16]
-    requires { ⌜ ((i : ℕ) → i < 32 → (at (now low) i ≤ 1) × (at (now high) i ≤ 1)) ⌝ }
-    ensures { λ r. ⌜ ((j : ℕ) → j < 16 → at r j ≡ at (now (low .entry)) j + 2 * at (now (low .entry)) (j + 16) + 4 * at (now (high .entry)) j + 8 * at (now (high .entry)) (j + 16)) ⌝ }
+fn four_bits(a: u8, b: u8, c: u8, d: u8, weight: u8) -> u8
+    requires { ⌜ weight ≤ 2 ⌝ }
+    ensures { λ r. ⌜ r ≡ packedByte weight a b c d ⌝ }
+{
+    weighed(a, weight) + weighed(b, 4 * weight) + weighed(c, 16 * weight) + weighed(d, 64 * weight)
+}
+
+// The choices of the 64 memories, four to a byte. Those of the last eight bytes stand one bit higher, so that no bit of theirs is one of the first eight.
+fn packed(low: &[u8; 32], high: &[u8; 32], weights: &[u8; 16]) -> [u8; 16]
+    requires { ⌜ ((j : ℕ) → j < 16 → at (now weights) j ≤ 2) ⌝ }
+    ensures { λ r. ⌜ ((j : ℕ) → j < 16 → at r j ≡ packedByte (at (now (weights .entry)) j) (at (now (low .entry)) j) (at (now (low .entry)) (j + 16)) (at (now (high .entry)) j) (at (now (high .entry)) (j + 16))) ⌝ }
 {
     let mut r = [0u8; 16];
     let mut j = 0;
     while j < 16 {
-        r[j] = four_bits(low[j], low[j + 16], high[j], high[j + 16]);
+        r[j] = four_bits(low[j], low[j + 16], high[j], high[j + 16], weights[j]);
         j += 1;
     }
     r
@@ -275,7 +285,8 @@ fn step(
     let low_chosen = ways_chosen(metrics, &a, &c);
     let high_chosen = ways_chosen(metrics, &c, &a);
     let next = woven(&low, &high);
-    let choices = packed(&low_chosen, &high_chosen);
+    let weights = WEIGHTS;
+    let choices = packed(&low_chosen, &high_chosen, &weights);
     Row {
         metrics: next,
         choices: choices,
@@ -384,15 +395,44 @@ fn forward(steps: &[u8], memory: usize, n: usize, rows: &mut [[u8; 16]; 1632]) -
     }
 }
 
-// The choice of a lane in a row.
+fn eight_bytes(a: u8, b: u8, c: u8, d: u8, e: u8, f: u8, g: u8, h: u8) -> u64
+    ensures { λ r. ⌜ r ≡ a + 256 * b + 65536 * c + 16777216 * d + 4294967296 * e + 1099511627776 * f + 281474976710656 * g + 72057594037927936 * h ⌝ }
+{
+    a as u64
+        + 256 * b as u64
+        + 65536 * c as u64
+        + 16777216 * d as u64
+        + 4294967296 * e as u64
+        + 1099511627776 * f as u64
+        + 281474976710656 * g as u64
+        + 72057594037927936 * h as u64
+}
+
+// Eight bytes of a row, from byte j on, as one number.
+fn word(row: &[u8; 16], j: usize) -> u64
+    requires { ⌜ j ≤ 8 ⌝ }
+    ensures { λ r. ⌜ r ≡ wordOf (now (row .entry)) j ⌝ }
+{
+    eight_bytes(
+        row[j],
+        row[j + 1],
+        row[j + 2],
+        row[j + 3],
+        row[j + 4],
+        row[j + 5],
+        row[j + 6],
+        row[j + 7],
+    )
+}
+
+// The choice of a lane in a row. The row is taken as one number, so that no byte of it is waited for.
 fn decision(row: &[u8; 16], lane: usize) -> usize
     requires { ⌜ lane < 64 ⌝ }
     ensures { λ r. ⌜ r ≡ decisionOf (now (row .entry)) lane ⌝ }
 {
-    let i = lane / 2;
-    let t = i / 16 + 2 * (lane % 2);
-    let j = i % 16;
-    ((row[j] >> t) % 2) as usize
+    let all = std::num::wrapping_add_u64(word(row, 0), word(row, 8));
+    let t = 4 * (lane % 16) + lane / 16;
+    ((all >> t) % 2) as usize
 }
 
 // The path that ends in a lane, written from its last bit back.

@@ -2,7 +2,7 @@
 -- Assumes nothing.
 use Prim.Native.Nat.{ℕ, _+_, _<_, _≤_}
 use Rattle.viterbi_decoder.specs.Step.{at, stepCost}
-use Rattle.viterbi_decoder.proofs.Butterfly.{stepCost-le, Costed, row-fits, costed, Lanes, low-le, stepped, fits}
+use Rattle.viterbi_decoder.proofs.Butterfly.{stepCost-le, Costed, row-fits, costed, Lanes, weight-le, stepped, fits}
 use borrow.Author.Needs.{needs}
 use Rattle.viterbi_decoder.proofs.step.Statement.{statement}
 use Rattle.viterbi_decoder.proofs.step.Tie as tie
@@ -119,10 +119,10 @@ woven-requires : tie.Need-woven-requires
 woven-requires c κs = search needs
 
 packed-requires : tie.Need-packed-requires
-packed-requires c κs = let l = c .before .before .before .before .before in low-le _ (lanes l) (costs (costs-of l))
+packed-requires c κs = weight-le
 
 returns : tie.Need-returns
-returns c = let l = c .before .before .before .before .before .before in stepped _ (lanes l) (costs (costs-of l)) _ _ (c .before .before .before .woven .ensures) (c .packed .ensures)
+returns c = let l = c .before .before .before .before .before .before .before in stepped _ (lanes l) (costs (costs-of l)) _ _ (c .before .before .before .before .woven .ensures) (c .packed .ensures)
 
 pub step-spec : {M : Type 1} → statement M
 step-spec =
