@@ -7,6 +7,7 @@
 #![allow(unknown_lints, unexpected_cfgs)]
 
 pub mod answer;
+pub mod channel;
 pub mod exports;
 pub mod inner_code;
 pub mod inner_decoder;
