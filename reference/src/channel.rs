@@ -24,9 +24,11 @@
 //! = 2.7647; its constellation belongs to the modulator, and nothing here reads it.
 //!
 //! Why 1.0: the seven thresholds of P8 stand at multiples of 0.25 up to 0.75. A
-//! decoder of eight levels does best where they are about half a sigma apart. At
-//! the Eb/N0 that EN 300 421 asks for, sigma is 0.62 at rate 1/2 and 0.38 at 7/8,
-//! and 0.25 is 0.40 and 0.66 of it.
+//! decoder of eight levels does best where they are about 0.6 of a sigma apart. At
+//! the Eb/N0 where 2e-4 is reached, sigma is 0.67 at rate 1/2 and 0.41 at 7/8, so
+//! that 0.25 is 0.37 and 0.61 of it. Amplitudes from 0.5 to 2 were tried: the best is
+//! 0.6 at 1/2, 0.8 at 3/4 and 1.0 at 7/8, and 1.0 costs a tenth of a dB at 1/2. A
+//! demodulator with a gain of its own may have that too.
 
 use crate::xorshift::Xorshift;
 use std::f64::consts::TAU;

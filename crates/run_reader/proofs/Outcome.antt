@@ -1,6 +1,6 @@
 -- The steps of a run, and what the tests of a call tell.
 -- Assumes nothing.
-use mathlib.Core.Path.{_≡_, refl, sym, _∙_, ap, ap₂}
+use mathlib.Core.Path.{_≡_, refl, sym, _∙_, ap}
 use mathlib.Core.Bool.{Bool, true, false, not}
 use mathlib.Core.List.{List, [], _∷_}
 use Prim.Native.Nat.{ℕ, zero, suc, _+_, _*_, _/_, _%_, _≤_, _<_}
@@ -71,45 +71,28 @@ unfolding valid
 valid-all [] e = tt
 valid-all (s ∷ ss) e = let a = both-true (ltb s 4) (valid ss) e in (ltb-true s 4 (a .0), valid-all ss (a .1))
 
--- the greatest of the first i symbols
-pub record Testing (ss : List ℕ) (i greatest : ℕ) : Type 0 where
+pub record Testing (ss : List ℕ) (i : ℕ) : Type 0 where
   pub most : i ≤ length ss
-  pub same : pick (ltb greatest 4) (valid (drop i ss)) false ≡ valid ss
+  pub same : valid ss ≡ valid (drop i ss)
 
-pub testing-none : (ss : List ℕ) → Testing ss 0 0
+pub testing-none : (ss : List ℕ) → Testing ss 0
 testing-none ss = record { most = omega arith; same = refl }
 
--- the greater of two is one of the four where both are
-greater-four : (g s : ℕ) (rest : Bool) → pick (ltb (pick (ltb g s) s g) 4) rest false ≡ pick (ltb g 4) (pick (ltb s 4) rest false) false
-greater-four g s rest = by (decLt g s) (decLt g 4) (decLt s 4)
-  where
-    by : Dec (g < s) → Dec (g < 4) → Dec (s < 4) → pick (ltb (pick (ltb g s) s g) 4) rest false ≡ pick (ltb g 4) (pick (ltb s 4) rest false) false
-    by (yes a) (yes b) c = rw (lt-ltb g s a, lt-ltb g 4 b)
-    by (yes a) (no b) c = rw (lt-ltb g s a, le-ltb g 4 (omega arith), le-ltb s 4 (omega arith))
-    by (no a) (yes b) (yes c) = rw (le-ltb g s (omega arith), lt-ltb g 4 b, lt-ltb s 4 c)
-    by (no a) (yes b) (no c) = absurd (omega arith)
-    by (no a) (no b) c = rw (le-ltb g s (omega arith), le-ltb g 4 (omega arith))
-
-pub testing-more : {ss : List ℕ} {i g : ℕ} → Testing ss i g → i < length ss → (g′ : ℕ) → g′ ≡ pick (ltb g (getD ss i 0)) (getD ss i 0) g → Testing ss (i + 1) g′
+step : (ss : List ℕ) (i : ℕ) → i < length ss → valid (drop i ss) ≡ pick (ltb (getD ss i 0) 4) (valid (drop (i + 1) ss)) false
 unfolding valid
-testing-more {ss} {i} {g} t h g′ e =
-    let q : i + 1 ≡ suc i = omega arith in
-    record {
-      most = omega arith;
-      same =
-          ap₂ (λ (v n : ℕ). pick (ltb v 4) (valid (drop n ss)) false) e q ∙ greater-four g (getD ss i 0) (valid (drop (suc i) ss))
-          ∙ (ap (λ (l : List ℕ). pick (ltb g 4) (valid l) false) (sym (drop-cons ss i 0 h)) ∙ t .same);
-    }
+step ss i h = let e : i + 1 ≡ suc i = omega arith in rw (drop-cons ss i 0 h, e)
 
-pub testing-all : {ss : List ℕ} {i g : ℕ} → Testing ss i g → length ss ≤ i → ltb g 4 ≡ valid ss
+pub testing-more : {ss : List ℕ} {i : ℕ} → Testing ss i → i < length ss → getD ss i 0 < 4 → Testing ss (i + 1)
+testing-more {ss} {i} t h l = record { most = omega arith; same = t .same ∙ (step ss i h ∙ rw (lt-ltb _ _ l)) }
+
+pub testing-bad : {ss : List ℕ} {i : ℕ} → Testing ss i → i < length ss → 4 ≤ getD ss i 0 → false ≡ valid ss
+testing-bad {ss} {i} t h l = sym (t .same ∙ (step ss i h ∙ rw (le-ltb _ _ l)))
+
+pub testing-all : {ss : List ℕ} {i : ℕ} → Testing ss i → length ss ≤ i → true ≡ valid ss
 unfolding valid
-testing-all {ss} {i} {g} t h =
+testing-all {ss} {i} t h =
     let e : i ≡ length ss = omega (arith, t .most) in
-    sym (kept (ltb g 4)) ∙ (ap (λ (l : List ℕ). pick (ltb g 4) (valid l) false) (sym (ap (λ (n : ℕ). drop n ss) e ∙ drop-length ss)) ∙ t .same)
-  where
-    kept : (x : Bool) → pick x true false ≡ x
-    kept true = refl
-    kept false = refl
+    sym (t .same ∙ rw (e, drop-length))
 
 -- ---- the tests of a call
 

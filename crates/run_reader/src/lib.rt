@@ -1,10 +1,8 @@
 // Reading runs of received QPSK symbols: the bits whose coding is nearest to them, by hard decisions.
 ghost use mathlib.Core.Path.{_≡_};
 ghost use Prim.Native.Nat.{ℕ, _*_, _<_, _≤_};
-ghost use lib.Dec.{ltb};
 ghost use lib.ListN.{length, getD};
 ghost use Rattle.answer.specs.Number.{numberOf};
-ghost use Rattle.common.specs.Choice.{pick};
 ghost use Rattle.common.specs.Lists.{All};
 ghost use Rattle.run_reader.specs.Read.{symbolsPerPattern, valid, Readable, ReadOut, Reads};
 ghost use Rattle.run_reader.specs.Decisions.{decisionCost};
@@ -36,23 +34,18 @@ pub fn symbol_count(rate: u8) -> u8
     SYMBOL_COUNTS[rate as usize]
 }
 
-fn greater(a: u8, b: u8) -> u8
-    ensures { λ r. ⌜ r ≡ pick (ltb a b) b a ⌝ }
-{
-    if a < b { b } else { a }
-}
-
-// Whether each symbol is one of the four: whether the greatest is.
+// Whether each symbol is one of the four.
 fn is_valid(symbols: &[u8]) -> bool
     ensures { λ r. ⌜ r ≡ valid (now (symbols .entry)) ⌝ }
 {
-    let mut most: u8 = 0;
     let mut i: usize = 0;
     while i < symbols.len() {
-        most = greater(most, symbols[i]);
+        if symbols[i] >= 4 {
+            return false;
+        }
         i += 1;
     }
-    most < 4
+    true
 }
 
 // What deciding the I of each symbol as 0 and as 1 costs, and then its Q.
