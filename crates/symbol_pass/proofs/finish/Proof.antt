@@ -1,25 +1,25 @@
--- `dvbs_read::finish` meets its contract.
+-- `symbol_pass::finish` meets its contract.
 -- Assumes nothing.
 use mathlib.Core.Path.{sym}
 use native.Mathlib.Omega.{arith}
 use lib.ListN.{length-take}
 use lib.Seq.{length-take-le}
-use Rattle.dvbs_read.proofs.Symbols.{closed-few}
+use Rattle.symbol_pass.proofs.Pieces.{closed-few}
 use borrow.Author.Needs.{needs}
-use Rattle.dvbs_read.proofs.finish.Statement.{statement}
-use Rattle.dvbs_read.proofs.finish.Tie as tie
+use Rattle.symbol_pass.proofs.finish.Statement.{statement}
+use Rattle.symbol_pass.proofs.finish.Tie as tie
 
 close-requires : tie.Need-close-requires
 close-requires c κs = search needs
 
 slice-reshare-prefix-write-bits : tie.Need-slice-reshare-prefix-write-bits
-slice-reshare-prefix-write-bits c = let a = c .before .before .before .before .before .before .before in omega (arith, closed-few (a .pre .0) (c .before .before .close .ensures), a .pre .2, c .before .before .close .kept)
+slice-reshare-prefix-write-bits c = omega (arith, closed-few (c .before .before .before .before .before .before .before .pre .0 .ready) (c .before .before .close .ensures), c .before .before .before .before .before .before .before .pre .1, c .before .before .close .kept)
 
 slice-aggregate-write-bits : tie.Need-slice-aggregate-write-bits
-slice-aggregate-write-bits c = let a = c .before .before .before .before .before .before .before .before in sym (length-take-le _ _ (omega (arith, closed-few (a .pre .0) (c .before .before .before .close .ensures), a .pre .2, c .before .before .before .close .kept)))
+slice-aggregate-write-bits c = sym (length-take-le _ _ (omega (arith, closed-few (c .before .before .before .before .before .before .before .before .pre .0 .ready) (c .before .before .before .close .ensures), c .before .before .before .before .before .before .before .before .pre .1, c .before .before .before .close .kept)))
 
 write-bits-requires : tie.Need-write-bits-requires
-write-bits-requires c κs = let a = c .before .before .before .before .before .before .before .before in (a .pre .1, omega (arith, length-take (c .before .before .before .close .result .count) (c .before .before .before .close .last .1 .0), closed-few (a .pre .0) (c .before .before .before .close .ensures)))
+write-bits-requires c κs = (c .before .before .before .before .before .before .before .before .pre .0 .few, omega (arith, length-take (c .before .before .before .close .result .count) (c .before .before .before .close .last .1 .0), closed-few (c .before .before .before .before .before .before .before .before .pre .0 .ready) (c .before .before .before .close .ensures)))
 
 slice-aggregate-fail : tie.Need-slice-aggregate-fail
 slice-aggregate-fail c = search needs

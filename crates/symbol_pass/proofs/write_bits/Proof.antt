@@ -1,4 +1,4 @@
--- `dvbs_read::write_bits` meets its contract: the bits so far are eight for each byte packed, and those that are carried.
+-- `symbol_pass::write_bits` meets its contract: the bits so far are eight for each byte packed, and those that are carried.
 -- Assumes nothing.
 use mathlib.Core.Path.{_≡_, sym, ap, _∙_}
 use mathlib.Core.Logic.{⊎-elim}
@@ -7,8 +7,8 @@ use native.Mathlib.Omega.{arith}
 use borrow.Author.Needs.{needs}
 use lib.ListN.{length, length-set}
 use lib.Seq.{length-take-le}
-use Rattle.dvbs_read.proofs.write_bits.Statement.{statement}
-use Rattle.dvbs_read.proofs.write_bits.Tie as tie
+use Rattle.symbol_pass.proofs.write_bits.Statement.{statement}
+use Rattle.symbol_pass.proofs.write_bits.Tie as tie
 
 abbrev Inv-loop : tie.InvT-loop
 Inv-loop bits packed₀ failed carry₀ n₀ k₀ i₀ packed carry n k i = (n < 8) × (8 * k + n ≡ n₀ + i) × (i ≤ length bits) × (length packed ≡ 205)
