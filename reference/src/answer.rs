@@ -24,6 +24,7 @@ pub enum Answer {
     WrongSums = 18,
     FormKept = 19,
     TooManyReports = 21,
+    SoftLists = 24,
 }
 
 impl Answer {

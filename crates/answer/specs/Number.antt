@@ -2,7 +2,7 @@
 -- Assumes nothing.
 use Prim.Native.Nat.{ℕ}
 use Rattle.answer.specs.declared.Answer.{Answer}
-use Rattle.answer.specs.declared.Answer.the-variants.{Done, PacketLength, SyncByte, BlockLength, RoomLength, StateRange, UnknownRate, CountsFull, Uncorrectable, Filling, WaitingForGroup, OutOfStep, PatternLength, RunLength, SymbolRange, NullPacket, NoSuchBlock, NotReport, WrongSums, FormKept, TooManyReports}
+use Rattle.answer.specs.declared.Answer.the-variants.{Done, PacketLength, SyncByte, BlockLength, RoomLength, StateRange, UnknownRate, CountsFull, Uncorrectable, Filling, WaitingForGroup, OutOfStep, PatternLength, RunLength, SymbolRange, NullPacket, NoSuchBlock, NotReport, WrongSums, FormKept, TooManyReports, SoftLists}
 
 abbrev pub numberOf : Answer → ℕ
 numberOf Done = 0
@@ -26,3 +26,4 @@ numberOf NotReport = 17
 numberOf WrongSums = 18
 numberOf FormKept = 19
 numberOf TooManyReports = 21
+numberOf SoftLists = 24

@@ -45,6 +45,8 @@ pub enum Answer {
     FormKept,
     // Something follows the 4,096 reports of a season.
     TooManyReports,
+    // The lists of a soft run are not of one length, or a mark is above 1.
+    SoftLists,
 }
 
 impl Answer {
@@ -74,6 +76,7 @@ impl Answer {
             Answer::WrongSums => 18,
             Answer::FormKept => 19,
             Answer::TooManyReports => 21,
+            Answer::SoftLists => 24,
         }
     }
 }
