@@ -68,6 +68,9 @@ usage dvbs_send 2 2
 usage dvbs_read
 usage dvbs_read 5
 usage dvbs_read 2 2
+usage dvbs_read_soft
+usage dvbs_read_soft 5
+usage dvbs_read_soft 2 2
 usage dvbs_receive 0
 usage pass_report 0
 usage recording_block

@@ -43,6 +43,8 @@ static uint8_t factors[FACTORS];
 static uint8_t coded_run[RUN * 204], clean_stream[RUN * 204], harmed_stream[RUN * 204];
 static uint8_t room[RUN * 1632], block[204], answer[2], counts[64], result[6];
 static uint8_t runs[5][1632]; /* the symbols of a longest run at each rate, whose last six bits are 0 */
+static float points_i[5][1632], points_q[5][1632]; /* the same as received points, with noise */
+static uint8_t lost[1632];                         /* one symbol in sixteen is lost */
 static const int run_symbols[5] = {1632, 1224, 1088, 978, 932}, run_bits[5] = {1632, 1632, 1632, 1630, 1631};
 static volatile uint64_t sink;
 
@@ -104,7 +106,13 @@ static void prepare(void)
         bytes[203] = 0;
         PLAIN(inner_code)((uint8_t)rate, bytes, 204, room, sizeof room);
         memcpy(runs[rate], room, (size_t)run_symbols[rate]);
+        for (int i = 0; i < run_symbols[rate]; i++) {
+            points_i[rate][i] = (runs[rate][i] & 2 ? -1.0f : 1.0f) + ((float)random_byte() - 127.5f) / 128;
+            points_q[rate][i] = (runs[rate][i] & 1 ? -1.0f : 1.0f) + ((float)random_byte() - 127.5f) / 128;
+        }
     }
+    for (int i = 0; i < 1632; i++)
+        lost[i] = random_byte() % 16 == 0;
     memset(room, 0xa5, sizeof room);
 #ifdef HAVE_LIBFEC
     for (int i = 0; i < 1632; i++) {
@@ -238,6 +246,16 @@ static void read_run(const struct kernel *k, int side, int n)
     sink += room[0];
 }
 
+static void read_soft_run(const struct kernel *k, int side, int n)
+{
+    int rate = k->argument;
+    size_t symbols = (size_t)run_symbols[rate];
+    (void)n;
+    sink += (side == LIBRARY ? dvbs_read_soft_run : PLAIN(read_soft_run))((uint8_t)rate, 0, points_i[rate], symbols, points_q[rate], symbols,
+                                                                          lost, symbols, room, (size_t)run_bits[rate], result, 6);
+    sink += room[0];
+}
+
 static void receive(const struct kernel *k, int side, int n)
 {
     const uint8_t *stream = k->argument ? harmed_stream : clean_stream;
@@ -272,6 +290,8 @@ static const struct kernel kernels[] = {
     {"read_3_4", "read 1,632 bits, 3/4", 1, TWO, 2, read_run},
     {"read_5_6", "read 1,630 bits, 5/6", 1, TWO, 3, read_run},
     {"read_7_8", "read 1,631 bits, 7/8", 1, TWO, 4, read_run},
+    {"read_soft_1_2", "read 1,632 softly, 1/2", 1, TWO, 0, read_soft_run},
+    {"read_soft_3_4", "read 1,632 softly, 3/4", 1, TWO, 2, read_soft_run},
     {"receive_clean", "receive a block, clean", RUN, TWO, 0, receive},
     {"receive_harmed", "receive a block, harmed", RUN, TWO, 1, receive},
 };

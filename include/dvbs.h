@@ -23,8 +23,9 @@
  *  14  a symbol above 3
  *  15  done, with a null packet put in
  *  16  the recording has no such block
- * Where several are due, the first in the order 6, 5, 16, 1 or 3, 2, 12, 13, 14,
- * 4, 7 is given. */
+ *  24  the lists of a soft run are not of one length, or a mark is above 1
+ * Where several are due, the first in the order 6, 5, 24, 16, 1 or 3, 2, 12, 13,
+ * 14, 4, 7 is given. */
 #ifndef DVBS_H
 #define DVBS_H
 
@@ -83,6 +84,20 @@ uint64_t dvbs_read_run(uint8_t rate, uint8_t memory,
                        const uint8_t *symbols, size_t symbols_len,
                        uint8_t *room, size_t room_len,
                        uint8_t *result, size_t result_len);
+
+/* The same by soft decisions. Of each symbol come the numbers I and Q of the
+ * received point, of which 1.0 is sent for 0 and -1.0 for 1, and 1 where the
+ * symbol was lost or else 0. The level of a number is how many of -0.75, -0.5,
+ * -0.25, 0, 0.25, 0.5, 0.75 are at or below it. Deciding its bit as 0 costs 7 less
+ * the level, and as 1 the level; a NaN costs nothing either way, and neither does
+ * anything of a lost symbol. The bits written are those that cost the least, and
+ * the number in the result is what they cost. Otherwise as dvbs_read_run. */
+uint64_t dvbs_read_soft_run(uint8_t rate, uint8_t memory,
+                            const float *i, size_t i_len,
+                            const float *q, size_t q_len,
+                            const uint8_t *lost, size_t lost_len,
+                            uint8_t *room, size_t room_len,
+                            uint8_t *result, size_t result_len);
 
 /* What a fresh receiver gives for the whole blocks of a recording; bytes after
  * the last of them are left alone. Returns how many bytes of packets were

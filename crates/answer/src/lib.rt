@@ -37,6 +37,8 @@ pub enum Answer {
     NullPacket,
     // A recording has no such block, or a receiver would not take it.
     NoSuchBlock,
+    // The lists of a soft run are not of one length, or a mark is above 1.
+    SoftLists,
 }
 
 impl Answer {
@@ -62,6 +64,7 @@ impl Answer {
             Answer::SymbolRange => 14,
             Answer::NullPacket => 15,
             Answer::NoSuchBlock => 16,
+            Answer::SoftLists => 24,
         }
     }
 }
