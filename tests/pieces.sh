@@ -95,14 +95,14 @@ echo "dvbs_send in 360 cuttings: one stream of symbols, one text on standard err
 for rate in 0 1 2 3 4; do
     "$bin/dvbs_send" $rate < packets.40 > symbols
     "$reference/pieces" 12 16384 "$bin/dvbs_read" $rate < symbols > blocks 2> told || fail "dvbs_read $rate in pieces"
-    "$reference/points" 0 0 < symbols > points
+    "$reference/channel" $rate inf 1 < symbols > points
     { cat points; head -c 5 points; } > points.more
     { cat told; echo "bytes=5"; } > told.soft
     "$reference/pieces" 12 65536 "$bin/dvbs_read_soft" $rate < points.more > out 2> err || fail "dvbs_read_soft $rate in pieces"
     cmp out blocks || fail "dvbs_read_soft $rate on points of 1.0 and -1.0"
     diff told.soft err || fail "dvbs_read_soft $rate: standard error"
     # Behind the last hundred bits too little comes for them to be sure.
-    "$reference/points" 0.25 40 < symbols | "$bin/dvbs_read_soft" $rate 2> /dev/null | cmp -n 8140 - blocks || fail "dvbs_read_soft $rate on points with noise"
+    "$reference/channel" $rate 12 1 lost=0.002 < symbols | "$bin/dvbs_read_soft" $rate 2> /dev/null | cmp -n 8140 - blocks || fail "dvbs_read_soft $rate on points with noise"
 done
 "$bin/dvbs_read_soft" 2 < /dev/null > out 2> err
 [ ! -s out ] && [ "$(cat err)" = "$(printf 'rest=0\nbits=0\nbytes=0')" ] || fail "dvbs_read_soft on no input"

@@ -78,6 +78,8 @@ fn the_channel() {
     }
     let noisy = points(&["2", "3", "1", "lost=0.1", "burst=50/500"], &symbols);
     assert!(noisy.iter().filter(|p| p.0.is_nan() && p.1.is_nan()).count() > 300);
+    let still = points(&["4", "inf", "1"], &symbols);
+    assert!(still.iter().zip(&symbols).all(|(point, symbol)| *point == reference::channel::sent(*symbol)));
     assert!(points(&["5", "3", "1"], &symbols).is_empty());
     assert!(points(&["2", "3"], &symbols).is_empty());
     assert!(points(&["2", "3", "1", "burst=5/0"], &symbols).is_empty());

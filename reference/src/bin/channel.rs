@@ -4,14 +4,14 @@
 //!
 //!   channel RATE EBN0 SEED [lost=P] [burst=LENGTH/PERIOD] < symbols > points
 //!
-//! EBN0 is in dB. P is the probability that a symbol is lost: both of its numbers are
+//! EBN0 is in dB, and inf is no noise. P is the probability that a symbol is lost: both of its numbers are
 //! NaN. Of every PERIOD symbols the last LENGTH are noise alone.
 
 use reference::channel::{sigma, to_bytes, Bursts, Channel};
 use std::io::{BufReader, BufWriter, Read, Write};
 
 fn usage() -> ! {
-    eprintln!("usage: channel RATE EBN0 SEED [lost=P] [burst=LENGTH/PERIOD] < symbols > points, RATE 0 to 4, EBN0 in dB");
+    eprintln!("usage: channel RATE EBN0 SEED [lost=P] [burst=LENGTH/PERIOD] < symbols > points, RATE 0 to 4, EBN0 in dB or inf");
     std::process::exit(2)
 }
 
@@ -37,7 +37,7 @@ fn main() -> std::io::Result<()> {
         }
     }
     let whole = bursts.map_or(true, |b: Bursts| 0 < b.period && b.length <= b.period);
-    if rate > 4 || !eb_n0.is_finite() || !(0.0..=1.0).contains(&lost) || !whole {
+    if rate > 4 || !(eb_n0 > f64::NEG_INFINITY) || !(0.0..=1.0).contains(&lost) || !whole {
         usage();
     }
     let mut channel = Channel::new(seed, sigma(rate, eb_n0), lost, bursts);
