@@ -7,6 +7,7 @@
 #![allow(unknown_lints, unexpected_cfgs)]
 
 pub mod answer;
+pub mod channel;
 pub mod exports;
 pub mod inner_code;
 pub mod inner_decoder;
@@ -15,6 +16,8 @@ pub mod randomizer;
 pub mod receiver;
 pub mod recording;
 pub mod reed_solomon;
+pub mod report;
+pub mod season;
 pub mod sender;
 pub mod xorshift;
 
