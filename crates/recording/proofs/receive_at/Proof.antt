@@ -1,12 +1,11 @@
 -- `recording::receive_at` meets its contract.
 -- Assumes nothing.
-use mathlib.Core.Path.{_≡_, sym, ap, _∙_, subst, subst₂}
+use mathlib.Core.Path.{_≡_, sym, ap, _∙_, subst₂}
 use mathlib.Core.List.{List}
 use mathlib.Core.Logic.{_⊎_, inl, inr}
 use Prim.Native.Nat.{ℕ, _+_, _-_, _≤_}
 use native.Mathlib.Omega.{arith}
 use lib.ListN.{length, take, drop, length-drop}
-use Rattle.reed_solomon.specs.Marks.{noMarks}
 use Rattle.receiver.specs.Receive.{ReceivesMarked}
 use Rattle.recording.proofs.Recordings.{marks-none, marks-front}
 use borrow.Author.Needs.{needs}
