@@ -77,7 +77,7 @@ for _ in 1 2 3 4 5 6 7; do cat "$packets"; done > good
 { head -c 188 /dev/zero; cat good; head -c 188 /dev/zero; head -c 57 "$packets"; } > mixed
 { null_packet; cat good; null_packet; } > put_in
 printf 'packet=0 answer=15\npacket=281 answer=15\nrest=57\n' > told
-for rate in 0 1 2 3 4 5; do
+for rate in 0 1 2 3 5; do
     "$bin/dvbs_send" $rate < put_in > symbols 2> err
     [ -s symbols ] && [ ! -s err ] || fail "dvbs_send $rate on packets"
     "$reference/pieces" 60 47940 "$bin/dvbs_send" $rate < mixed > out 2> err || fail "dvbs_send $rate in pieces"
@@ -87,4 +87,4 @@ done
 no_report "a directory as input of dvbs_send" "standard input: Is a directory" bash -c "'$bin/dvbs_send' 0 < ."
 no_report "a closed input of dvbs_send" "standard input: Bad file descriptor" bash -c "'$bin/dvbs_send' 0 <&-"
 no_report "a full device for symbols" "standard output: No space left on device" bash -c "'$bin/dvbs_send' 0 < good > /dev/full"
-echo "dvbs_send in 360 cuttings: one stream of symbols, one text on standard error"
+echo "dvbs_send in 300 cuttings: one stream of symbols, one text on standard error"

@@ -2,6 +2,7 @@
 -- gave, give the bits of the interleaved blocks up to the last whole pattern, at no cost.
 -- Assumes nothing.
 use mathlib.Core.Path.{_≡_, refl, sym, _∙_, ap}
+use mathlib.Core.Bool.{true}
 use mathlib.Core.List.{List, [], _∷_, _++_, flatten}
 use Prim.Native.Nat.{ℕ, _+_, _*_, _/_, _%_, _<_}
 use native.Mathlib.Nat.{zero-add, zero-mod, mod-add-mod}
@@ -41,16 +42,16 @@ runs-whole rate (r ∷ rs) g =
 unfoldable pub sentBits : List (List ℕ) → List ℕ
 sentBits packets = bitsOf (flatten (interleavedBlocks packets))
 
--- whatever inputs the sender was given, with null packets put in
-pub sent-read : (rate : ℕ) → rate < 5 → {inputs : List (List ℕ)} {symbols : List ℕ} {last : Sender} → All Input inputs → Calls modeOf (freshSender rate) inputs symbols last
+-- At a rate that is sent: whatever inputs the sender was given, with null packets put in
+pub sent-read : (rate : ℕ) → rate < 5 → modeOf rate .sent ≡ true → {inputs : List (List ℕ)} {symbols : List ℕ} {last : Sender} → All Input inputs → Calls modeOf (freshSender rate) inputs symbols last
     → (rs : List (List ℕ)) → All (Run rate) rs → (rest : List ℕ) → length rest < symbolsPerPattern rate → flatten rs ++ rest ≡ symbols
     → {out : List ℕ} {cost memory : ℕ} → Readings rate 0 rs out cost memory
     → (out ≡ take (patternLength rate * (length (sentBits (packetsFor inputs)) / patternLength rate)) (sentBits (packetsFor inputs))) × (cost ≡ 0)
 unfolding sentBits onAir
-sent-read rate hr {inputs} g c rs runs rest few e readings =
+sent-read rate hr q {inputs} g c rs runs rest few e readings =
     let bytes = flatten (interleavedBlocks (packetsFor inputs)) in
     let w = bits-bits bytes in
-    let s : flatten rs ++ rest ≡ symbolsOf (coderAt rate 0) (bitsOf bytes) = e ∙ sent-on-air (modeOf rate) (well-formed rate (up rate hr)) modeOf rate refl g c .0 ∙ stream-qpsk rate hr bytes ∙ sym (symbols-fresh rate hr w) in
+    let s : flatten rs ++ rest ≡ symbolsOf (coderAt rate 0) (bitsOf bytes) = e ∙ sent-on-air (modeOf rate) (well-formed rate (up rate hr)) q modeOf rate refl g c .0 ∙ stream-qpsk rate hr bytes ∙ sym (symbols-fresh rate hr w) in
     let r = stream-read rate hr 0 (omega arith) (bitsOf bytes) w rs runs rest s readings in (
       r .0
           ∙ ap (λ (n : ℕ). take n (bitsOf bytes)) (up-to-last rate hr 0 (omega arith) (bitsOf bytes) w (flatten rs) rest (runs-whole rate rs runs) few s),

@@ -78,6 +78,15 @@ impl Sending {
                 sending: self,
             };
         }
+        let sender = self.sender;
+        if !sender.is_sent() {
+            return Fed {
+                answer: Answer::UnknownRate,
+                count: 0,
+                packets: 0,
+                sending: self,
+            };
+        }
         let held = self.held;
         let packets = whole_count(held, piece.len());
         if room.len() / Sending::MOST_SYMBOLS < packets {
