@@ -10,7 +10,7 @@ use lib.ListN.{length, getD, take, drop, length-append, length-drop, length-map}
 use lib.Seq.{take-append-le, drop-append-le}
 use Rattle.convolutional_code.specs.Bits.{bitsOf, Bits, none, more}
 use Rattle.convolutional_code.proofs.Bits.{bits-at, bits-append}
-use Rattle.puncturing.specs.Mode.{CodedBit, InputBit, A, B, D, Column, Mode, qpsk, modeOf, blockBits, blockBitsBy}
+use Rattle.puncturing.specs.Mode.{CodedBit, InputBit, A, B, D, Column, Mode, qpsk, modeOf, blockBitsBy}
 use Rattle.puncturing.proofs.Places.{end, _&_, Below, below}
 use Rattle.inner_code.specs.Converter.{bitAt, inputBit, groups, groupsOf, encodedGroup, encodedBits, besideSymbol, uncodedGroup, uncodedNumbers, sequenced}
 
