@@ -78,15 +78,6 @@ impl Sender {
         coder.in_range()
     }
 
-    // Whether its mode is sent.
-    pub fn is_sent(self) -> bool
-        ensures { λ r. ⌜ r ≡ isSent modeOf self ⌝ }
-    {
-        let coder = self.coder;
-        let rate = coder.rate;
-        puncturing::is_sent(rate)
-    }
-
     // Sends a packet: writes its symbols. For no bytes, and for 188 that do not begin with the sync byte, a null packet is sent.
     pub fn send(self, input: &[u8], room: &mut [u8]) -> Sent
         ensures { λ r. ⌜ Sends modeOf self (now (input .entry)) (now (room .entry)) (numberOf (r .answer)) (r .count) (r .sender) (now (room .exit)) ⌝ }
@@ -98,7 +89,9 @@ impl Sender {
                 sender: self,
             };
         }
-        if !self.is_sent() {
+        let coder = self.coder;
+        let rate = coder.rate;
+        if !puncturing::is_sent(rate) {
             return Sent {
                 answer: Answer::UnknownRate,
                 count: 0,
@@ -112,7 +105,6 @@ impl Sender {
                 sender: self,
             };
         }
-        let coder = self.coder;
         if room.len() < coder.symbol_count() {
             return Sent {
                 answer: Answer::RoomLength,

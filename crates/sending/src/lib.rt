@@ -79,7 +79,9 @@ impl Sending {
             };
         }
         let sender = self.sender;
-        if !sender.is_sent() {
+        let coder = sender.coder;
+        let rate = coder.rate;
+        if !puncturing::is_sent(rate) {
             return Fed {
                 answer: Answer::UnknownRate,
                 count: 0,

@@ -32,12 +32,12 @@ is-sent-requires c κs = search needs
 
 returns-2 : tie.Need-returns-2
 returns-2 c =
-    let e = c .before .before in
+    let e = c .before .before .before in
     let a = e .before .before .before .before in
     refused modeOf (a .args .self) (a .args .input .now) (a .args .room .now) 6 (simp (good e, sym (c .before .is-sent .ensures) ∙ not-true _ (c .if2 .taken))) refl
 
 -- past the second test
-sent : (c : tie.Else2) → isSent modeOf (c .before .before .before .before .before .before .args .self) ≡ true
+sent : (c : tie.Else2) → isSent modeOf (c .before .before .before .before .before .before .before .args .self) ≡ true
 sent c = sym (c .before .is-sent .ensures) ∙ not-false _ (c .if2 .left)
 
 is-input-requires : tie.Need-is-input-requires
@@ -46,12 +46,12 @@ is-input-requires c κs = search needs
 returns-3 : tie.Need-returns-3
 returns-3 c =
     let e = c .before .before in
-    let a = e .before .before .before .before .before .before in
+    let a = e .before .before .before .before .before .before .before in
     refused modeOf (a .args .self) (a .args .input .now) (a .args .room .now) 1
-    (simp (good (e .before .before), sent e, sym (c .before .is-input .ensures) ∙ not-true _ (c .if3 .taken))) refl
+    (simp (good (e .before .before .before), sent e, sym (c .before .is-input .ensures) ∙ not-true _ (c .if3 .taken))) refl
 
 -- past the third
-sized : (c : tie.Else3) → isInput (c .before .before .before .before .before .before .before .before .args .input .now) ≡ true
+sized : (c : tie.Else3) → isInput (c .before .before .before .before .before .before .before .before .before .args .input .now) ≡ true
 sized c = sym (c .before .is-input .ensures) ∙ not-false _ (c .if3 .left)
 
 symbol-count-requires : tie.Need-symbol-count-requires
@@ -59,16 +59,16 @@ symbol-count-requires c κs = search needs
 
 -- what the first three tell
 module _ (c : tie.Else3) where
-  ranged : inRange modeOf (c .before .before .before .before .before .before .before .before .args .self) ≡ true
-  ranged = good (c .before .before .before .before)
+  ranged : inRange modeOf (c .before .before .before .before .before .before .before .before .before .args .self) ≡ true
+  ranged = good (c .before .before .before .before .before)
 
-  on : isSent modeOf (c .before .before .before .before .before .before .before .before .args .self) ≡ true
+  on : isSent modeOf (c .before .before .before .before .before .before .before .before .before .args .self) ≡ true
   on = sent (c .before .before)
 
 returns-4 : tie.Need-returns-4
 returns-4 c =
-    let e = c .before .before .before in
-    let a = e .before .before .before .before .before .before .before .before in
+    let e = c .before .before in
+    let a = e .before .before .before .before .before .before .before .before .before in
     refused modeOf (a .args .self) (a .args .input .now) (a .args .room .now) 4
     (simp (ranged e, on e, sized e, lt-ltb _ _ (rw (c .before .symbol-count .ensures) at (c .if4 .taken)))) refl
 
@@ -77,7 +77,7 @@ long : (c : tie.Else4) → let a = c .before .before .before .before .before .be
 long c = rw (c .before .symbol-count .ensures) at (c .if4 .left)
 
 taken : (c : tie.Else4) → let a = c .before .before .before .before .before .before .before .before .before .before .before .args in refusal modeOf (a .self) (a .input .now) (a .room .now) ≡ 0
-taken c = let e = c .before .before .before in simp (ranged e, on e, sized e, le-ltb _ _ (long c))
+taken c = let e = c .before .before in simp (ranged e, on e, sized e, le-ltb _ _ (long c))
 
 is-synced-requires : tie.Need-is-synced-requires
 is-synced-requires c κs = search needs
@@ -92,8 +92,8 @@ transmit-requires : tie.Need-transmit-requires
 transmit-requires c κs =
     let t = c .before in
     let n = t .before .before in
-    let e = n .before .before .before in
-    let a = e .before .before .before .before .before .before .before .before in
+    let e = n .before .before in
+    let a = e .before .before .before .before .before .before .before .before .before in
     let y : getD (a .args .input .now) 0 0 ≡ 0x47 = eqb-true _ _ (synced t) in
     (ranged e, on e, ap length (sym (packet-kept (a .args .input .now) y)) ∙ packet-size (a .args .input .now) (sized e), y, long n)
 
@@ -123,8 +123,8 @@ transmit-requires-2 : tie.Need-transmit-requires-2
 transmit-requires-2 c κs =
     let p = c .before .before in
     let n = p .before .before .before in
-    let e = n .before .before .before in
-    let a = e .before .before .before .before .before .before .before .before in
+    let e = n .before .before in
+    let a = e .before .before .before .before .before .before .before .before .before in
     let input = a .args .input .now in
     (ranged e, on e, ap length (null p) ∙ packet-size input (sized e), ap (λ l. getD l 0 0) (null p) ∙ packet-sync input, long n)
 

@@ -36,25 +36,25 @@ is-sent-requires c κs = search needs
 
 returns-2 : tie.Need-returns-2
 returns-2 c =
-    let e = c .before .before .before in
+    let e = c .before .before .before .before in
     let s = e .before .before .before .before .before in
     refuse (s .args .self) (s .args .piece .now) (s .args .room .now) (s .args .answers .now) 6
     (simp (good e, sym (c .before .is-sent .ensures) ∙ not-true _ (c .if2 .taken))) (omega arith)
 
 -- past the second
-sent : (c : tie.Else2) → isSent modeOf (c .before .before .before .before .before .before .before .before .args .self .sender) ≡ true
+sent : (c : tie.Else2) → isSent modeOf (c .before .before .before .before .before .before .before .before .before .args .self .sender) ≡ true
 sent c = sym (c .before .is-sent .ensures) ∙ not-false _ (c .if2 .left)
 
-ranged : (c : tie.Else2) → sendingInRange (c .before .before .before .before .before .before .before .before .args .self) ≡ true
-ranged c = good (c .before .before .before)
+ranged : (c : tie.Else2) → sendingInRange (c .before .before .before .before .before .before .before .before .before .args .self) ≡ true
+ranged c = good (c .before .before .before .before)
 
 whole-count-requires : tie.Need-whole-count-requires
-whole-count-requires c κs = sending-range (c .before .before .before .before .before .before .before .before .args .self) (ranged c) .1
+whole-count-requires c κs = sending-range (c .before .before .before .before .before .before .before .before .before .args .self) (ranged c) .1
 
 returns-3 : tie.Need-returns-3
 returns-3 c =
     let e = c .before .before in
-    let s = e .before .before .before .before .before .before .before .before in
+    let s = e .before .before .before .before .before .before .before .before .before in
     refuse (s .args .self) (s .args .piece .now) (s .args .room .now) (s .args .answers .now) 4
     (simp (ranged e, sent e, lt-ltb _ _ (rw (c .before .whole-count .ensures) at (c .if3 .taken)))) (omega arith)
 
@@ -62,13 +62,13 @@ returns-4 : tie.Need-returns-4
 returns-4 c =
     let n = c .before .before in
     let e = n .before in
-    let s = e .before .before .before .before .before .before .before .before in
+    let s = e .before .before .before .before .before .before .before .before .before in
     refuse (s .args .self) (s .args .piece .now) (s .args .room .now) (s .args .answers .now) 4
     (simp (ranged e, sent e, le-ltb _ _ (rw (n .whole-count .ensures) at (c .before .if3 .left)), lt-ltb _ _ (rw (n .whole-count .ensures) at (c .if4 .taken)))) (omega arith)
 
 -- past the others
 roomy : (c : tie.Else4)
-    → let a = c .before .before .before .before .before .before .before .before .before .before .before .args in
+    → let a = c .before .before .before .before .before .before .before .before .before .before .before .before .args in
     Roomy (a .self) (a .piece .now) (a .room .now) (a .answers .now)
 roomy c =
     let n = c .before .before in
