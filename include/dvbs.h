@@ -17,7 +17,7 @@
  *      a number of blocks that is not the recording's
  *   6  a mode other than 0 to 3 and 5; for reading, a rate other than 0 to 4
  *   7  the receiver has taken 4,294,967,295 blocks
- *   8  no codeword within eight bytes
+ *   8  no codeword within eight bytes; with marks, none with 2 e + f at most 16
  *  12  symbols that do not make whole puncturing patterns
  *  13  a run of more than 1,632 bits
  *  14  a symbol above 3
@@ -25,9 +25,10 @@
  *  16  the recording has no such block
  * 17 to 19 and 21 are answers about the texts of pass reports, which the programs
  * read and write, and no function here.
+ *  20  not a mark for each byte, or a mark above 1
  *  24  the lists of a soft run are not of one length, or a mark is above 1
  * Where several are due, the first in the order 6, 5, 24, 16, 1 or 3, 2, 12, 13,
- * 14, 4, 7 is given. */
+ * 14, 20, 4, 7 is given. */
 #ifndef DVBS_H
 #define DVBS_H
 
@@ -59,6 +60,17 @@ uint8_t dvbs_rs_encode(const uint8_t *data, size_t data_len,
  * least two bytes for the count. */
 uint8_t dvbs_rs_decode(uint8_t *block, size_t block_len,
                        uint8_t *count, size_t count_len);
+
+/* The same with a mark for each of the 204 bytes, 1 for a doubtful one and 0 for
+ * any other. Where f bytes are marked, the codeword that differs from the block
+ * in e bytes that are not marked, 2 e + f at most 16, is left, if there is one:
+ * there is at most one. Marks that turn out wrong cost as much as right ones, and
+ * more than sixteen are always 8, also for a block that is clean: mark fewer, or
+ * none. The counts are those of bytes and bits that differ, marked or not. With
+ * no mark this is dvbs_rs_decode. 3, then 20, then 4, then 8 or 0. */
+uint8_t dvbs_rs_decode_marked(uint8_t *block, size_t block_len,
+                              const uint8_t *marks, size_t marks_len,
+                              uint8_t *count, size_t count_len);
 
 /* What a fresh sender sends for the packets, which lie one after the other;
  * modes 0 to 3 are QPSK 1/2, 2/3, 3/4, 5/6, and 5 is 16QAM 3/4 of EN 301 210;
@@ -115,6 +127,17 @@ uint64_t dvbs_receive_run(const uint8_t *blocks, size_t blocks_len,
                           uint8_t *room, size_t room_len,
                           uint8_t *counts, size_t counts_len,
                           uint8_t *answer, size_t answer_len);
+
+/* The same with a mark for each byte of the recording, 1 for a doubtful one and 0
+ * for any other: marks_len is blocks_len. They are delayed as their bytes are,
+ * and each block is decoded with its own, as by dvbs_rs_decode_marked: a block
+ * with more than sixteen of them is lost, also where it is clean. Marks that are
+ * not such: 20, before 4. */
+uint64_t dvbs_receive_run_marked(const uint8_t *blocks, size_t blocks_len,
+                                 const uint8_t *marks, size_t marks_len,
+                                 uint8_t *room, size_t room_len,
+                                 uint8_t *counts, size_t counts_len,
+                                 uint8_t *answer, size_t answer_len);
 
 /* Block p of a recording, repaired, p from 0: the 204 bytes, the counts and the
  * answer 8 that a fresh receiver's repair has at its call p + 12. A view of the

@@ -23,6 +23,7 @@ pub enum Answer {
     NotReport = 17,
     WrongSums = 18,
     FormKept = 19,
+    MarkValue = 20,
     TooManyReports = 21,
     SoftLists = 24,
 }

@@ -10,8 +10,8 @@ pub const NAMES: [&str; 7] = ["taken", "filling", "delivered", "lost", "waiting"
 
 /// The most of any count, of changed, of bits and of rest.
 pub const MOST: u64 = 4_294_967_295;
-pub const MOST_CHANGED: u64 = 34_359_738_360;
-pub const MOST_BITS: u64 = 274_877_906_880;
+pub const MOST_CHANGED: u64 = 68_719_476_720;
+pub const MOST_BITS: u64 = 549_755_813_760;
 pub const MOST_REST: u64 = 203;
 
 /// Form 1 has no bits. Form 2 has a number, or `-`.

@@ -19,7 +19,7 @@ pub enum Answer {
     UnknownRate,
     // The receiver has taken as many blocks as it can count.
     CountsFull,
-    // No codeword is within eight bytes.
+    // No codeword is within eight bytes, or with marks near enough.
     Uncorrectable,
     // The delay branches of the receiver are still filling.
     Filling,
@@ -43,6 +43,8 @@ pub enum Answer {
     WrongSums,
     // A report that is to go back to form 1 tells its bits, or one is in the form wanted already.
     FormKept,
+    // There is not a mark for each byte, or one is above 1.
+    MarkValue,
     // Something follows the 4,096 reports of a season.
     TooManyReports,
     // The lists of a soft run are not of one length, or a mark is above 1.
@@ -75,6 +77,7 @@ impl Answer {
             Answer::NotReport => 17,
             Answer::WrongSums => 18,
             Answer::FormKept => 19,
+            Answer::MarkValue => 20,
             Answer::TooManyReports => 21,
             Answer::SoftLists => 24,
         }

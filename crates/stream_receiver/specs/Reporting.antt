@@ -1,7 +1,7 @@
 -- The report of a pass: the numbers of a stream receiver as a report of form 2, and what writing it gives.
 -- Assumes nothing.
 use mathlib.Core.Path.{_≡_}
-use mathlib.Core.List.{List}
+use mathlib.Core.List.{List, []}
 use Prim.Native.Nat.{ℕ, _%_}
 use lib.Dec.{ltb}
 use lib.ListN.{length}
@@ -49,7 +49,7 @@ streamReportRoom i room = pick (streamInRange i) (writeRoom (streamReport i) roo
 pub record PassReport (bytes text : List ℕ) : Type 0 where
   pub packets : List (List ℕ)
   pub last : Receiver
-  pub recording : Recording freshReceiver bytes packets last
+  pub recording : Recording freshReceiver bytes [] packets last
   pub text-is : text ≡ reportText (reportOf (last .counts) (length bytes % 204))
 
 -- the answer, the length and the room after a text is written into a room
