@@ -324,7 +324,7 @@ uint64_t PLAIN(send_run)(uint8_t rate, const uint8_t *packets, size_t packets_le
     if (answer_len < 1)
         return 0;
     answer[0] = 0;
-    if (rate > 5)
+    if (rate > 5 || rate == 4) /* 7/8 is read, and no longer sent */
         return answer[0] = 6, 0;
     if (packets_len % PACKET)
         return answer[0] = 1, 0;
