@@ -20,6 +20,8 @@ pub enum Answer {
     NoSymbol = 14,
     NullPacket = 15,
     NoSuchBlock = 16,
+    StateLength = 22,
+    NoSuchCount = 23,
 }
 
 impl Answer {

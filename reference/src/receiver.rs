@@ -28,11 +28,11 @@ impl Counts {
 }
 
 pub struct Receiver {
-    branches: Branches,
-    place: Option<usize>,
+    pub branches: Branches,
+    pub place: Option<usize>,
     /// The mark: the last block that was not lost began with neither sync byte.
-    odd: bool,
-    counts: Counts,
+    pub odd: bool,
+    pub counts: Counts,
 }
 
 impl Receiver {

@@ -37,6 +37,10 @@ pub enum Answer {
     NullPacket,
     // A recording has no such block, or a receiver would not take it.
     NoSuchBlock,
+    // A state given as bytes is not as long as a state is.
+    StateLength,
+    // There is no count with this number.
+    UnknownCount,
 }
 
 impl Answer {
@@ -62,6 +66,8 @@ impl Answer {
             Answer::SymbolRange => 14,
             Answer::NullPacket => 15,
             Answer::NoSuchBlock => 16,
+            Answer::StateLength => 22,
+            Answer::UnknownCount => 23,
         }
     }
 }
