@@ -236,9 +236,21 @@ mod tests {
         assert_eq!(end, STATE_LENGTH);
     }
 
+    /// The rows of the specification: a line "NAME = field OFFSET BYTES (" or, of a count, "NAME = countField OFFSET (".
+    fn specified(text: &str) -> Vec<(String, usize, usize)> {
+        text.lines()
+            .filter_map(|line| match line.split_whitespace().collect::<Vec<_>>()[..] {
+                [name, "=", "field", offset, length, ..] => Some((name.to_string(), offset.parse().ok()?, length.parse().ok()?)),
+                [name, "=", "countField", offset, ..] => Some((name.to_string(), offset.parse().ok()?, 8)),
+                _ => None,
+            })
+            .collect()
+    }
+
     #[test]
-    fn the_document_and_the_header_have_the_same_table() {
+    fn document_header_and_specification_have_the_same_table() {
         assert_eq!(rows(include_str!("../../docs/BRIDGE.md")), table());
         assert_eq!(rows(include_str!("../../include/dvbs_bridge.h")), table());
+        assert_eq!(specified(include_str!("../../crates/bridge/specs/State.antt")), table());
     }
 }

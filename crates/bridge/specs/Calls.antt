@@ -40,12 +40,13 @@ pub data BridgeTakes (state block room : List ℕ) (r : ℕ) (after exit : List 
 
 -- ---- a count
 
--- the tests in their order: 22, 23, 5, 4
+-- the tests of the state that is read, and of the room
+abbrev heldNumber : List ℕ → List ℕ → ℕ
+heldNumber state room = pick (inRange (stateOf state)) (pick (ltb (length room) 8) 4 0) 5
+
+-- all tests in their order: 22, 23, 5, 4
 abbrev pub countNumber : List ℕ → ℕ → List ℕ → ℕ
-countNumber state number room =
-    pick (eqb (length state) stateLength)
-    (pick (ltb 7 number) 23 (pick (inRange (stateOf state)) (pick (ltb (length room) 8) 4 0) 5))
-    22
+countNumber state number room = pick (eqb (length state) stateLength) (pick (ltb 7 number) 23 (heldNumber state room)) 22
 
 -- the count of the receiver that the bytes stand for, in eight bytes at the front of the room
 abbrev pub countRoom : List ℕ → ℕ → List ℕ → List ℕ
