@@ -20,6 +20,7 @@ pub enum Answer {
     NoSymbol = 14,
     NullPacket = 15,
     NoSuchBlock = 16,
+    MarkValue = 20,
     StateLength = 22,
     NoSuchCount = 23,
 }

@@ -99,6 +99,13 @@ module _ (K : Field) where
     pub other : (r c : ℕ) → r < t → c < n → (r ≡ i → ⊥) → new r c ≡ old r c
     pub row : (c : ℕ) → c < n → new i c ≡ a * old i c
 
+  -- the same among fewer rows
+  pub combine-fewer : (s t n i j : ℕ) (b a : F) (old new : ℕ → ℕ → F) → s ≤ t → CombineRow t n i j b a old new → CombineRow s n i j b a old new
+  combine-fewer s t n i j b a old new h A = record { other = λ r c l. A .other r c (omega arith); row = A .row }
+
+  pub mul-fewer : (s t n i : ℕ) (a : F) (old new : ℕ → ℕ → F) → s ≤ t → MulRow t n i a old new → MulRow s n i a old new
+  mul-fewer s t n i a old new h A = record { other = λ r c l. A .other r c (omega arith); row = A .row }
+
   combine-back : (b x a y v : F) → b * (x * v) ≡ (b * x + a * y) * v + a * (y * v)
   combine-back b x a y v = simp ring
 
@@ -249,11 +256,11 @@ module _ (K : Field) where
           ∙ swept-own (old k k) d (old c k) (old k c) (U .off k c kt (omega arith) (λ y. omega arith))
 
   -- (D) the equations of the locator, from the last matrix
-  pub kernel-key : (t : ℕ) (S : ℕ → F) (m : ℕ → ℕ → F) (q : List F) → length q ≡ suc t → Reach t (suc t) (λ r c. S (r +ℕ c)) m → Sol t (suc t) m (λ c. getD q c 𝟘)
+  pub kernel-key : (t n : ℕ) (S : ℕ → F) (m : ℕ → ℕ → F) (q : List F) → length q ≡ n → Reach t n (λ r c. S (r +ℕ c)) m → Sol t n m (λ c. getD q c 𝟘)
       → (j : ℕ) → j < t → dot K q (λ i. S (j +ℕ i)) ≡ 𝟘
-  kernel-key t S m q e h s j l =
+  kernel-key t n S m q e h s j l =
       dot-sum q (λ i. S (j +ℕ i)) ∙ ap (λ n. sum n (λ i. getD q i 𝟘 * S (j +ℕ i))) e
-      ∙ sum-ext (suc t) (λ i. getD q i 𝟘 * S (j +ℕ i)) (λ i. S (j +ℕ i) * getD q i 𝟘) (λ i b. mul-comm K _ _) ∙ h (λ c. getD q c 𝟘) s j l
+      ∙ sum-ext n (λ i. getD q i 𝟘 * S (j +ℕ i)) (λ i. S (j +ℕ i) * getD q i 𝟘) (λ i b. mul-comm K _ _) ∙ h (λ c. getD q c 𝟘) s j l
 
   pub kernel-nonzero : (n k : ℕ) (d : F) (m : ℕ → ℕ → F) (q : List F) → k < length q → (d ≡ 𝟘 → ⊥) → Vector n k d m (λ c. getD q c 𝟘) → Zero K q → ⊥
   kernel-nonzero n k d m q l ne W z = ne (sym (W .own) ∙ All-at (λ a. a ≡ 𝟘) q 𝟘 k z l)

@@ -7,7 +7,7 @@ use Prim.Native.Nat.{_+_ as _+ℕ_}
 use native.Mathlib.Decide.{decLt}
 use native.Mathlib.Nat.{not-suc-le-zero, le-of-suc-le-suc}
 use native.Mathlib.Omega.{arith}
-use lib.ListN.{length, getD, drop, length-map}
+use lib.ListN.{length, getD, take, drop, length-map}
 use Prim.{tt}
 use Rattle.algebra.specs.Field.{Field, ops}
 use Rattle.algebra.specs.Polynomial.{power, eval, plus, scale, product}
@@ -351,3 +351,22 @@ module _ (K : Field) where
       go : Dec (length xs < length p) → length xs < length p
       go (yes h) = h
       go (no h) = absurd (n (root-bound xs p (omega arith) d r))
+
+  -- ---- coefficients that are zero from place n on
+
+  take-zero-step : (a x : F) → a ≡ 𝟘 → a + x * 𝟘 ≡ 𝟘
+  take-zero-step a x h = simp (ring, h)
+
+  pub eval-take : (n : ℕ) (p : List F) (x : F) → ((k : ℕ) → n ≤ k → getD p k 𝟘 ≡ 𝟘) → eval (ops K) (take n p) x ≡ eval (ops K) p x
+  unfolding eval
+  eval-take zero [] x h = refl
+  eval-take zero (a ∷ p) x h =
+      sym (ap (λ u. a + x * u) (sym (eval-take zero p x (λ k l. h (suc k) (omega arith)))) ∙ take-zero-step a x (h zero (omega arith)))
+  eval-take (suc n) [] x h = refl
+  eval-take (suc n) (a ∷ p) x h = ap (λ u. a + x * u) (eval-take n p x (λ k l. h (suc k) (omega arith)))
+
+  pub Zero-take : (n : ℕ) (p : List F) → ((k : ℕ) → n ≤ k → getD p k 𝟘 ≡ 𝟘) → Zero (take n p) → Zero p
+  Zero-take zero [] h z = tt
+  Zero-take zero (a ∷ p) h z = (h zero (omega arith), Zero-take zero p (λ k l. h (suc k) (omega arith)) tt)
+  Zero-take (suc n) [] h z = tt
+  Zero-take (suc n) (a ∷ p) h z = (z .0, Zero-take n p (λ k l. h (suc k) (omega arith)) (z .1))

@@ -7,15 +7,15 @@ use Prim.Native.Nat.{_+_ as _+ℕ_}
 use native.Mathlib.Nat.{not-suc-le-zero}
 use native.Mathlib.Nat.{add-zero as ℕ-add-zero, add-suc as ℕ-add-suc}
 use native.Mathlib.Omega.{arith}
-use lib.ListN.{length, getD}
+use lib.ListN.{length, getD, take}
 use Prim.{tt}
 use Rattle.algebra.specs.Field.{Field, ops}
 use Rattle.algebra.specs.Polynomial.{power, eval}
-use Rattle.algebra.proofs.Ring.{ring, cancel, add-zero, mul-zero, zero-mul, zero-add, mul-div, mul-comm, mul-one}
+use Rattle.algebra.proofs.Ring.{ring, cancel, add-zero, mul-zero, zero-mul, zero-add, mul-div, mul-comm, mul-one, mul-ne}
 use Rattle.common.specs.Lists.{All}
 use Rattle.common.proofs.Lists.{All-map, All-of}
 use Rattle.algebra.proofs.Lists.{Away, Distinct}
-use Rattle.algebra.proofs.Polynomial.{fromRoots, length-fromRoots, fromRoots-roots, fromRoots-ne}
+use Rattle.algebra.proofs.Polynomial.{timesLinear, timesLinearFrom, fromRoots, length-fromRoots, fromRoots-roots, fromRoots-ne}
 
 module _ (K : Field) where
   open Field K using (F, add as _+_, mul as _*_, 𝟘, 𝟙, inv, dec)
@@ -196,7 +196,7 @@ module _ (K : Field) where
   weighted q [] = []
   weighted q (e ∷ E) = (e .0, e .1 * eval (ops K) q (e .0)) ∷ weighted q E
 
-  places-weighted : (q : List F) (E : List Term) → places (weighted q E) ≡ places E
+  pub places-weighted : (q : List F) (E : List Term) → places (weighted q E) ≡ places E
   unfolding weighted
   places-weighted q [] = refl
   places-weighted q (e ∷ E) = ap {B = List F} (λ u. e .0 ∷ u) (places-weighted q E)
@@ -280,3 +280,51 @@ module _ (K : Field) where
       by : (e : Term) → Dec (e .1 ≡ 𝟘) → ((e .1 ≡ 𝟘 → ⊥) → eval (ops K) p (e .0) ≡ 𝟘) → e .1 * eval (ops K) p (e .0) ≡ 𝟘
       by e (yes z) f = ap (λ u. u * eval (ops K) p (e .0)) z ∙ zero-mul K _
       by e (no z) f = ap (λ u. e .1 * u) (f z) ∙ mul-zero K _
+
+  -- ---- places that are known beforehand
+
+  linear-nil : (c d u : F) → d * u + 𝟘 ≡ (d * u + c * 𝟘) + 𝟘
+  linear-nil c d u = simp ring
+
+  linear-dot-step : (c d a u v s t : F) → (d + c * a) * u + ((a * v + c * s) + t) ≡ (d * u + c * (a * u + s)) + (a * v + t)
+  linear-dot-step c d a u v s t = simp ring
+
+  dot-timesLinearFrom : (c d : F) (p : List F) (f : ℕ → F) → dot (timesLinearFrom K c d p) f ≡ (d * f zero + c * dot p f) + dot p (λ i. f (suc i))
+  unfolding dot timesLinearFrom
+  dot-timesLinearFrom c d [] f = linear-nil c d (f zero)
+  dot-timesLinearFrom c d (a ∷ p) f =
+      ap (λ u. (d + c * a) * f zero + u) (dot-timesLinearFrom c a p (λ i. f (suc i))) ∙ linear-dot-step c d a (f zero) (f (suc zero)) (dot p (λ i. f (suc i))) (dot p (λ i. f (suc (suc i))))
+
+  linear-drop : (u v w : F) → (𝟘 * u + v) + w ≡ v + w
+  linear-drop u v w = simp ring
+
+  -- one root more: Σ ((x + c) p)_i f(i) = c Σ p_i f(i) + Σ p_i f(i + 1)
+  pub dot-timesLinear : (c : F) (p : List F) (f : ℕ → F) → dot (timesLinear K c p) f ≡ c * dot p f + dot p (λ i. f (suc i))
+  dot-timesLinear c p f = dot-timesLinearFrom c 𝟘 p f ∙ linear-drop (f zero) (c * dot p f) (dot p (λ i. f (suc i)))
+
+  unweighted : (g q : List F) (E : List Term) → All (λ e. (e .1 ≡ 𝟘 → ⊥) → eval (ops K) q (e .0) ≡ 𝟘) (weighted g E)
+      → All (λ e. (e .1 ≡ 𝟘 → ⊥) → (eval (ops K) g (e .0) ≡ 𝟘 → ⊥) → eval (ops K) q (e .0) ≡ 𝟘) E
+  unfolding weighted
+  unweighted g q [] h = tt
+  unweighted g q (e ∷ E) h = ((λ n m. h .0 (mul-ne K (e .1) (eval (ops K) g (e .0)) n m)), unweighted g q E (h .1))
+
+  -- (G) the key equations with marks: let g vanish at the marked places. A solution for the syndromes that g modifies, Σ_k g_k S_(j + k), is a locator of
+  -- every place of error where g is not zero. Only these errors count against the number t of equations.
+  pub key-marked : (E : List Term) (g q : List F) (t : ℕ) → Distinct (places E) → weight (weighted g E) ≤ t
+      → ((j : ℕ) → j < t → dot q (λ i. dot g (λ k. syndrome E (j +ℕ i +ℕ k))) ≡ 𝟘)
+      → All (λ e. (e .1 ≡ 𝟘 → ⊥) → (eval (ops K) g (e .0) ≡ 𝟘 → ⊥) → eval (ops K) q (e .0) ≡ 𝟘) E
+  key-marked E g q t d w h =
+      unweighted g q E (key (weighted g E) q t (rw places-weighted d) w
+      (λ j l. dot-ext q (λ i. syndrome (weighted g E) (j +ℕ i)) (λ i. dot g (λ k. syndrome E (j +ℕ i +ℕ k))) (λ i b. sym (dot-shifted g E (j +ℕ i))) ∙ h j l))
+
+  -- coefficients that are zero from place n on
+  drop-zero-step : (a x : F) → a ≡ 𝟘 → a * x + 𝟘 ≡ 𝟘
+  drop-zero-step a x h = simp (ring, h)
+
+  pub dot-take : (n : ℕ) (p : List F) (f : ℕ → F) → ((k : ℕ) → n ≤ k → getD p k 𝟘 ≡ 𝟘) → dot (take n p) f ≡ dot p f
+  unfolding dot
+  dot-take zero [] f h = refl
+  dot-take zero (a ∷ p) f h =
+      sym (ap (λ u. a * f zero + u) (sym (dot-take zero p (λ i. f (suc i)) (λ k l. h (suc k) (omega arith)))) ∙ drop-zero-step a (f zero) (h zero (omega arith)))
+  dot-take (suc n) [] f h = refl
+  dot-take (suc n) (a ∷ p) f h = ap (λ u. a * f zero + u) (dot-take n p (λ i. f (suc i)) (λ k l. h (suc k) (omega arith)))

@@ -2,7 +2,7 @@
 -- Assumes nothing.
 use Prim.Native.Nat.{ℕ}
 use Rattle.answer.specs.declared.Answer.{Answer}
-use Rattle.answer.specs.declared.Answer.the-variants.{Done, PacketLength, SyncByte, BlockLength, RoomLength, StateRange, UnknownRate, CountsFull, Uncorrectable, Filling, WaitingForGroup, OutOfStep, PatternLength, RunLength, SymbolRange, NullPacket, NoSuchBlock, StateLength, UnknownCount}
+use Rattle.answer.specs.declared.Answer.the-variants.{Done, PacketLength, SyncByte, BlockLength, RoomLength, StateRange, UnknownRate, CountsFull, Uncorrectable, Filling, WaitingForGroup, OutOfStep, PatternLength, RunLength, SymbolRange, NullPacket, NoSuchBlock, MarkValue, StateLength, UnknownCount}
 
 abbrev pub numberOf : Answer → ℕ
 numberOf Done = 0
@@ -22,5 +22,6 @@ numberOf RunLength = 13
 numberOf SymbolRange = 14
 numberOf NullPacket = 15
 numberOf NoSuchBlock = 16
+numberOf MarkValue = 20
 numberOf StateLength = 22
 numberOf UnknownCount = 23

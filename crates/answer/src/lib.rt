@@ -19,7 +19,7 @@ pub enum Answer {
     UnknownRate,
     // The receiver has taken as many blocks as it can count.
     CountsFull,
-    // No codeword is within eight bytes.
+    // No codeword is within eight bytes, or with marks near enough.
     Uncorrectable,
     // The delay branches of the receiver are still filling.
     Filling,
@@ -37,6 +37,8 @@ pub enum Answer {
     NullPacket,
     // A recording has no such block, or a receiver would not take it.
     NoSuchBlock,
+    // There is not a mark for each byte, or one is above 1.
+    MarkValue,
     // A state given as bytes is not as long as a state is.
     StateLength,
     // There is no count with this number.
@@ -66,6 +68,7 @@ impl Answer {
             Answer::SymbolRange => 14,
             Answer::NullPacket => 15,
             Answer::NoSuchBlock => 16,
+            Answer::MarkValue => 20,
             Answer::StateLength => 22,
             Answer::UnknownCount => 23,
         }

@@ -129,7 +129,7 @@ changed-le (e ∷ l) = go (eqb e 0) (changed-le l)
 pub correcting-none : (block degrees values : List ℕ) (count : ℕ) → length block ≡ 204 → Correcting block block degrees values count 0 0
 correcting-none block degrees values count n = record { most = omega arith; len = n; rest = refl; total = zero-add _ }
 
-module _ (start block degrees values : List ℕ) (count changed l : ℕ) (n : length degrees ≡ 16) (m : length values ≡ 16) (b : count ≤ 8) (h : l < count)
+module _ (start block degrees values : List ℕ) (count changed l : ℕ) (n : length degrees ≡ 16) (m : length values ≡ 16) (b : count ≤ 16) (h : l < count)
     (c : Correcting start block degrees values count changed l) where
   front : (k : List ℕ) → length k ≡ 16 → drop l (take count k) ≡ getD k l 0 ∷ drop (l + 1) (take count k)
   front k e =
@@ -150,7 +150,7 @@ module _ (start block degrees values : List ℕ) (count changed l : ℕ) (n : le
   unfolding changedIn
   counted = ap (λ (k : List ℕ). changed + changedIn k) (sym (front values m)) ∙ c .total
 
-  pub changed-fits : (getD values l 0 ≡ 0 → ⊥) → changed + 1 ≤ 8
+  pub changed-fits : (getD values l 0 ≡ 0 → ⊥) → changed + 1 ≤ 16
   changed-fits z =
       omega (arith, rw (ne-eqb (getD values l 0) 0 z) at counted, changed-le (take count values), length-take-le count values (omega arith))
 
@@ -172,7 +172,7 @@ module _ (start block degrees values : List ℕ) (count changed l : ℕ) (n : le
         total = omega (arith, rw (ne-eqb (getD values l 0) 0 z) at counted);
       }
 
-module _ (start block degrees values : List ℕ) (count changed l : ℕ) (n : length degrees ≡ 16) (m : length values ≡ 16) (b : count ≤ 8) (h : count ≤ l)
+module _ (start block degrees values : List ℕ) (count changed l : ℕ) (n : length degrees ≡ 16) (m : length values ≡ 16) (b : count ≤ 16) (h : count ≤ l)
     (c : Correcting start block degrees values count changed l) where
   none-left : (k : List ℕ) → length k ≡ 16 → drop l (take count k) ≡ []
   none-left k e = drop-of-length-le (take count k) {i = l} (omega (arith, length-take-le count k (omega arith)))

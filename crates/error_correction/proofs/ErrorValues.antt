@@ -1,15 +1,15 @@
 -- The product of x + r over the roots, and the values of the errors from it.
 -- Assumes nothing.
 use mathlib.Core.Path.{_≡_, refl, sym, ap, ap₂, _∙_, subst}
-use mathlib.Core.List.{List, [], _∷_, map}
+use mathlib.Core.List.{List, [], _∷_, _++_, map}
 use Prim.Native.Nat.{ℕ, zero, suc, _+_, _-_, _≤_, _<_, Fin}
 use native.Mathlib.Nat.{zero-add}
 use native.Mathlib.Numerals.{add-one}
 use native.Mathlib.Decide.{decLt}
 use native.Mathlib.Omega.{arith}
 use lib.Bits.{bitXor}
-use lib.ListN.{length, getD, take, drop, replicate, length-map, List·getD-eq-default}
-use lib.Seq.{drop-cons, drop-length, length-take-le, getD-take}
+use lib.ListN.{length, getD, take, drop, replicate, length-map, length-append, List·getD-eq-default}
+use lib.Seq.{drop-cons, drop-length, length-take-le, getD-take, take-suc, take-take}
 use Rattle.common.proofs.Lists.{getD-map-in}
 use Rattle.algebra.specs.Field.{Field, ops}
 use Rattle.algebra.specs.Polynomial.{eval, plus, scale}
@@ -20,11 +20,10 @@ use Rattle.galois.specs.Field256.{numbers, mul, inv, scaled}
 use Rattle.galois.proofs.Laws.{mul-lt, mul-zero-right, mul-comm}
 use Rattle.galois.proofs.Instance.{bytes, byte, byte-zero, byte-one, byte-add, byte-mul, byte-inv}
 use Rattle.byte_lanes.specs.Lanes.{elements, productsOf, advanced}
-use Rattle.error_correction.specs.Correction.{EndsAt, RootProduct, quotientBy, numeratorAt, denominatorAt, FractionsAt, errorValue}
+use Rattle.error_correction.specs.Correction.{monic, RootProduct, quotientBy, numeratorAt, denominatorAt, FractionsAt, errorValue}
 use Rattle.byte_lanes.proofs.Words.{elements-plus, elements-scale, length-sum, sum-at}
 use Rattle.byte_lanes.proofs.Powers.{zeros-at, length-advanced, advanced-at, eval-from}
 use Rattle.byte_lanes.proofs.Words.{length-products, products-at}
-use Rattle.error_correction.proofs.RootSearch.{eval-zeros, eval-cut}
 
 -- ---- identities
 
@@ -45,31 +44,65 @@ pub record Multiplied (rs p : List ℕ) (l : ℕ) : Type 0 where
   pub most : l ≤ length rs
   pub len : length p ≡ 16
   pub zeros : (k : ℕ) → length rs - l < k → getD p k 0 ≡ 0
-  pub values : (y : Fin 256) → eval (ops bytes) (elements p) y ≡ eval (ops bytes) (fromRoots bytes (elements (drop l rs))) y
+  pub lead : length rs - l < 16 → getD p (length rs - l) 0 ≡ 1
+  pub values : (y : Fin 256) → eval (ops bytes) (elements (monic (length rs - l) p)) y ≡ eval (ops bytes) (fromRoots bytes (elements (drop l rs))) y
 
 one-zeros : (k : ℕ) → 0 < k → getD {A = ℕ} (1 ∷ replicate 15 0) k 0 ≡ 0
 one-zeros zero h = absurd (omega arith)
 one-zeros (suc k) h = zeros-at 15 k
 
-one-value : (y : Fin 256) → eval (ops bytes) (elements (1 ∷ replicate 15 0)) y ≡ eval (ops bytes) (fromRoots bytes []) y
-unfolding eval fromRoots
-one-value y = ap₂ (λ (u v : Fin 256). bytes .add u (bytes .mul y v)) byte-one (eval-zeros (replicate 15 0) y (λ k h. zeros-at 15 k))
-
 pub multiplied-none : (rs : List ℕ) (n : ℕ) → length rs ≡ n → Multiplied rs (1 ∷ replicate 15 0) n
+unfolding fromRoots
 multiplied-none rs n e =
+    let z : length rs - n ≡ 0 = omega arith in
     record {
       most = omega arith;
       len = refl;
       zeros = λ k h. one-zeros k (omega arith);
-      values = λ y. one-value y ∙ ap (λ (l : List ℕ). eval (ops bytes) (fromRoots bytes (elements l)) y) (sym (ap (λ (k : ℕ). drop k rs) (sym e) ∙ drop-length rs));
+      lead = λ h. ap (λ (k : ℕ). getD (1 ∷ replicate 15 0) k 0) z;
+      values = λ y.
+          ap (λ (k : ℕ). eval (ops bytes) (elements (monic k (1 ∷ replicate 15 0))) y) z
+          ∙ ap (λ (u : Fin 256). eval (ops bytes) (u ∷ []) y) byte-one
+          ∙ ap (λ (l : List ℕ). eval (ops bytes) (fromRoots bytes (elements l)) y) (sym (ap (λ (k : ℕ). drop k rs) (sym e) ∙ drop-length rs));
     }
 
-module _ (rs p : List ℕ) (l : ℕ) (few : length rs ≤ 8) (m : Multiplied rs p l) (more : 0 < l) where
+-- the first elements of a sum, and one more in the second list alone
+take-plus : (n : ℕ) (a b : List ℕ) → take n (plus numbers a b) ≡ plus numbers (take n a) (take n b)
+unfolding plus
+take-plus zero a b = refl
+take-plus (suc n) [] b = refl
+take-plus (suc n) (x ∷ a) [] = refl
+take-plus (suc n) (x ∷ a) (y ∷ b) = ap (λ (l : List ℕ). bitXor x y ∷ l) (take-plus n a b)
+
+take-scaled : (n c : ℕ) (a : List ℕ) → take n (scaled c a) ≡ scaled c (take n a)
+unfolding scale
+take-scaled zero c a = refl
+take-scaled (suc n) c [] = refl
+take-scaled (suc n) c (x ∷ a) = ap (λ (l : List ℕ). mul c x ∷ l) (take-scaled n c a)
+
+plus-last : (a b : List ℕ) (x : ℕ) → length a ≡ length b → plus numbers a b ++ x ∷ [] ≡ plus numbers a (b ++ x ∷ [])
+unfolding plus
+plus-last [] [] x h = refl
+plus-last [] (y ∷ b) x h = absurd (omega arith)
+plus-last (z ∷ a) [] x h = absurd (omega arith)
+plus-last (z ∷ a) (y ∷ b) x h = ap (λ (l : List ℕ). bitXor z y ∷ l) (plus-last a b x (omega arith))
+
+module _ (rs p : List ℕ) (l : ℕ) (few : length rs ≤ 16) (m : Multiplied rs p l) (more : 0 < l) where
   abbrev c : ℕ
   c = getD rs (l - 1) 0
 
   abbrev pub multiplied : List ℕ
   multiplied = plus numbers (scaled c p) (0 ∷ take 15 p)
+
+  -- the degree so far
+  abbrev n : ℕ
+  n = length rs - l
+
+  degree-next : length rs - (l - 1) ≡ suc n
+  degree-next = omega (arith, m .most)
+
+  degree-low : n < 16
+  degree-low = omega (arith, m .most)
 
   scaled-len : length (scaled c p) ≡ 16
   unfolding scale
@@ -85,21 +118,48 @@ module _ (rs p : List ℕ) (l : ℕ) (few : length rs ≤ 8) (m : Multiplied rs 
   unfolding scale
   scaled-zero k h z = getD-map-in (mul c) p 0 0 k (omega (arith, m .len)) ∙ ap (mul c) z ∙ mul-zero-right c
 
-  high-at : (k : ℕ) → length rs - (l - 1) < k → Dec (k < 16) → getD multiplied k 0 ≡ 0
+  high-at : (k : ℕ) → suc n < k → Dec (k < 16) → getD multiplied k 0 ≡ 0
   high-at zero h d = absurd (omega arith)
   high-at (suc k) h (yes b) =
       sum-at (scaled c p) (0 ∷ take 15 p) (suc k) same
-      ∙ ap₂ bitXor (scaled-zero (suc k) b (m .zeros (suc k) (omega arith))) (getD-take 15 p k 0 (omega arith) ∙ m .zeros k (omega (arith, m .most)))
+      ∙ ap₂ bitXor (scaled-zero (suc k) b (m .zeros (suc k) (omega arith))) (getD-take 15 p k 0 (omega arith) ∙ m .zeros k (omega arith))
   high-at (suc k) h (no b) = List·getD-eq-default multiplied 0 {n = suc k} (omega (arith, length-sum (scaled c p) (0 ∷ take 15 p) same, scaled-len))
 
-  value-at : (y : Fin 256) → eval (ops bytes) (elements multiplied) y ≡ bytes .mul (bytes .add y (byte c)) (eval (ops bytes) (elements p) y)
+  lead-at : suc n < 16 → getD multiplied (suc n) 0 ≡ 1
+  lead-at h =
+      sum-at (scaled c p) (0 ∷ take 15 p) (suc n) same
+      ∙ ap₂ bitXor (scaled-zero (suc n) h (m .zeros (suc n) (omega arith))) (getD-take 15 p n 0 (omega arith) ∙ m .lead degree-low)
+
+  whole : take (suc n) p ≡ monic n p
+  whole = take-suc p n 0 (omega (arith, m .len, degree-low)) ∙ ap (λ (x : ℕ). take n p ++ x ∷ []) (m .lead degree-low)
+
+  low-length : length (take n p) ≡ n
+  low-length = length-take-le n p (omega (arith, m .len, degree-low))
+
+  monic-length : length (monic n p) ≡ suc n
+  monic-length = length-append (take n p) (1 ∷ []) ∙ omega (arith, low-length)
+
+  scaled-monic-length : length (scaled c (monic n p)) ≡ suc n
+  unfolding scale
+  scaled-monic-length = length-map (monic n p) (mul c) ∙ monic-length
+
+  -- one factor more
+  product-list : monic (suc n) multiplied ≡ plus numbers (scaled c (monic n p)) (0 ∷ monic n p)
+  product-list =
+      ap (λ (a : List ℕ). a ++ 1 ∷ [])
+      (take-plus (suc n) (scaled c p) (0 ∷ take 15 p)
+      ∙ ap₂ (plus numbers) (take-scaled (suc n) c p ∙ ap (scaled c) whole) (ap (λ (a : List ℕ). 0 ∷ a) (take-take n 15 p (omega (arith, degree-low)))))
+      ∙ plus-last (scaled c (monic n p)) (0 ∷ take n p) 1 (scaled-monic-length ∙ omega (arith, low-length))
+
+  value-at : (y : Fin 256) → eval (ops bytes) (elements (monic (suc n) multiplied)) y ≡ bytes .mul (bytes .add y (byte c)) (eval (ops bytes) (elements (monic n p)) y)
   unfolding eval
   value-at y =
-      ap (λ (q : List (Fin 256)). eval (ops bytes) q y) (elements-plus (scaled c p) (0 ∷ take 15 p))
-      ∙ eval-plus bytes (elements (scaled c p)) (elements (0 ∷ take 15 p)) y
-      ∙ ap₂ (bytes .add) (ap (λ (q : List (Fin 256)). eval (ops bytes) q y) (elements-scale c p) ∙ eval-scale bytes (byte c) (elements p) y)
-      (ap₂ (λ (u v : Fin 256). bytes .add u (bytes .mul y v)) byte-zero (sym (eval-cut 15 p y (λ k h. m .zeros k (omega arith)))))
-      ∙ linear-identity bytes (byte c) (eval (ops bytes) (elements p) y) y
+      ap (λ (q : List ℕ). eval (ops bytes) (elements q) y) product-list
+      ∙ ap (λ (q : List (Fin 256)). eval (ops bytes) q y) (elements-plus (scaled c (monic n p)) (0 ∷ monic n p))
+      ∙ eval-plus bytes (elements (scaled c (monic n p))) (elements (0 ∷ monic n p)) y
+      ∙ ap₂ (bytes .add) (ap (λ (q : List (Fin 256)). eval (ops bytes) q y) (elements-scale c (monic n p)) ∙ eval-scale bytes (byte c) (elements (monic n p)) y)
+      (ap (λ (u : Fin 256). bytes .add u (bytes .mul y (eval (ops bytes) (elements (monic n p)) y))) byte-zero)
+      ∙ linear-identity bytes (byte c) (eval (ops bytes) (elements (monic n p)) y) y
 
   pub multiplied-more : Multiplied rs multiplied (l - 1)
   unfolding fromRoots
@@ -107,9 +167,11 @@ module _ (rs p : List ℕ) (l : ℕ) (few : length rs ≤ 8) (m : Multiplied rs 
       record {
         most = omega (arith, m .most);
         len = length-sum (scaled c p) (0 ∷ take 15 p) same ∙ scaled-len;
-        zeros = λ k h. high-at k h (decLt k 16);
+        zeros = λ k h. high-at k (omega (arith, degree-next)) (decLt k 16);
+        lead = λ h. ap (λ (k : ℕ). getD multiplied k 0) degree-next ∙ lead-at (omega (arith, degree-next));
         values = λ y.
-            value-at y ∙ ap (λ (u : Fin 256). bytes .mul (bytes .add y (byte c)) u) (m .values y)
+            ap (λ (k : ℕ). eval (ops bytes) (elements (monic k multiplied)) y) degree-next
+            ∙ value-at y ∙ ap (λ (u : Fin 256). bytes .mul (bytes .add y (byte c)) u) (m .values y)
             ∙ sym (eval-timesLinear bytes (byte c) (fromRoots bytes (elements (drop l rs))) y)
             ∙ ap (λ (q : List ℕ). eval (ops bytes) (fromRoots bytes (elements q)) y) (sym rest);
       }
@@ -119,11 +181,12 @@ module _ (rs p : List ℕ) (l : ℕ) (few : length rs ≤ 8) (m : Multiplied rs 
           let n : suc (l - 1) ≡ l = omega arith in
           drop-cons rs (l - 1) 0 (omega (arith, m .most)) ∙ ap (λ (k : ℕ). c ∷ drop k rs) n
 
-pub multiplied-all : (rs p : List ℕ) (l : ℕ) → length rs ≤ 8 → l ≤ 0 → Multiplied rs p l → RootProduct rs p
-multiplied-all rs p l few h m =
+pub multiplied-all : (rs p : List ℕ) (l : ℕ) → l ≤ 0 → Multiplied rs p l → RootProduct rs p
+multiplied-all rs p l h m =
     let z : l ≡ 0 = omega arith in
+    let n : length rs - l ≡ length rs = omega arith in
     record {
-      values = λ y. sym (eval-cut 9 p y (λ k b. m .zeros k (omega arith))) ∙ m .values y
+      values = λ y. ap (λ (k : ℕ). eval (ops bytes) (elements (monic k p)) y) (sym n) ∙ m .values y
           ∙ ap (λ (k : ℕ). eval (ops bytes) (fromRoots bytes (elements (drop k rs))) y) z;
     }
 
@@ -131,8 +194,8 @@ multiplied-all rs p l few h m =
 
 -- a is coefficient k - 1 of the quotient before the next step, u and v the sums from coefficient k on
 pub record Summed (p s : List ℕ) (y a u v k : ℕ) : Type 0 where
-  pub most : k ≤ 8
-  pub coefficient : byte a ≡ eval (ops bytes) (elements (drop (k + 1) (take 9 p))) (byte y)
+  pub most : k < length p
+  pub coefficient : byte a ≡ eval (ops bytes) (elements (drop (k + 1) p)) (byte y)
   pub numerator : byte u ≡ dot bytes (drop k (quotientBy p y)) (λ i. byte (getD s (k + i) 0))
   pub denominator : byte v ≡ eval (ops bytes) (drop k (quotientBy p y)) (byte y)
 
@@ -140,40 +203,37 @@ summed-as : {p s : List ℕ} {y k a b u v w z : ℕ} → a ≡ b → u ≡ w →
 summed-as {p} {s} {y} {k} {a} {b} {u} {v} {w} {z} e f g m =
     subst (λ (x : ℕ). Summed p s y b w x k) g (subst (λ (x : ℕ). Summed p s y b x v k) f (subst (λ (x : ℕ). Summed p s y x u v k) e m))
 
-module _ (p s : List ℕ) (y : ℕ) (n : length p ≡ 16) where
+module _ (p s : List ℕ) (y n : ℕ) (nine : length p ≡ suc n) where
   abbrev quot : List (Fin 256)
   quot = quotientBy p y
 
-  nine : length (take 9 p) ≡ 9
-  nine = length-take-le 9 p (omega arith)
+  quot-length : length quot ≡ n
+  quot-length = length-quotient bytes (byte y) (elements p) n (length-map p byte ∙ nine)
 
-  quot-length : length quot ≡ 8
-  quot-length = length-quotient bytes (byte y) (elements (take 9 p)) 8 (length-map (take 9 p) byte ∙ nine)
-
-  quot-at : (k : ℕ) → k < 8 → getD quot k (bytes .𝟘) ≡ eval (ops bytes) (elements (drop (k + 1) (take 9 p))) (byte y)
+  quot-at : (k : ℕ) → k < n → getD quot k (bytes .𝟘) ≡ eval (ops bytes) (elements (drop (k + 1) p)) (byte y)
   quot-at k h =
-      quotient-at bytes (byte y) (elements (take 9 p)) k (omega (arith, length-map (take 9 p) byte, nine))
-      ∙ ap (λ (q : List (Fin 256)). eval (ops bytes) q (byte y)) (drop-map (suc k) (take 9 p))
-      ∙ ap (λ (j : ℕ). eval (ops bytes) (elements (drop j (take 9 p))) (byte y)) (sym (add-one k))
+      quotient-at bytes (byte y) (elements p) k (omega (arith, length-map p byte, nine))
+      ∙ ap (λ (q : List (Fin 256)). eval (ops bytes) q (byte y)) (drop-map (suc k) p)
+      ∙ ap (λ (j : ℕ). eval (ops bytes) (elements (drop j p)) (byte y)) (sym (add-one k))
     where
       drop-map : (k : ℕ) (l : List ℕ) → drop k (elements l) ≡ elements (drop k l)
       drop-map zero l = refl
       drop-map (suc k) [] = refl
       drop-map (suc k) (a ∷ l) = drop-map k l
 
-  nothing : drop 8 quot ≡ []
+  nothing : drop n quot ≡ []
   nothing = ap (λ (k : ℕ). drop k quot) (sym quot-length) ∙ drop-length quot
 
-  past : drop 9 (take 9 p) ≡ []
-  past = ap (λ (k : ℕ). drop k (take 9 p)) (sym nine) ∙ drop-length (take 9 p)
+  past : drop (n + 1) p ≡ []
+  past = let e : n + 1 ≡ length p = omega arith in ap (λ (k : ℕ). drop k p) e ∙ drop-length p
 
-  pub summed-none : Summed p s y 0 0 0 8
+  pub summed-none : Summed p s y 0 0 0 n
   unfolding dot eval
   summed-none =
       record {
         most = omega arith;
         coefficient = byte-zero ∙ ap (λ (l : List ℕ). eval (ops bytes) (elements l) (byte y)) (sym past);
-        numerator = byte-zero ∙ ap (λ (q : List (Fin 256)). dot bytes q (λ i. byte (getD s (8 + i) 0))) (sym nothing);
+        numerator = byte-zero ∙ ap (λ (q : List (Fin 256)). dot bytes q (λ i. byte (getD s (n + i) 0))) (sym nothing);
         denominator = byte-zero ∙ ap (λ (q : List (Fin 256)). eval (ops bytes) q (byte y)) (sym nothing);
       }
 
@@ -184,15 +244,15 @@ module _ (p s : List ℕ) (y : ℕ) (n : length p ≡ 16) where
     abbrev a′ : ℕ
     a′ = bitXor (mul a y) (getD p k 0)
 
-    next : byte a′ ≡ eval (ops bytes) (elements (drop k (take 9 p))) (byte y)
+    next : byte a′ ≡ eval (ops bytes) (elements (drop k p)) (byte y)
     next =
         byte-add (mul a y) (getD p k 0)
-        ∙ ap₂ (bytes .add) (byte-mul a y ∙ ap (λ (w : Fin 256). bytes .mul w (byte y)) (m .coefficient)) (ap byte (sym (getD-take 9 p k 0 (omega (arith, m .most)))))
-        ∙ next-identity bytes (eval (ops bytes) (elements (drop (k + 1) (take 9 p))) (byte y)) (byte y) (byte (getD (take 9 p) k 0))
-        ∙ sym (eval-from (take 9 p) k (byte y) (omega (arith, m .most, nine)))
+        ∙ ap₂ (bytes .add) (byte-mul a y ∙ ap (λ (w : Fin 256). bytes .mul w (byte y)) (m .coefficient)) refl
+        ∙ next-identity bytes (eval (ops bytes) (elements (drop (k + 1) p)) (byte y)) (byte y) (byte (getD p k 0))
+        ∙ sym (eval-from p k (byte y) (omega (arith, m .most, nine)))
 
     own : byte a′ ≡ getD quot (k - 1) (bytes .𝟘)
-    own = next ∙ sym (quot-at (k - 1) (omega (arith, m .most)) ∙ ap (λ (j : ℕ). eval (ops bytes) (elements (drop j (take 9 p))) (byte y)) down)
+    own = next ∙ sym (quot-at (k - 1) (omega (arith, m .most)) ∙ ap (λ (j : ℕ). eval (ops bytes) (elements (drop j p)) (byte y)) down)
 
     split : drop (k - 1) quot ≡ byte a′ ∷ drop k quot
     split =
@@ -204,7 +264,7 @@ module _ (p s : List ℕ) (y : ℕ) (n : length p ≡ 16) where
     summed-more =
         record {
           most = omega (arith, m .most);
-          coefficient = next ∙ ap (λ (j : ℕ). eval (ops bytes) (elements (drop j (take 9 p))) (byte y)) (sym down);
+          coefficient = next ∙ ap (λ (j : ℕ). eval (ops bytes) (elements (drop j p)) (byte y)) (sym down);
           numerator =
               byte-add (mul a′ (getD s (k - 1) 0)) u
               ∙ ap₂ (bytes .add)
@@ -223,19 +283,6 @@ module _ (p s : List ℕ) (y : ℕ) (n : length p ≡ 16) where
 
         there : (i : ℕ) → k + i ≡ k - 1 + suc i
         there i = omega arith
-
-  -- the sums begin at the degree of p: the coefficients above it are zero
-  pub summed-from : (d k : ℕ) → k + d ≡ 8 → EndsAt (take 9 p) k → Summed p s y 0 0 0 k
-  summed-from zero k e z = let m : _≡_ {A = ℕ} 8 k = omega arith in subst (Summed p s y 0 0 0) m summed-none
-  summed-from (suc d) k e z =
-      let above : Summed p s y 0 0 0 (k + 1) = summed-from d (k + 1) (omega arith) (record { most = omega arith; zeros = λ i h. z .zeros i (omega arith) }) in
-      let top : getD p (k + 1) 0 ≡ 0 = sym (getD-take 9 p (k + 1) 0 (omega arith)) ∙ z .zeros (k + 1) (omega arith) in
-      let none : mul 0 y ≡ 0 = mul-comm 0 y ∙ mul-zero-right y in
-      let a : bitXor (mul 0 y) (getD p (k + 1) 0) ≡ 0 = ap₂ bitXor none top in
-      let j : k + 1 - 1 ≡ k = omega arith in
-      subst (Summed p s y 0 0 0) j
-      (summed-as a (ap (λ (x : ℕ). bitXor (mul x (getD s (k + 1 - 1) 0)) 0) a ∙ ap (λ (x : ℕ). bitXor x 0) (mul-comm 0 (getD s (k + 1 - 1) 0) ∙ mul-zero-right (getD s (k + 1 - 1) 0)))
-      (ap₂ bitXor none a) (summed-more 0 0 0 (k + 1) above (omega arith)))
 
   -- the sums over all coefficients
   all-numerator : (a u v k : ℕ) → k ≤ 0 → Summed p s y a u v k → byte u ≡ numeratorAt p s y
@@ -258,15 +305,15 @@ pub record SummedLanes (p s places a u v : List ℕ) (k : ℕ) : Type 0 where
   pub denominators : length v ≡ 16
   pub each : (l : ℕ) → l < 16 → Summed p s (getD places l 0) (getD a l 0) (getD u l 0) (getD v l 0) k
 
-module _ (p s places : List ℕ) (n : length p ≡ 16) (o : length places ≡ 16) where
-  pub lanes-none : (k : ℕ) → EndsAt (take 9 p) k → SummedLanes p s places (replicate 16 0) (replicate 16 0) (replicate 16 0) k
-  lanes-none k e =
+module _ (p s places : List ℕ) (n : ℕ) (size : length p ≡ suc n) (o : length places ≡ 16) where
+  pub lanes-none : SummedLanes p s places (replicate 16 0) (replicate 16 0) (replicate 16 0) n
+  lanes-none =
       record {
         coefficients = refl;
         numerators = refl;
         denominators = refl;
         each = λ l h.
-            subst (λ (x : ℕ). Summed p s (getD places l 0) x x x k) (sym (zeros-at 16 l)) (summed-from p s (getD places l 0) n (8 - k) k (omega (arith, e .most)) e);
+            subst (λ (x : ℕ). Summed p s (getD places l 0) x x x n) (sym (zeros-at 16 l)) (summed-none p s (getD places l 0) n size);
       }
 
   module _ (a u v : List ℕ) (k : ℕ) (more : 0 < k) (m : SummedLanes p s places a u v k) where
@@ -313,7 +360,7 @@ module _ (p s places : List ℕ) (n : length p ≡ 16) (o : length places ≡ 16
       lane-more : Summed p s (getD places l 0) (getD nextCoefficients l 0) (getD nextNumerators l 0) (getD nextDenominators l 0) (k - 1)
       lane-more =
           summed-as (sym coefficient-at) (sym numerator-at) (sym denominator-at)
-          (summed-more p s (getD places l 0) n (getD a l 0) (getD u l 0) (getD v l 0) k (m .each l h) more)
+          (summed-more p s (getD places l 0) n size (getD a l 0) (getD u l 0) (getD v l 0) k (m .each l h) more)
 
     lanes-next : SummedLanes p s places nextCoefficients nextNumerators nextDenominators (k - 1)
     lanes-next =
@@ -339,8 +386,8 @@ module _ (p s places : List ℕ) (n : length p ≡ 16) (o : length places ≡ 16
       record {
         numerators-length = m .numerators;
         denominators-length = m .denominators;
-        numerator = λ l i. all-numerator p s (getD places l 0) n _ _ _ k h (m .each l i);
-        denominator = λ l i. all-denominator p s (getD places l 0) n _ _ _ k h (m .each l i);
+        numerator = λ l i. all-numerator p s (getD places l 0) n size _ _ _ k h (m .each l i);
+        denominator = λ l i. all-denominator p s (getD places l 0) n size _ _ _ k h (m .each l i);
       }
 
 -- the value of an error from its fraction: lane l of the products by the inverses

@@ -3,24 +3,25 @@
 use mathlib.Core.Path.{_≡_, refl, sym, ap, ap₂, _∙_, subst}
 use mathlib.Core.List.{List, [], _∷_, _++_, map, append-assoc, append-nil}
 use Prim.Native.Nat.{ℕ, zero, suc, _+_, _-_, _≤_, _<_, Fin}
+use Prim.{tt}
 use native.Mathlib.Nat.{zero-add, add-zero}
 use native.Mathlib.Numerals.{add-one}
 use native.Mathlib.Decide.{ℕ-discrete}
 use native.Mathlib.Omega.{arith}
 use borrow.Author.Tests.{eq-eqb, ne-eqb}
-use lib.Dec.{eqb}
+use lib.Dec.{eqb, lit<}
 use lib.ListN.{length, getD, take, drop, set, replicate, length-append, length-take, length-drop, length-set, take-append-drop, List·getD-eq-default}
 use lib.Seq.{getD-take, getD-drop, take-suc, take-suc-set, take-all, take-add, length-take-le, ext-getD}
 use Rattle.common.specs.Choice.{pick}
 use Rattle.common.proofs.Lists.{length-listOf, getD-listOf}
 use Rattle.algebra.specs.Field.{ops}
 use Rattle.algebra.specs.Polynomial.{eval}
-use Rattle.algebra.proofs.Ring.{zero-add as field-zero-add, mul-zero as field-mul-zero}
+use Rattle.algebra.proofs.Ring.{zero-add as field-zero-add, add-zero as field-add-zero, mul-zero as field-mul-zero}
 use Rattle.galois.specs.Field256.{pow}
 use Rattle.galois.proofs.Instance.{bytes, byte, byte-val, byte-zero}
 use Rattle.byte_lanes.specs.Lanes.{elements, point, PowersFrom, ValuesAt}
-use Rattle.byte_lanes.proofs.Powers.{powers-at}
-use Rattle.error_correction.specs.Correction.{EndsAt, valuesOf, zerosFrom, Listed, rootsOf, FoundRoots}
+use Rattle.byte_lanes.proofs.Powers.{zeros-at, powers-at}
+use Rattle.error_correction.specs.Correction.{EndsAt, masked, Masked, valuesOf, zerosFrom, Listed, rootsOf, one, FoundRoots}
 
 -- ---- the degree
 
@@ -28,14 +29,14 @@ use Rattle.error_correction.specs.Correction.{EndsAt, valuesOf, zerosFro
 abbrev pub Zeros : List ℕ → ℕ → Type 0
 Zeros p n = (k : ℕ) → n ≤ k → getD p k 0 ≡ 0
 
-pub eval-zeros : (p : List ℕ) (y : Fin 256) → Zeros p 0 → eval (ops bytes) (elements p) y ≡ bytes .𝟘
+eval-zeros : (p : List ℕ) (y : Fin 256) → Zeros p 0 → eval (ops bytes) (elements p) y ≡ bytes .𝟘
 unfolding eval
 eval-zeros [] y h = refl
 eval-zeros (a ∷ p) y h =
     ap₂ (λ (u v : Fin 256). bytes .add u (bytes .mul y v)) (ap byte (h 0 (omega arith)) ∙ byte-zero) (eval-zeros p y (λ k l. h (suc k) (omega arith)))
     ∙ field-zero-add bytes (bytes .mul y (bytes .𝟘)) ∙ field-mul-zero bytes y
 
-pub eval-cut : (n : ℕ) (p : List ℕ) (y : Fin 256) → Zeros p n → eval (ops bytes) (elements p) y ≡ eval (ops bytes) (elements (take n p)) y
+eval-cut : (n : ℕ) (p : List ℕ) (y : Fin 256) → Zeros p n → eval (ops bytes) (elements p) y ≡ eval (ops bytes) (elements (take n p)) y
 unfolding eval
 eval-cut zero p y h = eval-zeros p y h
 eval-cut (suc n) [] y h = refl
@@ -61,34 +62,55 @@ length-prefix q d n e = length-take-le (d + 1) q (omega (arith, e .most))
 
 -- ---- sixteen values
 
-pub length-values : (q : List ℕ) → length (valuesOf q) ≡ 204
+pub length-values : (u q : List ℕ) → length (valuesOf u q) ≡ 204
 unfolding valuesOf
-length-values q = length-listOf 204 (λ (i : ℕ). eval (ops bytes) (elements q) (point i) .0)
+length-values u q = length-listOf 204 (λ (i : ℕ). masked (getD u i 0) (eval (ops bytes) (elements q) (point i) .0))
 
-pub value-at : (q : List ℕ) (i : ℕ) → i < 204 → getD (valuesOf q) i 0 ≡ eval (ops bytes) (elements q) (point i) .0
+pub value-at : (u q : List ℕ) (i : ℕ) → i < 204 → getD (valuesOf u q) i 0 ≡ masked (getD u i 0) (eval (ops bytes) (elements q) (point i) .0)
 unfolding valuesOf
-value-at q i h = getD-listOf 204 (λ (i : ℕ). eval (ops bytes) (elements q) (point i) .0) 0 i h
+value-at u q i h = getD-listOf 204 (λ (i : ℕ). masked (getD u i 0) (eval (ops bytes) (elements q) (point i) .0)) 0 i h
 
-module _ (q x v : List ℕ) (i d : ℕ) (h : i ≤ 204) (p : PowersFrom i x) (g : ValuesAt (take (d + 1) q) x v) (z : EndsAt q d) where
+-- at an erasure the value is zero, elsewhere it is that of the polynomial
+pub value-erased : (u q : List ℕ) (i : ℕ) → i < 204 → (getD u i 0 ≡ 0 → ⊥) → getD (valuesOf u q) i 0 ≡ 0
+value-erased u q i h e = value-at u q i h ∙ ap (λ b. pick b (eval (ops bytes) (elements q) (point i) .0) 0) (ne-eqb (getD u i 0) 0 e)
+
+pub value-kept : (u q : List ℕ) (i : ℕ) → i < 204 → getD u i 0 ≡ 0 → getD (valuesOf u q) i 0 ≡ eval (ops bytes) (elements q) (point i) .0
+value-kept u q i h e = value-at u q i h ∙ ap (λ b. pick b (eval (ops bytes) (elements q) (point i) .0) 0) (eq-eqb (getD u i 0) 0 e)
+
+eval-one : (y : Fin 256) → eval (ops bytes) (elements one) y ≡ byte 1
+unfolding eval
+eval-one y =
+    ap (λ (v : Fin 256). bytes .add (byte 1) (bytes .mul y v)) (eval-zeros (replicate 8 0) y (λ k h. zeros-at 8 k))
+    ∙ ap (bytes .add (byte 1)) (field-mul-zero bytes y) ∙ field-add-zero bytes (byte 1)
+
+-- the polynomial 1 is zero at the erasures alone
+pub value-one : (u : List ℕ) (i : ℕ) → i < 204 → getD (valuesOf u one) i 0 ≡ masked (getD u i 0) 1
+value-one u i h = value-at u one i h ∙ ap (λ (v : Fin 256). masked (getD u i 0) (v .0)) (eval-one (point i)) ∙ ap (masked (getD u i 0)) (byte-val 1 (lit< tt))
+
+module _ (u q x m v w : List ℕ) (i d : ℕ) (h : i ≤ 204) (p : PowersFrom i x) (g : ValuesAt (take (d + 1) q) x v) (z : EndsAt q d)
+    (y : m ≡ take 16 (drop i u)) (k : Masked m v w) (lw : length w ≡ 16) where
   lane-value : (j : ℕ) → j < 16 → getD v j 0 ≡ eval (ops bytes) (elements q) (point (i + j)) .0
   lane-value j l =
       sym (byte-val (getD v j 0) (g .small j l))
       ∙ ap (λ (u : Fin 256). u .0)
       (g .each j l ∙ sym (eval-cut (d + 1) q (byte (getD x j 0)) (λ k b. z .zeros k (omega arith))) ∙ ap (eval (ops bytes) (elements q)) (powers-at i x p j l))
 
-  -- the lanes below degree 204 are the next of the values
-  pub lanes-next : take (204 - i) v ≡ take 16 (drop i (valuesOf q))
-  lanes-next = ext-getD 0 (take (204 - i) v) (take 16 (drop i (valuesOf q))) size each
-    where
-      size : length (take (204 - i) v) ≡ length (take 16 (drop i (valuesOf q)))
-      size = omega (arith, length-take (204 - i) v, length-take 16 (drop i (valuesOf q)), length-drop i (valuesOf q), length-values q, g .len)
+  lane-mark : (j : ℕ) → j < 16 → getD m j 0 ≡ getD u (i + j) 0
+  lane-mark j l = ap (λ (r : List ℕ). getD r j 0) y ∙ getD-take 16 (drop i u) j 0 l ∙ getD-drop i u j 0
 
-      each : (j : ℕ) → j < length (take (204 - i) v) → getD (take (204 - i) v) j 0 ≡ getD (take 16 (drop i (valuesOf q))) j 0
+  -- the lanes below degree 204 are the next of the values
+  pub lanes-next : take (204 - i) w ≡ take 16 (drop i (valuesOf u q))
+  lanes-next = ext-getD 0 (take (204 - i) w) (take 16 (drop i (valuesOf u q))) size each
+    where
+      size : length (take (204 - i) w) ≡ length (take 16 (drop i (valuesOf u q)))
+      size = omega (arith, length-take (204 - i) w, length-take 16 (drop i (valuesOf u q)), length-drop i (valuesOf u q), length-values u q)
+
+      each : (j : ℕ) → j < length (take (204 - i) w) → getD (take (204 - i) w) j 0 ≡ getD (take 16 (drop i (valuesOf u q))) j 0
       each j l =
-          let a : j < 204 - i = omega (arith, length-take (204 - i) v) in
-          let b : j < 16 = omega (arith, length-take (204 - i) v, g .len) in
-          getD-take (204 - i) v j 0 a ∙ lane-value j b
-          ∙ sym (getD-take 16 (drop i (valuesOf q)) j 0 b ∙ getD-drop i (valuesOf q) j 0 ∙ value-at q (i + j) (omega arith))
+          let a : j < 204 - i = omega (arith, length-take (204 - i) w) in
+          let b : j < 16 = omega (arith, length-take (204 - i) w) in
+          getD-take (204 - i) w j 0 a ∙ k .each j b ∙ ap₂ masked (lane-mark j b) (lane-value j b)
+          ∙ sym (getD-take 16 (drop i (valuesOf u q)) j 0 b ∙ getD-drop i (valuesOf u q) j 0 ∙ value-at u q (i + j) (omega arith))
 
 -- ---- the zeros of a list
 
@@ -217,47 +239,60 @@ module _ (degrees places : List ℕ) (count : ℕ) (v x : List ℕ) (i : ℕ) (d
 -- ---- the loop over all places
 
 -- the roots among the first i degrees are listed, and x has the next places
-pub record Searched (q degrees places : List ℕ) (count i : ℕ) : Type 0 where
-  pub number : count ≡ length (zerosFrom 0 (take i (valuesOf q)))
-  pub listed : take count degrees ≡ zerosFrom 0 (take i (valuesOf q))
-  pub placed : take count places ≡ map (pow 2) (zerosFrom 0 (take i (valuesOf q)))
+pub record Searched (u q degrees places : List ℕ) (count i : ℕ) : Type 0 where
+  pub number : count ≡ length (zerosFrom 0 (take i (valuesOf u q)))
+  pub listed : take count degrees ≡ zerosFrom 0 (take i (valuesOf u q))
+  pub placed : take count places ≡ map (pow 2) (zerosFrom 0 (take i (valuesOf u q)))
 
-pub searched-none : (q : List ℕ) → Searched q (replicate 16 0) (replicate 16 0) 0 0
+pub searched-none : (u q : List ℕ) → Searched u q (replicate 16 0) (replicate 16 0) 0 0
 unfolding zerosFrom
-searched-none q = record { number = refl; listed = refl; placed = refl }
+searched-none u q = record { number = refl; listed = refl; placed = refl }
 
-module _ (q degrees places : List ℕ) (count i : ℕ) (s : Searched q degrees places count i) where
-  module _ (v x : List ℕ) (h : i < 204) (p : PowersFrom i x) (e : v ≡ take 16 (drop i (valuesOf q))) where
-    more : zerosFrom 0 (take (i + 16) (valuesOf q)) ≡ zerosFrom 0 (take i (valuesOf q)) ++ zerosFrom i v
+module _ (u q degrees places : List ℕ) (count i : ℕ) (s : Searched u q degrees places count i) where
+  module _ (v x : List ℕ) (h : i < 204) (p : PowersFrom i x) (e : v ≡ take 16 (drop i (valuesOf u q))) where
+    more : zerosFrom 0 (take (i + 16) (valuesOf u q)) ≡ zerosFrom 0 (take i (valuesOf u q)) ++ zerosFrom i v
     more =
-        ap (zerosFrom 0) (take-add i 16 (valuesOf q)) ∙ zeros-append 0 (take i (valuesOf q)) (take 16 (drop i (valuesOf q)))
-        ∙ ap₂ (λ (k : ℕ) (l : List ℕ). zerosFrom 0 (take i (valuesOf q)) ++ zerosFrom k l)
-        (zero-add (length (take i (valuesOf q))) ∙ length-take-le i (valuesOf q) (omega (arith, length-values q))) (sym e)
+        ap (zerosFrom 0) (take-add i 16 (valuesOf u q)) ∙ zeros-append 0 (take i (valuesOf u q)) (take 16 (drop i (valuesOf u q)))
+        ∙ ap₂ (λ (k : ℕ) (l : List ℕ). zerosFrom 0 (take i (valuesOf u q)) ++ zerosFrom k l)
+        (zero-add (length (take i (valuesOf u q))) ∙ length-take-le i (valuesOf u q) (omega (arith, length-values u q))) (sym e)
 
-    pub searched-room : length (rootsOf q) ≤ 8 → count + length (zerosFrom i v) ≤ 16
+    pub searched-room : length (rootsOf u q) ≤ 16 → count + length (zerosFrom i v) ≤ 16
     searched-room r =
-        omega (arith, s .number, ap length more, length-append (zerosFrom 0 (take i (valuesOf q))) (zerosFrom i v), zeros-front 0 (i + 16) (valuesOf q))
+        omega (arith, s .number, ap length more, length-append (zerosFrom 0 (take i (valuesOf u q))) (zerosFrom i v), zeros-front 0 (i + 16) (valuesOf u q))
 
-    pub searched-more : (degrees' places' : List ℕ) (count' : ℕ) → Listed degrees places count v x i degrees' places' count' → Searched q degrees' places' count' (i + 16)
+    pub searched-more : (degrees' places' : List ℕ) (count' : ℕ) → Listed degrees places count v x i degrees' places' count' → Searched u q degrees' places' count' (i + 16)
     searched-more degrees' places' count' l =
         record {
-          number = omega (arith, l .number, s .number, ap length more, length-append (zerosFrom 0 (take i (valuesOf q))) (zerosFrom i v));
+          number = omega (arith, l .number, s .number, ap length more, length-append (zerosFrom 0 (take i (valuesOf u q))) (zerosFrom i v));
           listed = l .listed ∙ ap (λ (m : List ℕ). m ++ zerosFrom i v) (s .listed) ∙ sym more;
           placed =
               l .placed ∙ ap₂ _++_ (s .placed) (zeros-map (λ d. getD x (d - i) 0) (pow 2) i v power-at)
-              ∙ sym (map-join (pow 2) (zerosFrom 0 (take i (valuesOf q))) (zerosFrom i v)) ∙ ap (map (pow 2)) (sym more);
+              ∙ sym (map-join (pow 2) (zerosFrom 0 (take i (valuesOf u q))) (zerosFrom i v)) ∙ ap (map (pow 2)) (sym more);
         }
       where
         power-at : (j : ℕ) → j < length v → getD x (i + j - i) 0 ≡ pow 2 (i + j)
         power-at j b =
             let k : i + j - i ≡ j = omega arith in
-            ap (λ (m : ℕ). getD x m 0) k ∙ p .each j (omega (arith, ap length e, length-take 16 (drop i (valuesOf q))))
+            ap (λ (m : ℕ). getD x m 0) k ∙ p .each j (omega (arith, ap length e, length-take 16 (drop i (valuesOf u q))))
 
-  pub searched-all : 204 ≤ i → FoundRoots q degrees places count
+  pub searched-all : 204 ≤ i → FoundRoots u q degrees places count
   searched-all h =
-      let e : take i (valuesOf q) ≡ valuesOf q = take-all i (valuesOf q) (omega (arith, length-values q)) in
+      let e : take i (valuesOf u q) ≡ valuesOf u q = take-all i (valuesOf u q) (omega (arith, length-values u q)) in
       record {
         number = s .number ∙ ap (λ (l : List ℕ). length (zerosFrom 0 l)) e;
         listed = s .listed ∙ ap (zerosFrom 0) e;
         placed = s .placed ∙ ap (λ (l : List ℕ). map (pow 2) (zerosFrom 0 l)) e;
       }
+
+-- where there is no root nothing is listed
+pub found-none : (u q degrees places : List ℕ) (count : ℕ) → length (rootsOf u q) ≡ count → count ≡ 0 → FoundRoots u q degrees places count
+found-none u q degrees places count n z =
+    record {
+      number = sym n;
+      listed = ap (λ (k : ℕ). take k degrees) z ∙ sym (empty (rootsOf u q) (n ∙ z));
+      placed = ap (λ (k : ℕ). take k places) z ∙ sym (ap (map (pow 2)) (empty (rootsOf u q) (n ∙ z)));
+    }
+  where
+    empty : (l : List ℕ) → length l ≡ 0 → l ≡ []
+    empty [] h = refl
+    empty (a ∷ l) h = absurd (omega arith)

@@ -22,9 +22,29 @@ pub record EndsAt (q : List ℕ) (d : ℕ) : Type 0 where
   pub most : d ≤ 8
   pub zeros : (i : ℕ) → d < i → getD q i 0 ≡ 0
 
--- the values of a polynomial at the first 204 powers of 02, as numbers
-unfoldable pub valuesOf : List ℕ → List ℕ
-valuesOf q = listOf 204 (λ i. eval (ops bytes) (elements q) (point i) .0)
+-- ---- erasures
+
+-- no byte is marked
+pub record Unmarked (marks : List ℕ) : Type 0 where
+  pub each : (i : ℕ) → getD marks i 0 ≡ 0
+
+-- the marks of a block by degree: the byte of degree d stands at place 203 - d
+pub record ByDegree (marks u : List ℕ) : Type 0 where
+  pub each : (d : ℕ) → d < 204 → getD u d 0 ≡ getD marks (203 - d) 0
+
+-- a value, and zero at an erasure, where the mark m is not zero
+abbrev pub masked : ℕ → ℕ → ℕ
+masked m v = pick (eqb m 0) v 0
+
+-- the same, lane by lane
+pub record Masked (m v w : List ℕ) : Type 0 where
+  pub each : (j : ℕ) → j < 16 → getD w j 0 ≡ masked (getD m j 0) (getD v j 0)
+
+-- ---- the roots
+
+-- the values of a polynomial at the first 204 powers of 02, as numbers, and zero at the erasures, whose marks by degree are u
+unfoldable pub valuesOf : List ℕ → List ℕ → List ℕ
+valuesOf u q = listOf 204 (λ i. masked (getD u i 0) (eval (ops bytes) (elements q) (point i) .0))
 
 -- the places of a list's zeros, the first element being at n
 unfoldable pub zerosFrom : ℕ → List ℕ → List ℕ
@@ -37,22 +57,30 @@ pub record Listed (degrees places : List ℕ) (count : ℕ) (v x : List ℕ) (i 
   pub listed : take count' degrees' ≡ take count degrees ++ zerosFrom i v
   pub placed : take count' places' ≡ take count places ++ map (λ d. getD x (d - i) 0) (zerosFrom i v)
 
--- the degrees below 204 at which a polynomial vanishes
-abbrev pub rootsOf : List ℕ → List ℕ
-rootsOf q = zerosFrom 0 (valuesOf q)
+-- the degrees below 204 of the erasures, and those at which a polynomial vanishes
+abbrev pub rootsOf : List ℕ → List ℕ → List ℕ
+rootsOf u q = zerosFrom 0 (valuesOf u q)
 
-pub record FoundRoots (q degrees places : List ℕ) (count : ℕ) : Type 0 where
-  pub number : count ≡ length (rootsOf q)
-  pub listed : take count degrees ≡ rootsOf q
-  pub placed : take count places ≡ map (pow 2) (rootsOf q)
+-- the polynomial 1 vanishes nowhere: its roots are the erasures alone
+abbrev pub one : List ℕ
+one = 1 ∷ 0 ∷ 0 ∷ 0 ∷ 0 ∷ 0 ∷ 0 ∷ 0 ∷ 0 ∷ []
 
--- p, of which nine coefficients count, has the values of the product of x + r
+pub record FoundRoots (u q degrees places : List ℕ) (count : ℕ) : Type 0 where
+  pub number : count ≡ length (rootsOf u q)
+  pub listed : take count degrees ≡ rootsOf u q
+  pub placed : take count places ≡ map (pow 2) (rootsOf u q)
+
+-- the polynomial of degree n whose coefficients below x^n are those of p, and whose highest is 1
+abbrev pub monic : ℕ → List ℕ → List ℕ
+monic n p = take n p ++ 1 ∷ []
+
+-- p has the coefficients of the product of x + r, but for the highest, which is 1
 pub record RootProduct (places p : List ℕ) : Type 0 where
-  pub values : (y : Fin 256) → eval (ops bytes) (elements (take 9 p)) y ≡ eval (ops bytes) (fromRoots bytes (elements places)) y
+  pub values : (y : Fin 256) → eval (ops bytes) (elements (monic (length places) p)) y ≡ eval (ops bytes) (fromRoots bytes (elements places)) y
 
 -- p / (x + y)
 abbrev pub quotientBy : List ℕ → ℕ → List (Fin 256)
-quotientBy p y = quotient bytes (byte y) (elements (take 9 p))
+quotientBy p y = quotient bytes (byte y) (elements p)
 
 -- with q = p / (x + y), the sum of q_i S_i, and q(y)
 abbrev pub numeratorAt : List ℕ → List ℕ → ℕ → Fin 256
@@ -73,7 +101,7 @@ unfoldable pub errorValue : List ℕ → List ℕ → ℕ → Fin 256
 errorValue p s y = bytes .mul (numeratorAt p s y) (bytes .inv (denominatorAt p y))
 
 pub record ErrorValues (p s places : List ℕ) (count : ℕ) (e : List ℕ) : Type 0 where
-  pub own : (l : ℕ) → l < count → byte (getD e l 0) ≡ errorValue p s (getD places l 0)
+  pub own : (l : ℕ) → l < count → byte (getD e l 0) ≡ errorValue (monic count p) s (getD places l 0)
   pub small : (l : ℕ) → l < count → getD e l 0 < 256
   pub rest : (l : ℕ) → count ≤ l → getD e l 0 ≡ 0
 

@@ -1,16 +1,56 @@
-// Where the errors are, what they are, and whether that explains all sixteen syndromes.
+// Where the errors are, what they are, and whether that explains all sixteen syndromes. At an erasure, a byte that is marked, there may be one.
 // Inner: its functions may require what the crates above have tested. docs/ARCHITECTURE.md names the public surface.
 ghost use mathlib.Core.Path.{_≡_};
 ghost use mathlib.Core.List.{_∷_};
 ghost use Prim.Native.Nat.{ℕ, _+_, _-_, _<_, _≤_};
 ghost use lib.ListN.{length, getD, take};
-ghost use Rattle.error_correction.specs.Correction.{EndsAt, zerosFrom, Listed, rootsOf, FoundRoots, RootProduct, FractionsAt, ErrorValues, sumOf, Explained, correctedBy, changedIn};
+ghost use Rattle.error_correction.specs.Correction.{EndsAt, Unmarked, ByDegree, masked, Masked, zerosFrom, Listed, rootsOf, one, FoundRoots, monic, RootProduct, FractionsAt, ErrorValues, sumOf, Explained, correctedBy, changedIn};
 
-// The degrees at which the locator vanishes, in order, their places, and how many they are. The places after them are zero.
+// The degrees of the erasures and those at which the locator vanishes, in order, their places, and how many they are. The places after them are zero.
 pub struct Roots {
     pub degrees: [u8; 16],
     pub places: [u8; 16],
     pub count: usize,
+}
+
+// The marks of a block by degree, and four zeros; count says how many bytes are marked.
+pub fn by_degree(marks: &[u8], count: usize) -> [u8; 208]
+    requires { ⌜ (length (now marks) ≡ 204) × (count ≡ 0 → Unmarked (now marks)) ⌝ }
+    ensures { λ u. ⌜ ByDegree (now (marks .entry)) u ⌝ }
+{
+    let mut u = [0u8; 208];
+    if count == 0 {
+        return u;
+    }
+    let mut d: usize = 0;
+    while d < 204 {
+        u[d] = marks[203 - d];
+        d += 1;
+    }
+    u
+}
+
+// A value, and zero where the mark m is not zero.
+fn masked_value(m: u8, v: u8) -> u8
+    ensures { λ w. ⌜ w ≡ masked m v ⌝ }
+{
+    if m == 0 {
+        return v;
+    }
+    0
+}
+
+// The same, lane by lane.
+fn masked_values(m: [u8; 16], v: [u8; 16]) -> [u8; 16]
+    ensures { λ w. ⌜ Masked m v w ⌝ }
+{
+    let mut w = [0u8; 16];
+    let mut j: usize = 0;
+    while j < 16 {
+        w[j] = masked_value(m[j], v[j]);
+        j += 1;
+    }
+    w
 }
 
 // The degree of a polynomial of nine coefficients, and 0 of the zero polynomial.
@@ -64,10 +104,10 @@ fn list_zeros(
     }
 }
 
-// The degrees below 204 at which the locator vanishes, sixteen places at a time.
-pub fn find_roots(q: [u8; 9]) -> Roots
-    requires { ⌜ length (rootsOf q) ≤ 8 ⌝ }
-    ensures { λ r. ⌜ FoundRoots q (r .degrees) (r .places) (r .count) ⌝ }
+// The degrees below 204 of the erasures and those at which the locator vanishes, sixteen places at a time; u has the marks by degree.
+pub fn find_roots(u: &[u8], q: [u8; 9]) -> Roots
+    requires { ⌜ (length (now u) ≡ 208) × (length (rootsOf (now u) q) ≤ 16) ⌝ }
+    ensures { λ r. ⌜ FoundRoots (now (u .entry)) q (r .degrees) (r .places) (r .count) ⌝ }
 {
     let end = degree(&q) + 1;
     let degrees = [0u8; 16];
@@ -80,7 +120,10 @@ pub fn find_roots(q: [u8; 9]) -> Roots
     let mut x = byte_lanes::first_powers();
     let mut i: u8 = 0;
     while i < 208 {
-        let v = byte_lanes::evaluate(&q[..end], x);
+        let v = masked_values(
+            byte_lanes::sixteen(u, i as usize),
+            byte_lanes::evaluate(&q[..end], x),
+        );
         let degrees = found.degrees;
         let places = found.places;
         let r = list_zeros(degrees, places, found.count, v, x, i);
@@ -90,6 +133,23 @@ pub fn find_roots(q: [u8; 9]) -> Roots
         i += 16;
     }
     found
+}
+
+// The degrees of the erasures alone; count says how many they are, and without any there is nothing to search.
+pub fn find_erasures(u: &[u8], count: usize) -> Roots
+    requires { ⌜ (length (now u) ≡ 208) × (length (rootsOf (now u) one) ≡ count) × (count ≤ 16) ⌝ }
+    ensures { λ r. ⌜ FoundRoots (now (u .entry)) one (r .degrees) (r .places) count ⌝ }
+{
+    if count == 0 {
+        let degrees = [0u8; 16];
+        let places = [0u8; 16];
+        return Roots {
+            degrees,
+            places,
+            count: 0,
+        };
+    }
+    find_roots(u, [1, 0, 0, 0, 0, 0, 0, 0, 0])
 }
 
 // A polynomial moved up by one power of x, without its highest coefficient.
@@ -105,9 +165,9 @@ fn raised(p: [u8; 16]) -> [u8; 16]
     r
 }
 
-// The product of x + r over the places r.
+// The product of x + r over the places r, without its highest coefficient, which is 1 and may not find room.
 pub fn root_product(places: [u8; 16], count: usize) -> [u8; 16]
-    requires { ⌜ count ≤ 8 ⌝ }
+    requires { ⌜ count ≤ 16 ⌝ }
     ensures { λ r. ⌜ RootProduct (take count places) r ⌝ }
 {
     let mut p = [0u8; 16];
@@ -127,16 +187,17 @@ struct Fractions {
     denominators: [u8; 16],
 }
 
-// The fractions of all places at once, from the highest coefficient of the quotients down.
-fn value_fractions(p: [u8; 16], s: [u8; 16], places: [u8; 16]) -> Fractions
-    ensures { λ r. ⌜ FractionsAt p s places (r .numerators) (r .denominators) ⌝ }
+// The fractions of all places at once, from the highest coefficient of the quotients down. The polynomial p has the given degree; its highest coefficient is 1.
+fn value_fractions(p: [u8; 16], degree: usize, s: [u8; 16], places: [u8; 16]) -> Fractions
+    requires { ⌜ degree ≤ 16 ⌝ }
+    ensures { λ r. ⌜ FractionsAt (monic degree p) s places (r .numerators) (r .denominators) ⌝ }
 {
     let mut coefficients = [0u8; 16];
     let mut numerators = [0u8; 16];
     let mut denominators = [0u8; 16];
-    let mut k = degree(&p);
+    let mut top: u8 = 1;
+    let mut k = degree;
     while 0 < k {
-        let top = p[k];
         k -= 1;
         let c = byte_lanes::sum(byte_lanes::products(places, coefficients), [top; 16]);
         let n = byte_lanes::sum(byte_lanes::scale(c, s[k]), numerators);
@@ -144,6 +205,7 @@ fn value_fractions(p: [u8; 16], s: [u8; 16], places: [u8; 16]) -> Fractions
         coefficients = c;
         numerators = n;
         denominators = d;
+        top = p[k];
     }
     Fractions {
         numerators,
@@ -153,10 +215,10 @@ fn value_fractions(p: [u8; 16], s: [u8; 16], places: [u8; 16]) -> Fractions
 
 // The values of the errors at the places, which are roots of p, and zeros after them.
 pub fn error_values(p: [u8; 16], s: [u8; 16], places: [u8; 16], count: usize) -> [u8; 16]
-    requires { ⌜ count ≤ 8 ⌝ }
+    requires { ⌜ count ≤ 16 ⌝ }
     ensures { λ r. ⌜ ErrorValues p s places count r ⌝ }
 {
-    let f = value_fractions(p, s, places);
+    let f = value_fractions(p, count, s, places);
     let numerators = f.numerators;
     let denominators = f.denominators;
     let values = byte_lanes::products(numerators, byte_lanes::inverses(denominators));
@@ -202,7 +264,7 @@ pub fn explains(places: [u8; 16], values: [u8; 16], s: &[u8]) -> bool
 
 // Takes the errors away, and counts those that are not zero.
 pub fn correct(block: &mut [u8], degrees: [u8; 16], values: [u8; 16], count: usize) -> u8
-    requires { ⌜ (length (now block) ≡ 204) × (count ≤ 8) × ((l : ℕ) → l < count → getD degrees l 0 < 204) ⌝ }
+    requires { ⌜ (length (now block) ≡ 204) × (count ≤ 16) × ((l : ℕ) → l < count → getD degrees l 0 < 204) ⌝ }
     ensures { λ r. ⌜
         (r ≡ changedIn (take count values))
         × (now (block .exit) ≡ correctedBy (now (block .entry)) (take count degrees) (take count values)) ⌝ }

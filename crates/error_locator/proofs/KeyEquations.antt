@@ -1,6 +1,6 @@
 -- The steps of the elimination that finds the locator, on eight rows of sixteen bytes.
 -- Assumes nothing.
-use mathlib.Core.Path.{_≡_, refl, sym, ap, ap₂, _∙_}
+use mathlib.Core.Path.{_≡_, refl, sym, ap, ap₂, _∙_, subst}
 use mathlib.Core.Bool.{true, false}
 use mathlib.Core.List.{List, _++_}
 use mathlib.Core.Logic.{_⊎_, inl, inr}
@@ -10,12 +10,12 @@ use native.Mathlib.Numerals.{add-one}
 use native.Mathlib.Decide.{ℕ-discrete, decLt}
 use lib.Dec.{lit<}
 use lib.Bits.{bitXor}
-use lib.ListN.{length, getD, take, drop, replicate, getD-replicate, length-map, length-drop, List·getD-map}
+use lib.ListN.{length, getD, take, drop, replicate, getD-replicate, length-map, length-drop, List·getD-map, List·getD-eq-default}
 use lib.Seq.{getD-take, getD-drop, length-take-le}
 use Rattle.common.proofs.Lists.{getD-map-in, put-own, put-other}
 use Rattle.algebra.specs.Polynomial.{plus, scale}
 use Rattle.algebra.proofs.Ring.{zero-add, one-mul, mul-comm, mul-ne}
-use Rattle.algebra.proofs.Elimination.{CombineRow, MulRow, Reach, Vector, Sol, solves, kernel-key, kernel-nonzero, sum-ext, reach-combine, reach-mul, diagonal-combine, diagonal-more, swept-none, swept-skip, swept-row}
+use Rattle.algebra.proofs.Elimination.{CombineRow, MulRow, Reach, Vector, Sol, solves, kernel-key, kernel-nonzero, sum-ext, reach-combine, reach-mul, diagonal-combine, diagonal-more, swept-none, swept-skip, swept-row, combine-fewer, mul-fewer}
 use Rattle.galois.specs.Field256.{numbers, mul, scaled}
 use Rattle.galois.proofs.Instance.{bytes, byte, byte-inj, byte-zero, byte-one, byte-add, byte-mul}
 use Rattle.byte_lanes.proofs.Words.{length-sum, sum-at, length-products, products-at}
@@ -128,115 +128,125 @@ combined-row o m new row i k p x lo lm li lk own e f =
 -- ---- the elimination
 
 -- rows k to p are zero in column k
-pub record Looked (m : List ℕ) (k p : ℕ) : Type 0 where
+pub record Looked (m : List ℕ) (size k p : ℕ) : Type 0 where
   pub from : k ≤ p
-  pub most : p ≤ 8
+  pub most : p ≤ size
   pub zeros : (r : ℕ) → k ≤ r → r < p → mat m r k ≡ bytes .𝟘
 
-pub looked-start : (m : List ℕ) (k : ℕ) → k < 8 → Looked m k k
-looked-start m k l = record { from = omega arith; most = omega arith; zeros = λ r a b. absurd (omega arith) }
+pub looked-start : (m : List ℕ) (size k : ℕ) → k < size → Looked m size k k
+looked-start m size k l = record { from = omega arith; most = omega arith; zeros = λ r a b. absurd (omega arith) }
 
-pub looked-step : (m : List ℕ) (k p : ℕ) → p < 8 → getD m (p * 16 + k) 0 ≡ 0 → Looked m k p → Looked m k (p + 1)
-looked-step m k p l e U = record { from = omega arith; most = omega arith; zeros = λ r a b. go r a b (ℕ-discrete r p) }
+pub looked-step : (m : List ℕ) (size k p : ℕ) → p < size → getD m (p * 16 + k) 0 ≡ 0 → Looked m size k p → Looked m size k (p + 1)
+looked-step m size k p l e U = record { from = omega arith; most = omega arith; zeros = λ r a b. go r a b (ℕ-discrete r p) }
   where
     go : (r : ℕ) → k ≤ r → r < p + 1 → Dec (r ≡ p) → mat m r k ≡ bytes .𝟘
     go r a b (yes q) = ap (λ u. mat m u k) q ∙ ap byte e ∙ byte-zero
     go r a b (no q) = U .zeros r a (omega arith)
 
-pub looked-found : (m : List ℕ) (k p : ℕ) → getD m (p * 16 + k) 0 < 256 → (getD m (p * 16 + k) 0 ≡ 0 → ⊥) → Looked m k p → FirstPivot m k p
-looked-found m k p b n U = record { from = U .from; most = U .most; zeros = U .zeros; pivot = λ l e. n (byte-inj (getD m (p * 16 + k) 0) 0 b (lit< tt) (e ∙ sym byte-zero)) }
+pub looked-found : (m : List ℕ) (size k p : ℕ) → getD m (p * 16 + k) 0 < 256 → (getD m (p * 16 + k) 0 ≡ 0 → ⊥) → Looked m size k p → FirstPivot m size k p
+looked-found m size k p b n U = record { from = U .from; most = U .most; zeros = U .zeros; pivot = λ l e. n (byte-inj (getD m (p * 16 + k) 0) 0 b (lit< tt) (e ∙ sym byte-zero)) }
 
-pub looked-none : (m : List ℕ) (k p : ℕ) → 8 ≤ p → Looked m k p → FirstPivot m k p
-looked-none m k p h U = record { from = U .from; most = U .most; zeros = U .zeros; pivot = λ l. absurd (omega arith) }
+pub looked-none : (m : List ℕ) (size k p : ℕ) → size ≤ p → Looked m size k p → FirstPivot m size k p
+looked-none m size k p h U = record { from = U .from; most = U .most; zeros = U .zeros; pivot = λ l. absurd (omega arith) }
 
 -- ---- the pivot
 
-pub pivoted-same : (m : List ℕ) (k p : ℕ) → p ≡ k → p < 8 → length m ≡ 128 → FirstPivot m k p → Pivoted m m k true
-pivoted-same m k p e l len F = record { len = len; reach = λ v s. s; diagonal = λ d D. D; outcome = λ z. F .pivot l (ap (λ r. mat m r k) e ∙ z) }
+pub pivoted-same : (m : List ℕ) (size k p : ℕ) → p ≡ k → p < size → length m ≡ 128 → FirstPivot m size k p → Pivoted m m size k true
+pivoted-same m size k p e l len F = record { len = len; reach = λ v s. s; diagonal = λ d D. D; outcome = λ z. F .pivot l (ap (λ r. mat m r k) e ∙ z) }
 
-pub pivoted-add : (m n : List ℕ) (k p : ℕ) → (p ≡ k → ⊥) → p < 8 → length n ≡ 128 → FirstPivot m k p → CombineRow bytes 8 9 k p (bytes .𝟙) (bytes .𝟙) (mat m) (mat n) → Pivoted m n k true
-pivoted-add m n k p ne l len F A = record {
+pub pivoted-add : (m n : List ℕ) (size k p : ℕ) → size ≤ 8 → (p ≡ k → ⊥) → p < size → length n ≡ 128 → FirstPivot m size k p
+    → CombineRow bytes 8 9 k p (bytes .𝟙) (bytes .𝟙) (mat m) (mat n) → Pivoted m n size k true
+pivoted-add m n size k p z ne l len F A = record {
   len = len;
-  reach = reach-combine bytes 8 9 k p (bytes .𝟙) (bytes .𝟙) (mat m) (mat n) l ne (bytes .one·ne·zero) A;
-  diagonal = λ d D. diagonal-combine bytes 8 9 k k p (bytes .𝟙) (bytes .𝟙) d (mat m) (mat n) (omega arith) (omega (arith, F .from)) (F .from) l (omega (arith, F .from)) A D;
+  reach = reach-combine bytes size 9 k p (bytes .𝟙) (bytes .𝟙) (mat m) (mat n) l ne (bytes .one·ne·zero) few;
+  diagonal = λ d D. diagonal-combine bytes size 9 k k p (bytes .𝟙) (bytes .𝟙) d (mat m) (mat n) (omega arith) (omega (arith, F .from)) (F .from) l (omega (arith, F .from)) few D;
   outcome = λ z. F .pivot l (sym at ∙ z);
 }
   where
+    few : CombineRow bytes size 9 k p (bytes .𝟙) (bytes .𝟙) (mat m) (mat n)
+    few = combine-fewer bytes size 8 9 k p (bytes .𝟙) (bytes .𝟙) (mat m) (mat n) z A
+
     at : mat n k k ≡ mat m p k
     at =
         A .row k (omega (arith, F .from))
         ∙ ap₂ (bytes .add) (one-mul bytes (mat m k k) ∙ F .zeros k (omega arith) (omega (arith, F .from))) (one-mul bytes (mat m p k))
         ∙ zero-add bytes (mat m p k)
 
-pub pivoted-none : (m : List ℕ) (k p : ℕ) → p ≡ 8 → length m ≡ 128 → FirstPivot m k p → Pivoted m m k false
-pivoted-none m k p e len F = record { len = len; reach = λ v s. s; diagonal = λ d D. D; outcome = λ r a b. F .zeros r a (omega arith) }
+pub pivoted-none : (m : List ℕ) (size k p : ℕ) → p ≡ size → length m ≡ 128 → FirstPivot m size k p → Pivoted m m size k false
+pivoted-none m size k p e len F = record { len = len; reach = λ v s. s; diagonal = λ d D. D; outcome = λ r a b. F .zeros r a (omega arith) }
 
 -- ---- the column cleared
 
-pub cleared-start : (m : List ℕ) (k : ℕ) → length m ≡ 128 → Cleared m m k 0
-cleared-start m k len = record { len = len; most = omega arith; reach = λ v s. s; swept = swept-none bytes 8 9 k (mat m) }
+pub cleared-start : (m : List ℕ) (size k : ℕ) → length m ≡ 128 → Cleared m m size k 0
+cleared-start m size k len = record { len = len; most = omega arith; reach = λ v s. s; swept = swept-none bytes size 9 k (mat m) }
 
-pub cleared-skip : (o m : List ℕ) (k i : ℕ) → i < 8 → i ≡ k → Cleared o m k i → Cleared o m k (i + 1)
-cleared-skip o m k i l e C = record { len = C .len; most = omega arith; reach = C .reach; swept = rw add-one (swept-skip bytes 8 9 k i (mat o) (mat m) e (C .swept)) }
+pub cleared-skip : (o m : List ℕ) (size k i : ℕ) → i < size → i ≡ k → Cleared o m size k i → Cleared o m size k (i + 1)
+cleared-skip o m size k i l e C = record { len = C .len; most = omega arith; reach = C .reach; swept = rw add-one (swept-skip bytes size 9 k i (mat o) (mat m) e (C .swept)) }
 
-pub cleared-step : (o m n : List ℕ) (k i : ℕ) → i < 8 → k < 8 → (i ≡ k → ⊥) → (mat o k k ≡ bytes .𝟘 → ⊥) → length n ≡ 128
-    → CombineRow bytes 8 9 i k (mat o k k) (mat m i k) (mat m) (mat n) → Cleared o m k i → Cleared o n k (i + 1)
-cleared-step o m n k i li lk ne nz len A C = record {
+pub cleared-step : (o m n : List ℕ) (size k i : ℕ) → size ≤ 8 → i < size → k < size → (i ≡ k → ⊥) → (mat o k k ≡ bytes .𝟘 → ⊥) → length n ≡ 128
+    → CombineRow bytes 8 9 i k (mat o k k) (mat m i k) (mat m) (mat n) → Cleared o m size k i → Cleared o n size k (i + 1)
+cleared-step o m n size k i z li lk ne nz len A C = record {
   len = len;
   most = omega arith;
-  reach = λ v s. C .reach v (reach-combine bytes 8 9 i k (mat o k k) (mat m i k) (mat m) (mat n) lk (λ e. ne (sym e)) nz A v s);
-  swept = rw add-one (swept-row bytes 8 9 k i (mat o) (mat m) (mat n) lk (omega arith) li ne A (C .swept));
+  reach = λ v s. C .reach v (reach-combine bytes size 9 i k (mat o k k) (mat m i k) (mat m) (mat n) lk (λ e. ne (sym e)) nz few v s);
+  swept = rw add-one (swept-row bytes size 9 k i (mat o) (mat m) (mat n) lk (omega arith) li ne few (C .swept));
 }
+  where
+    few : CombineRow bytes size 9 i k (mat o k k) (mat m i k) (mat m) (mat n)
+    few = combine-fewer bytes size 8 9 i k (mat o k k) (mat m i k) (mat m) (mat n) z A
 
-pub cleared-done : (o m : List ℕ) (k i : ℕ) → 8 ≤ i → Cleared o m k i → Cleared o m k 8
-cleared-done o m k i h C = let e : i ≡ 8 = omega (arith, C .most) in rw e at C
+pub cleared-done : (o m : List ℕ) (size k i : ℕ) → size ≤ i → Cleared o m size k i → Cleared o m size k size
+cleared-done o m size k i h C = let e : i ≡ size = omega (arith, C .most) in subst (Cleared o m size k) e C
 
 -- ---- all columns
 
-pub kept-start : (m : List ℕ) → length m ≡ 128 → Kept m m 0 (byte 1)
-kept-start m l = record {
+pub kept-start : (m : List ℕ) (size : ℕ) → length m ≡ 128 → Kept m m size 0 (byte 1)
+kept-start m size l = record {
   len = l;
   reach = λ v s. s;
   diagonal = record { off = λ r c a b. absurd (omega arith); on = λ c b. absurd (omega arith) };
   nonzero = λ z. bytes .one·ne·zero (sym byte-one ∙ z);
 }
 
-pub kept-more : (o m n p q : List ℕ) (k : ℕ) (d e : Fin 256) → k < 8 → Kept o m k d → Pivoted m n k true → Cleared n p k 8 → length q ≡ 128
-    → MulRow bytes 8 9 k d (mat p) (mat q) → e ≡ mat q k k → Kept o q (k + 1) e
-kept-more o m n p q k d e l P Q C len A f = record {
+pub kept-more : (o m n p q : List ℕ) (size k : ℕ) (d e : Fin 256) → size ≤ 8 → k < size → Kept o m size k d → Pivoted m n size k true → Cleared n p size k size → length q ≡ 128
+    → MulRow bytes 8 9 k d (mat p) (mat q) → e ≡ mat q k k → Kept o q size (k + 1) e
+kept-more o m n p q size k d e z l P Q C len A f = record {
   len = len;
-  reach = λ v s. P .reach v (Q .reach v (C .reach v (reach-mul bytes 8 9 k d (mat p) (mat q) (P .nonzero) A v s)));
-  diagonal = rw (add-one, element) (diagonal-more bytes 8 9 k d (mat n) (mat p) (mat q) l (omega arith) (Q .diagonal d (P .diagonal)) (C .swept) A);
+  reach = λ v s. P .reach v (Q .reach v (C .reach v (reach-mul bytes size 9 k d (mat p) (mat q) (P .nonzero) few v s)));
+  diagonal = rw (add-one, element) (diagonal-more bytes size 9 k d (mat n) (mat p) (mat q) l (omega arith) (Q .diagonal d (P .diagonal)) (C .swept) few);
   nonzero = λ z. mul-ne bytes d (mat n k k) (P .nonzero) (Q .outcome) (sym element ∙ z);
 }
   where
+    few : MulRow bytes size 9 k d (mat p) (mat q)
+    few = mul-fewer bytes size 8 9 k d (mat p) (mat q) z A
+
     element : e ≡ bytes .mul d (mat n k k)
     element = f ∙ A .row k (omega arith) ∙ ap (λ u. bytes .mul d u) (C .swept .own k (omega arith))
 
-pub eliminated : (o m n : List ℕ) (k : ℕ) (d : Fin 256) → k < 8 → Kept o m k d → Pivoted m n k false → Eliminated o n k d
-eliminated o m n k d l P Q = record {
+pub eliminated : (o m n : List ℕ) (size k : ℕ) (d : Fin 256) → k < size → Kept o m size k d → Pivoted m n size k false → Eliminated o n size k d
+eliminated o m n size k d l P Q = record {
   kept = record { len = Q .len; reach = λ v s. P .reach v (Q .reach v s); diagonal = Q .diagonal d (P .diagonal); nonzero = P .nonzero };
   most = omega arith;
   none = Q .outcome;
 }
 
-pub eliminated-all : (o m : List ℕ) (k : ℕ) (d : Fin 256) → 8 ≤ k → k ≤ 8 → Kept o m k d → Eliminated o m k d
-eliminated-all o m k d h l P = record { kept = P; most = l; none = λ r a b. absurd (omega arith) }
+pub eliminated-all : (o m : List ℕ) (size k : ℕ) (d : Fin 256) → size ≤ k → k ≤ size → Kept o m size k d → Eliminated o m size k d
+eliminated-all o m size k d h l P = record { kept = P; most = l; none = λ r a b. absurd (omega arith) }
 
 -- ---- the matrix of the key equations, and the solution read from it
 
 -- the first i rows are filled in
-pub record FilledTo (s m : List ℕ) (i : ℕ) : Type 0 where
-  pub most : i ≤ 8
+pub record FilledTo (s m : List ℕ) (size i : ℕ) : Type 0 where
+  pub most : i ≤ size
   pub len : length m ≡ 128
   pub each : (r c : ℕ) → r < i → c < 9 → getD m (r * 16 + c) 0 ≡ getD s (r + c) 0
 
-pub filled-none : (s m : List ℕ) → length m ≡ 128 → FilledTo s m 0
-filled-none s m l = record { most = omega arith; len = l; each = λ r c b h. absurd (omega arith) }
+pub filled-none : (s m : List ℕ) (size : ℕ) → length m ≡ 128 → FilledTo s m size 0
+filled-none s m size l = record { most = omega arith; len = l; each = λ r c b h. absurd (omega arith) }
 
-pub filled-more : (s m row n : List ℕ) (i : ℕ) → length s ≡ 16 → i < 8 → row ≡ take 9 (drop i s)
-    → n ≡ take (i * 16) m ++ row ++ drop (i * 16 + length row) m → length n ≡ length m → FilledTo s m i → FilledTo s n (i + 1)
-filled-more s m row n i ls l e w z F = record { most = omega arith; len = z ∙ F .len; each = λ r c b h. ap (λ (x : List ℕ). getD x (r * 16 + c) 0) w ∙ go r c b h (ℕ-discrete r i) }
+pub filled-more : (s m row n : List ℕ) (size i : ℕ) → length s ≡ 16 → size ≤ 8 → i < size → row ≡ take 9 (drop i s)
+    → n ≡ take (i * 16) m ++ row ++ drop (i * 16 + length row) m → length n ≡ length m → FilledTo s m size i → FilledTo s n size (i + 1)
+filled-more s m row n size i ls lz l e w z F = record { most = omega arith; len = z ∙ F .len; each = λ r c b h. ap (λ (x : List ℕ). getD x (r * 16 + c) 0) w ∙ go r c b h (ℕ-discrete r i) }
   where
     nine : length row ≡ 9
     nine = ap length e ∙ length-take-le 9 (drop i s) (omega (arith, length-drop i s))
@@ -252,8 +262,8 @@ filled-more s m row n i ls l e w z F = record { most = omega arith; len = z ∙ 
         ∙ ap (λ (u : ℕ). getD s (u + c) 0) (sym p)
     go r c b h (no p) = put-other m row (i * 16) (r * 16 + c) fits (omega (arith, F .len)) (inl (omega arith)) ∙ F .each r c (omega arith) h
 
-pub filled-all : (s m : List ℕ) (i : ℕ) → 8 ≤ i → FilledTo s m i → Filled s m
-filled-all s m i h F = record { len = F .len; each = λ r c a b. F .each r c (omega (arith, F .most)) b }
+pub filled-all : (s m : List ℕ) (size i : ℕ) → size ≤ i → FilledTo s m size i → Filled s size m
+filled-all s m size i h F = record { len = F .len; each = λ r c a b. F .each r c (omega (arith, F .most)) b }
 
 pub solution-below : (m : List ℕ) (k d c : ℕ) → c < k → SolutionAt m k d c (getD m (c * 16 + k) 0)
 solution-below m k d c l = record { below = λ b. refl; own = λ b. absurd (omega arith); above = λ b. absurd (omega arith) }
@@ -267,13 +277,18 @@ solution-above m k d c l n = record { below = λ b. absurd (omega arith); own = 
 elements-at : (q : List ℕ) (c : ℕ) → getD (elements q) c (bytes .𝟘) ≡ byte (getD q c 0)
 elements-at q c = ap (λ u. getD (elements q) c u) (sym byte-zero) ∙ List·getD-map byte q c 0
 
-pub located : (s m n q : List ℕ) (k d : ℕ) → length q ≡ 9 → Filled s m → Eliminated m n k (byte d) → Solution n k d q → Located s q
-located s m n q k d l F E R =
+pub located : (s m n q : List ℕ) (size k d : ℕ) → size ≤ 8 → length q ≡ 9 → Filled s size m → Eliminated m n size k (byte d) → Solution n k d q → Located s size q
+located s m n q size k d z l F E R =
     record {
       nonzero = kernel-nonzero bytes 9 k (byte d) (mat n) (elements q) (omega (arith, length-map q byte, E .most)) (E .kept .nonzero) vec;
-      equations = kernel-key bytes 8 (λ i. byte (getD s i 0)) (mat n) (elements q) (length-map q byte ∙ l) reach sol;
+      zeros = λ c h. above c h (decLt c 9);
+      equations = kernel-key bytes size 9 (λ i. byte (getD s i 0)) (mat n) (elements q) (length-map q byte ∙ l) reach sol;
     }
   where
+    above : (c : ℕ) → size < c → Dec (c < 9) → getD (elements q) c (bytes .𝟘) ≡ bytes .𝟘
+    above c h (yes b) = elements-at q c ∙ R .each c b .above (omega (arith, E .most))
+    above c h (no b) = List·getD-eq-default (elements q) (bytes .𝟘) {n = c} (omega (arith, length-map q byte))
+
     vec : Vector bytes 9 k (byte d) (mat n) (λ c. getD (elements q) c (bytes .𝟘))
     vec =
         record {
@@ -282,10 +297,10 @@ located s m n q k d l F E R =
           above = λ c b l. elements-at q c ∙ R .each c l .above b;
         }
 
-    sol : Sol bytes 8 9 (mat n) (λ c. getD (elements q) c (bytes .𝟘))
-    sol = solves bytes 8 9 k (byte d) (mat n) (λ c. getD (elements q) c (bytes .𝟘)) (E .most) (omega (arith, E .most)) (E .kept .diagonal) (E .none) vec
+    sol : Sol bytes size 9 (mat n) (λ c. getD (elements q) c (bytes .𝟘))
+    sol = solves bytes size 9 k (byte d) (mat n) (λ c. getD (elements q) c (bytes .𝟘)) (E .most) (omega (arith, E .most)) (E .kept .diagonal) (E .none) vec
 
-    reach : Reach bytes 8 9 (λ r c. byte (getD s (r + c) 0)) (mat n)
+    reach : Reach bytes size 9 (λ r c. byte (getD s (r + c) 0)) (mat n)
     reach v z r l =
         sum-ext bytes 9 (λ c. bytes .mul (byte (getD s (r + c) 0)) (v c)) (λ c. bytes .mul (mat m r c) (v c))
         (λ c b. ap (λ u. bytes .mul u (v c)) (ap byte (sym (F .each r c l b)))) ∙ E .kept .reach v z r l

@@ -1,1 +1,2 @@
 pub mod KeyEquations
+pub mod ModifiedSyndromes

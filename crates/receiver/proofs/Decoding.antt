@@ -13,6 +13,7 @@ use Rattle.common.proofs.Entries.{bytes-of, bytes-entries}
 use Rattle.reed_solomon.specs.Code.{differ, changes}
 use Rattle.reed_solomon.specs.Encode.{encoded, checkBytes}
 use Rattle.reed_solomon.specs.Decode.{Decodes}
+use Rattle.reed_solomon.specs.Marks.{DecodesMarked}
 use Rattle.reed_solomon.specs.declared.Decoded.{Decoded}
 use Rattle.reed_solomon.specs.declared.Decoded.the-variants.{Corrected}
 use Rattle.reed_solomon.proofs.LongDivision.{encoded-codeword}
@@ -28,11 +29,12 @@ use Rattle.group_sync.specs.Group.{dueByte}
 use Rattle.group_sync.specs.Stream.{sentFrom}
 use Rattle.group_sync.specs.declared.Repair.{Repair}
 use Rattle.group_sync.specs.declared.Repair.the-variants as repair
-use Rattle.receiver.specs.Receive.{delayedBlock, repairOf}
-use Rattle.receiver.specs.Run.{Call, after, blocksOf}
+use Rattle.receiver.specs.Receive.{Unmarked, delayedBlock, delayedMarks, repairOf}
+use Rattle.receiver.specs.Run.{Call, after, blocksOf, Plain}
 use Rattle.receiver.specs.Begun.{lefts, repairs}
 use Rattle.receiver.specs.declared.Receiver.{Receiver}
-use Rattle.receiver.proofs.Outcomes.{Unrefused, next-unrefused, branches-after}
+use Rattle.receiver.proofs.MarkDelays.{plain-decodes}
+use Rattle.receiver.proofs.Outcomes.{Unrefused, next-unrefused, branches-after, unmarked-after}
 
 -- ---- one packet as it is sent
 
@@ -87,31 +89,34 @@ pub record Repaired (n : ℕ) (ps : List (List ℕ)) (cs : List Call) : Type 0 w
   pub blocks : lefts cs ≡ take (length cs) (map encoded (randomizedFrom n ps))
   pub accepted : repairs cs ≡ sentFrom n (length cs)
 
-repaired : (n : ℕ) (ps : List (List ℕ)) (cs : List Call) (s : Receiver) → Unrefused s cs → All Packet ps
+repaired : (n : ℕ) (ps : List (List ℕ)) (cs : List Call) (s : Receiver) → Unrefused s cs → Unmarked s → All Plain cs → All Packet ps
     → Nears (run Receiving (s .deinterleaver .branches) (blocksOf cs)) (map encoded (randomizedFrom n ps)) → Repaired n ps cs
 unfolding run randomizedFrom
-repaired n ps [] s u ws q = record { blocks = refl; accepted = refl }
-repaired n [] (c ∷ cs) s u ws q = absurd q
-repaired n (p ∷ ps) (c ∷ cs) s u ws q =
-    let z : length (delayedBlock s (c .block)) ≡ 204 = length-out Receiving (s .deinterleaver .branches) (c .block) in
+repaired n ps [] s u z pl ws q = record { blocks = refl; accepted = refl }
+repaired n [] (c ∷ cs) s u z pl ws q = absurd q
+repaired n (p ∷ ps) (c ∷ cs) s u z pl ws q =
+    let k : length (delayedBlock s (c .block)) ≡ 204 = length-out Receiving (s .deinterleaver .branches) (c .block) in
+    let d : Decodes (delayedBlock s (c .block)) (c .left) (c .decoded) =
+    plain-decodes s (delayedBlock s (c .block)) (c .left) (c .decoded) z
+    (subst (λ (m : List ℕ). DecodesMarked (delayedMarks s m) (delayedBlock s (c .block)) (c .left) (c .decoded)) (pl .0) (u .decodes .0)) in
     let r =
-    repaired (n + 1) ps cs (after s c) (next-unrefused s c cs u) (ws .1)
+    repaired (n + 1) ps cs (after s c) (next-unrefused s c cs u) (unmarked-after s c cs u z (pl .0)) (pl .1) (ws .1)
     (subst (λ (b : Branches). Nears (run Receiving b (blocksOf cs)) (map encoded (randomizedFrom (n + 1) ps))) (sym (branches-after s c cs u)) (q .1)) in
     record {
       blocks =
           ap₂ (λ (x : List ℕ) (xs : List (List ℕ)). x ∷ xs)
-          (near-left n p (ws .0) (delayedBlock s (c .block)) (c .left) (c .decoded) z (q .0) (u .decodes .0)) (r .blocks);
+          (near-left n p (ws .0) (delayedBlock s (c .block)) (c .left) (c .decoded) k (q .0) d) (r .blocks);
       accepted =
           ap₂ (λ (x : Repair) (xs : List Repair). x ∷ xs)
-          (near-repair n p (ws .0) (delayedBlock s (c .block)) (c .left) (c .decoded) z (q .0) (u .decodes .0)) (r .accepted);
+          (near-repair n p (ws .0) (delayedBlock s (c .block)) (c .left) (c .decoded) k (q .0) d) (r .accepted);
     }
 
 -- after k calls
-pub repaired-after : (k n : ℕ) (ps : List (List ℕ)) (cs : List Call) (s : Receiver) → Unrefused s cs → All Packet ps
+pub repaired-after : (k n : ℕ) (ps : List (List ℕ)) (cs : List Call) (s : Receiver) → Unrefused s cs → Unmarked s → All Plain cs → All Packet ps
     → Nears (drop k (run Receiving (s .deinterleaver .branches) (blocksOf cs))) (map encoded (randomizedFrom n ps)) → Repaired n ps (drop k cs)
 unfolding run
-repaired-after zero n ps cs s u ws q = repaired n ps cs s u ws q
-repaired-after (suc k) n ps [] s u ws q = record { blocks = refl; accepted = refl }
-repaired-after (suc k) n ps (c ∷ cs) s u ws q =
-    repaired-after k n ps cs (after s c) (next-unrefused s c cs u) ws
+repaired-after zero n ps cs s u z pl ws q = repaired n ps cs s u z pl ws q
+repaired-after (suc k) n ps [] s u z pl ws q = record { blocks = refl; accepted = refl }
+repaired-after (suc k) n ps (c ∷ cs) s u z pl ws q =
+    repaired-after k n ps cs (after s c) (next-unrefused s c cs u) (unmarked-after s c cs u z (pl .0)) (pl .1) ws
     (subst (λ (b : Branches). Nears (drop k (run Receiving b (blocksOf cs))) (map encoded (randomizedFrom n ps))) (sym (branches-after s c cs u)) q)

@@ -6,7 +6,7 @@ use mathlib.Core.Logic.{_⊎_, inl, inr}
 use Prim.Native.Nat.{ℕ, _+_, _*_, _<_}
 use native.Mathlib.Nat.{add-zero, zero-add, add-assoc, zero-mul}
 use native.Mathlib.Omega.{arith}
-use borrow.Author.Tests.{ne-eqb, lt-ltb}
+use borrow.Author.Tests.{ne-eqb, lt-ltb, le-ltb}
 use lib.Dec.{eqb}
 use Rattle.common.specs.Choice.{pick}
 use Rattle.reed_solomon.specs.Code.{differ, differBits, changes}
@@ -64,8 +64,8 @@ exactly-one Waiting = refl
 exactly-one OutOfStep = refl
 
 -- a refused call counts nowhere
-refused-event : (n : Counts) (k : ℕ) (d : Changed) → 0 < k → k < 8 → with-event n (record { number = k; changed = d }) ≡ n
-refused-event n k d h l =
+refused-event : (n : Counts) (k : ℕ) (d : Changed) → 0 < k → (k < 8) ⊎ (11 < k) → with-event n (record { number = k; changed = d }) ≡ n
+refused-event n k d h (inl l) =
     simp (
       ne-eqb k 0 (λ e. omega arith),
       ne-eqb k 8 (λ e. omega arith),
@@ -73,6 +73,18 @@ refused-event n k d h l =
       ne-eqb k 10 (λ e. omega arith),
       ne-eqb k 11 (λ e. omega arith),
       lt-ltb k 8 l,
+      zero-mul,
+      add-zero,
+    )
+refused-event n k d h (inr l) =
+    simp (
+      ne-eqb k 0 (λ e. omega arith),
+      ne-eqb k 8 (λ e. omega arith),
+      ne-eqb k 9 (λ e. omega arith),
+      ne-eqb k 10 (λ e. omega arith),
+      ne-eqb k 11 (λ e. omega arith),
+      le-ltb k 8 (omega arith),
+      le-ltb k 12 (omega arith),
       zero-mul,
       add-zero,
     )
@@ -95,23 +107,23 @@ taken-event n o came left =
 
 pub call-counts : (s : Receiver) (c : Call) → after s c .counts ≡ with-event (s .counts) (eventOf s c)
 unfolding stateAfter
-call-counts s c = by (ready-or-refused s (c .block) (c .room))
+call-counts s c = by (ready-or-refused s (c .block) (c .marks) (c .room))
   where
     unpicked : (k : ℕ) → 0 < k → (o : ℕ) → pick (eqb k 0) o k ≡ k
     unpicked k h o = simp (ne-eqb k 0 (λ e. omega arith))
 
-    by : Ready s (c .block) (c .room) ⊎ Refused s (c .block) (c .room) → after s c .counts ≡ with-event (s .counts) (eventOf s c)
+    by : Ready s (c .block) (c .marks) (c .room) ⊎ Refused s (c .block) (c .marks) (c .room) → after s c .counts ≡ with-event (s .counts) (eventOf s c)
     by (inl y) =
-        ap (λ (r : Receiver). r .counts) (ready-state s (c .block) (c .room) y (c .left) (c .decoded))
+        ap (λ (r : Receiver). r .counts) (ready-state s (c .block) (c .marks) (c .room) y (c .left) (c .decoded))
         ∙ taken-event (s .counts) (stepOf s (c .left) (c .decoded) .outcome) (delayedBlock s (c .block)) (c .left)
         ∙ ap (λ (k : ℕ). with-event (s .counts) (record { number = k; changed = changes (delayedBlock s (c .block)) (c .left) }))
-        (sym (ready-number s (c .block) (c .room) y (c .left) (c .decoded)))
+        (sym (ready-number s (c .block) (c .marks) (c .room) y (c .left) (c .decoded)))
     by (inr f) =
-        ap (λ (r : Receiver). r .counts) (refused-state s (c .block) (c .room) (c .left) (c .decoded) f)
+        ap (λ (r : Receiver). r .counts) (refused-state s (c .block) (c .marks) (c .room) (c .left) (c .decoded) f)
         ∙ sym
         (ap (λ (k : ℕ). with-event (s .counts) (record { number = k; changed = changes (delayedBlock s (c .block)) (c .left) }))
-        (unpicked (refusal s (c .block) (c .room)) (f .some) (outcomeNumber (stepOf s (c .left) (c .decoded) .outcome)))
-        ∙ refused-event (s .counts) (refusal s (c .block) (c .room)) (changes (delayedBlock s (c .block)) (c .left)) (f .some) (f .few))
+        (unpicked (refusal s (c .block) (c .marks) (c .room)) (f .some) (outcomeNumber (stepOf s (c .left) (c .decoded) .outcome)))
+        ∙ refused-event (s .counts) (refusal s (c .block) (c .marks) (c .room)) (changes (delayedBlock s (c .block)) (c .left)) (f .some) (f .apart))
 
 -- ---- a list of calls
 

@@ -1,4 +1,5 @@
 pub mod Calls
+pub mod MarkDelays
 pub mod Reached
 pub mod Histories
 pub mod Outcomes

@@ -1,16 +1,20 @@
 -- Calls that no test refuses come to what group synchronization makes of them, after eleven that are filling.
 -- Assumes nothing.
 use mathlib.Core.Path.{_≡_, refl, sym, ap, ap₂, _∙_, subst}
+use mathlib.Core.Bool.{true}
 use mathlib.Core.List.{List, [], _∷_, _++_}
 use Prim.Native.Nat.{ℕ, zero, suc, _+_, _≤_}
 use Prim.{tt}
 use native.Mathlib.Omega.{arith}
 use borrow.Author.Tests.{lt-ltb, le-ltb}
 use lib.Dec.{eqb}
-use lib.ListN.{length, getD, take, drop, length-drop}
+use lib.ListN.{length, getD, take, drop, length-drop, length-replicate}
 use lib.Seq.{take-at, take-nil, length-take-le}
 use Rattle.common.specs.Choice.{pick}
 use Rattle.common.specs.Lists.{All, Length}
+use Rattle.common.proofs.Lists.{All-map}
+use Rattle.reed_solomon.specs.Marks.{areMarks}
+use Rattle.reed_solomon.proofs.Marks.{are-marks-none}
 use Rattle.randomizer.specs.Packet.{randomized, derandomized}
 use Rattle.randomizer.proofs.Laws.{length-randomized}
 use Rattle.delay_branches.specs.Block as block
@@ -24,11 +28,12 @@ use Rattle.group_sync.specs.declared.GroupSync.{GroupSync}
 use Rattle.group_sync.specs.declared.GroupStep.{GroupStep}
 use Rattle.group_sync.proofs.Synchronization.{outcome-place}
 use Rattle.reception_counts.specs.Counts.{outcomeNumber}
-use Rattle.receiver.specs.Receive.{delayedBlock, repairOf, stepOf, stateAfter, roomAfter, Ready}
-use Rattle.receiver.specs.Run.{Call, answerOf, after, roomOf, Calls, packetsGiven, blocksOf, Roomy}
+use Rattle.receiver.specs.Receive.{markBranches, Unmarked, delayedBlock, delayedMarks, repairOf, stepOf, stateAfter, roomAfter, Ready}
+use Rattle.receiver.specs.Run.{Call, answerOf, after, roomOf, Calls, packetsGiven, blocksOf, Plain, Roomy}
 use Rattle.receiver.specs.Begun.{repairs, packetOf, ComeTo, filledFirst}
 use Rattle.receiver.specs.declared.Receiver.{Receiver}
 use Rattle.receiver.proofs.Calls.{ready-number, ready-state, ready-room, left-length}
+use Rattle.receiver.proofs.MarkDelays.{none-stays}
 use Rattle.receiver.proofs.Reached.{Sound, sound-range, sound-call}
 
 -- ---- calls that no test refuses
@@ -37,16 +42,21 @@ pub record Unrefused (s : Receiver) (cs : List Call) : Type 0 where
   pub sound : Sound s
   pub most : s .counts .taken + length cs ≤ 4294967295
   pub sizes : All (Length 204) (blocksOf cs)
+  pub marked : All (λ c. areMarks (c .marks) ≡ true) cs
   pub rooms : All Roomy cs
   pub decodes : Calls s cs
 
+-- calls in which no mark comes are such
+pub plain-marked : (cs : List Call) → All Plain cs → All (λ c. areMarks (c .marks) ≡ true) cs
+plain-marked cs pl = All-map Plain (λ c. areMarks (c .marks) ≡ true) (λ c e. ap areMarks e ∙ are-marks-none) cs pl
+
 -- the first of them
 module _ (s : Receiver) (c : Call) (cs : List Call) (u : Unrefused s (c ∷ cs)) where
-  pub first-ready : Ready s (c .block) (c .room)
-  first-ready = record { range = sound-range s (u .sound); size = u .sizes .0; enough = u .rooms .0; more = let m = u .most in omega arith }
+  pub first-ready : Ready s (c .block) (c .marks) (c .room)
+  first-ready = record { range = sound-range s (u .sound); size = u .sizes .0; marked = u .marked .0; enough = u .rooms .0; more = let m = u .most in omega arith }
 
-  state-is : after s c ≡ stateAfter s (c .block) (c .left) (c .decoded)
-  state-is = ready-state s (c .block) (c .room) first-ready (c .left) (c .decoded)
+  pub state-is : after s c ≡ stateAfter s (c .block) (c .marks) (c .left) (c .decoded)
+  state-is = ready-state s (c .block) (c .marks) (c .room) first-ready (c .left) (c .decoded)
 
   pub branches-after : after s c .deinterleaver .branches ≡ block.after Receiving (s .deinterleaver .branches) (c .block)
   unfolding stateAfter
@@ -56,19 +66,29 @@ module _ (s : Receiver) (c : Call) (cs : List Call) (u : Unrefused s (c ∷ cs))
   unfolding stateAfter
   taken-after = ap (λ (r : Receiver). r .counts .taken) state-is
 
+  -- without a mark it stays without one
+  pub unmarked-after : Unmarked s → Plain c → Unmarked (after s c)
+  unfolding stateAfter
+  unmarked-after z p =
+      let positions = s .deinterleaver .branches .positions in
+      ap (λ (r : Receiver). r .marks) state-is
+      ∙ ap₂ (λ (k m : List ℕ). block.after Receiving (markBranches k positions) m .cells) z p
+      ∙ none-stays positions (record { cells = length-replicate {A = ℕ} 1122 0; positions = u .sound .branches .positions; range = u .sound .branches .range })
+
   -- and the others
   pub next-unrefused : Unrefused (after s c) cs
   next-unrefused = record {
     sound = sound-call s c (u .sound) (u .decodes .0);
     most = let m = u .most in omega (arith, taken-after);
     sizes = u .sizes .1;
+    marked = u .marked .1;
     rooms = u .rooms .1;
     decodes = u .decodes .1;
   }
 
   module _ (g : GroupStep) (o : stepOf s (c .left) (c .decoded) ≡ g) where
     answer-is : answerOf s c ≡ outcomeNumber (g .outcome)
-    answer-is = ready-number s (c .block) (c .room) first-ready (c .left) (c .decoded) ∙ ap (λ (x : GroupStep). outcomeNumber (x .outcome)) o
+    answer-is = ready-number s (c .block) (c .marks) (c .room) first-ready (c .left) (c .decoded) ∙ ap (λ (x : GroupStep). outcomeNumber (x .outcome)) o
 
     sync-after : after s c .sync ≡ g .sync
     unfolding stateAfter
@@ -76,7 +96,7 @@ module _ (s : Receiver) (c : Call) (cs : List Call) (u : Unrefused s (c ∷ cs))
 
     room-is : roomOf s c ≡ roomAfter (g .outcome) (c .left) (c .room)
     room-is =
-        ready-room s (c .block) (c .room) first-ready (c .left) (c .decoded) ∙ ap (λ (x : GroupStep). roomAfter (x .outcome) (c .left) (c .room)) o
+        ready-room s (c .block) (c .marks) (c .room) first-ready (c .left) (c .decoded) ∙ ap (λ (x : GroupStep). roomAfter (x .outcome) (c .left) (c .room)) o
 
 -- ---- the packet that a call gives
 
@@ -107,7 +127,7 @@ one-more s c cs u g o h os r = record {
   where
     size : length (c .left) ≡ 204
     size =
-        left-length (delayedBlock s (c .block)) (c .left) (c .decoded) (u .decodes .0) (length-out Receiving (s .deinterleaver .branches) (c .block))
+        left-length (delayedMarks s (c .marks)) (delayedBlock s (c .block)) (c .left) (c .decoded) (u .decodes .0) (length-out Receiving (s .deinterleaver .branches) (c .block))
 
 -- ---- after filling
 

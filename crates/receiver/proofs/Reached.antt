@@ -9,12 +9,13 @@ use native.Mathlib.Decide.{decLt, ℕ-discrete}
 use native.Mathlib.Omega.{arith}
 use borrow.Author.Tests.{eq-eqb, ne-eqb, lt-ltb, le-ltb}
 use lib.Dec.{eqb}
-use lib.ListN.{length, getD}
+use lib.ListN.{length, getD, length-replicate}
 use Rattle.common.specs.Choice.{pick}
 use Rattle.reed_solomon.specs.Code.{differ, differBits}
-use Rattle.reed_solomon.specs.Decode.{Decodes}
+use Rattle.reed_solomon.specs.Marks.{largest, areMarks, DecodesMarked}
+use Rattle.reed_solomon.proofs.Marks.{largest-zeros, marks-of}
 use Rattle.reed_solomon.specs.declared.Decoded.{Decoded}
-use Rattle.reed_solomon.specs.declared.Decoded.the-variants.{Corrected, Uncorrectable, BlockLength}
+use Rattle.reed_solomon.specs.declared.Decoded.the-variants.{Corrected, Uncorrectable, BlockLength, MarkValue}
 use Rattle.reed_solomon.proofs.Laws.{few-changes}
 use Rattle.delay_branches.specs.declared.Side.the-variants.{Receiving}
 use Rattle.delay_branches.proofs.Blocks.{Good, good-after}
@@ -23,70 +24,83 @@ use Rattle.group_sync.specs.Group.{syncInRange, groupStep}
 use Rattle.group_sync.proofs.Synchronization.{accepted-outcome, sync-in-range}
 use Rattle.reception_counts.specs.Counts.{outcomeNumber, one, counted}
 use Rattle.reception_counts.proofs.Ranges.{CountsRange, counts-in-range, filling-range, lost-range, accepted-range}
-use Rattle.receiver.specs.Receive.{freshReceiver, inRange, delayedBlock, repairOf, ofAccepted, stateAfter, refusal, Ready, receiveState}
+use Rattle.receiver.specs.Receive.{freshReceiver, inRange, marksIn, delayedBlock, delayedMarks, repairOf, ofAccepted, stateAfter, refusal, Ready, receiveState}
 use Rattle.receiver.specs.Run.{Call, after, Calls, afterCalls}
 use Rattle.receiver.specs.declared.Receiver.{Receiver}
 use Rattle.receiver.proofs.Calls.{state-in-range, ready-state}
+use Rattle.receiver.proofs.MarkDelays.{stay-marks}
 
 -- what every reached state has
 pub record Sound (s : Receiver) : Type 0 where
   pub branches : Good Receiving (s .deinterleaver .branches)
+  pub marks : length (s .marks) ≡ 1122
+  pub small : largest (s .marks) < 2
   pub sync : syncInRange (s .sync) ≡ true
   pub counts : CountsRange (s .counts)
 
 pub sound-range : (s : Receiver) → Sound s → inRange s ≡ true
-sound-range s g = state-in-range s (record { branches = g .branches .range; sync = g .sync; counts = counts-in-range (s .counts) (g .counts) })
+sound-range s g = state-in-range s (record { branches = g .branches .range; marks = g .small; sync = g .sync; counts = counts-in-range (s .counts) (g .counts) })
 
 pub sound-fresh : Sound freshReceiver
 unfolding freshReceiver
 sound-fresh = record {
   branches = good-fresh Receiving;
+  marks = length-replicate {A = ℕ} 1122 0;
+  small = omega (arith, largest-zeros 1122);
   sync = refl;
   counts = record { most = omega arith; middle = refl; filled = refl; bytes = omega arith; least = omega arith; eightfold = omega arith };
 }
 
 -- ---- a call is refused, or none of its tests refuses it
 
-pub record Refused (s : Receiver) (block room : List ℕ) : Type 0 where
-  pub some : 0 < refusal s block room
-  pub few : refusal s block room < 8
+pub record Refused (s : Receiver) (block marks room : List ℕ) : Type 0 where
+  pub some : 0 < refusal s block marks room
+  pub apart : (refusal s block marks room < 8) ⊎ (11 < refusal s block marks room)
 
-pub ready-or-refused : (s : Receiver) (block room : List ℕ) → Ready s block room ⊎ Refused s block room
-ready-or-refused s block room = range (inRange s) refl
+pub ready-or-refused : (s : Receiver) (block marks room : List ℕ) → Ready s block marks room ⊎ Refused s block marks room
+ready-or-refused s block marks room = range (inRange s) refl
   where
-    range : (t : Bool) → inRange s ≡ t → Ready s block room ⊎ Refused s block room
-    range false e = inr (record { some = simp e (omega arith); few = simp e (omega arith) })
+    range : (t : Bool) → inRange s ≡ t → Ready s block marks room ⊎ Refused s block marks room
+    range false e = inr (record { some = simp e (omega arith); apart = simp e (inl (omega arith)) })
     range true e = size (ℕ-discrete (length block) 204)
       where
-        more : length block ≡ 204 → 188 ≤ length room → Dec (s .counts .taken < 4294967295) → Ready s block room ⊎ Refused s block room
-        more n l (yes h) = inl (record { range = e; size = n; enough = l; more = h })
-        more n l (no h) =
+        more : length block ≡ 204 → areMarks marks ≡ true → 188 ≤ length room → Dec (s .counts .taken < 4294967295) → Ready s block marks room ⊎ Refused s block marks room
+        more n m l (yes h) = inl (record { range = e; size = n; marked = m; enough = l; more = h })
+        more n m l (no h) =
             let k : 4294967295 ≤ s .counts .taken = omega arith in
             inr (record {
-              some = simp (e, eq-eqb _ _ n, le-ltb _ _ l, le-ltb _ _ k) (omega arith);
-              few = simp (e, eq-eqb _ _ n, le-ltb _ _ l, le-ltb _ _ k) (omega arith);
+              some = simp (e, eq-eqb _ _ n, m, le-ltb _ _ l, le-ltb _ _ k) (omega arith);
+              apart = simp (e, eq-eqb _ _ n, m, le-ltb _ _ l, le-ltb _ _ k) (inl (omega arith));
             })
 
-        enough : length block ≡ 204 → Dec (length room < 188) → Ready s block room ⊎ Refused s block room
-        enough n (yes h) =
-            inr (record { some = simp (e, eq-eqb _ _ n, lt-ltb _ _ h) (omega arith); few = simp (e, eq-eqb _ _ n, lt-ltb _ _ h) (omega arith) })
-        enough n (no h) = more n (omega arith) (decLt (s .counts .taken) 4294967295)
+        enough : length block ≡ 204 → areMarks marks ≡ true → Dec (length room < 188) → Ready s block marks room ⊎ Refused s block marks room
+        enough n m (yes h) =
+            inr (record { some = simp (e, eq-eqb _ _ n, m, lt-ltb _ _ h) (omega arith); apart = simp (e, eq-eqb _ _ n, m, lt-ltb _ _ h) (inl (omega arith)) })
+        enough n m (no h) = more n m (omega arith) (decLt (s .counts .taken) 4294967295)
 
-        size : Dec (length block ≡ 204) → Ready s block room ⊎ Refused s block room
-        size (yes n) = enough n (decLt (length room) 188)
-        size (no n) = inr (record { some = simp (e, ne-eqb _ _ n) (omega arith); few = simp (e, ne-eqb _ _ n) (omega arith) })
+        marked : length block ≡ 204 → (t : Bool) → areMarks marks ≡ t → Ready s block marks room ⊎ Refused s block marks room
+        marked n false m = inr (record { some = simp (e, eq-eqb _ _ n, m) (omega arith); apart = simp (e, eq-eqb _ _ n, m) (inr (omega arith)) })
+        marked n true m = enough n m (decLt (length room) 188)
 
-pub refused-state : (s : Receiver) (block room left : List ℕ) (decoded : Decoded) → Refused s block room → receiveState s block room left decoded ≡ s
-refused-state s block room left decoded f = unpicked (refusal s block room) (f .some)
+        size : Dec (length block ≡ 204) → Ready s block marks room ⊎ Refused s block marks room
+        size (yes n) = marked n (areMarks marks) refl
+        size (no n) = inr (record { some = simp (e, ne-eqb _ _ n) (omega arith); apart = simp (e, ne-eqb _ _ n) (inl (omega arith)) })
+
+pub refused-state : (s : Receiver) (block marks room left : List ℕ) (decoded : Decoded) → Refused s block marks room → receiveState s block marks room left decoded ≡ s
+refused-state s block marks room left decoded f = unpicked (refusal s block marks room) (f .some)
   where
-    unpicked : (n : ℕ) → 0 < n → pick (eqb n 0) (stateAfter s block left decoded) s ≡ s
+    unpicked : (n : ℕ) → 0 < n → pick (eqb n 0) (stateAfter s block marks left decoded) s ≡ s
     unpicked n h = simp (ne-eqb n 0 (λ e. omega arith))
 
 -- ---- a block taken keeps a state sound
 
-module _ (s : Receiver) (block left : List ℕ) (decoded : Decoded) (g : Sound s) (l : s .counts .taken < 4294967295)
-    (d : Decodes (delayedBlock s block) left decoded) where
-  counts-after : 11 ≤ s .counts .taken → (decoded : Decoded) → Decodes (delayedBlock s block) left decoded
+-- the marks lie in the delays as the bytes do
+pub sound-marks : (s : Receiver) → Sound s → Good Receiving (marksIn s)
+sound-marks s g = record { cells = g .marks; positions = g .branches .positions; range = g .branches .range }
+
+module _ (s : Receiver) (block marks left : List ℕ) (decoded : Decoded) (g : Sound s) (m : areMarks marks ≡ true) (l : s .counts .taken < 4294967295)
+    (d : DecodesMarked (delayedMarks s marks) (delayedBlock s block) left decoded) where
+  counts-after : 11 ≤ s .counts .taken → (decoded : Decoded) → DecodesMarked (delayedMarks s marks) (delayedBlock s block) left decoded
       → CountsRange (counted (s .counts) (outcomeNumber (groupStep (s .sync) (repairOf decoded (getD left 0 0)) .outcome))
       (ofAccepted (groupStep (s .sync) (repairOf decoded (getD left 0 0)) .outcome) (differ (delayedBlock s block) left))
       (ofAccepted (groupStep (s .sync) (repairOf decoded (getD left 0 0)) .outcome) (differBits (delayedBlock s block) left)))
@@ -99,18 +113,21 @@ module _ (s : Receiver) (block left : List ℕ) (decoded : Decoded) (g : Sound s
       more : (number : ℕ) → one 9 number ≡ 0 → one 8 number ≡ 0 → one 0 number + one 10 number + one 11 number ≡ 1
           → CountsRange (counted (s .counts) number (differ (delayedBlock s block) left) (differBits (delayedBlock s block) left))
       more number =
-          let w = few-changes (delayedBlock s block) left (Corrected changed) d in
+          let w = few-changes (delayedMarks s marks) (delayedBlock s block) left (Corrected changed) d in
           accepted-range (s .counts) number (differ (delayedBlock s block) left) (differBits (delayedBlock s block) left) (g .counts) h l (w .few) (w .least) (w .most)
   counts-after h Uncorrectable d = lost-range (s .counts) (g .counts) h l
   counts-after h BlockLength d = lost-range (s .counts) (g .counts) h l
+  counts-after h MarkValue d = lost-range (s .counts) (g .counts) h l
 
-  pub sound-after : Sound (stateAfter s block left decoded)
+  pub sound-after : Sound (stateAfter s block marks left decoded)
   unfolding stateAfter
   sound-after = by (decLt (s .counts .taken) 11)
     where
-      by : Dec (s .counts .taken < 11) → Sound (stateAfter s block left decoded)
+      by : Dec (s .counts .taken < 11) → Sound (stateAfter s block marks left decoded)
       by (yes h) = record {
         branches = good-after Receiving (s .deinterleaver .branches) block (g .branches);
+        marks = good-after Receiving (marksIn s) marks (sound-marks s g) .cells;
+        small = stay-marks (marksIn s) marks (g .small) (marks-of marks m);
         sync = simp (lt-ltb _ _ h) (g .sync);
         counts = simp (lt-ltb _ _ h) (filling-range (s .counts) (g .counts) h);
       }
@@ -118,17 +135,19 @@ module _ (s : Receiver) (block left : List ℕ) (decoded : Decoded) (g : Sound s
           let k : 11 ≤ s .counts .taken = omega arith in
           record {
             branches = good-after Receiving (s .deinterleaver .branches) block (g .branches);
+            marks = good-after Receiving (marksIn s) marks (sound-marks s g) .cells;
+            small = stay-marks (marksIn s) marks (g .small) (marks-of marks m);
             sync = simp (le-ltb _ _ k) (sync-in-range (s .sync) (repairOf decoded (getD left 0 0)) (g .sync));
             counts = simp (le-ltb _ _ k) (counts-after k decoded d);
           }
 
-pub sound-call : (s : Receiver) (c : Call) → Sound s → Decodes (delayedBlock s (c .block)) (c .left) (c .decoded) → Sound (after s c)
-sound-call s c g d = by (ready-or-refused s (c .block) (c .room))
+pub sound-call : (s : Receiver) (c : Call) → Sound s → DecodesMarked (delayedMarks s (c .marks)) (delayedBlock s (c .block)) (c .left) (c .decoded) → Sound (after s c)
+sound-call s c g d = by (ready-or-refused s (c .block) (c .marks) (c .room))
   where
-    by : Ready s (c .block) (c .room) ⊎ Refused s (c .block) (c .room) → Sound (after s c)
+    by : Ready s (c .block) (c .marks) (c .room) ⊎ Refused s (c .block) (c .marks) (c .room) → Sound (after s c)
     by (inl y) =
-        subst Sound (sym (ready-state s (c .block) (c .room) y (c .left) (c .decoded))) (sound-after s (c .block) (c .left) (c .decoded) g (y .more) d)
-    by (inr f) = subst Sound (sym (refused-state s (c .block) (c .room) (c .left) (c .decoded) f)) g
+        subst Sound (sym (ready-state s (c .block) (c .marks) (c .room) y (c .left) (c .decoded))) (sound-after s (c .block) (c .marks) (c .left) (c .decoded) g (y .marked) (y .more) d)
+    by (inr f) = subst Sound (sym (refused-state s (c .block) (c .marks) (c .room) (c .left) (c .decoded) f)) g
 
 sound-calls : (s : Receiver) (cs : List Call) → Sound s → Calls s cs → Sound (afterCalls s cs)
 sound-calls s [] g d = g

@@ -38,11 +38,11 @@ use Rattle.group_sync.proofs.Streams as streams
 use Rattle.group_sync.proofs.AsBefore as before
 use Rattle.reception_counts.specs.Counts.{outcomeNumber}
 use Rattle.receiver.specs.Receive.{freshReceiver}
-use Rattle.receiver.specs.Run.{Call, Calls, packetsGiven, blocksOf, answers, Roomy}
+use Rattle.receiver.specs.Run.{Call, Calls, packetsGiven, blocksOf, answers, Plain, Roomy}
 use Rattle.receiver.specs.Begun.{lefts, repairs, packetsOf, ComeTo, filledFirst, BegunAt}
 use Rattle.receiver.specs.declared.Receiver.{Receiver}
 use Rattle.receiver.proofs.Reached.{sound-fresh}
-use Rattle.receiver.proofs.Outcomes.{Unrefused, come-to, filled-come-to}
+use Rattle.receiver.proofs.Outcomes.{Unrefused, plain-marked, come-to, filled-come-to}
 use Rattle.receiver.proofs.Decoding.{sent-length, sent-bytes, coded-back, Nears, nears-of, Repaired, repaired-after}
 
 -- ---- as before
@@ -179,7 +179,7 @@ module _ (packets : List (List ℕ)) (ws : All Packet packets) where
 
   -- ---- at most eight bytes of each block wrong
 
-  module _ (m : ℕ) (cs : List Call) (u : Unrefused freshReceiver cs) (q : Nears (drop 11 (run Receiving fresh (blocksOf cs))) (drop m coded)) where
+  module _ (m : ℕ) (cs : List Call) (u : Unrefused freshReceiver cs) (pl : All Plain cs) (q : Nears (drop 11 (run Receiving fresh (blocksOf cs))) (drop m coded)) where
     dropped : drop m coded ≡ map encoded (randomizedFrom m (drop m packets))
     dropped =
         let e : 0 + m ≡ m = omega arith in
@@ -188,7 +188,7 @@ module _ (packets : List (List ℕ)) (ws : All Packet packets) where
     late : Repaired m (drop m packets) (drop 11 cs)
     unfolding freshReceiver
     late =
-        repaired-after 11 m (drop m packets) cs freshReceiver u (All-drop Packet m packets ws)
+        repaired-after 11 m (drop m packets) cs freshReceiver u refl pl (All-drop Packet m packets ws)
         (subst (Nears (drop 11 (run Receiving fresh (blocksOf cs)))) dropped q)
 
     fewer : length (drop 11 cs) ≡ length cs - 11
@@ -221,7 +221,7 @@ module _ (packets : List (List ℕ)) (ws : All Packet packets) where
   -- ---- no byte wrong
 
   module _ (m : ℕ) (cs : List Call) (h : m + length cs ≤ length packets) (l : length cs ≤ 4294967295)
-      (b : blocksOf cs ≡ take (length cs) (drop m (interleaved coded))) (rs : All Roomy cs) (ds : Calls freshReceiver cs) where
+      (b : blocksOf cs ≡ take (length cs) (drop m (interleaved coded))) (pl : All Plain cs) (rs : All Roomy cs) (ds : Calls freshReceiver cs) where
     air : List (List ℕ)
     air = drop m (interleaved coded)
 
@@ -233,7 +233,7 @@ module _ (packets : List (List ℕ)) (ws : All Packet packets) where
 
     unharmed-calls : Unrefused freshReceiver cs
     unfolding freshReceiver
-    unharmed-calls = record { sound = sound-fresh; most = omega arith; sizes = sizes; rooms = rs; decodes = ds }
+    unharmed-calls = record { sound = sound-fresh; most = omega arith; sizes = sizes; marked = plain-marked cs pl; rooms = rs; decodes = ds }
 
     -- the bytes received, and those sent after them
     front : flatten air ≡ flatten (blocksOf cs) ++ flatten (drop (length cs) air)
@@ -256,25 +256,25 @@ module _ (packets : List (List ℕ)) (ws : All Packet packets) where
 
     -- the theorem
     pub begun-anywhere : BegunAt m packets cs
-    begun-anywhere = near-received m cs unharmed-calls nears
+    begun-anywhere = near-received m cs unharmed-calls pl nears
 
     -- document 02, P4: the calls come to what they came to by the rule before it
     pub as-before : ComeTo freshReceiver cs (filledFirst 11 cs (before.outcomesBefore NotKnown (repairs (drop 11 cs))))
     as-before =
         in-order-as-before m cs unharmed-calls
-        (subst (before.InOrder m) (sym (near-accepted m cs unharmed-calls nears)) (before.sent-in-order m (length cs - 11)))
+        (subst (before.InOrder m) (sym (near-accepted m cs unharmed-calls pl nears)) (before.sent-in-order m (length cs - 11)))
 
 -- demand 2, receiving: the case of block 0
 pub stream-received : (packets : List (List ℕ)) → All Packet packets → length packets ≤ 4294967295
-    → (cs : List Call) → blocksOf cs ≡ interleaved (map encoded (randomizedStream packets)) → All Roomy cs → Calls freshReceiver cs
+    → (cs : List Call) → blocksOf cs ≡ interleaved (map encoded (randomizedStream packets)) → All Plain cs → All Roomy cs → Calls freshReceiver cs
     → (answers freshReceiver cs ≡ take (length packets) (replicate 11 9 ++ replicate (length packets) 0))
     × (packetsGiven freshReceiver cs ≡ take (length packets - 11) packets)
-stream-received packets ws l cs b rs ds =
+stream-received packets ws l cs b pl rs ds =
     let sent = interleaved (map encoded (randomizedStream packets)) in
     let k : length sent ≡ length packets = length-delayed Sending (map encoded (randomizedStream packets)) ∙ coded-size packets ws in
     let n : length cs ≡ length packets = sym (blocks-count cs) ∙ ap length b ∙ k in
     let e : length cs - 11 - 0 ≡ length packets - 11 = omega arith in
-    let r = begun-anywhere packets ws 0 cs (omega arith) (omega arith) (b ∙ sym (take-all (length cs) sent (omega arith))) rs ds in (
+    let r = begun-anywhere packets ws 0 cs (omega arith) (omega arith) (b ∙ sym (take-all (length cs) sent (omega arith))) pl rs ds in (
       r .answered ∙ ap (λ (i : ℕ). take i (replicate 11 9 ++ replicate i 0)) n,
       r .given ∙ ap (λ (i : ℕ). take i packets) e,
     )

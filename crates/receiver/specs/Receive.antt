@@ -1,20 +1,21 @@
--- What one call of the receiver does: document 01, "Receiver".
+-- What one call of the receiver does: document 01, "Receiver", and document 02, P4 and P11.
 -- Assumes nothing.
 use mathlib.Core.Path.{_≡_}
 use mathlib.Core.Bool.{Bool, true, false}
 use mathlib.Core.List.{List, _++_}
 use Prim.Native.Nat.{ℕ, _≤_, _<_}
 use lib.Dec.{ltb, eqb}
-use lib.ListN.{length, getD, take, drop}
+use lib.ListN.{length, getD, take, drop, replicate}
 use Rattle.common.specs.Choice.{pick}
 use Rattle.answer.specs.Number.{numberOf}
 use Rattle.reed_solomon.specs.Code.{differ, differBits}
-use Rattle.reed_solomon.specs.Decode.{Decodes}
+use Rattle.reed_solomon.specs.Marks.{largest, areMarks, noMarks, DecodesMarked}
 use Rattle.reed_solomon.specs.declared.Decoded.{Decoded}
-use Rattle.reed_solomon.specs.declared.Decoded.the-variants.{Corrected, Uncorrectable, BlockLength}
+use Rattle.reed_solomon.specs.declared.Decoded.the-variants.{Corrected, Uncorrectable, BlockLength, MarkValue}
 use Rattle.randomizer.specs.Packet.{derandomized}
 use Rattle.delay_branches.specs.Block.{fresh, blockOut, after}
 use Rattle.delay_branches.specs.Branch as branch
+use Rattle.delay_branches.specs.declared.Branches.{Branches}
 use Rattle.delay_branches.specs.declared.Side.the-variants.{Receiving}
 use Rattle.group_sync.specs.Group.{syncInRange, freshSync, groupStep}
 use Rattle.group_sync.specs.declared.Repair.{Repair}
@@ -31,27 +32,46 @@ unfoldable pub freshReceiver : Receiver
 unfolding fresh
 freshReceiver = record {
   deinterleaver = record { branches = fresh };
+  marks = replicate 1122 0;
   sync = freshSync;
   counts = zeroCounts;
 }
 
--- what document 01 asks of the numbers of a state
+-- the marks in the delays lie as the bytes do: they have cells of their own, and share the positions
+abbrev pub markBranches : List ℕ → List ℕ → Branches
+markBranches cells positions = record { cells = cells; positions = positions }
+
+abbrev pub marksIn : Receiver → Branches
+marksIn s = markBranches (s .marks) (s .deinterleaver .branches .positions)
+
+-- no mark is in the delays
+abbrev pub Unmarked : Receiver → Type 0
+Unmarked s = s .marks ≡ replicate 1122 0
+
+-- what documents 01 and 02 ask of the numbers of a state
 unfoldable pub inRange : Receiver → Bool
 unfolding countsInRange
 inRange s =
     pick (branch.inRange Receiving (s .deinterleaver .branches))
+    (pick (ltb (largest (s .marks)) 2)
     (pick (syncInRange (s .sync)) (countsInRange (s .counts)) false)
+    false)
     false
 
 -- the block that the delay branches give for one that comes
 abbrev pub delayedBlock : Receiver → List ℕ → List ℕ
 delayedBlock s block = blockOut Receiving (s .deinterleaver .branches) block
 
+-- and their marks
+abbrev pub delayedMarks : Receiver → List ℕ → List ℕ
+delayedMarks s marks = blockOut Receiving (marksIn s) marks
+
 -- what the repair made of a block: a codeword, by its first byte, or none
 abbrev pub repairOf : Decoded → ℕ → Repair
 repairOf (Corrected changed) first = repair.Accepted first
 repairOf Uncorrectable first = repair.Lost
 repairOf BlockLength first = repair.Lost
+repairOf MarkValue first = repair.Lost
 
 -- What a block comes to, and the place after it. While filling, nothing is repaired and the place is untouched.
 -- Decoding the delayed block left these bytes and this answer.
@@ -69,10 +89,11 @@ ofAccepted Waiting n = n
 ofAccepted OutOfStep n = n
 
 -- the state after a block taken; the changes are those between the block that came and the codeword left
-unfoldable pub stateAfter : Receiver → List ℕ → List ℕ → Decoded → Receiver
-stateAfter s block left decoded =
+unfoldable pub stateAfter : Receiver → List ℕ → List ℕ → List ℕ → Decoded → Receiver
+stateAfter s block marks left decoded =
     record {
       deinterleaver = record { branches = after Receiving (s .deinterleaver .branches) block };
+      marks = after Receiving (marksIn s) marks .cells;
       sync = stepOf s left decoded .sync;
       counts =
           counted (s .counts) (outcomeNumber (stepOf s left decoded .outcome))
@@ -88,39 +109,46 @@ roomAfter Lost left room = room
 roomAfter Waiting left room = room
 roomAfter OutOfStep left room = room
 
--- the tests before the work, in the order of document 01; 0 where none refuses
-abbrev pub refusal : Receiver → List ℕ → List ℕ → ℕ
-refusal s block room =
+-- the tests before the work, in the order of documents 01 and 02; 0 where none refuses
+abbrev pub refusal : Receiver → List ℕ → List ℕ → List ℕ → ℕ
+refusal s block marks room =
     pick (inRange s)
     (pick (eqb (length block) 204)
+    (pick (areMarks marks)
     (pick (ltb (length room) 188) 4 (pick (ltb (s .counts .taken) 4294967295) 0 7))
+    20)
     3)
     5
 
 -- a call that no test refuses
-pub record Ready (s : Receiver) (block room : List ℕ) : Type 0 where
+pub record Ready (s : Receiver) (block marks room : List ℕ) : Type 0 where
   pub range : inRange s ≡ true
   pub size : length block ≡ 204
   pub enough : 188 ≤ length room
+  pub marked : areMarks marks ≡ true
   pub more : s .counts .taken < 4294967295
 
 -- the number of the answer, the state and the room after a call
-abbrev pub receiveNumber : Receiver → List ℕ → List ℕ → List ℕ → Decoded → ℕ
-receiveNumber s block room left decoded =
-    pick (eqb (refusal s block room) 0) (outcomeNumber (stepOf s left decoded .outcome)) (refusal s block room)
+abbrev pub receiveNumber : Receiver → List ℕ → List ℕ → List ℕ → List ℕ → Decoded → ℕ
+receiveNumber s block marks room left decoded =
+    pick (eqb (refusal s block marks room) 0) (outcomeNumber (stepOf s left decoded .outcome)) (refusal s block marks room)
 
-abbrev pub receiveState : Receiver → List ℕ → List ℕ → List ℕ → Decoded → Receiver
-receiveState s block room left decoded = pick (eqb (refusal s block room) 0) (stateAfter s block left decoded) s
+abbrev pub receiveState : Receiver → List ℕ → List ℕ → List ℕ → List ℕ → Decoded → Receiver
+receiveState s block marks room left decoded = pick (eqb (refusal s block marks room) 0) (stateAfter s block marks left decoded) s
 
-abbrev pub receiveRoom : Receiver → List ℕ → List ℕ → List ℕ → Decoded → List ℕ
-receiveRoom s block room left decoded = pick (eqb (refusal s block room) 0) (roomAfter (stepOf s left decoded .outcome) left room) room
+abbrev pub receiveRoom : Receiver → List ℕ → List ℕ → List ℕ → List ℕ → Decoded → List ℕ
+receiveRoom s block marks room left decoded = pick (eqb (refusal s block marks room) 0) (roomAfter (stepOf s left decoded .outcome) left room) room
 
--- The block that the branches give decodes to an outcome, and the call is this function of it.
+-- The block that the branches give decodes, with the marks that they give, to an outcome, and the call is this function of it.
 -- Decoding is total and unique, so the call is decided.
-pub record Receives (s : Receiver) (block room : List ℕ) (r : Received) (exit : List ℕ) : Type 0 where
+pub record ReceivesMarked (s : Receiver) (block marks room : List ℕ) (r : Received) (exit : List ℕ) : Type 0 where
   pub left : List ℕ
   pub decoded : Decoded
-  pub decodes : Decodes (delayedBlock s block) left decoded
-  pub number : numberOf (r .answer) ≡ receiveNumber s block room left decoded
-  pub state : r .receiver ≡ receiveState s block room left decoded
-  pub written : exit ≡ receiveRoom s block room left decoded
+  pub decodes : DecodesMarked (delayedMarks s marks) (delayedBlock s block) left decoded
+  pub number : numberOf (r .answer) ≡ receiveNumber s block marks room left decoded
+  pub state : r .receiver ≡ receiveState s block marks room left decoded
+  pub written : exit ≡ receiveRoom s block marks room left decoded
+
+-- A block without marks is one with none: marks that are still in the delays act.
+abbrev pub Receives : Receiver → List ℕ → List ℕ → Received → List ℕ → Type 0
+Receives s block room r exit = ReceivesMarked s block noMarks room r exit

@@ -1,5 +1,6 @@
 -- Calls one after another, and the counts as document 01 defines them, from the history of calls.
 -- Assumes nothing.
+use mathlib.Core.Path.{_≡_}
 use mathlib.Core.List.{List, [], _∷_, _++_}
 use Prim.Native.Nat.{ℕ, _+_, _*_, _≤_}
 use Prim.{Unit}
@@ -7,35 +8,36 @@ use lib.Dec.{ltb, eqb}
 use lib.ListN.{length, take}
 use Rattle.common.specs.Choice.{pick}
 use Rattle.reed_solomon.specs.Code.{changes}
-use Rattle.reed_solomon.specs.Decode.{Decodes}
+use Rattle.reed_solomon.specs.Marks.{noMarks, DecodesMarked}
 use Rattle.reed_solomon.specs.declared.Changed.{Changed}
 use Rattle.reed_solomon.specs.declared.Decoded.{Decoded}
 use Rattle.reception_counts.specs.Counts.{one}
 use Rattle.reception_counts.specs.declared.Counts.{Counts}
-use Rattle.receiver.specs.Receive.{delayedBlock, receiveNumber, receiveState, receiveRoom}
+use Rattle.receiver.specs.Receive.{delayedBlock, delayedMarks, receiveNumber, receiveState, receiveRoom}
 use Rattle.receiver.specs.declared.Receiver.{Receiver}
 
--- a call: the block and the room lent, and what decoding the block that the branches give leaves and answers
+-- a call: the block, its marks and the room lent, and what decoding the block that the branches give leaves and answers
 pub record Call : Type 0 where
   pub block : List ℕ
+  pub marks : List ℕ
   pub room : List ℕ
   pub left : List ℕ
   pub decoded : Decoded
 
 -- the answer's number, the state and the room after a call
 abbrev pub answerOf : Receiver → Call → ℕ
-answerOf s c = receiveNumber s (c .block) (c .room) (c .left) (c .decoded)
+answerOf s c = receiveNumber s (c .block) (c .marks) (c .room) (c .left) (c .decoded)
 
 abbrev pub after : Receiver → Call → Receiver
-after s c = receiveState s (c .block) (c .room) (c .left) (c .decoded)
+after s c = receiveState s (c .block) (c .marks) (c .room) (c .left) (c .decoded)
 
 abbrev pub roomOf : Receiver → Call → List ℕ
-roomOf s c = receiveRoom s (c .block) (c .room) (c .left) (c .decoded)
+roomOf s c = receiveRoom s (c .block) (c .marks) (c .room) (c .left) (c .decoded)
 
 -- each call of the list has what its block decodes to
 abbrev pub Calls : Receiver → List Call → Type 0
 Calls s [] = Unit {0}
-Calls s (c ∷ cs) = Decodes (delayedBlock s (c .block)) (c .left) (c .decoded) × Calls (after s c) cs
+Calls s (c ∷ cs) = DecodesMarked (delayedMarks s (c .marks)) (delayedBlock s (c .block)) (c .left) (c .decoded) × Calls (after s c) cs
 
 -- the state after the calls
 abbrev pub afterCalls : Receiver → List Call → Receiver
@@ -63,9 +65,9 @@ abbrev pub answered : ℕ → List Event → ℕ
 answered k [] = 0
 answered k (e ∷ es) = one k (e .number) + answered k es
 
--- 1 for a block that was taken, and 0 for a call that was refused: answers 1 to 7
+-- 1 for a block that was taken, answers 0 and 8 to 11, and 0 for a call that was refused
 abbrev pub takenBy : ℕ → ℕ
-takenBy number = pick (eqb number 0) 1 (pick (ltb number 8) 0 1)
+takenBy number = pick (eqb number 0) 1 (pick (ltb number 8) 0 (pick (ltb number 12) 1 0))
 
 abbrev pub takenIn : List Event → ℕ
 takenIn [] = 0
@@ -103,6 +105,10 @@ blocksOf (c ∷ cs) = c .block ∷ blocksOf cs
 abbrev pub answers : Receiver → List Call → List ℕ
 answers s [] = []
 answers s (c ∷ cs) = answerOf s c ∷ answers (after s c) cs
+
+-- a call in which no mark comes
+abbrev pub Plain : Call → Type 0
+Plain c = c .marks ≡ noMarks
 
 -- a room long enough
 abbrev pub Roomy : Call → Type 0

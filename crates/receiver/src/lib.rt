@@ -1,12 +1,19 @@
 // The receiving chain: interleaved blocks in, transport packets out. EN 300 421, 4.4, taken backwards.
 ghost use mathlib.Core.Path.{_≡_};
-ghost use Prim.Native.Nat.{_≤_, _<_};
-ghost use lib.ListN.{length};
+ghost use mathlib.Core.Bool.{true};
+ghost use Prim.Native.Nat.{_≤_};
+ghost use lib.ListN.{length, replicate};
 ghost use Rattle.answer.specs.Number.{numberOf};
 ghost use Rattle.group_sync.specs.Group.{PlaceOf};
 ghost use Rattle.reception_counts.specs.Counts.{outcomeNumber};
-ghost use Rattle.receiver.specs.Receive.{freshReceiver, inRange, repairOf, roomAfter, Ready, Receives};
+ghost use Rattle.reed_solomon.specs.Marks.{largest, noMarks, DecodesMarked};
+ghost use Rattle.delay_branches.specs.Branch as branch;
+ghost use Rattle.delay_branches.specs.Block.{blockOut, after};
+ghost use Rattle.receiver.specs.Receive.{freshReceiver, inRange, markBranches, Unmarked, repairOf, roomAfter, Ready, ReceivesMarked, Receives};
 use answer::Answer;
+use delay_branches::Branches;
+use delay_branches::Side;
+use delay_branches::pass_block;
 use group_sync::GroupSync;
 use group_sync::Outcome;
 use group_sync::Repair;
@@ -15,9 +22,10 @@ use reception_counts::Counts;
 use reception_counts::count;
 use reed_solomon::Decoded;
 
-// A receiver: the delay branches, the place in the group, and the counts.
+// A receiver: the delay branches, the marks of the bytes in them, cell by cell, the place in the group, and the counts.
 pub struct Receiver {
     pub deinterleaver: Deinterleaver,
+    pub marks: [u8; 1122],
     pub sync: GroupSync,
     pub counts: Counts,
 }
@@ -36,6 +44,7 @@ fn repair_of(decoded: Decoded, first: u8) -> Repair
         Decoded::Corrected(_) => Repair::Accepted(first),
         Decoded::Uncorrectable => Repair::Lost,
         Decoded::BlockLength => Repair::Lost,
+        Decoded::MarkValue => Repair::Lost,
     }
 }
 
@@ -58,30 +67,81 @@ fn deliver(outcome: Outcome, left: &[u8], room: &mut [u8]) -> Answer
     }
 }
 
-// Takes a block.
-fn take_block(receiver: Receiver, block: &[u8], room: &mut [u8]) -> Received
-    requires { ⌜ Ready receiver (now block) (now room) ⌝ }
-    ensures { λ r. ⌜ Receives receiver (now (block .entry)) (now (room .entry)) r (now (room .exit)) ⌝ }
+// The marks of a block through the delay branches, as its bytes go: by the same positions, in cells of their own.
+// Where no mark comes and none is in the cells, none leaves, and the cells stay.
+fn delay_marks(
+    cells: [u8; 1122],
+    positions: [u8; 12],
+    marks: &[u8],
+    none: bool,
+    room: &mut [u8],
+) -> [u8; 1122]
+    requires { ⌜
+        (branch.inRange Side.Receiving (markBranches cells positions) ≡ true)
+        × (length (now marks) ≡ 204)
+        × (now room ≡ noMarks)
+        × (none ≡ true → (cells ≡ replicate 1122 0) × (now marks ≡ noMarks)) ⌝ }
+    ensures { λ r. ⌜
+        (r ≡ after Side.Receiving (markBranches cells positions) (now (marks .entry)) .cells)
+        × (now (room .exit) ≡ blockOut Side.Receiving (markBranches cells positions) (now (marks .entry))) ⌝ }
+{
+    if none {
+        return cells;
+    }
+    let held = Branches { cells, positions };
+    let next = pass_block(Side::Receiving, held, marks, room);
+    next.cells
+}
+
+// Decodes a block with its marks. Without any it costs what decoding without marks does.
+fn decode_block(block: &mut [u8], marks: &[u8], none: bool) -> Decoded
+    requires { ⌜ (none ≡ true → now marks ≡ noMarks) ⌝ }
+    ensures { λ r. ⌜ DecodesMarked (now (marks .entry)) (now (block .entry)) (now (block .exit)) r ⌝ }
+{
+    if none {
+        return reed_solomon::decode(block);
+    }
+    reed_solomon::decode_marked(block, marks)
+}
+
+// Takes a block with its marks; none says that no mark comes and none is in the delays.
+fn take_block(
+    receiver: Receiver,
+    block: &[u8],
+    marks: &[u8],
+    none: bool,
+    room: &mut [u8],
+) -> Received
+    requires { ⌜
+        Ready receiver (now block) (now marks) (now room)
+        × (none ≡ true → Unmarked receiver × (now marks ≡ noMarks)) ⌝ }
+    ensures { λ r. ⌜ ReceivesMarked receiver (now (block .entry)) (now (marks .entry)) (now (room .entry)) r (now (room .exit)) ⌝ }
 {
     let before = receiver.deinterleaver;
+    let branches = before.branches;
+    let positions = branches.positions;
+    let cells = receiver.marks;
     let sync = receiver.sync;
     let counts = receiver.counts;
     let taken = counts.taken;
     let mut delayed = [0u8; Receiver::BLOCK_LENGTH];
-    let passed = before.deinterleave(block, &mut delayed);
-    let deinterleaver = passed.deinterleaver;
+    let passed = pass_block(Side::Receiving, branches, block, &mut delayed);
+    let deinterleaver = Deinterleaver { branches: passed };
+    let mut erased = [0u8; Receiver::BLOCK_LENGTH];
+    let held = delay_marks(cells, positions, marks, none, &mut erased);
     if taken < 11 {
         let counts = count(counts, Outcome::Filling, 0, 0);
         return Received {
             answer: Answer::Filling,
             receiver: Receiver {
                 deinterleaver,
+                marks: held,
                 sync,
                 counts,
             },
         };
     }
-    let decoded = reed_solomon::decode(&mut delayed);
+    let decoded = decode_block(&mut delayed, &erased, none);
     let step = sync.step(repair_of(decoded, delayed[0]));
     let outcome = step.outcome;
     let next = step.sync;
@@ -94,10 +154,31 @@ fn take_block(receiver: Receiver, block: &[u8], room: &mut [u8]) -> Received
         answer,
         receiver: Receiver {
             deinterleaver,
+            marks: held,
             sync: next,
             counts,
         },
     }
+}
+
+// Whether each number is in its range, where most is the largest of the marks in the delays.
+fn parts_in_range(receiver: Receiver, most: u8) -> bool
+    requires { ⌜ most ≡ largest (receiver .marks) ⌝ }
+    ensures { λ r. ⌜ r ≡ inRange receiver ⌝ }
+{
+    let deinterleaver = receiver.deinterleaver;
+    let sync = receiver.sync;
+    let counts = receiver.counts;
+    if !deinterleaver.in_range() {
+        return false;
+    }
+    if most >= 2 {
+        return false;
+    }
+    if !sync.in_range() {
+        return false;
+    }
+    counts.in_range()
 }
 
 impl Receiver {
@@ -107,15 +188,17 @@ impl Receiver {
     // The bytes of a block.
     pub const BLOCK_LENGTH: usize = 204;
 
-    // All cells and counts 0, the place not known.
+    // All cells, marks and counts 0, the place not known.
     pub fn new() -> Receiver
         ensures { λ r. ⌜ r ≡ freshReceiver ⌝ }
     {
         let deinterleaver = Deinterleaver::new();
+        let marks = [0u8; 1122];
         let sync = GroupSync::new();
         let counts = Counts::new();
         Receiver {
             deinterleaver,
+            marks,
             sync,
             counts,
         }
@@ -125,25 +208,19 @@ impl Receiver {
     pub fn in_range(self) -> bool
         ensures { λ r. ⌜ r ≡ inRange self ⌝ }
     {
-        let deinterleaver = self.deinterleaver;
-        let sync = self.sync;
-        let counts = self.counts;
-        if !deinterleaver.in_range() {
-            return false;
-        }
-        if !sync.in_range() {
-            return false;
-        }
-        counts.in_range()
+        let marks = self.marks;
+        parts_in_range(self, reed_solomon::largest_mark(&marks))
     }
 
-    // Takes a block of 204 interleaved bytes, and writes the packet that it completes.
-    pub fn receive(self, block: &[u8], room: &mut [u8]) -> Received
-        ensures { λ r. ⌜ Receives self (now (block .entry)) (now (room .entry)) r (now (room .exit)) ⌝ }
+    // Takes a block of 204 interleaved bytes with a mark, 0 or 1, for each, and writes the packet that it completes.
+    pub fn receive_marked(self, block: &[u8], marks: &[u8], room: &mut [u8]) -> Received
+        ensures { λ r. ⌜ ReceivesMarked self (now (block .entry)) (now (marks .entry)) (now (room .entry)) r (now (room .exit)) ⌝ }
     {
+        let held = self.marks;
         let counts = self.counts;
         let taken = counts.taken;
-        if !self.in_range() {
+        let most = reed_solomon::largest_mark(&held);
+        if !parts_in_range(self, most) {
             return Received {
                 answer: Answer::StateRange,
                 receiver: self,
@@ -152,6 +229,12 @@ impl Receiver {
         if block.len() != Receiver::BLOCK_LENGTH {
             return Received {
                 answer: Answer::BlockLength,
+                receiver: self,
+            };
+        }
+        if !reed_solomon::are_marks(marks) {
+            return Received {
+                answer: Answer::MarkValue,
                 receiver: self,
             };
         }
@@ -167,6 +250,15 @@ impl Receiver {
                 receiver: self,
             };
         }
-        take_block(self, block, room)
+        let none = most + reed_solomon::largest_mark(marks) == 0;
+        take_block(self, block, marks, none, room)
+    }
+
+    // The same without marks: where none come they are 0. Those that are still in the delays act.
+    pub fn receive(self, block: &[u8], room: &mut [u8]) -> Received
+        ensures { λ r. ⌜ Receives self (now (block .entry)) (now (room .entry)) r (now (room .exit)) ⌝ }
+    {
+        let none = [0u8; Receiver::BLOCK_LENGTH];
+        self.receive_marked(block, &none, room)
     }
 }

@@ -14,7 +14,7 @@ pub record CountsRange (n : Counts) : Type 0 where
   pub most : n .taken ≤ 4294967295
   pub middle : middleFive n ≡ n .taken
   pub filled : n .filling ≡ min (n .taken) 11
-  pub bytes : n .changed ≤ 8 * acceptedBlocks n
+  pub bytes : n .changed ≤ 16 * acceptedBlocks n
   pub least : n .changed ≤ n .bits
   pub eightfold : n .bits ≤ 8 * n .changed
 
@@ -54,7 +54,7 @@ module _ (n : Counts) where
   sum-fails e h = simp (le-leb _ _ h, ne-eqb _ _ e)
 
   -- room for a block more
-  pub counts-room : (changed bits : ℕ) → CountsRange n → n .taken < 4294967295 → changed ≤ 8 → bits ≤ 8 * changed → Room n changed bits
+  pub counts-room : (changed bits : ℕ) → CountsRange n → n .taken < 4294967295 → changed ≤ 16 → bits ≤ 8 * changed → Room n changed bits
   counts-room changed bits r l h k =
       let m = r .middle in
       let b = r .bytes in
@@ -96,9 +96,9 @@ lost-range n r h l =
       eightfold = omega arith;
     }
 
--- a block that was accepted: in one of these counts, with at most eight bytes more and from one to eight bits in each of them
+-- a block that was accepted: in one of these counts, with at most sixteen bytes more and from one to eight bits in each of them
 pub accepted-range : (n : Counts) (number changed bits : ℕ) → CountsRange n → 11 ≤ n .taken → n .taken < 4294967295
-    → changed ≤ 8 → changed ≤ bits → bits ≤ 8 * changed
+    → changed ≤ 16 → changed ≤ bits → bits ≤ 8 * changed
     → one 9 number ≡ 0 → one 8 number ≡ 0 → one 0 number + one 10 number + one 11 number ≡ 1 → CountsRange (counted n number changed bits)
 accepted-range n number changed bits r h l w u v x y z =
     let m = r .middle in

@@ -23,13 +23,13 @@ abbrev pub acceptedBlocks : Counts → ℕ
 acceptedBlocks n = n .delivered + n .waiting + n .outofstep
 
 -- the ranges of document 01: taken at most 4,294,967,295, the middle five add up to it, filling is the smaller of taken and 11,
--- and at most eight bytes were changed in each accepted block; and of document 02: from one to eight bits in each changed byte
+-- and of document 02: at most sixteen bytes were changed in each accepted block, and from one to eight bits in each changed byte
 unfoldable pub countsInRange : Counts → Bool
 countsInRange n =
     pick (leb (n .taken) 4294967295)
     (pick (eqb (middleFive n) (n .taken))
     (pick (eqb (n .filling) (min (n .taken) 11))
-    (pick (leb (n .changed) (8 * acceptedBlocks n))
+    (pick (leb (n .changed) (16 * acceptedBlocks n))
     (pick (leb (n .changed) (n .bits)) (leb (n .bits) (8 * n .changed)) false)
     false)
     false)
@@ -65,7 +65,7 @@ counted n number changed bits = record {
 pub record Room (n : Counts) (changed bits : ℕ) : Type 0 where
   pub taken : n .taken < 4294967295
   pub middle : middleFive n ≡ n .taken
-  pub bytes : n .changed ≤ 8 * n .taken
+  pub bytes : n .changed ≤ 16 * n .taken
   pub eightfold : n .bits ≤ 8 * n .changed
-  pub few : changed ≤ 8
+  pub few : changed ≤ 16
   pub few-bits : bits ≤ 8 * changed

@@ -72,7 +72,7 @@ impl Counts {
         if filling != least(taken, 11) {
             return false;
         }
-        if changed > 8 * (delivered + waiting + outofstep) {
+        if changed > 16 * (delivered + waiting + outofstep) {
             return false;
         }
         if changed > bits {

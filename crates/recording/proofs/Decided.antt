@@ -14,9 +14,9 @@ use lib.ListN.{length, take, drop, replicate, length-append, length-drop, length
 use lib.Seq.{take-at, drop-at}
 use Rattle.common.specs.Choice.{pick}
 use Rattle.common.specs.Lists.{All, Length}
-use Rattle.reed_solomon.specs.Decode.{Decodes}
+use Rattle.reed_solomon.specs.Marks.{areMarks, DecodesMarked}
 use Rattle.reed_solomon.specs.declared.Decoded.{Decoded}
-use Rattle.reed_solomon.proofs.Laws.{unique, total}
+use Rattle.reed_solomon.proofs.Laws.{unique-marked, total}
 use Rattle.randomizer.specs.Packet.{derandomized}
 use Rattle.delay_branches.specs.declared.Side.the-variants.{Receiving}
 use Rattle.delay_branches.proofs.Blocks.{length-out}
@@ -24,16 +24,16 @@ use Rattle.group_sync.specs.Group.{PlaceOf}
 use Rattle.group_sync.specs.declared.Outcome.{Outcome}
 use Rattle.group_sync.specs.declared.Outcome.the-variants.{Filling, Delivered, Lost, Waiting, OutOfStep}
 use Rattle.reception_counts.specs.Counts.{outcomeNumber}
-use Rattle.receiver.specs.Receive.{freshReceiver, delayedBlock, stepOf, stateAfter, roomAfter, refusal, Ready, receiveNumber, receiveState, receiveRoom}
+use Rattle.receiver.specs.Receive.{freshReceiver, delayedBlock, delayedMarks, stepOf, stateAfter, roomAfter, refusal, Ready, receiveNumber, receiveState, receiveRoom}
 use Rattle.receiver.specs.Run.{Call, Calls, answerOf, after, roomOf, afterCalls, Roomy, blocksOf, packetsGiven}
 use Rattle.receiver.specs.declared.Receiver.{Receiver}
 use Rattle.receiver.proofs.Calls.{ready-number, ready-state, ready-room, left-length}
 use Rattle.interleaver.proofs.Blocks.{length-flatten}
-use Rattle.receiver.proofs.Outcomes.{packet-length}
+use Rattle.receiver.proofs.Outcomes.{plain-marked, packet-length}
 use Rattle.receiver.proofs.Reception.{blocks-count}
 use Rattle.receiver.proofs.Reached.{Sound, sound-range, sound-fresh, sound-call, Refused, ready-or-refused}
-use Rattle.recording.specs.Recording.{Recording}
-use Rattle.recording.proofs.Recordings.{givenBy, step-place, recorded-more}
+use Rattle.recording.specs.Recording.{blockMarks, MarkedBy, Recording}
+use Rattle.recording.proofs.Recordings.{none-marked, givenBy, step-place, recorded-more}
 use Rattle.recording.proofs.Joins.{recording-few}
 
 -- ---- a call on the same block, with room for a packet
@@ -57,15 +57,15 @@ record Alike (s : Receiver) (c d : Call) : Type 0 where
   pub given : givenBy (answerOf s c) (roomOf s c) ≡ givenBy (answerOf s d) (roomOf s d)
 
 -- the room has no part in what is given
-module _ (s : Receiver) (block left : List ℕ) (decoded : Decoded) (a b : List ℕ) (p : 188 ≤ length a) (q : 188 ≤ length b)
-    (d : Decodes (delayedBlock s block) left decoded) where
+module _ (s : Receiver) (block marks left : List ℕ) (decoded : Decoded) (a b : List ℕ) (p : 188 ≤ length a) (q : 188 ≤ length b)
+    (d : DecodesMarked (delayedMarks s marks) (delayedBlock s block) left decoded) where
   abbrev first : Call
-  first = record { block = block; room = a; left = left; decoded = decoded }
+  first = record { block = block; marks = marks; room = a; left = left; decoded = decoded }
 
   abbrev second : Call
-  second = record { block = block; room = b; left = left; decoded = decoded }
+  second = record { block = block; marks = marks; room = b; left = left; decoded = decoded }
 
-  refusal-same : refusal s block a ≡ refusal s block b
+  refusal-same : refusal s block marks a ≡ refusal s block marks b
   refusal-same = simp (le-ltb _ _ p, le-ltb _ _ q)
 
   number-same : answerOf s first ≡ answerOf s second
@@ -73,33 +73,34 @@ module _ (s : Receiver) (block left : List ℕ) (decoded : Decoded) (a b : List 
 
   room-alike : Alike s first second
   room-alike = record {
-    state = ap (λ (n : ℕ). pick (eqb n 0) (stateAfter s block left decoded) s) refusal-same;
-    given = by (ready-or-refused s block a);
+    state = ap (λ (n : ℕ). pick (eqb n 0) (stateAfter s block marks left decoded) s) refusal-same;
+    given = by (ready-or-refused s block marks a);
   }
     where
-      by : Ready s block a ⊎ Refused s block a → givenBy (answerOf s first) (roomOf s first) ≡ givenBy (answerOf s second) (roomOf s second)
+      by : Ready s block marks a ⊎ Refused s block marks a → givenBy (answerOf s first) (roomOf s first) ≡ givenBy (answerOf s second) (roomOf s second)
       by (inl y) =
-          let z : Ready s block b = record { range = y .range; size = y .size; enough = q; more = y .more } in
+          let z : Ready s block marks b = record { range = y .range; size = y .size; marked = y .marked; enough = q; more = y .more } in
           let o = stepOf s left decoded .outcome in
-          ap₂ givenBy (ready-number s block a y left decoded) (ready-room s block a y left decoded)
+          ap₂ givenBy (ready-number s block marks a y left decoded) (ready-room s block marks a y left decoded)
           ∙ given-outcome o left a b (step-place s first d y)
-          (left-length (delayedBlock s block) left decoded d (length-out Receiving (s .deinterleaver .branches) block))
-          ∙ sym (ap₂ givenBy (ready-number s block b z left decoded) (ready-room s block b z left decoded))
+          (left-length (delayedMarks s marks) (delayedBlock s block) left decoded d (length-out Receiving (s .deinterleaver .branches) block))
+          ∙ sym (ap₂ givenBy (ready-number s block marks b z left decoded) (ready-room s block marks b z left decoded))
       by (inr f) =
-          given-refused (refusal s block a) (outcomeNumber (stepOf s left decoded .outcome)) (roomOf s first) (roomOf s second) (f .some)
+          given-refused (refusal s block marks a) (outcomeNumber (stepOf s left decoded .outcome)) (roomOf s first) (roomOf s second) (f .some)
           ∙ ap (λ (n : ℕ). givenBy n (roomOf s second)) number-same
 
-call-alike : (s : Receiver) (c d : Call) → c .block ≡ d .block → Roomy c → Roomy d → Decodes (delayedBlock s (c .block)) (c .left) (c .decoded)
-    → Decodes (delayedBlock s (d .block)) (d .left) (d .decoded) → Alike s c d
-call-alike s c d e p q x y =
-    let y′ : Decodes (delayedBlock s (c .block)) (d .left) (d .decoded)
-    = subst (λ (b : List ℕ). Decodes (delayedBlock s b) (d .left) (d .decoded)) (sym e) y in
-    let u = unique (delayedBlock s (c .block)) (c .left) (d .left) (c .decoded) (d .decoded) x y′ in
-    let f : Call = record { block = c .block; room = d .room; left = c .left; decoded = c .decoded } in
+call-alike : (s : Receiver) (c d : Call) → c .block ≡ d .block → c .marks ≡ d .marks → Roomy c → Roomy d
+    → DecodesMarked (delayedMarks s (c .marks)) (delayedBlock s (c .block)) (c .left) (c .decoded)
+    → DecodesMarked (delayedMarks s (d .marks)) (delayedBlock s (d .block)) (d .left) (d .decoded) → Alike s c d
+call-alike s c d e m p q x y =
+    let y′ : DecodesMarked (delayedMarks s (c .marks)) (delayedBlock s (c .block)) (d .left) (d .decoded)
+    = subst₂ (λ (k b : List ℕ). DecodesMarked (delayedMarks s k) (delayedBlock s b) (d .left) (d .decoded)) (sym m) (sym e) y in
+    let u = unique-marked (delayedMarks s (c .marks)) (delayedBlock s (c .block)) (c .left) (d .left) (c .decoded) (d .decoded) x y′ in
+    let f : Call = record { block = c .block; marks = c .marks; room = d .room; left = c .left; decoded = c .decoded } in
     let w : f ≡ d
-    = ap (λ (b : List ℕ). record { block = b; room = d .room; left = c .left; decoded = c .decoded }) e
-    ∙ ap₂ (λ (l : List ℕ) (k : Decoded). record { block = d .block; room = d .room; left = l; decoded = k }) (u .block) (u .answer) in
-    subst (Alike s c) w (room-alike s (c .block) (c .left) (c .decoded) (c .room) (d .room) p q x)
+    = ap₂ (λ (b k : List ℕ). record { block = b; marks = k; room = d .room; left = c .left; decoded = c .decoded }) e m
+    ∙ ap₂ (λ (l : List ℕ) (k : Decoded). record { block = d .block; marks = d .marks; room = d .room; left = l; decoded = k }) (u .block) (u .answer) in
+    subst (Alike s c) w (room-alike s (c .block) (c .marks) (c .left) (c .decoded) (c .room) (d .room) p q x)
 
 -- ---- unique
 
@@ -108,44 +109,46 @@ record SameCalls (s : Receiver) (xs ys : List Call) : Type 0 where
   pub state : afterCalls s xs ≡ afterCalls s ys
 
 -- what is asked of the calls of a recording
-record Cut (s : Receiver) (bytes : List ℕ) (cs : List Call) (rest : List ℕ) : Type 0 where
+record Cut (s : Receiver) (bytes marks : List ℕ) (cs : List Call) (rest : List ℕ) : Type 0 where
   pub whole : bytes ≡ flatten (blocksOf cs) ++ rest
   pub sizes : All (Length 204) (blocksOf cs)
   pub short : length rest < 204
+  pub marked : MarkedBy marks cs
   pub decodes : Calls s cs
   pub roomy : All Roomy cs
 
-cut-more : (s : Receiver) (bytes : List ℕ) (c : Call) (cs : List Call) (rest : List ℕ) → Cut s bytes (c ∷ cs) rest → Cut (after s c) (drop 204 bytes) cs rest
+cut-more : (s : Receiver) (bytes marks : List ℕ) (c : Call) (cs : List Call) (rest : List ℕ) → Cut s bytes marks (c ∷ cs) rest → Cut (after s c) (drop 204 bytes) (drop 204 marks) cs rest
 unfolding flatten
-cut-more s bytes c cs rest k = record {
+cut-more s bytes marks c cs rest k = record {
   whole =
       ap (drop 204) (k .whole ∙ append-assoc (c .block) (flatten (blocksOf cs)) rest)
       ∙ drop-at (c .block) (flatten (blocksOf cs) ++ rest) 204 (k .sizes .0);
   sizes = k .sizes .1;
   short = k .short;
+  marked = k .marked .1;
   decodes = k .decodes .1;
   roomy = k .roomy .1;
 }
 
-cut-block : (s : Receiver) (bytes : List ℕ) (c : Call) (cs : List Call) (rest : List ℕ) → Cut s bytes (c ∷ cs) rest → take 204 bytes ≡ c .block
+cut-block : (s : Receiver) (bytes marks : List ℕ) (c : Call) (cs : List Call) (rest : List ℕ) → Cut s bytes marks (c ∷ cs) rest → take 204 bytes ≡ c .block
 unfolding flatten
-cut-block s bytes c cs rest k =
+cut-block s bytes marks c cs rest k =
     ap (take 204) (k .whole ∙ append-assoc (c .block) (flatten (blocksOf cs)) rest)
     ∙ take-at (c .block) (flatten (blocksOf cs) ++ rest) 204 (k .sizes .0)
 
-cut-length : (s : Receiver) (bytes : List ℕ) (cs : List Call) (rest : List ℕ) → Cut s bytes cs rest → length cs ≡ length bytes / 204
-cut-length s bytes cs rest k =
+cut-length : (s : Receiver) (bytes marks : List ℕ) (cs : List Call) (rest : List ℕ) → Cut s bytes marks cs rest → length cs ≡ length bytes / 204
+cut-length s bytes marks cs rest k =
     let w = flatten (blocksOf cs) in
     omega (arith, length-flatten 204 (blocksOf cs) (k .sizes), blocks-count cs, ap length (k .whole), length-append w rest, k .short)
 
-cuts-same : (s : Receiver) (bytes : List ℕ) (xs ys : List Call) (r t : List ℕ) → Cut s bytes xs r → Cut s bytes ys t → SameCalls s xs ys
-cuts-same s bytes [] [] r t p q = record { given = refl; state = refl }
-cuts-same s bytes [] (d ∷ ys) r t p q = absurd (let a = cut-length s bytes [] r p in let b = cut-length s bytes (d ∷ ys) t q in omega arith)
-cuts-same s bytes (c ∷ xs) [] r t p q = absurd (let a = cut-length s bytes (c ∷ xs) r p in let b = cut-length s bytes [] t q in omega arith)
-cuts-same s bytes (c ∷ xs) (d ∷ ys) r t p q =
-    let e = call-alike s c d (sym (cut-block s bytes c xs r p) ∙ cut-block s bytes d ys t q) (p .roomy .0) (q .roomy .0) (p .decodes .0) (q .decodes .0) in
-    let k : Cut (after s c) (drop 204 bytes) ys t = subst (λ (m : Receiver). Cut m (drop 204 bytes) ys t) (sym (e .state)) (cut-more s bytes d ys t q) in
-    let f = cuts-same (after s c) (drop 204 bytes) xs ys r t (cut-more s bytes c xs r p) k in
+cuts-same : (s : Receiver) (bytes marks : List ℕ) (xs ys : List Call) (r t : List ℕ) → Cut s bytes marks xs r → Cut s bytes marks ys t → SameCalls s xs ys
+cuts-same s bytes marks [] [] r t p q = record { given = refl; state = refl }
+cuts-same s bytes marks [] (d ∷ ys) r t p q = absurd (let a = cut-length s bytes marks [] r p in let b = cut-length s bytes marks (d ∷ ys) t q in omega arith)
+cuts-same s bytes marks (c ∷ xs) [] r t p q = absurd (let a = cut-length s bytes marks (c ∷ xs) r p in let b = cut-length s bytes marks [] t q in omega arith)
+cuts-same s bytes marks (c ∷ xs) (d ∷ ys) r t p q =
+    let e = call-alike s c d (sym (cut-block s bytes marks c xs r p) ∙ cut-block s bytes marks d ys t q) (p .marked .0 ∙ sym (q .marked .0)) (p .roomy .0) (q .roomy .0) (p .decodes .0) (q .decodes .0) in
+    let k : Cut (after s c) (drop 204 bytes) (drop 204 marks) ys t = subst (λ (m : Receiver). Cut m (drop 204 bytes) (drop 204 marks) ys t) (sym (e .state)) (cut-more s bytes marks d ys t q) in
+    let f = cuts-same (after s c) (drop 204 bytes) (drop 204 marks) xs ys r t (cut-more s bytes marks c xs r p) k in
     record {
       given =
           ap₂ (λ (x y : List (List ℕ)). x ++ y) (e .given) (f .given)
@@ -153,70 +156,70 @@ cuts-same s bytes (c ∷ xs) (d ∷ ys) r t p q =
       state = f .state ∙ ap (λ (m : Receiver). afterCalls m ys) (e .state);
     }
 
-module _ {s : Receiver} {bytes : List ℕ} {packets : List (List ℕ)} {last : Receiver} (r : Recording s bytes packets last) where
-  cut-of : Cut s bytes (r .calls) (r .rest)
-  cut-of = record { whole = r .whole; sizes = r .sizes; short = r .short; decodes = r .decodes; roomy = r .roomy }
+module _ {s : Receiver} {bytes marks : List ℕ} {packets : List (List ℕ)} {last : Receiver} (r : Recording s bytes marks packets last) where
+  cut-of : Cut s bytes marks (r .calls) (r .rest)
+  cut-of = record { whole = r .whole; sizes = r .sizes; short = r .short; marked = r .marked; decodes = r .decodes; roomy = r .roomy }
 
 pub record SameRecording (packets packets′ : List (List ℕ)) (last last′ : Receiver) : Type 0 where
   pub given : packets ≡ packets′
   pub state : last ≡ last′
 
-pub recording-unique : {s : Receiver} {bytes : List ℕ} {p q : List (List ℕ)} {m n : Receiver} → Recording s bytes p m → Recording s bytes q n → SameRecording p q m n
-recording-unique {s} {bytes} a b =
-    let e = cuts-same s bytes (a .calls) (b .calls) (a .rest) (b .rest) (cut-of a) (cut-of b) in
+pub recording-unique : {s : Receiver} {bytes marks : List ℕ} {p q : List (List ℕ)} {m n : Receiver} → Recording s bytes marks p m → Recording s bytes marks q n → SameRecording p q m n
+recording-unique {s} {bytes} {marks} a b =
+    let e = cuts-same s bytes marks (a .calls) (b .calls) (a .rest) (b .rest) (cut-of a) (cut-of b) in
     record { given = a .given ∙ e .given ∙ sym (b .given); state = a .state ∙ e .state ∙ sym (b .state) }
 
 -- ---- each whole block is taken
 
-taken-calls : (s : Receiver) (cs : List Call) → Sound s → Calls s cs → All (Length 204) (blocksOf cs) → All Roomy cs → s .counts .taken + length cs ≤ 4294967295
+taken-calls : (s : Receiver) (cs : List Call) → Sound s → Calls s cs → All (Length 204) (blocksOf cs) → All (λ c. areMarks (c .marks) ≡ true) cs → All Roomy cs → s .counts .taken + length cs ≤ 4294967295
     → Sound (afterCalls s cs) × (afterCalls s cs .counts .taken ≡ s .counts .taken + length cs)
 unfolding stateAfter
-taken-calls s [] g d n o h = (g, omega arith)
-taken-calls s (c ∷ cs) g d n o h =
-    let y : Ready s (c .block) (c .room) = record { range = sound-range s g; size = n .0; enough = o .0; more = omega arith } in
-    let e : after s c .counts .taken ≡ s .counts .taken + 1 = ap (λ (m : Receiver). m .counts .taken) (ready-state s (c .block) (c .room) y (c .left) (c .decoded)) in
-    let r = taken-calls (after s c) cs (sound-call s c g (d .0)) (d .1) (n .1) (o .1) (omega arith) in
+taken-calls s [] g d n m o h = (g, omega arith)
+taken-calls s (c ∷ cs) g d n m o h =
+    let y : Ready s (c .block) (c .marks) (c .room) = record { range = sound-range s g; size = n .0; marked = m .0; enough = o .0; more = omega arith } in
+    let e : after s c .counts .taken ≡ s .counts .taken + 1 = ap (λ (m : Receiver). m .counts .taken) (ready-state s (c .block) (c .marks) (c .room) y (c .left) (c .decoded)) in
+    let r = taken-calls (after s c) cs (sound-call s c g (d .0)) (d .1) (n .1) (m .1) (o .1) (omega arith) in
     (r .0, omega (arith, r .1, e))
 
-pub recording-taken : {s : Receiver} {bytes : List ℕ} {packets : List (List ℕ)} {last : Receiver} → Sound s → Recording s bytes packets last
+pub recording-taken : {s : Receiver} {bytes : List ℕ} {packets : List (List ℕ)} {last : Receiver} → Sound s → Recording s bytes [] packets last
     → s .counts .taken + length bytes / 204 ≤ 4294967295 → Sound last × (last .counts .taken ≡ s .counts .taken + length bytes / 204)
 recording-taken {s} {bytes} {packets} {last} g r h =
-    let l = cut-length s bytes (r .calls) (r .rest) (cut-of r) in
-    let t = taken-calls s (r .calls) g (r .decodes) (r .sizes) (r .roomy) (omega arith) in
+    let l = cut-length s bytes [] (r .calls) (r .rest) (cut-of r) in
+    let t = taken-calls s (r .calls) g (r .decodes) (r .sizes) (plain-marked (r .calls) (none-marked (r .calls) (r .marked))) (r .roomy) (omega arith) in
     (subst Sound (sym (r .state)) (t .0), ap (λ (m : Receiver). m .counts .taken) (r .state) ∙ t .1 ∙ ap (λ (k : ℕ). s .counts .taken + k) l)
 
 -- ---- total
 
-pub record RecordingOf (s : Receiver) (bytes : List ℕ) : Type 0 where
+pub record RecordingOf (s : Receiver) (bytes marks : List ℕ) : Type 0 where
   pub packets : List (List ℕ)
   pub last : Receiver
-  pub recording : Recording s bytes packets last
+  pub recording : Recording s bytes marks packets last
 
 -- a call on the first block
-call-total : (s : Receiver) (bytes room left : List ℕ) (decoded : Decoded) → Decodes (delayedBlock s (take 204 bytes)) left decoded → 188 ≤ length room → 204 ≤ length bytes
-    → ((t : Receiver) → RecordingOf t (drop 204 bytes)) → RecordingOf s bytes
-call-total s bytes room left decoded d o h f =
-    let c : Call = record { block = take 204 bytes; room = room; left = left; decoded = decoded } in
+call-total : (s : Receiver) (bytes marks room left : List ℕ) (decoded : Decoded) → DecodesMarked (delayedMarks s (blockMarks marks)) (delayedBlock s (take 204 bytes)) left decoded → 188 ≤ length room
+    → 204 ≤ length bytes → ((t : Receiver) → RecordingOf t (drop 204 bytes) (drop 204 marks)) → RecordingOf s bytes marks
+call-total s bytes marks room left decoded d o h f =
+    let c : Call = record { block = take 204 bytes; marks = blockMarks marks; room = room; left = left; decoded = decoded } in
     let r = f (after s c) in
     record {
       packets = givenBy (answerOf s c) (roomOf s c) ++ r .packets;
       last = r .last;
-      recording = recorded-more s c d bytes (r .packets) (r .last) refl h o (r .recording);
+      recording = recorded-more s c d bytes marks (r .packets) (r .last) refl refl h o (r .recording);
     }
 
 enough-room : 188 ≤ length (replicate 188 zero)
 enough-room = omega (arith, length-replicate 188 zero)
 
-more-total : (s : Receiver) (bytes : List ℕ) → 204 ≤ length bytes → ((t : Receiver) → RecordingOf t (drop 204 bytes)) → RecordingOf s bytes
-more-total s bytes h f =
-    let t = total (delayedBlock s (take 204 bytes)) in
-    call-total s bytes (replicate 188 zero) (t .left) (t .answer) (t .decodes) enough-room h f
+more-total : (s : Receiver) (bytes marks : List ℕ) → 204 ≤ length bytes → ((t : Receiver) → RecordingOf t (drop 204 bytes) (drop 204 marks)) → RecordingOf s bytes marks
+more-total s bytes marks h f =
+    let t = total (delayedMarks s (blockMarks marks)) (delayedBlock s (take 204 bytes)) in
+    call-total s bytes marks (replicate 188 zero) (t .left) (t .answer) (t .decodes) enough-room h f
 
-blocks-total : (n : ℕ) (s : Receiver) (bytes : List ℕ) → length bytes / 204 ≡ n → RecordingOf s bytes
-blocks-total zero s bytes e = record { packets = []; last = s; recording = recording-few s bytes (omega arith) }
-blocks-total (suc n) s bytes e =
+blocks-total : (n : ℕ) (s : Receiver) (bytes marks : List ℕ) → length bytes / 204 ≡ n → RecordingOf s bytes marks
+blocks-total zero s bytes marks e = record { packets = []; last = s; recording = recording-few s bytes marks (omega arith) }
+blocks-total (suc n) s bytes marks e =
     let l = length-drop 204 bytes in
-    more-total s bytes (omega arith) (λ t. blocks-total n t (drop 204 bytes) (omega arith))
+    more-total s bytes marks (omega arith) (λ t. blocks-total n t (drop 204 bytes) (drop 204 marks) (omega arith))
 
-pub recording-total : (s : Receiver) (bytes : List ℕ) → RecordingOf s bytes
-recording-total s bytes = blocks-total (length bytes / 204) s bytes refl
+pub recording-total : (s : Receiver) (bytes marks : List ℕ) → RecordingOf s bytes marks
+recording-total s bytes marks = blocks-total (length bytes / 204) s bytes marks refl

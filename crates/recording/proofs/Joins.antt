@@ -1,4 +1,4 @@
--- A recording after another: what both come to together.
+-- A recording after another, both without marks: what both come to together.
 -- Assumes nothing.
 use mathlib.Core.Path.{_≡_, refl, sym, ap, ap₂, subst, subst₂, _∙_}
 use mathlib.Core.Bool.{Bool, true, false}
@@ -16,7 +16,7 @@ use Rattle.interleaver.proofs.Blocks.{flatten-join, length-flatten}
 use Rattle.receiver.specs.Run.{Call, Calls, answerOf, roomOf, after, afterCalls, Roomy, blocksOf, packetsGiven}
 use Rattle.receiver.specs.declared.Receiver.{Receiver}
 use Rattle.receiver.proofs.Reception.{blocks-count}
-use Rattle.recording.specs.Recording.{restOf, Recording, Takes}
+use Rattle.recording.specs.Recording.{restOf, MarkedBy, Recording, Takes}
 
 -- ---- calls after calls
 
@@ -31,6 +31,10 @@ blocks-join (c ∷ a) b = ap (λ (l : List (List ℕ)). c .block ∷ l) (blocks-
 after-join : (s : Receiver) (a b : List Call) → afterCalls s (a ++ b) ≡ afterCalls (afterCalls s a) b
 after-join s [] b = refl
 after-join s (c ∷ a) b = after-join (after s c) a b
+
+marked-join : (a b : List Call) → MarkedBy [] a → MarkedBy [] b → MarkedBy [] (a ++ b)
+marked-join [] b p q = q
+marked-join (c ∷ a) b p q = (p .0, marked-join a b (p .1) q)
 
 calls-join : (s : Receiver) (a b : List Call) → Calls s a → Calls (afterCalls s a) b → Calls s (a ++ b)
 calls-join s [] b p q = q
@@ -49,7 +53,7 @@ rest-at whole rest n e h =
     let l = length-append whole rest in
     drop-at whole rest (length (whole ++ rest) - length (whole ++ rest) % 204) (omega arith)
 
-module _ {s : Receiver} {bytes : List ℕ} {packets : List (List ℕ)} {last : Receiver} (r : Recording s bytes packets last) where
+module _ {s : Receiver} {bytes marks : List ℕ} {packets : List (List ℕ)} {last : Receiver} (r : Recording s bytes marks packets last) where
   pub recording-rest : r .rest ≡ restOf bytes
   recording-rest =
       let w = flatten (blocksOf (r .calls)) in
@@ -57,8 +61,8 @@ module _ {s : Receiver} {bytes : List ℕ} {packets : List (List ℕ)} {last : R
 
 -- ---- the join
 
-module _ {s middle last : Receiver} {a : List ℕ} (b : List ℕ) {p q : List (List ℕ)} (f : Recording s a p middle) (g : Recording middle (restOf a ++ b) q last) where
-  pub recording-join : Recording s (a ++ b) (p ++ q) last
+module _ {s middle last : Receiver} {a : List ℕ} (b : List ℕ) {p q : List (List ℕ)} (f : Recording s a [] p middle) (g : Recording middle (restOf a ++ b) [] q last) where
+  pub recording-join : Recording s (a ++ b) [] (p ++ q) last
   recording-join =
       let x = f .calls in
       let y = g .calls in
@@ -73,6 +77,7 @@ module _ {s middle last : Receiver} {a : List ℕ} (b : List ℕ) {p q : List (L
             ∙ ap (λ (l : List ℕ). l ++ g .rest) (sym (flatten-join (blocksOf x) (blocksOf y)) ∙ ap flatten (sym (blocks-join x y)));
         sizes = subst (All (Length 204)) (sym (blocks-join x y)) (all-join (Length 204) (blocksOf x) (blocksOf y) (f .sizes) (g .sizes));
         short = g .short;
+        marked = marked-join x y (f .marked) (g .marked);
         decodes = calls-join s x y (f .decodes) t;
         roomy = all-join Roomy x y (f .roomy) (g .roomy);
         given =
@@ -81,28 +86,29 @@ module _ {s middle last : Receiver} {a : List ℕ} (b : List ℕ) {p q : List (L
       }
 
 -- fewer bytes than a block
-pub recording-few : (s : Receiver) (bytes : List ℕ) → length bytes < 204 → Recording s bytes [] s
+pub recording-few : (s : Receiver) (bytes marks : List ℕ) → length bytes < 204 → Recording s bytes marks [] s
 unfolding flatten
-recording-few s bytes h = record {
+recording-few s bytes marks h = record {
   calls = [];
   rest = bytes;
   whole = refl;
   sizes = tt;
   short = h;
+  marked = tt;
   decodes = tt;
   roomy = tt;
   given = refl;
   state = refl;
 }
 
-pub takes-few : (s : Receiver) (bytes room : List ℕ) → length bytes < 204 → Takes s bytes room 0 s room
+pub takes-few : (s : Receiver) (bytes marks room : List ℕ) → length bytes < 204 → Takes s bytes marks room 0 s room
 unfolding flatten
-takes-few s bytes room h = record { packets = []; recording = recording-few s bytes h; counted = refl; written = refl }
+takes-few s bytes marks room h = record { packets = []; recording = recording-few s bytes marks h; counted = refl; written = refl }
 
 -- the room after two: the second is lent what the packets of the first leave of it
 module _ {s middle last : Receiver} {a : List ℕ} (b : List ℕ) {room exit exit′ : List ℕ} {m n : ℕ} where
-  pub takes-join : Takes s a room m middle exit → Takes middle (restOf a ++ b) (drop m exit) n last exit′
-      → Takes s (a ++ b) room (m + n) last (take m exit ++ exit′)
+  pub takes-join : Takes s a [] room m middle exit → Takes middle (restOf a ++ b) [] (drop m exit) n last exit′
+      → Takes s (a ++ b) [] room (m + n) last (take m exit ++ exit′)
   takes-join f g =
       let x = flatten (f .packets) in
       let y = flatten (g .packets) in
@@ -138,7 +144,7 @@ given-few s (c ∷ cs) =
     one false = omega arith
 
 -- at most a packet for each whole block
-pub takes-count : {s last : Receiver} {bytes room exit : List ℕ} {count : ℕ} → Takes s bytes room count last exit → count ≤ 188 * (length bytes / 204)
+pub takes-count : {s last : Receiver} {bytes marks room exit : List ℕ} {count : ℕ} → Takes s bytes marks room count last exit → count ≤ 188 * (length bytes / 204)
 takes-count {s} {last} {bytes} t =
     let r = t .recording in
     let w = flatten (blocksOf (r .calls)) in
@@ -148,7 +154,7 @@ takes-count {s} {last} {bytes} t =
     let g : length (flatten (t .packets)) ≤ 188 * length (r .calls) = subst (λ (p : List (List ℕ)). length (flatten p) ≤ 188 * length (r .calls)) (sym (r .given)) (given-few s (r .calls)) in
     omega (arith, t .counted, r .short, a, b, l, g)
 
-pub takes-length : {s last : Receiver} {bytes room exit : List ℕ} {count : ℕ} → Takes s bytes room count last exit → 188 * (length bytes / 204) ≤ length room
+pub takes-length : {s last : Receiver} {bytes marks room exit : List ℕ} {count : ℕ} → Takes s bytes marks room count last exit → 188 * (length bytes / 204) ≤ length room
     → length exit ≡ length room
-takes-length {s} {last} {bytes} {room} {exit} {count} t h =
+takes-length {s} {last} {bytes} {marks} {room} {exit} {count} t h =
     omega (arith, takes-count t, ap length (t .written), length-append (flatten (t .packets)) (drop count room), length-drop count room, t .counted)

@@ -12,10 +12,11 @@ use borrow.Author.Tests.{ne-eqb, lt-ltb, le-ltb}
 use borrow.Rule.Slice.PartMut.{putMid, midOf}
 use lib.Dec.{eqb}
 use lib.ListN.{length, getD, take, drop, length-append, length-drop, take-append-drop, drop-of-length-le}
-use lib.Seq.{take-all, take-at, drop-at, drop-drop, length-take-le}
+use lib.Seq.{take-all, take-at, take-append-le, drop-at, drop-drop, length-take-le}
 use Rattle.common.specs.Choice.{pick}
+use Rattle.common.specs.Lists.{All}
 use Rattle.answer.specs.Number.{numberOf}
-use Rattle.reed_solomon.specs.Decode.{Decodes}
+use Rattle.reed_solomon.specs.Marks.{noMarks, DecodesMarked}
 use Rattle.randomizer.specs.Packet.{derandomized}
 use Rattle.delay_branches.specs.declared.Side.the-variants.{Receiving}
 use Rattle.delay_branches.proofs.Blocks.{length-out}
@@ -25,14 +26,28 @@ use Rattle.group_sync.specs.declared.Outcome.{Outcome}
 use Rattle.group_sync.specs.declared.Outcome.the-variants.{Filling, Delivered, Lost, Waiting, OutOfStep}
 use Rattle.group_sync.proofs.Synchronization.{outcome-place}
 use Rattle.reception_counts.specs.Counts.{outcomeNumber}
-use Rattle.receiver.specs.Receive.{delayedBlock, repairOf, stepOf, roomAfter, refusal, Ready, Receives}
-use Rattle.receiver.specs.Run.{Call, answerOf, after, roomOf, Roomy, blocksOf}
+use Rattle.receiver.specs.Receive.{delayedBlock, delayedMarks, repairOf, stepOf, roomAfter, refusal, Ready, ReceivesMarked}
+use Rattle.receiver.specs.Run.{Call, answerOf, after, roomOf, Plain, Roomy, blocksOf}
 use Rattle.receiver.specs.declared.Receiver.{Receiver}
 use Rattle.receiver.specs.declared.Received.{Received}
 use Rattle.receiver.proofs.Calls.{state-range, ready-number, ready-room, left-length}
 use Rattle.receiver.proofs.Reached.{Refused, ready-or-refused}
 use Rattle.receiver.proofs.Outcomes.{packet-length}
-use Rattle.recording.specs.Recording.{Recording, Takes, givenBytes}
+use Rattle.recording.specs.Recording.{blockMarks, MarkedBy, Recording, Takes, givenBytes}
+
+-- ---- the marks of a block
+
+-- where none come, no call has a mark
+pub none-marked : (cs : List Call) → MarkedBy [] cs → All Plain cs
+none-marked [] m = tt
+none-marked (c ∷ cs) m = (m .0, none-marked cs (m .1))
+
+pub marks-none : (marks : List ℕ) (at : ℕ) → length marks ≡ 0 → blockMarks (drop at marks) ≡ noMarks
+marks-none marks at h = ap blockMarks (drop-of-length-le marks {i = at} (omega arith))
+
+-- there is one for each byte
+pub marks-front : (marks : List ℕ) → 204 ≤ length marks → blockMarks marks ≡ take 204 marks
+marks-front marks h = take-append-le 204 marks noMarks h
 
 -- ---- the room after a call
 
@@ -61,8 +76,8 @@ refused-filled n a room b h =
     let e = ne-eqb n 0 (λ e. omega arith) in
     simp e (record { size = simp e; after-it = simp e })
 
-module _ (s : Receiver) (c : Call) (d : Decodes (delayedBlock s (c .block)) (c .left) (c .decoded)) where
-  pub step-place : Ready s (c .block) (c .room) → PlaceOf (stepOf s (c .left) (c .decoded) .outcome)
+module _ (s : Receiver) (c : Call) (d : DecodesMarked (delayedMarks s (c .marks)) (delayedBlock s (c .block)) (c .left) (c .decoded)) where
+  pub step-place : Ready s (c .block) (c .marks) (c .room) → PlaceOf (stepOf s (c .left) (c .decoded) .outcome)
   step-place y = by (decLt (s .counts .taken) 11)
     where
       by : Dec (s .counts .taken < 11) → PlaceOf (stepOf s (c .left) (c .decoded) .outcome)
@@ -72,23 +87,23 @@ module _ (s : Receiver) (c : Call) (d : Decodes (delayedBlock s (c .block)) (c .
           simp (le-ltb _ _ k) (outcome-place (s .sync) (repairOf (c .decoded) (getD (c .left) 0 0)) (state-range s (y .range) .sync))
 
   call-filled : Filled (answerOf s c) (c .room) (roomOf s c)
-  call-filled = by (ready-or-refused s (c .block) (c .room))
+  call-filled = by (ready-or-refused s (c .block) (c .marks) (c .room))
     where
-      by : Ready s (c .block) (c .room) ⊎ Refused s (c .block) (c .room) → Filled (answerOf s c) (c .room) (roomOf s c)
+      by : Ready s (c .block) (c .marks) (c .room) ⊎ Refused s (c .block) (c .marks) (c .room) → Filled (answerOf s c) (c .room) (roomOf s c)
       by (inl y) =
           subst₂ (λ (n : ℕ) (x : List ℕ). Filled n (c .room) x)
-          (sym (ready-number s (c .block) (c .room) y (c .left) (c .decoded))) (sym (ready-room s (c .block) (c .room) y (c .left) (c .decoded)))
+          (sym (ready-number s (c .block) (c .marks) (c .room) y (c .left) (c .decoded))) (sym (ready-room s (c .block) (c .marks) (c .room) y (c .left) (c .decoded)))
           (outcome-filled (stepOf s (c .left) (c .decoded) .outcome) (c .left) (c .room) (step-place y)
-          (left-length (delayedBlock s (c .block)) (c .left) (c .decoded) d (length-out Receiving (s .deinterleaver .branches) (c .block))))
+          (left-length (delayedMarks s (c .marks)) (delayedBlock s (c .block)) (c .left) (c .decoded) d (length-out Receiving (s .deinterleaver .branches) (c .block))))
       by (inr f) =
-          refused-filled (refusal s (c .block) (c .room)) (outcomeNumber (stepOf s (c .left) (c .decoded) .outcome)) (c .room)
+          refused-filled (refusal s (c .block) (c .marks) (c .room)) (outcomeNumber (stepOf s (c .left) (c .decoded) .outcome)) (c .room)
           (roomAfter (stepOf s (c .left) (c .decoded) .outcome) (c .left) (c .room)) (f .some)
 
   -- a call on the first block, before those on the blocks after it
-  pub recorded-more : (bytes : List ℕ) (packets : List (List ℕ)) (last : Receiver) → c .block ≡ take 204 bytes → 204 ≤ length bytes → Roomy c
-      → Recording (after s c) (drop 204 bytes) packets last → Recording s bytes (givenBy (answerOf s c) (roomOf s c) ++ packets) last
+  pub recorded-more : (bytes marks : List ℕ) (packets : List (List ℕ)) (last : Receiver) → c .block ≡ take 204 bytes → c .marks ≡ blockMarks marks → 204 ≤ length bytes → Roomy c
+      → Recording (after s c) (drop 204 bytes) (drop 204 marks) packets last → Recording s bytes marks (givenBy (answerOf s c) (roomOf s c) ++ packets) last
   unfolding flatten
-  recorded-more bytes packets last e h o r = record {
+  recorded-more bytes marks packets last e m h o r = record {
     calls = c ∷ r .calls;
     rest = r .rest;
     whole =
@@ -96,6 +111,7 @@ module _ (s : Receiver) (c : Call) (d : Decodes (delayedBlock s (c .block)) (c .
         ∙ sym (append-assoc (c .block) (flatten (blocksOf (r .calls))) (r .rest));
     sizes = (ap length e ∙ length-take-le 204 bytes h, r .sizes);
     short = r .short;
+    marked = (m, r .marked);
     decodes = (d, r .decodes);
     roomy = (o, r .roomy);
     given = ap (λ (x : List (List ℕ)). givenBy (answerOf s c) (roomOf s c) ++ x) (r .given);
@@ -112,17 +128,17 @@ few-given number = by (eqb number 0) refl
 -- ---- the loop
 
 -- The packets so far are in the room, and there is room for the blocks from at on. What those come to, after the packets so far, is what the recording comes to.
-pub record Progress (first : Receiver) (bytes room₀ room : List ℕ) (s : Receiver) (at count : ℕ) : Type 0 where
+pub record Progress (first : Receiver) (bytes marks room₀ room : List ℕ) (s : Receiver) (at count : ℕ) : Type 0 where
   pub within : at ≤ length bytes
   pub enough : count + 188 * ((length bytes - at) / 204) ≤ length room₀
   pub front : List (List ℕ)
   pub counted : length (flatten front) ≡ count
   pub written : room ≡ flatten front ++ drop count room₀
-  pub further : (packets : List (List ℕ)) (last : Receiver) → Recording s (drop at bytes) packets last → Recording first bytes (front ++ packets) last
+  pub further : (packets : List (List ℕ)) (last : Receiver) → Recording s (drop at bytes) (drop at marks) packets last → Recording first bytes marks (front ++ packets) last
 
-pub progress-start : (s : Receiver) (bytes room : List ℕ) → 188 * (length bytes / 204) ≤ length room → Progress s bytes room room s 0 0
+pub progress-start : (s : Receiver) (bytes marks room : List ℕ) → 188 * (length bytes / 204) ≤ length room → Progress s bytes marks room room s 0 0
 unfolding flatten
-progress-start s bytes room h = record {
+progress-start s bytes marks room h = record {
   within = omega arith;
   enough = omega arith;
   front = [];
@@ -131,17 +147,18 @@ progress-start s bytes room h = record {
   further = λ packets last r. r;
 }
 
-module _ {first : Receiver} {bytes room₀ room : List ℕ} {s : Receiver} {at count : ℕ} (p : Progress first bytes room₀ room s at count) where
-  pub progress-end : length bytes - at < 204 → Takes first bytes room₀ count s room
+module _ {first : Receiver} {bytes marks room₀ room : List ℕ} {s : Receiver} {at count : ℕ} (p : Progress first bytes marks room₀ room s at count) where
+  pub progress-end : length bytes - at < 204 → Takes first bytes marks room₀ count s room
   unfolding flatten
   progress-end h =
       let d = length-drop at bytes in
-      let r : Recording s (drop at bytes) [] s = record {
+      let r : Recording s (drop at bytes) (drop at marks) [] s = record {
         calls = [];
         rest = drop at bytes;
         whole = refl;
         sizes = tt;
         short = omega arith;
+        marked = tt;
         decodes = tt;
         roomy = tt;
         given = refl;
@@ -149,7 +166,7 @@ module _ {first : Receiver} {bytes room₀ room : List ℕ} {s : Receiver} {at c
       } in
       record {
         packets = p .front;
-        recording = subst (λ (x : List (List ℕ)). Recording first bytes x s) (append-nil (p .front)) (p .further [] s r);
+        recording = subst (λ (x : List (List ℕ)). Recording first bytes marks x s) (append-nil (p .front)) (p .further [] s r);
         counted = sym (p .counted);
         written = p .written;
       }
@@ -173,21 +190,20 @@ module _ {first : Receiver} {bytes room₀ room : List ℕ} {s : Receiver} {at c
 
     -- a call on this block and the rest of the room
     module _ {r : Received} {exit : List ℕ}
-        (m : Receives s (take (at + 204 - at) (drop at bytes)) (midOf count (length room - count) room) r exit) where
-      kept : Receives s (take 204 (drop at bytes)) (drop count room) r exit
+        (m : ReceivesMarked s (take 204 (drop at bytes)) (blockMarks (drop at marks)) (midOf count (length room - count) room) r exit) where
+      kept : ReceivesMarked s (take 204 (drop at bytes)) (blockMarks (drop at marks)) (drop count room) r exit
       kept =
-          let k : at + 204 - at ≡ 204 = omega arith in
-          subst₂ (λ (a b : List ℕ). Receives s a b r exit) (ap (λ (j : ℕ). take j (drop at bytes)) k)
+          subst (λ (b : List ℕ). ReceivesMarked s (take 204 (drop at bytes)) (blockMarks (drop at marks)) b r exit)
           (take-all (length room - count) (drop count room) (omega (arith, length-drop count room))) m
 
       call : Call
-      call = record { block = take 204 (drop at bytes); room = drop count room; left = kept .left; decoded = kept .decoded }
+      call = record { block = take 204 (drop at bytes); marks = blockMarks (drop at marks); room = drop count room; left = kept .left; decoded = kept .decoded }
 
       filled : Filled (numberOf (r .answer)) (drop count room) exit
       unfolding call
       filled = subst₂ (λ (n : ℕ) (x : List ℕ). Filled n (drop count room) x) (sym (kept .number)) (sym (kept .written)) (call-filled s call (kept .decodes))
 
-      more : Progress first bytes room₀ (putMid count (length room - count) room exit) (r .receiver) (at + 204) (count + givenBytes (numberOf (r .answer)))
+      more : Progress first bytes marks room₀ (putMid count (length room - count) room exit) (r .receiver) (at + 204) (count + givenBytes (numberOf (r .answer)))
       unfolding call
       more =
           let n = givenBytes (numberOf (r .answer)) in
@@ -206,17 +222,18 @@ module _ {first : Receiver} {bytes room₀ room : List ℕ} {s : Receiver} {at c
                 ∙ sym (append-assoc (flatten (p .front)) (flatten g) (drop (count + n) room₀))
                 ∙ ap (λ (l : List ℕ). l ++ drop (count + n) room₀) (sym (flatten-join (p .front) g));
             further = λ packets last t.
-                let u : Recording (after s call) (drop 204 (drop at bytes)) packets last =
-                subst₂ (λ (a : Receiver) (b : List ℕ). Recording a b packets last) (kept .state) (sym (drop-drop 204 at bytes)) t in
-                let v : Recording s (drop at bytes) (givenBy (answerOf s call) (roomOf s call) ++ packets) last =
-                recorded-more s call (kept .decodes) (drop at bytes) packets last refl (omega (arith, length-drop at bytes))
+                let u : Recording (after s call) (drop 204 (drop at bytes)) (drop 204 (drop at marks)) packets last =
+                subst₂ (λ (a : Receiver) (b : List ℕ). Recording a b (drop 204 (drop at marks)) packets last) (kept .state) (sym (drop-drop 204 at bytes))
+                (subst (λ (m : List ℕ). Recording (r .receiver) (drop (at + 204) bytes) m packets last) (sym (drop-drop 204 at marks)) t) in
+                let v : Recording s (drop at bytes) (drop at marks) (givenBy (answerOf s call) (roomOf s call) ++ packets) last =
+                recorded-more s call (kept .decodes) (drop at bytes) (drop at marks) packets last refl refl (omega (arith, length-drop at bytes))
                 (omega (arith, ap length back-room, length-drop count room₀, p .enough, h)) u in
-                subst (λ (x : List (List ℕ)). Recording first bytes x last)
+                subst (λ (x : List (List ℕ)). Recording first bytes marks x last)
                 (ap₂ (λ (k : ℕ) (x : List ℕ). p .front ++ (givenBy k x ++ packets)) (sym (kept .number)) (sym (kept .written)) ∙ sym (append-assoc (p .front) g packets))
                 (p .further (givenBy (answerOf s call) (roomOf s call) ++ packets) last v);
           }
 
       pub progress-more : {n : ℕ} → n ≡ givenBytes (numberOf (r .answer))
-          → Progress first bytes room₀ (putMid count (length room - count) room exit) (r .receiver) (at + 204) (count + n)
+          → Progress first bytes marks room₀ (putMid count (length room - count) room exit) (r .receiver) (at + 204) (count + n)
       progress-more e =
-          subst (λ (k : ℕ). Progress first bytes room₀ (putMid count (length room - count) room exit) (r .receiver) (at + 204) (count + k)) (sym e) more
+          subst (λ (k : ℕ). Progress first bytes marks room₀ (putMid count (length room - count) room exit) (r .receiver) (at + 204) (count + k)) (sym e) more

@@ -16,13 +16,14 @@ use Rattle.interleaver.specs.Stream.{interleaved}
 use Rattle.interleaver.proofs.Blocks.{length-flatten, All-take}
 use Rattle.interleaver.proofs.Streams.{length-delayed, delayed-lengths}
 use Rattle.receiver.specs.Receive.{freshReceiver}
-use Rattle.receiver.specs.Run.{Call, Calls, blocksOf, Roomy}
+use Rattle.receiver.specs.Run.{Call, Calls, blocksOf, Plain, Roomy}
 use Rattle.receiver.specs.declared.Receiver.{Receiver}
 use Rattle.receiver.proofs.Reached.{sound-range, sound-fresh}
 use Rattle.receiver.proofs.Reception.{coded-size, stream-received}
 use Rattle.recording.specs.Recording.{Recording, Takes, recordingNumber, ReceivesRecording, refused, taken}
 use Rattle.recording.specs.Returned.{sentBytes, Returns}
 use Rattle.recording.proofs.Decided.{recording-total}
+use Rattle.recording.proofs.Recordings.{none-marked}
 
 -- ---- there is one way to cut whole blocks
 
@@ -51,7 +52,7 @@ module _ (packets : List (List ℕ)) (ws : All Packet packets) where
       length-flatten 204 sent sent-sizes
       ∙ ap (λ (n : ℕ). 204 * n) (length-delayed Sending (map encoded (randomizedStream packets)) ∙ coded-size packets ws)
 
-  recorded-blocks : {s last : Receiver} {given : List (List ℕ)} (r : Recording s (sentBytes packets) given last)
+  recorded-blocks : {s last : Receiver} {given : List (List ℕ)} (r : Recording s (sentBytes packets) [] given last)
       → blocksOf (r .calls) ≡ interleaved (map encoded (randomizedStream packets))
   unfolding sent
   recorded-blocks r = same-blocks (blocksOf (r .calls)) sent (r .rest) (r .sizes) sent-sizes (r .short) (r .whole)
@@ -77,7 +78,7 @@ module _ (packets : List (List ℕ)) (ws : All Packet packets) where
     given-back (refused e h c l x) = absurd (omega (arith, e, none-refuses))
     given-back {count = count} (taken h e t) =
         let r = t .recording in
-        let g = r .given ∙ stream-received packets ws few (r .calls) (recorded-blocks r) (r .roomy) (r .decodes) .1 in (
+        let g = r .given ∙ stream-received packets ws few (r .calls) (recorded-blocks r) (none-marked (r .calls) (r .marked)) (r .roomy) (r .decodes) .1 in (
           e,
           t .counted ∙ ap (λ (l : List (List ℕ)). length (flatten l)) g ∙ arrived-length,
           t .written ∙ ap (λ (l : List (List ℕ)). flatten l ++ drop count room) g,
@@ -96,10 +97,11 @@ returned bytes room number count last exit p = record {
 pub record History (packets : List (List ℕ)) : Type 0 where
   pub calls : List Call
   pub lent : blocksOf calls ≡ interleaved (map encoded (randomizedStream packets))
+  pub plain : All Plain calls
   pub roomy : All Roomy calls
   pub decodes : Calls freshReceiver calls
 
 pub history-exists : (packets : List (List ℕ)) → All Packet packets → History packets
 history-exists packets ws =
-    let r = recording-total freshReceiver (sentBytes packets) .recording in
-    record { calls = r .calls; lent = recorded-blocks packets ws r; roomy = r .roomy; decodes = r .decodes }
+    let r = recording-total freshReceiver (sentBytes packets) [] .recording in
+    record { calls = r .calls; lent = recorded-blocks packets ws r; plain = none-marked (r .calls) (r .marked); roomy = r .roomy; decodes = r .decodes }

@@ -1,12 +1,15 @@
--- What a receiver makes of a recording: the calls on its whole blocks, one after the other.
+-- What a receiver makes of a recording: the calls on its whole blocks, one after the other, each with its marks.
 -- Assumes nothing.
 use mathlib.Core.Path.{_≡_}
-use mathlib.Core.List.{List, _++_, flatten}
+use mathlib.Core.Bool.{Bool, false}
+use mathlib.Core.List.{List, [], _∷_, _++_, flatten}
 use Prim.Native.Nat.{ℕ, _-_, _*_, _/_, _%_, _<_}
+use Prim.{Unit}
 use lib.Dec.{ltb, eqb}
-use lib.ListN.{length, drop}
+use lib.ListN.{length, take, drop}
 use Rattle.common.specs.Choice.{pick}
 use Rattle.common.specs.Lists.{All, Length}
+use Rattle.reed_solomon.specs.Marks.{largest, noMarks}
 use Rattle.receiver.specs.Receive.{inRange}
 use Rattle.receiver.specs.Run.{Call, Calls, Roomy, blocksOf, packetsGiven, afterCalls}
 use Rattle.receiver.specs.declared.Receiver.{Receiver}
@@ -15,23 +18,33 @@ use Rattle.receiver.specs.declared.Receiver.{Receiver}
 abbrev pub restOf : List ℕ → List ℕ
 restOf bytes = drop (length bytes - length bytes % 204) bytes
 
+-- the marks of the first block: 0 where none come
+abbrev pub blockMarks : List ℕ → List ℕ
+blockMarks marks = take 204 (marks ++ noMarks)
+
+-- each call has the marks of its block
+abbrev pub MarkedBy : List ℕ → List Call → Type 0
+MarkedBy marks [] = Unit {0}
+MarkedBy marks (c ∷ cs) = (c .marks ≡ blockMarks marks) × MarkedBy (drop 204 marks) cs
+
 -- The recording is cut into blocks of 204 bytes, and the fewer than 204 bytes after the last of them are in none.
--- There is one call for each block, in their order, with room for a packet. These are the packets given and the state after the calls.
-pub record Recording (s : Receiver) (bytes : List ℕ) (packets : List (List ℕ)) (last : Receiver) : Type 0 where
+-- There is one call for each block, in their order, with its marks and with room for a packet. These are the packets given and the state after the calls.
+pub record Recording (s : Receiver) (bytes marks : List ℕ) (packets : List (List ℕ)) (last : Receiver) : Type 0 where
   pub calls : List Call
   pub rest : List ℕ
   pub whole : bytes ≡ flatten (blocksOf calls) ++ rest
   pub sizes : All (Length 204) (blocksOf calls)
   pub short : length rest < 204
+  pub marked : MarkedBy marks calls
   pub decodes : Calls s calls
   pub roomy : All Roomy calls
   pub given : packets ≡ packetsGiven s calls
   pub state : last ≡ afterCalls s calls
 
 -- the packets stand in the room, one after the other, and count is how many bytes they are
-pub record Takes (s : Receiver) (bytes room : List ℕ) (count : ℕ) (last : Receiver) (exit : List ℕ) : Type 0 where
+pub record Takes (s : Receiver) (bytes marks room : List ℕ) (count : ℕ) (last : Receiver) (exit : List ℕ) : Type 0 where
   pub packets : List (List ℕ)
-  pub recording : Recording s bytes packets last
+  pub recording : Recording s bytes marks packets last
   pub counted : count ≡ length (flatten packets)
   pub written : exit ≡ flatten packets ++ drop count room
 
@@ -47,7 +60,22 @@ recordingNumber s bytes room =
     (pick (ltb (length room) (188 * (length bytes / 204))) 4 (pick (ltb (4294967295 - s .counts .taken) (length bytes / 204)) 7 0))
     5
 
--- what taking a recording promises: all as before, or each whole block taken
-pub data ReceivesRecording (s : Receiver) (bytes room : List ℕ) (number count : ℕ) (last : Receiver) (exit : List ℕ) : Type 0 where
-  refused : number ≡ recordingNumber s bytes room → 0 < number → count ≡ 0 → last ≡ s → exit ≡ room → ReceivesRecording s bytes room number count last exit
-  taken : recordingNumber s bytes room ≡ 0 → number ≡ 0 → Takes s bytes room count last exit → ReceivesRecording s bytes room number count last exit
+-- whether there is a mark, 0 or 1, for each byte
+abbrev pub marksFor : List ℕ → List ℕ → Bool
+marksFor bytes marks = pick (eqb (length marks) (length bytes)) (ltb (largest marks) 2) false
+
+-- with marks: 20 where they are not such, after 5
+abbrev pub markedNumber : Receiver → List ℕ → List ℕ → List ℕ → ℕ
+markedNumber s bytes marks room = pick (inRange s) (pick (marksFor bytes marks) (recordingNumber s bytes room) 20) 5
+
+-- what taking a recording promises, where its tests give the number refusal: all as before, or each whole block taken
+pub data Answers (s : Receiver) (bytes marks room : List ℕ) (refusal number count : ℕ) (last : Receiver) (exit : List ℕ) : Type 0 where
+  refused : number ≡ refusal → 0 < number → count ≡ 0 → last ≡ s → exit ≡ room → Answers s bytes marks room refusal number count last exit
+  taken : refusal ≡ 0 → number ≡ 0 → Takes s bytes marks room count last exit → Answers s bytes marks room refusal number count last exit
+
+-- without marks, none come
+abbrev pub ReceivesRecording : Receiver → List ℕ → List ℕ → ℕ → ℕ → Receiver → List ℕ → Type 0
+ReceivesRecording s bytes room number count last exit = Answers s bytes [] room (recordingNumber s bytes room) number count last exit
+
+abbrev pub ReceivesMarkedRecording : Receiver → List ℕ → List ℕ → List ℕ → ℕ → ℕ → Receiver → List ℕ → Type 0
+ReceivesMarkedRecording s bytes marks room number count last exit = Answers s bytes marks room (markedNumber s bytes marks room) number count last exit

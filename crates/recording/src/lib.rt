@@ -1,12 +1,15 @@
 // A recording of received bytes: its whole blocks, one after the other.
 ghost use mathlib.Core.Path.{_≡_};
-ghost use Prim.Native.Nat.{_*_, _/_, _≤_};
-ghost use lib.ListN.{length};
+ghost use mathlib.Core.List.{[]};
+ghost use mathlib.Core.Logic.{_⊎_};
+ghost use Prim.Native.Nat.{_+_, _*_, _/_, _≤_};
+ghost use lib.ListN.{length, take, drop};
 ghost use Rattle.answer.specs.Number.{numberOf};
-ghost use Rattle.receiver.specs.Receive.{freshReceiver};
-ghost use Rattle.recording.specs.Recording.{givenBytes, Takes, ReceivesRecording};
+ghost use Rattle.receiver.specs.Receive.{freshReceiver, ReceivesMarked};
+ghost use Rattle.recording.specs.Recording.{givenBytes, blockMarks, marksFor, recordingNumber, Takes, Answers, ReceivesRecording, ReceivesMarkedRecording};
 ghost use Rattle.recording.specs.Returned.{Returns};
 use answer::Answer;
+use receiver::Received;
 use receiver::Receiver;
 use reception_counts::Counts;
 
@@ -34,21 +37,43 @@ fn given_bytes(answer: Answer) -> usize
     }
 }
 
-// Takes the whole blocks, each with a call. Its packet goes into the room after the one before.
-pub fn receive_blocks(receiver: Receiver, bytes: &[u8], room: &mut [u8]) -> Batch
-    requires { ⌜ 188 * (length (now bytes) / 204) ≤ length (now room) ⌝ }
-    ensures { λ r. ⌜ Takes receiver (now (bytes .entry)) (now (room .entry)) (r .count) (r .receiver) (now (room .exit)) ⌝ }
+// Takes the block from a place on, with its marks, where there are any.
+fn receive_at(
+    receiver: Receiver,
+    bytes: &[u8],
+    marks: &[u8],
+    at: usize,
+    room: &mut [u8],
+) -> Received
+    requires { ⌜
+        (at + 204 ≤ length (now bytes))
+        × ((length (now marks) ≡ 0) ⊎ (length (now marks) ≡ length (now bytes))) ⌝ }
+    ensures { λ r. ⌜
+        ReceivesMarked receiver (take 204 (drop at (now (bytes .entry)))) (blockMarks (drop at (now (marks .entry)))) (now (room .entry)) r (now (room .exit)) ⌝ }
+{
+    let end = at + Receiver::BLOCK_LENGTH;
+    if marks.len() == 0 {
+        return receiver.receive(&bytes[at..end], room);
+    }
+    receiver.receive_marked(&bytes[at..end], &marks[at..end], room)
+}
+
+// Takes the whole blocks, each with a call. Its packet goes into the room after the one before. There is a mark for each byte, or none at all.
+pub fn receive_blocks(receiver: Receiver, bytes: &[u8], marks: &[u8], room: &mut [u8]) -> Batch
+    requires { ⌜
+        (188 * (length (now bytes) / 204) ≤ length (now room))
+        × ((length (now marks) ≡ 0) ⊎ (length (now marks) ≡ length (now bytes))) ⌝ }
+    ensures { λ r. ⌜ Takes receiver (now (bytes .entry)) (now (marks .entry)) (now (room .entry)) (r .count) (r .receiver) (now (room .exit)) ⌝ }
 {
     let mut state = receiver;
     let mut at: usize = 0;
     let mut count: usize = 0;
     while bytes.len() - at >= Receiver::BLOCK_LENGTH {
-        let end = at + Receiver::BLOCK_LENGTH;
-        let received = state.receive(&bytes[at..end], &mut room[count..]);
+        let received = receive_at(state, bytes, marks, at, &mut room[count..]);
         let answer = received.answer;
         state = received.receiver;
         count += given_bytes(answer);
-        at = end;
+        at += Receiver::BLOCK_LENGTH;
     }
     Batch {
         count,
@@ -58,8 +83,10 @@ pub fn receive_blocks(receiver: Receiver, bytes: &[u8], room: &mut [u8]) -> Batc
 
 // Takes the whole blocks of a recording, and writes their packets one after the other. Bytes after the last whole block are not taken.
 // Nothing is taken unless there is room for a packet for each of them, and all of them can be counted.
-pub fn receive_recording(receiver: Receiver, bytes: &[u8], room: &mut [u8]) -> Recorded
-    ensures { λ r. ⌜ ReceivesRecording receiver (now (bytes .entry)) (now (room .entry)) (numberOf (r .answer)) (r .count) (r .receiver) (now (room .exit)) ⌝ }
+fn take_recording(receiver: Receiver, bytes: &[u8], marks: &[u8], room: &mut [u8]) -> Recorded
+    requires { ⌜ (length (now marks) ≡ 0) ⊎ (length (now marks) ≡ length (now bytes)) ⌝ }
+    ensures { λ r. ⌜
+        Answers receiver (now (bytes .entry)) (now (marks .entry)) (now (room .entry)) (recordingNumber receiver (now (bytes .entry)) (now (room .entry))) (numberOf (r .answer)) (r .count) (r .receiver) (now (room .exit)) ⌝ }
 {
     let counts = receiver.counts;
     let taken = counts.taken;
@@ -85,7 +112,7 @@ pub fn receive_recording(receiver: Receiver, bytes: &[u8], room: &mut [u8]) -> R
             receiver,
         };
     }
-    let batch = receive_blocks(receiver, bytes, room);
+    let batch = receive_blocks(receiver, bytes, marks, room);
     let count = batch.count;
     let receiver = batch.receiver;
     Recorded {
@@ -93,6 +120,60 @@ pub fn receive_recording(receiver: Receiver, bytes: &[u8], room: &mut [u8]) -> R
         count,
         receiver,
     }
+}
+
+// The whole blocks of a recording, with no mark for any byte.
+pub fn receive_recording(receiver: Receiver, bytes: &[u8], room: &mut [u8]) -> Recorded
+    ensures { λ r. ⌜ ReceivesRecording receiver (now (bytes .entry)) (now (room .entry)) (numberOf (r .answer)) (r .count) (r .receiver) (now (room .exit)) ⌝ }
+{
+    let none = [0u8; 0];
+    take_recording(receiver, bytes, &none, room)
+}
+
+// Whether there is a mark, 0 or 1, for each byte.
+fn are_marks_for(bytes: &[u8], marks: &[u8]) -> bool
+    ensures { λ r. ⌜ r ≡ marksFor (now (bytes .entry)) (now (marks .entry)) ⌝ }
+{
+    if marks.len() != bytes.len() {
+        return false;
+    }
+    reed_solomon::largest_mark(marks) < 2
+}
+
+// The whole blocks of a recording, with a mark for each byte.
+pub fn receive_marked_recording(
+    receiver: Receiver,
+    bytes: &[u8],
+    marks: &[u8],
+    room: &mut [u8],
+) -> Recorded
+    ensures { λ r. ⌜
+        ReceivesMarkedRecording receiver (now (bytes .entry)) (now (marks .entry)) (now (room .entry)) (numberOf (r .answer)) (r .count) (r .receiver) (now (room .exit)) ⌝ }
+{
+    if !receiver.in_range() {
+        return Recorded {
+            answer: Answer::StateRange,
+            count: 0,
+            receiver,
+        };
+    }
+    if !are_marks_for(bytes, marks) {
+        return Recorded {
+            answer: Answer::MarkValue,
+            count: 0,
+            receiver,
+        };
+    }
+    take_recording(receiver, bytes, marks, room)
+}
+
+// A fresh receiver over a whole recording, with a mark for each byte.
+pub fn receive_marked_run(bytes: &[u8], marks: &[u8], room: &mut [u8]) -> Recorded
+    ensures { λ r. ⌜
+        ReceivesMarkedRecording freshReceiver (now (bytes .entry)) (now (marks .entry)) (now (room .entry)) (numberOf (r .answer)) (r .count) (r .receiver) (now (room .exit)) ⌝ }
+{
+    let receiver = Receiver::new();
+    receive_marked_recording(receiver, bytes, marks, room)
 }
 
 // A fresh receiver over a whole recording. Where that is what a fresh sender sent, its packets come back.

@@ -1,61 +1,95 @@
--- Where a codeword is within eight bytes, the decoder finds its error: the values found explain all sixteen syndromes.
+-- Where 2 e + f is at most sixteen for a codeword, the decoder finds its error: the values found explain all sixteen syndromes.
 -- Assumes nothing.
 use mathlib.Core.Path.{_≡_, refl, sym, ap, ap₂, _∙_, subst}
-use mathlib.Core.List.{List, [], _∷_, _++_, map}
-use Prim.Native.Nat.{ℕ, suc, _+_, _≤_, _<_, Fin}
+use mathlib.Core.List.{List, [], _∷_, _++_, map, reverse}
+use mathlib.Core.Logic.{_⊎_, inl, inr}
+use Prim.Native.Nat.{ℕ, suc, _+_, _-_, _*_, _≤_, _<_, Fin}
 use Prim.{tt}
-use native.Mathlib.Decide.{decLt, Fin·val-path}
-use native.Mathlib.Nat.{zero-add}
+use native.Mathlib.Decide.{decLt, ℕ-discrete, Fin·val-path}
+use native.Mathlib.Nat.{zero-add, add-zero as add-zero-ℕ}
 use native.Mathlib.Omega.{arith}
-use lib.ListN.{length, getD, take, drop, length-map, length-append, List·getD-map}
+use borrow.Author.Tests.{eq-eqb, ne-eqb}
+use lib.ListN.{length, getD, take, drop, length-map, length-append, length-take, length-reverse, List·getD-map}
 use lib.Seq.{length-take-le, split-at}
+use Rattle.common.specs.Choice.{pick}
 use Rattle.common.specs.Lists.{All, Bytes}
 use Rattle.common.proofs.Lists.{All-at, All-map}
 use Rattle.algebra.specs.Field.{ops}
 use Rattle.algebra.specs.Polynomial.{power, eval, plus}
-use Rattle.algebra.proofs.Lists.{Distinct, Distinct-away}
+use Rattle.algebra.proofs.Lists.{Away, Distinct, Distinct-away}
 use Rattle.algebra.proofs.Ring.{add-zero, one-mul}
-use Rattle.algebra.proofs.Polynomial.{Zero, root-count, quotient, quotient-zero, quotient-value, length-quotient, length-plus-max, length-timesLinearFrom, timesLinear, fromRoots, length-fromRoots, fromRoots-roots, fromRoots-ne, eval-fromRoots-out}
-use Rattle.algebra.proofs.Syndromes.{Term, dot, dot-ext, syndrome, key, value}
+use Rattle.algebra.proofs.Polynomial.{eval-take, Zero-take, root-count, quotient, quotient-zero, quotient-value, length-quotient, length-plus-max, length-timesLinearFrom, timesLinear, fromRoots, length-fromRoots, fromRoots-roots, fromRoots-ne, eval-fromRoots-out}
+use Rattle.algebra.proofs.Syndromes.{Term, weight, weighted, dot, dot-ext, dot-take, syndrome, key-marked, value}
 use Rattle.algebra.proofs.Terms.{length-terms, place-at, value-at}
 use Rattle.galois.specs.Field256.{pow}
 use Rattle.galois.proofs.Instance.{bytes, byte, byte-power, powers-differ}
-use Rattle.reed_solomon.specs.Code.{Codeword, differ}
+use Rattle.reed_solomon.specs.Code.{Codeword}
+use Rattle.reed_solomon.specs.Marks.{marked, cost}
 use Rattle.byte_lanes.specs.Lanes.{elements, point}
-use Rattle.error_locator.specs.Locator.{Located}
-use Rattle.error_correction.specs.Correction.{valuesOf, rootsOf, RootProduct, errorValue}
-use Rattle.error_correction.proofs.RootSearch.{length-values, value-at as locator-value, map-join}
+use Rattle.error_locator.specs.Locator.{Located, Modified}
+use Rattle.error_correction.specs.Correction.{ByDegree, masked, valuesOf, rootsOf, one, monic, RootProduct, errorValue}
+use Rattle.error_correction.proofs.RootSearch.{length-values, value-erased, value-kept, value-one, map-join}
 use Rattle.reed_solomon.proofs.Codewords.{blockSyndrome, codeword-length, codeword-bytes, codeword-syndromes, rootsBelow, distinct-roots, length-roots}
-use Rattle.reed_solomon.proofs.Distance.{difference, difference-length, errors, errors-distinct, errors-weight, errors-syndrome}
-use Rattle.reed_solomon.proofs.Zeros.{zeros-all, zeros-has, zeros-distinct, zeros-syndrome}
+use Rattle.reed_solomon.proofs.Distance.{difference, difference-length, errors, errors-distinct, errors-syndrome}
+use Rattle.reed_solomon.proofs.MarkedDistance.{Covered, weight-unmarked, unmarked-reverse}
+use Rattle.reed_solomon.proofs.Residue.{reverse-at}
+use Rattle.reed_solomon.proofs.Zeros.{point-next, zeros-all, zeros-has, zeros-distinct, zeros-syndrome, zeros-shared, erasures-count}
 
 -- ---- the roots found
 
--- the locator and its roots
-module _ (q : List ℕ) (lq : length q ≡ 9) where
-  -- at each degree listed the locator vanishes
-  pub roots-vanish : All (λ d. (d < 204) × (eval (ops bytes) (elements q) (point d) ≡ bytes .𝟘)) (rootsOf q)
-  roots-vanish =
-      zeros-all (λ d. (d < 204) × (eval (ops bytes) (elements q) (point d) ≡ bytes .𝟘)) 0 (valuesOf q)
-      (λ i h z.
-      let b : i < 204 = omega (arith, length-values q) in
-      subst (λ (d : ℕ). (d < 204) × (eval (ops bytes) (elements q) (point d) ≡ bytes .𝟘)) (sym (zero-add i)) (b, Fin·val-path (sym (locator-value q i b) ∙ z)))
+-- the degrees listed for marks u and a polynomial q
+module _ (u q : List ℕ) where
+  -- what holds at every zero holds of every degree listed, and the other way round
+  pub roots-each : (P : ℕ → Type 0) → ((i : ℕ) → i < 204 → getD (valuesOf u q) i 0 ≡ 0 → P i) → All P (rootsOf u q)
+  roots-each P h = zeros-all P 0 (valuesOf u q) (λ i b z. subst P (sym (zero-add i)) (h i (omega (arith, length-values u q)) z))
 
-  pub roots-distinct : Distinct (map point (rootsOf q))
-  roots-distinct = zeros-distinct point 255 0 (valuesOf q) powers-differ (omega (arith, length-values q))
+  pub roots-member : (P : ℕ → Type 0) → All P (rootsOf u q) → (i : ℕ) → i < 204 → getD (valuesOf u q) i 0 ≡ 0 → P i
+  roots-member P h i b z = subst P (zero-add i) (zeros-has P 0 (valuesOf u q) h i (omega (arith, length-values u q)) z)
 
-  pub roots-few : (Zero bytes (elements q) → ⊥) → length (rootsOf q) ≤ 8
-  roots-few n =
+  pub roots-range : All (λ d. d < 204) (rootsOf u q)
+  roots-range = roots-each (λ d. d < 204) (λ i h z. h)
+
+  pub roots-distinct : Distinct (map point (rootsOf u q))
+  roots-distinct = zeros-distinct point 255 0 (valuesOf u q) powers-differ (omega (arith, length-values u q))
+
+All-points : (P : Fin 256 → Type 0) (l : List ℕ) → All (λ d. P (point d)) l → All P (map point l)
+All-points P [] h = tt
+All-points P (d ∷ l) h = (h .0, All-points P l (h .1))
+
+-- a locator has no more roots than unknowns
+module _ (ts q : List ℕ) (size : ℕ) (loc : Located ts size q) where
+  abbrev short : List (Fin 256)
+  short = take (suc size) (elements q)
+
+  short-value : (y : Fin 256) → eval (ops bytes) short y ≡ eval (ops bytes) (elements q) y
+  short-value y = eval-take bytes (suc size) (elements q) y (λ k h. loc .zeros k h)
+
+  pub roots-few : length (rootsOf [] q) ≤ size
+  roots-few =
       omega (
         arith,
-        length-map (rootsOf q) point,
-        length-map q byte,
-        root-count bytes (map point (rootsOf q)) (elements q) n roots-distinct (All-points (rootsOf q) roots-vanish),
+        length-map (rootsOf [] q) point,
+        length-take (suc size) (elements q),
+        root-count bytes (map point (rootsOf [] q)) short (λ z. loc .nonzero (Zero-take bytes (suc size) (elements q) (λ k h. loc .zeros k h) z)) (roots-distinct [] q)
+            (All-points (λ y. eval (ops bytes) short y ≡ bytes .𝟘) (rootsOf [] q)
+            (roots-each [] q (λ d. eval (ops bytes) short (point d) ≡ bytes .𝟘) (λ i h z. short-value (point i) ∙ Fin·val-path (sym (value-kept [] q i h refl) ∙ z)))),
       )
-    where
-      All-points : (l : List ℕ) → All (λ d. (d < 204) × (eval (ops bytes) (elements q) (point d) ≡ bytes .𝟘)) l → All (λ x. eval (ops bytes) (elements q) x ≡ bytes .𝟘) (map point l)
-      All-points [] h = tt
-      All-points (d ∷ l) h = (h .0 .1, All-points l (h .1))
+
+-- a degree is listed where it is an erasure or a root
+shared : (u q : List ℕ) (i : ℕ) → i < 204 → getD (valuesOf u q) i 0 ≡ 0 → Dec (getD u i 0 ≡ 0) → (getD (valuesOf u one) i 0 ≡ 0) ⊎ (getD (valuesOf [] q) i 0 ≡ 0)
+shared u q i h z (yes e) = inr (value-kept [] q i h refl ∙ sym (value-kept u q i h e) ∙ z)
+shared u q i h z (no e) = inl (value-erased u one i h e)
+
+-- with the erasures they are at most sixteen
+pub roots-most : (ts u q marks : List ℕ) (size : ℕ) → length marks ≡ 204 → ByDegree marks u → Located ts size q → 2 * size + marked marks ≤ 16 → length (rootsOf u q) ≤ 16
+roots-most ts u q marks size lm by loc most =
+    omega (
+      arith,
+      zeros-shared 0 (valuesOf u q) (valuesOf u one) (valuesOf [] q) (length-values u one ∙ sym (length-values u q)) (length-values [] q ∙ sym (length-values u q))
+          (λ i h z. shared u q i (omega (arith, length-values u q)) z (ℕ-discrete (getD u i 0) 0)),
+      erasures-count marks u lm by,
+      roots-few ts q size loc,
+    )
 
 -- ---- lists
 
@@ -88,11 +122,27 @@ point-differs i d a b n e = go (decLt i d)
     go (yes h) = powers-differ i d h (omega arith) (sym e)
     go (no h) = powers-differ d i (omega arith) (omega arith) e
 
--- ---- the error to a codeword within eight bytes
+-- ---- marks by degree
 
-module _ (came c : List ℕ) (n : length came ≡ 204) (b : Bytes came) (cw : Codeword c) (near : differ came c ≤ 8)
+-- g vanishes at the marked places, counted from degree k on
+covered-of : (g : List (Fin 256)) (k : ℕ) (ms : List ℕ) → ((i : ℕ) → i < length ms → (getD ms i 0 ≡ 0 → ⊥) → eval (ops bytes) g (point (k + i)) ≡ bytes .𝟘) → Covered g (point k) ms
+covered-of g k [] h = tt
+covered-of g k (m ∷ ms) h = (
+  (λ n. ap (λ (i : ℕ). eval (ops bytes) g (point i)) (sym (add-zero-ℕ k)) ∙ h 0 (omega arith) n),
+  subst (λ (x : Fin 256). Covered g x ms) (point-next k) (covered-of g (k + 1) ms (λ i l n. ap (λ (j : ℕ). eval (ops bytes) g (point j)) (next i) ∙ h (suc i) (omega arith) n)),
+)
+  where
+    next : (i : ℕ) → k + 1 + i ≡ k + suc i
+    next i = omega arith
+
+-- ---- the error to a codeword with 2 e + f at most sixteen
+
+module _ (came c : List ℕ) (n : length came ≡ 204) (b : Bytes came) (cw : Codeword c)
+    (marks : List ℕ) (lm : length marks ≡ 204) (near : cost marks came c ≤ 16)
     (s : List ℕ) (syndromes : (j : ℕ) → j < 16 → byte (getD s j 0) ≡ blockSyndrome came j)
-    (q : List ℕ) (lq : length q ≡ 9) (loc : Located s q) (p : List ℕ) (lp : length p ≡ 16) (rp : RootProduct (map (pow 2) (rootsOf q)) p) where
+    (u : List ℕ) (by : ByDegree marks u) (ts : List ℕ) (md : Modified s (map (pow 2) (rootsOf u one)) ts)
+    (size : ℕ) (most : 2 * size + marked marks ≤ 16) (least : 15 ≤ 2 * size + marked marks)
+    (q : List ℕ) (loc : Located ts size q) (p : List ℕ) (lp : length p ≡ 16) (rp : RootProduct (map (pow 2) (rootsOf u q)) p) where
   abbrev E : List (Term bytes)
   E = errors came c n (codeword-length c cw) b (codeword-bytes c cw)
 
@@ -124,25 +174,94 @@ module _ (came c : List ℕ) (n : length came ≡ 204) (b : Bytes came) (cw : Co
       syndromes j h
       ∙ sym (errors-syndrome came c n (codeword-length c cw) b (codeword-bytes c cw) j ∙ ap (λ (u : Fin 256). bytes .add (blockSyndrome came j) u) (codeword-syndromes c cw j h) ∙ add-zero bytes (blockSyndrome came j))
 
-  solution : (j : ℕ) → j < 8 → dot bytes (elements q) (λ i. syndrome bytes E (j + i)) ≡ bytes .𝟘
+  -- ---- the erasures
+
+  abbrev erased-places : List ℕ
+  erased-places = map (pow 2) (rootsOf u one)
+
+  abbrev G : List (Fin 256)
+  G = fromRoots bytes (elements erased-places)
+
+  erased-points : elements erased-places ≡ map point (rootsOf u one)
+  erased-points = places-point (rootsOf u one)
+
+  erased-number : length erased-places ≡ marked marks
+  erased-number = length-map (rootsOf u one) (pow 2) ∙ erasures-count marks u lm by
+
+  G-length : length G ≡ suc (marked marks)
+  G-length = length-fromRoots bytes (elements erased-places) ∙ ap suc (length-map erased-places byte ∙ erased-number)
+
+  G-erased : (i : ℕ) → i < 204 → (getD u i 0 ≡ 0 → ⊥) → eval (ops bytes) G (point i) ≡ bytes .𝟘
+  G-erased i h z =
+      roots-member u one (λ d. eval (ops bytes) G (point d) ≡ bytes .𝟘)
+      (All-unmap point (λ y. eval (ops bytes) G y ≡ bytes .𝟘) (rootsOf u one) (subst (λ (l : List (Fin 256)). All (λ y. eval (ops bytes) G y ≡ bytes .𝟘) l) erased-points (fromRoots-roots bytes (elements erased-places)))) i h (value-erased u one i h z)
+
+  not-erased : (i : ℕ) → i < 204 → getD u i 0 ≡ 0 → getD (valuesOf u one) i 0 ≡ 0 → ⊥
+  not-erased i h e z =
+      let o : getD (valuesOf u one) i 0 ≡ 1 = value-one u i h ∙ ap (λ k. pick k 1 0) (eq-eqb (getD u i 0) 0 e) in
+      omega arith
+
+  G-clear : (i : ℕ) → i < 204 → getD u i 0 ≡ 0 → eval (ops bytes) G (point i) ≡ bytes .𝟘 → ⊥
+  G-clear i h z =
+      fromRoots-ne bytes (elements erased-places) (point i)
+      (subst (Away (point i)) (sym erased-points)
+      (All-points (λ y. y ≡ point i → ⊥) (rootsOf u one)
+      (roots-each u one (λ d. point d ≡ point i → ⊥) (λ k l y. point-differs k i l h (λ e. not-erased k l (ap (λ (j : ℕ). getD u j 0) e ∙ z) y)))))
+
+  covered : Covered G (bytes .𝟙) (reverse marks)
+  unfolding power
+  covered = covered-of G 0 (reverse marks) (λ i h y. at i (omega (arith, length-reverse marks)) y)
+    where
+      at : (i : ℕ) → i < 204 → (getD (reverse marks) i 0 ≡ 0 → ⊥) → eval (ops bytes) G (point (0 + i)) ≡ bytes .𝟘
+      at i h y =
+          ap (λ (j : ℕ). eval (ops bytes) G (point j)) (zero-add i)
+          ∙ G-erased i h (λ e. y (reverse-at marks i (203 - i) (omega arith) ∙ sym (by .each i h) ∙ e))
+
+  few-unmarked : weight bytes (weighted bytes G E) ≤ size
+  few-unmarked =
+      omega (
+        arith,
+        weight-unmarked G (bytes .𝟙) (reverse marks) (reverse came) (reverse c)
+            (omega (arith, length-reverse marks, length-reverse c, codeword-length c cw)) (omega (arith, length-reverse came, length-reverse c, codeword-length c cw)) covered,
+        unmarked-reverse marks came c (lm ∙ sym (codeword-length c cw)) (n ∙ sym (codeword-length c cw)),
+      )
+
+  -- ---- the locator
+
+  abbrev Q′ : List (Fin 256)
+  Q′ = take (suc size) (elements q)
+
+  Q′-length : length Q′ ≤ suc size
+  Q′-length = omega (arith, length-take (suc size) (elements q))
+
+  modified-at : (i : ℕ) → i + marked marks < 16 → dot bytes G (λ k. syndrome bytes E (i + k)) ≡ byte (getD ts i 0)
+  modified-at i h =
+      dot-ext bytes G (λ k. syndrome bytes E (i + k)) (λ k. byte (getD s (i + k) 0)) (λ k l. sym (E-syndrome (i + k) (omega (arith, G-length))))
+      ∙ sym (md .each i (omega (arith, erased-number)))
+
+  solution : (j : ℕ) → j < size → dot bytes Q′ (λ i. dot bytes G (λ k. syndrome bytes E (j + i + k))) ≡ bytes .𝟘
   solution j h =
-      dot-ext bytes (elements q) (λ i. syndrome bytes E (j + i)) (λ i. byte (getD s (j + i) 0)) (λ i l. sym (E-syndrome (j + i) (omega (arith, length-map q byte))))
-      ∙ loc .equations j h
+      dot-ext bytes Q′ (λ i. dot bytes G (λ k. syndrome bytes E (j + i + k))) (λ i. byte (getD ts (j + i) 0)) (λ i l. modified-at (j + i) (omega (arith, Q′-length)))
+      ∙ dot-take bytes (suc size) (elements q) (λ i. byte (getD ts (j + i) 0)) (λ k l. loc .zeros k l) ∙ loc .equations j h
 
-  located : All (λ t. (t .1 ≡ bytes .𝟘 → ⊥) → eval (ops bytes) (elements q) (t .0) ≡ bytes .𝟘) E
-  located =
-      key bytes E (elements q) 8 (errors-distinct came c n (codeword-length c cw) b (codeword-bytes c cw))
-      (omega (arith, errors-weight came c n (codeword-length c cw) b (codeword-bytes c cw))) solution
+  located : All (λ t. (t .1 ≡ bytes .𝟘 → ⊥) → (eval (ops bytes) G (t .0) ≡ bytes .𝟘 → ⊥) → eval (ops bytes) Q′ (t .0) ≡ bytes .𝟘) E
+  located = key-marked bytes E G Q′ size (errors-distinct came c n (codeword-length c cw) b (codeword-bytes c cw)) few-unmarked solution
 
-  -- where there is an error the locator vanishes, so that the degree is listed
-  vanishes : (i : ℕ) → i < 204 → (g i ≡ bytes .𝟘 → ⊥) → getD (valuesOf q) i 0 ≡ 0
-  vanishes i h z =
-      locator-value q i h
-      ∙ ap (λ (u : Fin 256). u .0)
-      (ap (eval (ops bytes) (elements q)) (sym (E-place i h))
-      ∙ All-at (λ t. (t .1 ≡ bytes .𝟘 → ⊥) → eval (ops bytes) (elements q) (t .0) ≡ bytes .𝟘) E none i located (omega (arith, E-length)) (λ y. z (sym (E-value i h) ∙ y)))
+  -- where there is an error the byte is an erasure or the locator vanishes, so that the degree is listed
+  vanishes : (i : ℕ) → i < 204 → (g i ≡ bytes .𝟘 → ⊥) → getD (valuesOf u q) i 0 ≡ 0
+  vanishes i h z = go (ℕ-discrete (getD u i 0) 0)
+    where
+      root : getD u i 0 ≡ 0 → eval (ops bytes) (elements q) (point i) ≡ bytes .𝟘
+      root y =
+          sym (short-value ts q size loc (point i)) ∙ ap (eval (ops bytes) Q′) (sym (E-place i h))
+          ∙ All-at (λ t. (t .1 ≡ bytes .𝟘 → ⊥) → (eval (ops bytes) G (t .0) ≡ bytes .𝟘 → ⊥) → eval (ops bytes) Q′ (t .0) ≡ bytes .𝟘) E none i located (omega (arith, E-length))
+          (λ a. z (sym (E-value i h) ∙ a)) (λ a. G-clear i h y (ap (eval (ops bytes) G) (sym (E-place i h)) ∙ a))
 
-  off : (i : ℕ) → i < 204 → (getD (valuesOf q) i 0 ≡ 0 → ⊥) → g i ≡ bytes .𝟘
+      go : Dec (getD u i 0 ≡ 0) → getD (valuesOf u q) i 0 ≡ 0
+      go (yes y) = value-kept u q i h y ∙ ap (λ (v : Fin 256). v .0) (root y)
+      go (no y) = value-erased u q i h y
+
+  off : (i : ℕ) → i < 204 → (getD (valuesOf u q) i 0 ≡ 0 → ⊥) → g i ≡ bytes .𝟘
   off i h z = go (bytes .dec (g i) (bytes .𝟘))
     where
       go : Dec (g i ≡ bytes .𝟘) → g i ≡ bytes .𝟘
@@ -151,67 +270,75 @@ module _ (came c : List ℕ) (n : length came ≡ 204) (b : Bytes came) (cw : Co
 
   -- ---- the value at a root
 
+  abbrev count : ℕ
+  count = length (map (pow 2) (rootsOf u q))
+
+  count-few : count ≤ 16
+  count-few = omega (arith, length-map (rootsOf u q) (pow 2), roots-most ts u q marks size lm by loc most)
+
   abbrev N : List (Fin 256)
-  N = elements (take 9 p)
+  N = elements (monic count p)
 
-  in-range : All (λ d. d < 204) (rootsOf q)
-  in-range = All-map (λ d. (d < 204) × (eval (ops bytes) (elements q) (point d) ≡ bytes .𝟘)) (λ d. d < 204) (λ d h. h .0) (rootsOf q) (roots-vanish q lq)
+  N-length : length N ≡ suc count
+  N-length = length-map (monic count p) byte ∙ length-append (take count p) (1 ∷ []) ∙ omega (arith, length-take-le count p (omega (arith, count-few)))
 
-  N-values : (y : Fin 256) → eval (ops bytes) N y ≡ eval (ops bytes) (fromRoots bytes (map point (rootsOf q))) y
-  N-values y = rp .values y ∙ ap (λ (l : List (Fin 256)). eval (ops bytes) (fromRoots bytes l) y) (places-point (rootsOf q))
+  in-range : All (λ d. d < 204) (rootsOf u q)
+  in-range = roots-range u q
 
-  N-roots : All (λ d. eval (ops bytes) N (point d) ≡ bytes .𝟘) (rootsOf q)
+  N-values : (y : Fin 256) → eval (ops bytes) N y ≡ eval (ops bytes) (fromRoots bytes (map point (rootsOf u q))) y
+  N-values y = rp .values y ∙ ap (λ (l : List (Fin 256)). eval (ops bytes) (fromRoots bytes l) y) (places-point (rootsOf u q))
+
+  N-roots : All (λ d. eval (ops bytes) N (point d) ≡ bytes .𝟘) (rootsOf u q)
   N-roots =
-      All-map (λ d. eval (ops bytes) (fromRoots bytes (map point (rootsOf q))) (point d) ≡ bytes .𝟘) (λ d. eval (ops bytes) N (point d) ≡ bytes .𝟘) (λ d h. N-values (point d) ∙ h) (rootsOf q)
-      (All-unmap point (λ y. eval (ops bytes) (fromRoots bytes (map point (rootsOf q))) y ≡ bytes .𝟘) (rootsOf q) (fromRoots-roots bytes (map point (rootsOf q))))
+      All-map (λ d. eval (ops bytes) (fromRoots bytes (map point (rootsOf u q))) (point d) ≡ bytes .𝟘) (λ d. eval (ops bytes) N (point d) ≡ bytes .𝟘) (λ d h. N-values (point d) ∙ h) (rootsOf u q)
+      (All-unmap point (λ y. eval (ops bytes) (fromRoots bytes (map point (rootsOf u q))) y ≡ bytes .𝟘) (rootsOf u q) (fromRoots-roots bytes (map point (rootsOf u q))))
 
-  module _ (l : ℕ) (h : l < length (rootsOf q)) where
+  module _ (l : ℕ) (h : l < length (rootsOf u q)) where
     abbrev d : ℕ
-    d = getD (rootsOf q) l 0
+    d = getD (rootsOf u q) l 0
 
     d-range : d < 204
-    d-range = All-at (λ d. d < 204) (rootsOf q) 0 l in-range h
+    d-range = All-at (λ d. d < 204) (rootsOf u q) 0 l in-range h
 
     abbrev before : List (Fin 256)
-    before = map point (take l (rootsOf q))
+    before = map point (take l (rootsOf u q))
 
     abbrev after : List (Fin 256)
-    after = map point (drop (suc l) (rootsOf q))
+    after = map point (drop (suc l) (rootsOf u q))
 
-    split : map point (rootsOf q) ≡ before ++ point d ∷ after
-    split = ap (map point) (split-at (rootsOf q) l 0 h) ∙ map-join point (take l (rootsOf q)) (d ∷ drop (suc l) (rootsOf q))
+    split : map point (rootsOf u q) ≡ before ++ point d ∷ after
+    split = ap (map point) (split-at (rootsOf u q) l 0 h) ∙ map-join point (take l (rootsOf u q)) (d ∷ drop (suc l) (rootsOf u q))
 
     N-out : (y : Fin 256) → eval (ops bytes) N y ≡ bytes .mul (bytes .add y (point d)) (eval (ops bytes) (fromRoots bytes (before ++ after)) y)
     N-out y =
         N-values y ∙ ap (λ (r : List (Fin 256)). eval (ops bytes) (fromRoots bytes r) y) split ∙ eval-fromRoots-out bytes (point d) before after y
 
     N-zero : eval (ops bytes) N (point d) ≡ bytes .𝟘
-    N-zero = All-at (λ d. eval (ops bytes) N (point d) ≡ bytes .𝟘) (rootsOf q) 0 l N-roots h
+    N-zero = All-at (λ d. eval (ops bytes) N (point d) ≡ bytes .𝟘) (rootsOf u q) 0 l N-roots h
 
     abbrev Q : List (Fin 256)
     Q = quotient bytes (point d) N
 
-    Q-length : length Q ≡ 8
-    Q-length = length-quotient bytes (point d) N 8 (length-map (take 9 p) byte ∙ length-take-le 9 p (omega arith))
+    Q-length : length Q ≡ count
+    Q-length = length-quotient bytes (point d) N count N-length
 
     Q-others : (i : ℕ) → i < 204 → (i ≡ d → ⊥) → (g i ≡ bytes .𝟘 → ⊥) → eval (ops bytes) Q (point i) ≡ bytes .𝟘
     Q-others i k m z =
         quotient-zero bytes (point d) N (point i) N-zero (point-differs i d k d-range m)
-        (subst (λ (j : ℕ). eval (ops bytes) N (point j) ≡ bytes .𝟘) (zero-add i)
-        (zeros-has (λ d. eval (ops bytes) N (point d) ≡ bytes .𝟘) 0 (valuesOf q) N-roots i (omega (arith, length-values q)) (vanishes i k z)))
+        (roots-member u q (λ d. eval (ops bytes) N (point d) ≡ bytes .𝟘) N-roots i k (vanishes i k z))
 
-    others-length : suc (length (before ++ after)) ≡ length (rootsOf q)
+    others-length : suc (length (before ++ after)) ≡ length (rootsOf u q)
     others-length =
         let k = ap length split in
-        omega (arith, length-append before after, length-append before (point d ∷ after), length-map (rootsOf q) point, k)
+        omega (arith, length-append before after, length-append before (point d ∷ after), length-map (rootsOf u q) point, k)
 
     Q-own : eval (ops bytes) Q (point d) ≡ bytes .𝟘 → ⊥
     Q-own z =
         fromRoots-ne bytes (before ++ after) (point d)
-        (Distinct-away (point d) before after (subst Distinct split (roots-distinct q lq)))
-        (sym (quotient-value bytes (rootsBelow 16) (point d) N (fromRoots bytes (before ++ after)) (distinct-roots 16 (omega arith)) fits N-zero N-out) ∙ z)
+        (Distinct-away (point d) before after (subst Distinct split (roots-distinct u q)))
+        (sym (quotient-value bytes (rootsBelow 17) (point d) N (fromRoots bytes (before ++ after)) (distinct-roots 17 (omega arith)) fits N-zero N-out) ∙ z)
       where
-        fits : length (timesLinear bytes (point d) (plus (ops bytes) Q (fromRoots bytes (before ++ after)))) ≤ length (rootsBelow 16)
+        fits : length (timesLinear bytes (point d) (plus (ops bytes) Q (fromRoots bytes (before ++ after)))) ≤ length (rootsBelow 17)
         fits =
             omega (
               arith,
@@ -220,16 +347,17 @@ module _ (came c : List ℕ) (n : length came ≡ 204) (b : Bytes came) (cw : Co
               Q-length,
               length-fromRoots bytes (before ++ after),
               others-length,
-              roots-few q lq (loc .nonzero),
-              length-roots 16,
+              count-few,
+              length-map (rootsOf u q) (pow 2),
+              length-roots 17,
             )
 
-    on : errorValue p s (pow 2 d) ≡ g d
+    on : errorValue (monic count p) s (pow 2 d) ≡ g d
     unfolding errorValue
     on =
         ap (λ (y : Fin 256). bytes .mul (dot bytes (quotient bytes y N) (λ i. byte (getD s i 0))) (bytes .inv (eval (ops bytes) (quotient bytes y N) y))) (byte-power 2 d)
         ∙ ap₂ (bytes .mul)
-        (dot-ext bytes Q (λ i. byte (getD s i 0)) (syndrome bytes E) (λ i k. E-syndrome i (omega (arith, Q-length))))
+        (dot-ext bytes Q (λ i. byte (getD s i 0)) (syndrome bytes E) (λ i k. E-syndrome i (omega (arith, Q-length, count-few))))
         (ap (λ (y : Fin 256). bytes .inv (eval (ops bytes) Q y)) (sym (E-place d d-range)))
         ∙ value bytes E none d Q (omega (arith, E-length, d-range))
         (λ i k m z. ap (eval (ops bytes) Q) (E-place i (omega (arith, E-length))) ∙ Q-others i (omega (arith, E-length)) m (λ y. z (E-value i (omega (arith, E-length)) ∙ y)))
@@ -237,11 +365,11 @@ module _ (came c : List ℕ) (n : length came ≡ 204) (b : Bytes came) (cw : Co
         ∙ E-value d d-range
 
   -- the values found have the sixteen syndromes
-  pub found : (es : List ℕ) → length es ≡ length (rootsOf q) → ((l : ℕ) → l < length (rootsOf q) → byte (getD es l 0) ≡ errorValue p s (pow 2 (getD (rootsOf q) l 0)))
-      → (j : ℕ) → j < 16 → syndrome bytes (degreeTerms (rootsOf q) es) j ≡ byte (getD s j 0)
+  pub found : (es : List ℕ) → length es ≡ length (rootsOf u q) → ((l : ℕ) → l < length (rootsOf u q) → byte (getD es l 0) ≡ errorValue (monic count p) s (pow 2 (getD (rootsOf u q) l 0)))
+      → (j : ℕ) → j < 16 → syndrome bytes (degreeTerms (rootsOf u q) es) j ≡ byte (getD s j 0)
   unfolding power
   found es k h j m =
-      ap (λ (t : List (Term bytes)). syndrome bytes t j) (degree-terms-map g (rootsOf q) es k (λ l i. h l i ∙ on l i))
-      ∙ zeros-syndrome g 0 (valuesOf q) e j (length-values q ∙ sym e-length) (λ i a. ap g (sym (zero-add i)))
-      (λ i a z. ap g (zero-add i) ∙ off i (omega (arith, length-values q)) z)
+      ap (λ (t : List (Term bytes)). syndrome bytes t j) (degree-terms-map g (rootsOf u q) es k (λ l i. h l i ∙ on l i))
+      ∙ zeros-syndrome g 0 (valuesOf u q) e j (length-values u q ∙ sym e-length) (λ i a. ap g (sym (zero-add i)))
+      (λ i a z. ap g (zero-add i) ∙ off i (omega (arith, length-values u q)) z)
       ∙ sym (E-syndrome j m)

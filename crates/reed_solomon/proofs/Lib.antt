@@ -1,6 +1,8 @@
 pub mod Codewords
 pub mod Distance
 pub mod BitDistance
+pub mod Marks
+pub mod MarkedDistance
 pub mod LongDivision
 pub mod SparseMultiple
 pub mod SparseDivision

@@ -185,3 +185,12 @@ distinct-unmap f (x ∷ l) h = (away l (h .0), distinct-unmap f l (h .1))
     away : (l : List ℕ) → Away (f x) (map f l) → Away x l
     away [] h = tt
     away (y ∷ l) h = ((λ e. h .0 (ap f e)), away l (h .1))
+
+-- a byte whose degree is not listed is as it came
+pub corrected-other : (b ds es : List ℕ) (k : ℕ) → k < 204 → All (λ d. d < 204) ds → Away k ds → getD (correctedBy b ds es) (203 - k) 0 ≡ getD b (203 - k) 0
+unfolding correctedBy
+corrected-other b [] es k l h a = refl
+corrected-other b (d ∷ ds) [] k l h a = refl
+corrected-other b (d ∷ ds) (e ∷ es) k l h a =
+    corrected-other (set b (203 - d) (bitXor (getD b (203 - d) 0) e)) ds es k l (h .1) (a .1)
+    ∙ getD-set-other b (203 - d) (203 - k) (bitXor (getD b (203 - d) 0) e) 0 (λ y. a .0 (omega (arith, h .0)))

@@ -1,8 +1,9 @@
 -- What the list of a list's zeros holds.
 -- Assumes nothing.
 use mathlib.Core.Path.{_≡_, refl, sym, ap, ap₂, _∙_, subst}
-use mathlib.Core.List.{List, [], _∷_, _++_, map}
-use Prim.Native.Nat.{ℕ, zero, suc, _+_, _≤_, _<_, Fin}
+use mathlib.Core.List.{List, [], _∷_, _++_, map, reverse}
+use mathlib.Core.Logic.{_⊎_, inl, inr}
+use Prim.Native.Nat.{ℕ, zero, suc, _+_, _-_, _≤_, _<_, Fin}
 use Prim.{tt}
 use native.Mathlib.Decide.{ℕ-discrete}
 use native.Mathlib.Nat.{add-zero, not-suc-le-zero}
@@ -10,7 +11,7 @@ use native.Mathlib.Numerals.{add-one}
 use native.Mathlib.Omega.{arith}
 use borrow.Author.Tests.{eq-eqb, ne-eqb}
 use lib.Dec.{eqb}
-use lib.ListN.{length, getD}
+use lib.ListN.{length, getD, length-append, length-reverse}
 use Rattle.common.specs.Choice.{pick}
 use Rattle.common.specs.Lists.{All}
 use Rattle.algebra.specs.Field.{ops}
@@ -21,9 +22,13 @@ use Rattle.algebra.proofs.Syndromes.{syndrome}
 use Rattle.algebra.proofs.Terms.{terms}
 use Rattle.galois.proofs.Instance.{bytes, byte}
 use Rattle.byte_lanes.specs.Lanes.{point}
-use Rattle.error_correction.specs.Correction.{zerosFrom}
+use Rattle.error_correction.specs.Correction.{ByDegree, masked, valuesOf, zerosFrom, rootsOf, one}
+use Rattle.error_correction.proofs.RootSearch.{length-values, value-one}
+use Rattle.reed_solomon.specs.Marks.{marked}
+use Rattle.reed_solomon.proofs.MarkedDistance.{marked-reverse}
+use Rattle.reed_solomon.proofs.Residue.{reverse-at}
 
-point-next : (n : ℕ) → point (n + 1) ≡ bytes .mul (point n) (byte 2)
+pub point-next : (n : ℕ) → point (n + 1) ≡ bytes .mul (point n) (byte 2)
 unfolding power
 point-next n = ap point (add-one n) ∙ mul-comm bytes (byte 2) (point n)
 
@@ -105,3 +110,61 @@ zeros-syndrome g n (x ∷ l) (b ∷ e) j h a z =
         (sym head ∙ ap g (sym (add-zero n)) ∙ z 0 (omega arith) q)
         ∙ ap (λ (u : Fin 256). bytes .add u (syndrome bytes (terms bytes (byte 2) (bytes .mul (point n) (byte 2)) e) j)) (zero-mul bytes (power (ops bytes) (point n) j))
         ∙ zero-add bytes (syndrome bytes (terms bytes (byte 2) (bytes .mul (point n) (byte 2)) e) j)))
+
+-- ---- how many zeros there are
+
+abbrev hit : ℕ → ℕ → ℕ
+hit n x = length (pick (eqb x 0) (n ∷ []) [])
+
+hit-zero : (n x : ℕ) → x ≡ 0 → hit n x ≡ 1
+hit-zero n x e = simp (eq-eqb x 0 e)
+
+hit-other : (n x : ℕ) → (x ≡ 0 → ⊥) → hit n x ≡ 0
+hit-other n x e = simp (ne-eqb x 0 e)
+
+zeros-cons : (n x : ℕ) (l : List ℕ) → length (zerosFrom n (x ∷ l)) ≡ hit n x + length (zerosFrom (n + 1) l)
+unfolding zerosFrom
+zeros-cons n x l = length-append (pick (eqb x 0) (n ∷ []) []) (zerosFrom (n + 1) l)
+
+-- where every zero of a list is a zero of one of two others, it has no more zeros than both
+pub zeros-shared : (n : ℕ) (w u v : List ℕ) → length u ≡ length w → length v ≡ length w → ((i : ℕ) → i < length w → getD w i 0 ≡ 0 → (getD u i 0 ≡ 0) ⊎ (getD v i 0 ≡ 0))
+    → length (zerosFrom n w) ≤ length (zerosFrom n u) + length (zerosFrom n v)
+unfolding zerosFrom
+zeros-shared n [] u v a b m = omega arith
+zeros-shared n (z ∷ w) [] v a b m = absurd (omega arith)
+zeros-shared n (z ∷ w) (x ∷ u) [] a b m = absurd (omega arith)
+zeros-shared n (z ∷ w) (x ∷ u) (y ∷ v) a b m =
+    omega (arith, zeros-cons n z w, zeros-cons n x u, zeros-cons n y v, one (ℕ-discrete z 0), zeros-shared (n + 1) w u v (omega arith) (omega arith) (λ i h. m (suc i) (omega arith)))
+  where
+    either : (x ≡ 0) ⊎ (y ≡ 0) → z ≡ 0 → hit n z ≤ hit n x + hit n y
+    either (inl e) k = omega (arith, hit-zero n z k, hit-zero n x e)
+    either (inr e) k = omega (arith, hit-zero n z k, hit-zero n y e)
+
+    one : Dec (z ≡ 0) → hit n z ≤ hit n x + hit n y
+    one (yes e) = either (m 0 (omega arith) e) e
+    one (no e) = omega (arith, hit-other n z e)
+
+hit-mark : (n x m : ℕ) → x ≡ masked m 1 → hit n x ≡ pick (eqb m 0) 0 1
+hit-mark n x m e = go (ℕ-discrete m 0)
+  where
+    go : Dec (m ≡ 0) → hit n x ≡ pick (eqb m 0) 0 1
+    go (yes z) = let o : x ≡ 1 = e ∙ simp (eq-eqb m 0 z) in hit-other n x (λ y. omega arith) ∙ sym (simp (eq-eqb m 0 z))
+    go (no z) = hit-zero n x (e ∙ simp (ne-eqb m 0 z)) ∙ sym (simp (ne-eqb m 0 z))
+
+zeros-marked : (n : ℕ) (l ms : List ℕ) → length l ≡ length ms → ((i : ℕ) → i < length l → getD l i 0 ≡ masked (getD ms i 0) 1) → length (zerosFrom n l) ≡ marked ms
+unfolding zerosFrom marked
+zeros-marked n [] [] h m = refl
+zeros-marked n [] (y ∷ ms) h m = absurd (omega arith)
+zeros-marked n (x ∷ l) [] h m = absurd (omega arith)
+zeros-marked n (x ∷ l) (y ∷ ms) h m =
+    omega (arith, zeros-cons n x l, hit-mark n x y (m 0 (omega arith)), zeros-marked (n + 1) l ms (omega arith) (λ i k. m (suc i) (omega arith)))
+
+-- there are as many erasures as marks
+pub erasures-count : (marks u : List ℕ) → length marks ≡ 204 → ByDegree marks u → length (rootsOf u one) ≡ marked marks
+erasures-count marks u n c =
+    zeros-marked 0 (valuesOf u one) (reverse marks) (length-values u one ∙ sym (length-reverse marks ∙ n)) at ∙ marked-reverse marks
+  where
+    at : (i : ℕ) → i < length (valuesOf u one) → getD (valuesOf u one) i 0 ≡ masked (getD (reverse marks) i 0) 1
+    at i h =
+        let l : i < 204 = omega (arith, length-values u one) in
+        value-one u i l ∙ ap (λ (m : ℕ). masked m 1) (c .each i l ∙ sym (reverse-at marks i (203 - i) (omega arith)))

@@ -2,3 +2,4 @@ pub mod Code
 pub mod Encode
 pub mod Decode
 pub mod Steps
+pub mod Marks

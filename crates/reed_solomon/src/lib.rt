@@ -1,9 +1,11 @@
 // The outer code: Reed-Solomon RS(204,188), EN 300 421, 4.4.2.
 ghost use mathlib.Core.Path.{_≡_};
 ghost use Rattle.answer.specs.Number.{numberOf};
+ghost use Prim.Native.Nat.{_≤_, max};
 ghost use lib.ListN.{length};
 ghost use Rattle.reed_solomon.specs.Encode.{encodeNumber, encodeRoom};
 ghost use Rattle.reed_solomon.specs.Decode.{Decodes, changedBy};
+ghost use Rattle.reed_solomon.specs.Marks.{Marks, largest, areMarks, marked, DecodesMarked};
 ghost use Rattle.reed_solomon.specs.Steps.{residueOf};
 use answer::Answer;
 
@@ -37,14 +39,16 @@ pub struct Changed {
     pub bits: u8,
 }
 
-// What decoding a block answers. specs/Decode.antt gives each case the number of document 01.
+// What decoding a block answers. specs/Decode.antt gives each case the number of documents 01 and 02.
 pub enum Decoded {
-    // The block is now the codeword within eight bytes, and this was changed.
+    // The block is now the codeword within eight bytes, or with marks the one with 2 e + f at most 16, and this was changed.
     Corrected(Changed),
-    // No codeword is within eight bytes. The block is as it came.
+    // There is no such codeword. The block is as it came.
     Uncorrectable,
     // The block is not 204 bytes, and as it came.
     BlockLength,
+    // There are not 204 marks, or one is above 1. The block is as it came.
+    MarkValue,
 }
 
 impl Decoded {
@@ -56,6 +60,7 @@ impl Decoded {
             Decoded::Corrected(changed) => changed,
             Decoded::Uncorrectable => Changed { bytes: 0, bits: 0 },
             Decoded::BlockLength => Changed { bytes: 0, bits: 0 },
+            Decoded::MarkValue => Changed { bytes: 0, bits: 0 },
         }
     }
 }
@@ -78,14 +83,24 @@ pub fn encode(message: &[u8], room: &mut [u8]) -> Answer
     Answer::Done
 }
 
-// Finds up to eight wrong bytes of a block, and takes them away where that explains the whole residue.
-fn repair(block: &mut [u8], residue: [u8; 16]) -> Decoded
-    requires { ⌜ (length (now block) ≡ 204) × (residue ≡ residueOf (now block)) ⌝ }
-    ensures { λ r. ⌜ Decodes (now (block .entry)) (now (block .exit)) r ⌝ }
+// Finds the wrong bytes of a block, those among the marked ones, f in number, and up to (16 - f) / 2 others, and takes them away where that explains the
+// whole residue.
+fn repair(block: &mut [u8], residue: [u8; 16], marks: &[u8], f: usize) -> Decoded
+    requires { ⌜
+        (length (now block) ≡ 204)
+        × (residue ≡ residueOf (now block))
+        × Marks (now marks)
+        × (f ≡ marked (now marks))
+        × (f ≤ 16) ⌝ }
+    ensures { λ r. ⌜ DecodesMarked (now (marks .entry)) (now (block .entry)) (now (block .exit)) r ⌝ }
 {
     let s = syndromes::syndromes(residue);
-    let q = error_locator::locator(s);
-    let roots = error_correction::find_roots(q);
+    let by_degree = error_correction::by_degree(marks, f);
+    let erasures = error_correction::find_erasures(&by_degree, f);
+    let erased = erasures.places;
+    let size = (16 - f) / 2;
+    let q = error_locator::locator(error_locator::modified(s, erased, f), size);
+    let roots = error_correction::find_roots(&by_degree, q);
     let degrees = roots.degrees;
     let places = roots.places;
     let count = roots.count;
@@ -110,5 +125,75 @@ pub fn decode(block: &mut [u8]) -> Decoded
     if division::is_zero(residue) {
         return Decoded::Corrected(Changed { bytes: 0, bits: 0 });
     }
-    repair(block, residue)
+    let none = [0u8; 204];
+    repair(block, residue, &none, 0)
+}
+
+// The larger of two bytes.
+fn larger(a: u8, b: u8) -> u8
+    ensures { λ r. ⌜ r ≡ max a b ⌝ }
+{
+    if a < b {
+        return b;
+    }
+    a
+}
+
+// The largest of some marks: 0 where no byte is marked, and above 1 where one of them is no mark.
+pub fn largest_mark(marks: &[u8]) -> u8
+    ensures { λ r. ⌜ r ≡ largest (now (marks .entry)) ⌝ }
+{
+    let mut most: u8 = 0;
+    let mut i: usize = 0;
+    while i < marks.len() {
+        most = larger(most, marks[i]);
+        i += 1;
+    }
+    most
+}
+
+// Whether there is a mark, 0 or 1, for each byte of a block.
+pub fn are_marks(marks: &[u8]) -> bool
+    ensures { λ r. ⌜ r ≡ areMarks (now (marks .entry)) ⌝ }
+{
+    if marks.len() != 204 {
+        return false;
+    }
+    largest_mark(marks) < 2
+}
+
+// How many bytes are marked.
+fn count_marks(marks: &[u8]) -> u8
+    requires { ⌜ Marks (now marks) ⌝ }
+    ensures { λ r. ⌜ r ≡ marked (now (marks .entry)) ⌝ }
+{
+    let mut count: u8 = 0;
+    let mut i: usize = 0;
+    while i < 204 {
+        count += marks[i];
+        i += 1;
+    }
+    count
+}
+
+// Leaves the codeword that differs from the block in e bytes that are not marked, where f are marked and 2 e + f is at most 16, if there is one.
+// With more than sixteen marks there is none, also for a clean block.
+pub fn decode_marked(block: &mut [u8], marks: &[u8]) -> Decoded
+    ensures { λ r. ⌜ DecodesMarked (now (marks .entry)) (now (block .entry)) (now (block .exit)) r ⌝ }
+{
+    if block.len() != 204 {
+        return Decoded::BlockLength;
+    }
+    if !are_marks(marks) {
+        return Decoded::MarkValue;
+    }
+    let f = count_marks(marks) as usize;
+    if f > 16 {
+        return Decoded::Uncorrectable;
+    }
+    let residue = division::residue(block);
+    if division::is_zero(residue) {
+        return Decoded::Corrected(Changed { bytes: 0, bits: 0 });
+    }
+    repair(block, residue, marks, f)
 }

@@ -6,6 +6,7 @@ use native.Mathlib.Omega.{arith}
 use lib.ListN.{getD}
 use Rattle.common.proofs.Each.{Updated, updated-none, updated-more}
 use Rattle.galois.proofs.Instance.{byte}
+use Rattle.error_correction.specs.Correction.{monic}
 use Rattle.error_correction.proofs.ErrorValues.{value-small, value-of}
 use Rattle.byte_lanes.proofs.Powers.{zeros-at}
 use borrow.Author.Needs.{needs}
@@ -55,10 +56,10 @@ returns c =
     record {
       own = λ l h.
           ap byte (u .done l (omega arith))
-          ∙ value-of (a .p) (a .s) (a .places) _ _ _ _ (f .ensures) (b .before .inverses .ensures) (b .products .ensures) l (omega (arith, t .pre));
+          ∙ value-of (monic (a .count) (a .p)) (a .s) (a .places) _ _ _ _ (f .ensures) (b .before .inverses .ensures) (b .products .ensures) l (omega (arith, t .pre));
       small = λ l h.
           subst⁻¹ (λ (x : ℕ). x < 256) (u .done l (omega arith))
-          (value-small (a .p) (a .s) (a .places) _ _ _ _ (f .ensures) (b .before .inverses .ensures) (b .products .ensures) l (omega (arith, t .pre)));
+          (value-small (monic (a .count) (a .p)) (a .s) (a .places) _ _ _ _ (f .ensures) (b .before .inverses .ensures) (b .products .ensures) l (omega (arith, t .pre)));
       rest = λ l h. u .todo l (omega arith) ∙ zeros-at 16 l;
     }
 

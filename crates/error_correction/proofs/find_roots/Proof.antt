@@ -13,25 +13,25 @@ use Rattle.error_correction.proofs.find_roots.Statement.{statement}
 use Rattle.error_correction.proofs.find_roots.Tie as tie
 
 abbrev Inv-loop : tie.InvT-loop
-Inv-loop q end found₀ x₀ i₀ found x i = (i ≤ 208) × (i % 16 ≡ 0) × (length x ≡ 16) × PowersFrom i x × Searched q (found .degrees) (found .places) (found .count) i
+Inv-loop u q end found₀ x₀ i₀ found x i = (i ≤ 208) × (i % 16 ≡ 0) × (length x ≡ 16) × PowersFrom i x × Searched u q (found .degrees) (found .places) (found .count) i
 
 abbrev μ-loop : tie.MeasureT-loop
-μ-loop q end found₀ x₀ i₀ found x i = 208 - i
+μ-loop u q end found₀ x₀ i₀ found x i = 208 - i
 
 -- the lanes are the next of the values
-next : (e : tie.After-evaluate Inv-loop μ-loop)
-    → take (204 - e .before .before .before .loop .i) (e .evaluate .result) ≡ take 16 (drop (e .before .before .before .loop .i) (valuesOf (e .before .before .before .before .before .before .before .args .t1)))
+next : (e : tie.After-masked-values Inv-loop μ-loop) → take (204 - e .before .before .before .before .before .loop .i) (e .masked-values .result) ≡ take 16 (drop (e .before .before .before .before .before .loop .i) (valuesOf (e .before .before .before .before .before .before .before .before .before .before .args .u .now) (e .before .before .before .before .before .before .before .before .before .before .args .t2)))
 next e =
-    let s = e .before .before .before .before .before .before .before in
-    let d = e .before .before .before .before .before .degree in
-    let l = e .before .before .before .loop in
-    lanes-next (s .args .t1) (l .x) (e .evaluate .result) (l .i) (d .result) (omega (arith, l .inv .1)) (l .inv .3) (e .evaluate .ensures) (ends-of (s .args .t1) (d .result) (s .good .0 .1 .0 .1) (d .ensures .0))
+    let s = e .before .before .before .before .before .before .before .before .before .before in
+    let d = e .before .before .before .before .before .before .before .degree in
+    let l = e .before .before .before .before .before .loop in
+    lanes-next (s .args .u .now) (s .args .t2) (l .x) (e .before .before .before .sixteen .result) (e .before .evaluate .result) (e .masked-values .result) (l .i) (d .result) (omega (arith, l .inv .1)) (l .inv .3) (e .before .evaluate .ensures)
+    (ends-of (s .args .t2) (d .result) (s .good .1 .0 .1 .0 .1) (d .ensures .0)) (e .before .before .before .sixteen .ensures) (e .masked-values .ensures) (e .masked-values .ok .1 .0 .1)
 
 slice-aggregate-degree : tie.Need-slice-aggregate-degree Inv-loop μ-loop
 slice-aggregate-degree c = search needs
 
 degree-requires : tie.Need-degree-requires Inv-loop μ-loop
-degree-requires c κs = omega (arith, c .before .good .0 .1 .0 .1)
+degree-requires c κs = omega (arith, c .before .before .good .1 .0 .1 .0 .1)
 
 add-end : tie.Need-add-end Inv-loop μ-loop
 add-end c = omega (arith, c .degree .ensures .0 .most)
@@ -40,27 +40,36 @@ first-powers-requires : tie.Need-first-powers-requires Inv-loop μ-loop
 first-powers-requires c κs = search needs
 
 loop-holds : tie.Need-loop-holds Inv-loop μ-loop
-loop-holds c = (search needs, search needs, c .first-powers .ok .1 .0 .1, c .first-powers .ensures, searched-none _)
+loop-holds c = (search needs, search needs, c .first-powers .ok .1 .0 .1, c .first-powers .ensures, searched-none _ _)
+
+cast-sixteen : tie.Need-cast-sixteen Inv-loop μ-loop
+cast-sixteen c = search needs
+
+sixteen-requires : tie.Need-sixteen-requires Inv-loop μ-loop
+sixteen-requires c κs = omega (arith, c .before .loop .inv .1, c .before .before .before .before .before .before .pre .0)
 
 array-share-prefix-q : tie.Need-array-share-prefix-q Inv-loop μ-loop
-array-share-prefix-q c = omega (arith, c .before .before .before .degree .ensures .0 .most, c .before .before .before .before .before .good .0 .1 .0 .1)
+array-share-prefix-q c = omega (arith, c .before .before .before .before .degree .ensures .0 .most, c .before .before .before .before .before .before .before .good .1 .0 .1 .0 .1)
 
 slice-aggregate-evaluate : tie.Need-slice-aggregate-evaluate Inv-loop μ-loop
 slice-aggregate-evaluate c =
-    let s = c .before .before .before .before .before .before in
-    let d = c .before .before .before .before .degree in
-    sym (length-prefix (s .args .t1) (d .result) (s .good .0 .1 .0 .1) (d .ensures .0))
+    let s = c .before .before .before .before .before .before .before .before in
+    let d = c .before .before .before .before .before .degree in
+    sym (length-prefix (s .args .t2) (d .result) (s .good .1 .0 .1 .0 .1) (d .ensures .0))
 
 evaluate-requires : tie.Need-evaluate-requires Inv-loop μ-loop
 evaluate-requires c κs =
-    let s = c .before .before .before .before .before .before in
-    let d = c .before .before .before .before .degree in
-    omega (arith, length-prefix (s .args .t1) (d .result) (s .good .0 .1 .0 .1) (d .ensures .0))
+    let s = c .before .before .before .before .before .before .before .before in
+    let d = c .before .before .before .before .before .degree in
+    omega (arith, length-prefix (s .args .t2) (d .result) (s .good .1 .0 .1 .0 .1) (d .ensures .0))
+
+masked-values-requires : tie.Need-masked-values-requires Inv-loop μ-loop
+masked-values-requires c κs = search needs
 
 list-zeros-requires : tie.Need-list-zeros-requires Inv-loop μ-loop
 list-zeros-requires c κs =
-    let l = c .before .before .before .before .before .loop in
-    (omega (arith, l .inv .1), searched-room _ _ _ _ _ (l .inv .4) _ _ (omega (arith, l .inv .1)) (l .inv .3) (next (c .before .before)) (c .before .before .before .before .before .before .before .before .before .pre))
+    let l = c .before .before .before .before .before .before .before .loop in
+    (omega (arith, l .inv .1), searched-room _ _ _ _ _ _ (l .inv .4) _ _ (omega (arith, l .inv .1)) (l .inv .3) (next (c .before .before)) (c .before .before .before .before .before .before .before .before .before .before .before .before .pre .1))
 
 next-powers-requires : tie.Need-next-powers-requires Inv-loop μ-loop
 next-powers-requires c κs = search needs
@@ -73,16 +82,16 @@ loop-less c = search needs
 
 loop-again : tie.Need-loop-again Inv-loop μ-loop
 loop-again c =
-    let l = c .before .before .before .before .before .before .before .loop in (
+    let l = c .before .before .before .before .before .before .before .before .before .loop in (
       omega (arith, l .inv .1),
       omega (arith, l .inv .1),
       c .next-powers .ok .1 .0 .1,
       powers-next _ _ _ (l .inv .2) (c .next-powers .ensures) (l .inv .3),
-      searched-more _ _ _ _ _ (l .inv .4) _ _ (omega (arith, l .inv .1)) (l .inv .3) (next (c .before .before .before .before)) _ _ _ (c .before .list-zeros .ensures),
+      searched-more _ _ _ _ _ _ (l .inv .4) _ _ (omega (arith, l .inv .1)) (l .inv .3) (next (c .before .before .before .before)) _ _ _ (c .before .list-zeros .ensures),
     )
 
 returns : tie.Need-returns Inv-loop μ-loop
-returns c = searched-all _ _ _ _ _ (c .before .loop .inv .4) (omega (arith, c .before .loop .inv .0))
+returns c = searched-all _ _ _ _ _ _ (c .before .loop .inv .4) (omega (arith, c .before .loop .inv .0))
 
 pub find-roots-spec : {M : Type 1} → statement M
 find-roots-spec =
@@ -95,9 +104,12 @@ find-roots-spec =
     add-end
     first-powers-requires
     loop-holds
+    cast-sixteen
+    sixteen-requires
     array-share-prefix-q
     slice-aggregate-evaluate
     evaluate-requires
+    masked-values-requires
     list-zeros-requires
     next-powers-requires
     add-i

@@ -47,7 +47,7 @@ loop-again : tie.Need-loop-again Inv-loop μ-loop
 loop-again c =
     let l = c .before .before .before .before .loop in
     let s = c .before .before .before .before .before in
-    let few : length (take (s .args .count) (s .args .t1)) ≤ 8 = omega (arith, length-take-le (s .args .count) (s .args .t1) (omega (arith, s .good .0 .1 .0 .1))) in
+    let few : length (take (s .args .count) (s .args .t1)) ≤ 16 = omega (arith, length-take-le (s .args .count) (s .args .t1) (omega (arith, s .good .0 .1 .0 .1))) in
     let e : c .sum .result ≡ multiplied (take (s .args .count) (s .args .t1)) (l .p) (l .l) few (l .inv .1) (search needs) =
     c .sum .ensures ∙ ap₂ (plus numbers)
     (c .before .before .scale .ensures ∙ ap (λ (y : ℕ). scaled y (l .p)) (sym (getD-take (s .args .count) (s .args .t1) (l .l - 1) 0 (omega arith)))) (c .before .raised .ensures) in
@@ -56,7 +56,7 @@ loop-again c =
 returns : tie.Need-returns Inv-loop μ-loop
 returns c =
     let s = c .before .before in
-    multiplied-all (take (s .args .count) (s .args .t1)) _ _ (omega (arith, length-take-le (s .args .count) (s .args .t1) (omega (arith, s .good .0 .1 .0 .1)))) (search needs) (c .before .loop .inv .1)
+    multiplied-all (take (s .args .count) (s .args .t1)) _ _ (search needs) (c .before .loop .inv .1)
 
 pub root-product-spec : {M : Type 1} → statement M
 root-product-spec =

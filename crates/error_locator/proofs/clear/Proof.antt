@@ -13,10 +13,10 @@ use Rattle.error_locator.proofs.clear.Statement.{statement}
 use Rattle.error_locator.proofs.clear.Tie as tie
 
 abbrev Inv-loop : tie.InvT-loop
-Inv-loop m₀ k row p i₀ m i = Cleared m₀ m k i
+Inv-loop m₀ size k row p i₀ m i = Cleared m₀ m size k i
 
 abbrev μ-loop : tie.MeasureT-loop
-μ-loop m₀ k row p i₀ m i = 8 - i
+μ-loop m₀ size k row p i₀ m i = size - i
 
 mul-sixteen : tie.Need-mul-sixteen Inv-loop μ-loop
 mul-sixteen c = search needs
@@ -34,7 +34,7 @@ slice-read-p : tie.Need-slice-read-p Inv-loop μ-loop
 slice-read-p c = search needs
 
 loop-holds : tie.Need-loop-holds Inv-loop μ-loop
-loop-holds c = cleared-start _ _ (c .before .before .before .before .pre .0)
+loop-holds c = cleared-start _ _ _ (c .before .before .before .before .pre .0)
 
 mul-x : tie.Need-mul-x Inv-loop μ-loop
 mul-x c = search needs
@@ -76,20 +76,21 @@ loop-again c =
     let s = c .before .before .before .before .before .before .before in
     let o = s .args .m .now in
     let k = s .args .k in
+    let n = s .args .size in
     ⊎-elim
-    (λ w. subst (λ m. Cleared o m k (l .i + 1)) (sym (w .10))
-    (cleared-step o (l .m) _ k (l .i) (omega arith) (s .pre .1) (w .0 .taken) (s .pre .2) (w .7 .kept .1 .1 .0 ∙ C .len)
-    (combined-row o (l .m) _ (w .4 .result) (l .i) k (getD o (k * 16 + k) 0) (getD (l .m) (l .i * 16 + k) 0) (s .pre .0) (C .len) (omega arith) (s .pre .1) (C .swept .own)
+    (λ w. subst (λ m. Cleared o m n k (l .i + 1)) (sym (w .10))
+    (cleared-step o (l .m) _ n k (l .i) (s .pre .1) (omega arith) (s .pre .2) (w .0 .taken) (s .pre .3) (w .7 .kept .1 .1 .0 ∙ C .len)
+    (combined-row o (l .m) _ (w .4 .result) (l .i) k (getD o (k * 16 + k) 0) (getD (l .m) (l .i * 16 + k) 0) (s .pre .0) (C .len) (omega arith) (omega arith) (C .swept .own)
     (w .4 .ensures ∙ ap₂ (λ (a b : List ℕ). combinedOf (replicate 16 (getD o (k * 16 + k) 0)) a b (replicate 16 (getD (l .m) (l .i * 16 + k) 0))) (w .3 .ensures) (c .before .before .before .before .sixteen .ensures))
     (w .7 .ensures)) C))
-    (λ w. subst (λ m. Cleared o m k (l .i + 1)) (sym (w .1)) (cleared-skip o (l .m) k (l .i) (omega arith) (w .0 .left) C))
+    (λ w. subst (λ m. Cleared o m n k (l .i + 1)) (sym (w .1)) (cleared-skip o (l .m) n k (l .i) (omega arith) (w .0 .left) C))
     (c .if1 .came)
 
 same-length : tie.Need-same-length Inv-loop μ-loop
 same-length c = search needs
 
 returns : tie.Need-returns Inv-loop μ-loop
-returns c = cleared-done _ _ _ _ (omega arith) (c .before .loop .inv)
+returns c = cleared-done _ _ _ _ _ (omega arith) (c .before .loop .inv)
 
 pub clear-spec : {M : Type 1} → statement M
 clear-spec =

@@ -12,27 +12,27 @@ use Rattle.error_locator.proofs.eliminate.Statement.{statement}
 use Rattle.error_locator.proofs.eliminate.Tie as tie
 
 abbrev Inv-loop : tie.InvT-loop
-Inv-loop m₀ d₀ k₀ m d k = (k ≤ 8) × Kept m₀ m k (byte d)
+Inv-loop m₀ size d₀ k₀ m d k = (k ≤ size) × Kept m₀ m size k (byte d)
 
 abbrev μ-loop : tie.MeasureT-loop
-μ-loop m₀ d₀ k₀ m d k = 8 - k
+μ-loop m₀ size d₀ k₀ m d k = size - k
 
 loop-holds : tie.Need-loop-holds Inv-loop μ-loop
-loop-holds c = (omega arith, kept-start _ (c .before .pre))
+loop-holds c = (omega arith, kept-start _ _ (c .before .pre .0))
 
 pivot-requires : tie.Need-pivot-requires Inv-loop μ-loop
-pivot-requires c κs = (c .before .before .loop .inv .1 .len, omega arith)
+pivot-requires c κs = (c .before .before .loop .inv .1 .len, search needs, omega arith)
 
 same-length : tie.Need-same-length Inv-loop μ-loop
 same-length c = search needs
 
 returns : tie.Need-returns Inv-loop μ-loop
-returns c = eliminated _ _ _ _ _ (omega arith) (c .before .before .before .before .before .before .loop .inv .1) (flag-false (Pivoted _ _ _) _ (c .if1 .taken) (c .before .before .before .pivot .ensures))
+returns c = eliminated _ _ _ _ _ _ (omega arith) (c .before .before .before .before .before .before .loop .inv .1) (flag-false (Pivoted _ _ _ _) _ (c .if1 .taken) (c .before .before .before .pivot .ensures))
 
 clear-requires : tie.Need-clear-requires Inv-loop μ-loop
 clear-requires c κs =
-    let P = flag-true (Pivoted _ _ _) _ (c .before .if1 .left) (c .before .before .before .before .pivot .ensures) in
-    (P .len, omega arith, P .outcome)
+    let P = flag-true (Pivoted _ _ _ _) _ (c .before .if1 .left) (c .before .before .before .before .pivot .ensures) in
+    (P .len, search needs, omega arith, P .outcome)
 
 scale-row-requires : tie.Need-scale-row-requires Inv-loop μ-loop
 scale-row-requires c κs = (c .before .before .before .clear .ensures .len, omega arith)
@@ -54,16 +54,16 @@ loop-less c = search needs
 
 loop-again : tie.Need-loop-again Inv-loop μ-loop
 loop-again c =
-    let P = flag-true (Pivoted _ _ _) _ (c .before .before .before .before .before .before .before .before .before .if1 .left) (c .before .before .before .before .before .before .before .before .before .before .before .before .pivot .ensures) in (
+    let P = flag-true (Pivoted _ _ _ _) _ (c .before .before .before .before .before .before .before .before .before .if1 .left) (c .before .before .before .before .before .before .before .before .before .before .before .before .pivot .ensures) in (
       omega arith,
-      kept-more _ _ _ _ _ _ _ _ (omega arith) (c .before .before .before .before .before .before .before .before .before .before .before .before .before .before .before .loop .inv .1) P (c .before .before .before .before .before .before .before .clear .ensures) (c .before .before .before .scale-row .kept .0 ∙ c .before .before .before .before .before .before .before .clear .ensures .len) (c .before .before .before .scale-row .ensures) refl,
+      kept-more _ _ _ _ _ _ _ _ _ (search needs) (omega arith) (c .before .before .before .before .before .before .before .before .before .before .before .before .before .before .before .loop .inv .1) P (c .before .before .before .before .before .before .before .clear .ensures) (c .before .before .before .scale-row .kept .0 ∙ c .before .before .before .before .before .before .before .clear .ensures .len) (c .before .before .before .scale-row .ensures) refl,
     )
 
 same-length-2 : tie.Need-same-length-2 Inv-loop μ-loop
 same-length-2 c = search needs
 
 returns-2 : tie.Need-returns-2 Inv-loop μ-loop
-returns-2 c = eliminated-all _ _ _ _ (omega arith) (c .before .loop .inv .0) (c .before .loop .inv .1)
+returns-2 c = eliminated-all _ _ _ _ _ (omega arith) (c .before .loop .inv .0) (c .before .loop .inv .1)
 
 pub eliminate-spec : {M : Type 1} → statement M
 eliminate-spec =

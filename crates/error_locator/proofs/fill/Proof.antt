@@ -11,13 +11,13 @@ use Rattle.error_locator.proofs.fill.Statement.{statement}
 use Rattle.error_locator.proofs.fill.Tie as tie
 
 abbrev Inv-loop : tie.InvT-loop
-Inv-loop m₀ s r₀ m r = FilledTo s m r
+Inv-loop size m₀ s r₀ m r = FilledTo s m size r
 
 abbrev μ-loop : tie.MeasureT-loop
-μ-loop m₀ s r₀ m r = 8 - r
+μ-loop size m₀ s r₀ m r = size - r
 
 loop-holds : tie.Need-loop-holds Inv-loop μ-loop
-loop-holds c = filled-none _ _ (search needs)
+loop-holds c = filled-none _ _ _ (search needs)
 
 add-end : tie.Need-add-end Inv-loop μ-loop
 add-end c = search needs
@@ -52,13 +52,13 @@ loop-again c =
     let l = c .before .before .before .before .before .before .before .loop in
     let s = c .before .before .before .before .before .before .before .before .before in
     let n : l .r + 9 - l .r ≡ 9 = omega arith in
-    filled-more (s .args .t1) (l .m) _ _ (l .r) (s .good .0 .1 .0 .1) (search needs) (ap (λ (k : ℕ). take k (drop (l .r) (s .args .t1))) n) (c .before .before .put .ensures) (c .before .before .put .kept .1 .1 .0) (l .inv)
+    filled-more (s .args .t1) (l .m) _ _ (s .args .size) (l .r) (s .good .0 .1 .0 .1) (s .pre .1) (search needs) (ap (λ (k : ℕ). take k (drop (l .r) (s .args .t1))) n) (c .before .before .put .ensures) (c .before .before .put .kept .1 .1 .0) (l .inv)
 
 same-length : tie.Need-same-length Inv-loop μ-loop
-same-length c = c .before .loop .inv .len ∙ sym (c .before .before .before .pre)
+same-length c = c .before .loop .inv .len ∙ sym (c .before .before .before .pre .0)
 
 returns : tie.Need-returns Inv-loop μ-loop
-returns c = filled-all _ _ _ (search needs) (c .before .loop .inv)
+returns c = filled-all _ _ _ _ (search needs) (c .before .loop .inv)
 
 pub fill-spec : {M : Type 1} → statement M
 fill-spec =

@@ -8,13 +8,13 @@ use Rattle.error_locator.proofs.find_pivot.Statement.{statement}
 use Rattle.error_locator.proofs.find_pivot.Tie as tie
 
 abbrev Inv-loop : tie.InvT-loop
-Inv-loop m k p₀ p = Looked m k p
+Inv-loop m size k p₀ p = Looked m size k p
 
 abbrev μ-loop : tie.MeasureT-loop
-μ-loop m k p₀ p = 8 - p
+μ-loop m size k p₀ p = size - p
 
 loop-holds : tie.Need-loop-holds Inv-loop μ-loop
-loop-holds c = looked-start _ _ (omega arith)
+loop-holds c = looked-start _ _ _ (omega arith)
 
 mul-if1 : tie.Need-mul-if1 Inv-loop μ-loop
 mul-if1 c = search needs
@@ -29,7 +29,7 @@ returns : tie.Need-returns Inv-loop μ-loop
 returns c =
     let l = c .before .before .before .loop in
     let s = c .before .before .before .before in
-    looked-found _ _ _ (c .before .shared-slice-known .given (l .p * 16 + s .args .k) .fits) (c .if1 .taken) (l .inv)
+    looked-found _ _ _ _ (c .before .shared-slice-known .given (l .p * 16 + s .args .k) .fits) (c .if1 .taken) (l .inv)
 
 add-p : tie.Need-add-p Inv-loop μ-loop
 add-p c = search needs
@@ -38,10 +38,10 @@ loop-less : tie.Need-loop-less Inv-loop μ-loop
 loop-less c = search needs
 
 loop-again : tie.Need-loop-again Inv-loop μ-loop
-loop-again c = looked-step _ _ _ (omega arith) (c .if1 .left) (c .before .before .before .loop .inv)
+loop-again c = looked-step _ _ _ _ (omega arith) (c .if1 .left) (c .before .before .before .loop .inv)
 
 returns-2 : tie.Need-returns-2 Inv-loop μ-loop
-returns-2 c = looked-none _ _ _ (omega arith) (c .before .loop .inv)
+returns-2 c = looked-none _ _ _ _ (omega arith) (c .before .loop .inv)
 
 pub find-pivot-spec : {M : Type 1} → statement M
 find-pivot-spec =

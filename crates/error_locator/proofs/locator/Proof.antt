@@ -24,7 +24,7 @@ solution-requires : tie.Need-solution-requires
 solution-requires c κs = search needs
 
 returns : tie.Need-returns
-returns c = located _ _ _ _ _ _ (c .solution .ok .1 .0 .1) (c .before .before .before .before .before .before .fill .ensures) (c .before .before .before .eliminate .ensures) (c .solution .ensures)
+returns c = located _ _ _ _ _ _ _ (search needs) (c .solution .ok .1 .0 .1) (c .before .before .before .before .before .before .fill .ensures) (c .before .before .before .eliminate .ensures) (c .solution .ensures)
 
 pub locator-spec : {M : Type 1} → statement M
 locator-spec =

@@ -14,7 +14,7 @@ same-length : tie.Need-same-length
 same-length c = search needs
 
 returns : tie.Need-returns
-returns c = pivoted-none _ _ _ (c .if1 .taken) (c .before .before .before .before .pre .0) (c .before .find-pivot .ensures)
+returns c = pivoted-none _ _ _ _ (c .if1 .taken) (c .before .before .before .before .pre .0) (c .before .find-pivot .ensures)
 
 add-row-requires : tie.Need-add-row-requires
 add-row-requires c κs = search needs
@@ -23,13 +23,13 @@ same-length-2 : tie.Need-same-length-2
 same-length-2 c = search needs
 
 returns-2 : tie.Need-returns-2
-returns-2 c = pivoted-add _ _ _ _ (c .before .before .before .before .if2 .taken) (omega arith) (c .before .before .add-row .kept .0 ∙ c .before .before .before .before .before .before .before .before .before .pre .0) (c .before .before .before .before .before .before .find-pivot .ensures) (c .before .before .add-row .ensures)
+returns-2 c = pivoted-add _ _ _ _ _ (c .before .before .before .before .before .before .before .before .before .pre .1) (c .before .before .before .before .if2 .taken) (omega arith) (c .before .before .add-row .kept .0 ∙ c .before .before .before .before .before .before .before .before .before .pre .0) (c .before .before .before .before .before .before .find-pivot .ensures) (c .before .before .add-row .ensures)
 
 same-length-3 : tie.Need-same-length-3
 same-length-3 c = search needs
 
 returns-3 : tie.Need-returns-3
-returns-3 c = pivoted-same _ _ _ (c .if2 .left) (omega arith) (c .before .before .before .before .before .pre .0) (c .before .before .find-pivot .ensures)
+returns-3 c = pivoted-same _ _ _ _ (c .if2 .left) (omega arith) (c .before .before .before .before .before .pre .0) (c .before .before .find-pivot .ensures)
 
 pub pivot-spec : {M : Type 1} → statement M
 pivot-spec =

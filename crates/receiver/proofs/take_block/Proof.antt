@@ -1,51 +1,73 @@
 -- `receiver::take_block` meets its contract.
 -- Assumes nothing.
-use mathlib.Core.Path.{refl, sym, ap, _∙_, subst}
-use native.Mathlib.Omega.{arith}
-use Prim.Native.Nat.{ℕ}
+use mathlib.Core.Path.{_≡_, refl, sym, ap, ap₂, _∙_, subst, subst₂}
 use mathlib.Core.List.{List}
+use Prim.Native.Nat.{ℕ}
+use native.Mathlib.Omega.{arith}
 use lib.ListN.{replicate}
 use Rattle.reed_solomon.specs.Code.{noChange}
-use Rattle.reed_solomon.specs.Decode.{Decodes}
+use Rattle.reed_solomon.specs.Marks.{noMarks, DecodesMarked}
 use Rattle.reed_solomon.specs.declared.Changed.{Changed}
 use Rattle.reed_solomon.proofs.Laws.{tells-changes, FewChanges, few-changes}
+use Rattle.reed_solomon.proofs.Marks.{marks-of}
+use Rattle.delay_branches.specs.Block.{blockOut}
 use Rattle.delay_branches.specs.declared.Side.the-variants.{Receiving}
 use Rattle.delay_branches.proofs.Blocks.{length-out}
 use Rattle.group_sync.specs.Group.{groupStep, PlaceOf}
 use Rattle.group_sync.specs.declared.GroupStep.{GroupStep}
 use Rattle.group_sync.proofs.Synchronization.{outcome-place}
 use Rattle.reception_counts.specs.Counts.{outcomeNumber, counted}
-use Rattle.receiver.specs.Receive.{delayedBlock}
-use Rattle.receiver.proofs.Calls.{state-range, filling-call, repairing-call, deinterleaves, room-for, left-length}
+use Rattle.receiver.specs.Receive.{markBranches, delayedBlock, delayedMarks}
+use Rattle.receiver.proofs.Calls.{state-range, filling-call, repairing-call, room-for, room-filled, left-length}
+use Rattle.receiver.proofs.MarkDelays.{none-leaves}
 use borrow.Author.Needs.{needs}
 use Rattle.receiver.proofs.take_block.Statement.{statement}
 use Rattle.receiver.proofs.take_block.Tie as tie
 
-slice-aggregate-deinterleave : tie.Need-slice-aggregate-deinterleave
-slice-aggregate-deinterleave c = search needs
+-- what the block that the branches give decodes to, with the marks that they give
+decodes : (c : tie.After-decode-block)
+    → DecodesMarked (delayedMarks (c .before .before .before .before .before .before .before .before .before .before .before .before .before .before .before .before .before .before .before .args .receiver) (c .before .before .before .before .before .before .before .before .before .before .before .before .before .before .before .before .before .before .before .args .marks .now)) (delayedBlock (c .before .before .before .before .before .before .before .before .before .before .before .before .before .before .before .before .before .before .before .args .receiver) (c .before .before .before .before .before .before .before .before .before .before .before .before .before .before .before .before .before .before .before .args .block .now)) (c .decode-block .last .0) (c .decode-block .result)
+decodes c =
+    let a = c .before .before .before .before .before .before .before .before .before .before .before .before .before .before .before .before .before .before .before .args in
+    subst₂ (λ (m b : List ℕ). DecodesMarked m b (c .decode-block .last .0) (c .decode-block .result))
+    (c .before .before .before .before .before .delay-marks .ensures .1) (room-filled (delayedBlock (a .receiver) (a .block .now)) (replicate 204 0) _ refl (c .before .before .before .before .before .before .before .before .pass-block .ensures .1)) (c .decode-block .ensures)
 
-deinterleave-requires : tie.Need-deinterleave-requires
-deinterleave-requires c κs = search needs
+slice-aggregate-pass-block : tie.Need-slice-aggregate-pass-block
+slice-aggregate-pass-block c = search needs
+
+pass-block-requires : tie.Need-pass-block-requires
+pass-block-requires c κs = (state-range (c .before .before .before .before .before .before .before .before .before .before .args .receiver) (c .before .before .before .before .before .before .before .before .before .before .pre .0 .range) .branches, c .before .before .before .before .before .before .before .before .before .before .pre .0 .size, omega arith)
+
+slice-aggregate-delay-marks : tie.Need-slice-aggregate-delay-marks
+slice-aggregate-delay-marks c = search needs
+
+delay-marks-requires : tie.Need-delay-marks-requires
+delay-marks-requires c κs = (state-range (c .before .before .before .before .before .before .before .before .before .before .before .before .before .args .receiver) (c .before .before .before .before .before .before .before .before .before .before .before .before .before .pre .0 .range) .branches, marks-of (c .before .before .before .before .before .before .before .before .before .before .before .before .before .args .marks .now) (c .before .before .before .before .before .before .before .before .before .before .before .before .before .pre .0 .marked) .size, refl, c .before .before .before .before .before .before .before .before .before .before .before .before .before .pre .1)
 
 count-requires : tie.Need-count-requires
-count-requires c κs =
-    let s = c .before .before .before .before .before .before .before .before .before .before in
-    room-for (s .args .receiver) (s .args .block .now) (s .args .room .now) (s .pre) noChange (record { few = omega arith; least = omega arith; most = omega arith })
+count-requires c κs = room-for (c .before .before .before .before .before .before .before .before .before .before .before .before .before .before .before .before .args .receiver) (c .before .before .before .before .before .before .before .before .before .before .before .before .before .before .before .before .args .block .now) (c .before .before .before .before .before .before .before .before .before .before .before .before .before .before .before .before .args .marks .now) (c .before .before .before .before .before .before .before .before .before .before .before .before .before .before .before .before .args .room .now) (c .before .before .before .before .before .before .before .before .before .before .before .before .before .before .before .before .pre .0) noChange (record { few = omega arith; least = omega arith; most = omega arith })
 
 returns : tie.Need-returns
 returns c =
-    let s = c .before .before .before .before .before .before .before .before .before .before .before in
+    let s = c .before .before .before .before .before .before .before .before .before .before .before .before .before .before .before .before .before in
     let a = s .args in
-    let d = c .before .before .before .before .deinterleave in
-    let i = deinterleaves (a .receiver) (a .block .now) (a .room .now) (s .pre) (replicate 204 0) refl in
-    filling-call (a .receiver) (a .block .now) (a .room .now) (s .pre) (c .before .if1 .taken) _ (d .result .deinterleaver) (c .count .result) _
-    refl (d .ensures .1 ∙ i .0) (c .count .ensures) refl
+    filling-call (a .receiver) (a .block .now) (a .marks .now) (a .room .now) (s .pre .0) (c .before .if1 .taken) _ (record { branches = c .before .before .before .before .before .before .pass-block .result }) (c .before .before .before .delay-marks .result) (c .count .result) _
+    refl (c .before .before .before .before .before .before .pass-block .ensures .0) (c .before .before .before .delay-marks .ensures .0) (c .count .ensures) refl
 
-slice-aggregate-decode : tie.Need-slice-aggregate-decode
-slice-aggregate-decode c = search needs
+slice-aggregate-decode-block : tie.Need-slice-aggregate-decode-block
+slice-aggregate-decode-block c = search needs
 
-decode-requires : tie.Need-decode-requires
-decode-requires c κs = search needs
+slice-aggregate-decode-block-2 : tie.Need-slice-aggregate-decode-block-2
+slice-aggregate-decode-block-2 c = search needs
+
+decode-block-requires : tie.Need-decode-block-requires
+decode-block-requires c κs =
+    λ z.
+    let s = c .before .before .before .before .before .before .before .before .before .before .before .before .before .before .before .before .before .before in
+    let e = s .pre .1 z in
+    c .before .before .before .before .delay-marks .ensures .1
+    ∙ ap₂ (λ (k m : List ℕ). blockOut Receiving (markBranches k (s .args .receiver .deinterleaver .branches .positions)) m) (e .0) (e .1)
+    ∙ none-leaves (s .args .receiver .deinterleaver .branches .positions)
 
 array-read-repair-of : tie.Need-array-read-repair-of
 array-read-repair-of c = search needs
@@ -65,38 +87,27 @@ cast-count c = search needs
 cast-count-2 : tie.Need-cast-count-2
 cast-count-2 c = search needs
 
--- what the block that the branches give decodes to
-decodes : (c : tie.After-decode)
-    → let a = c .before .before .before .before .before .before .before .before .before .before .before .before .args in
-    Decodes (delayedBlock (a .receiver) (a .block .now)) (c .decode .last .0) (c .decode .result)
-decodes c =
-    let s = c .before .before .before .before .before .before .before .before .before .before .before .before in
-    let a = s .args in
-    let d = c .before .before .before .before .before .deinterleave in
-    subst (λ (l : List ℕ). Decodes l (c .decode .last .0) (c .decode .result))
-    (d .ensures .2 ∙ deinterleaves (a .receiver) (a .block .now) (a .room .now) (s .pre) (replicate 204 0) refl .1) (c .decode .ensures)
-
 count-requires-2 : tie.Need-count-requires-2
 count-requires-2 c κs =
-    let s = c .before .before .before .before .before .before .before .before .before .before .before .before .before .before .before .before .before in
+    let s = c .before .before .before .before .before .before .before .before .before .before .before .before .before .before .before .before .before .before .before .before .before .before .before .before in
+    let a = s .args in
     let e = c .before .before .before .before .before in
-    room-for (s .args .receiver) (s .args .block .now) (s .args .room .now) (s .pre) _
-    (subst FewChanges (sym (c .changed .ensures ∙ tells-changes _ (e .decode .last .0) (e .decode .result) (decodes e)))
-    (few-changes (delayedBlock (s .args .receiver) (s .args .block .now)) (e .decode .last .0) (e .decode .result) (decodes e)))
+    room-for (a .receiver) (a .block .now) (a .marks .now) (a .room .now) (s .pre .0) _
+    (subst FewChanges (sym (c .changed .ensures ∙ tells-changes _ _ (e .decode-block .last .0) (e .decode-block .result) (decodes e)))
+    (few-changes (delayedMarks (a .receiver) (a .marks .now)) (delayedBlock (a .receiver) (a .block .now)) (e .decode-block .last .0) (e .decode-block .result) (decodes e)))
 
 slice-aggregate-deliver : tie.Need-slice-aggregate-deliver
 slice-aggregate-deliver c = search needs
 
 deliver-requires : tie.Need-deliver-requires
 deliver-requires c κs =
-    let s = c .before .before .before .before .before .before .before .before .before .before .before .before .before .before .before .before .before .before .before .before in
+    let s = c .before .before .before .before .before .before .before .before .before .before .before .before .before .before .before .before .before .before .before .before .before .before .before .before .before .before .before in
     let a = s .args in
     let e = c .before .before .before .before .before in
     let d = c .before .before .before .before .before .before .before .before in (
-      subst (λ (g : GroupStep). PlaceOf (g .outcome)) (sym (e .step .ensures))
-          (outcome-place (a .receiver .sync) (e .before .repair-of .result) (state-range (a .receiver) (s .pre .range) .sync)),
-      left-length (delayedBlock (a .receiver) (a .block .now)) (d .decode .last .0) (d .decode .result) (decodes d) (length-out Receiving (a .receiver .deinterleaver .branches) (a .block .now)),
-      s .pre .enough,
+      subst (λ (g : GroupStep). PlaceOf (g .outcome)) (sym (e .step .ensures)) (outcome-place (a .receiver .sync) (c .before .before .before .before .before .before .repair-of .result) (state-range (a .receiver) (s .pre .0 .range) .sync)),
+      left-length (delayedMarks (a .receiver) (a .marks .now)) (delayedBlock (a .receiver) (a .block .now)) (d .decode-block .last .0) (d .decode-block .result) (decodes d) (length-out Receiving (a .receiver .deinterleaver .branches) (a .block .now)),
+      s .pre .0 .enough,
     )
 
 same-length : tie.Need-same-length
@@ -104,28 +115,29 @@ same-length c = search needs
 
 returns-2 : tie.Need-returns-2
 returns-2 c =
-    let s = c .before .before .before .before .before .before .before .before .before .before .before .before .before .before .before .before .before .before .before .before .before .before .before in
+    let s = c .before .before .before .before .before .before .before .before .before .before .before .before .before .before .before .before .before .before .before .before .before .before .before .before .before .before .before .before .before .before in
     let a = s .args in
-    let d = c .before .before .before .before .before .before .before .before .before .before .before .before .before .before .before .before .deinterleave in
     let e = c .before .before .before .before .before .before .before .before .before .before .before in
     let k = c .before .before .before .before .before .before .before .before .step in
     let v = c .before .before .deliver .ensures in
-    let i = deinterleaves (a .receiver) (a .block .now) (a .room .now) (s .pre) (replicate 204 0) refl in
-    repairing-call (a .receiver) (a .block .now) (a .room .now) (s .pre) (c .before .before .before .before .before .before .before .before .before .before .before .before .before .if1 .left) (e .decode .last .0) (e .decode .result) (decodes e)
-    (k .result) (k .ensures ∙ ap (groupStep (a .receiver .sync)) (c .before .before .before .before .before .before .before .before .before .repair-of .ensures)) _ (d .result .deinterleaver) (c .before .before .before .before .before .count2 .result) _
-    (v .0) (d .ensures .1 ∙ i .0)
+    repairing-call (a .receiver) (a .block .now) (a .marks .now) (a .room .now) (s .pre .0) (c .before .before .before .before .before .before .before .before .before .before .before .before .before .before .if1 .left) (e .decode-block .last .0) (e .decode-block .result) (decodes e)
+    (k .result) (k .ensures ∙ ap (groupStep (a .receiver .sync)) (c .before .before .before .before .before .before .before .before .before .repair-of .ensures)) _ (record { branches = c .before .before .before .before .before .before .before .before .before .before .before .before .before .before .before .before .before .before .before .pass-block .result }) (c .before .before .before .before .before .before .before .before .before .before .before .before .before .before .before .before .delay-marks .result) (c .before .before .before .before .before .count2 .result) _
+    (v .0) (c .before .before .before .before .before .before .before .before .before .before .before .before .before .before .before .before .before .before .before .pass-block .ensures .0) (c .before .before .before .before .before .before .before .before .before .before .before .before .before .before .before .before .delay-marks .ensures .0)
     (c .before .before .before .before .before .count2 .ensures ∙ ap (λ (x : Changed). counted (a .receiver .counts) (outcomeNumber (k .result .outcome)) (x .bytes) (x .bits)) (c .before .before .before .before .before .before .changed .ensures)) (v .1)
 
 pub take-block-spec : {M : Type 1} → statement M
 take-block-spec =
     tie.close
     (tie.spec
-    slice-aggregate-deinterleave
-    deinterleave-requires
+    slice-aggregate-pass-block
+    pass-block-requires
+    slice-aggregate-delay-marks
+    delay-marks-requires
     count-requires
     returns
-    slice-aggregate-decode
-    decode-requires
+    slice-aggregate-decode-block
+    slice-aggregate-decode-block-2
+    decode-block-requires
     array-read-repair-of
     repair-of-requires
     step-requires

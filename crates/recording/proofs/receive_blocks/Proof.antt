@@ -1,69 +1,53 @@
 -- `recording::receive_blocks` meets its contract.
 -- Assumes nothing.
+use mathlib.Core.Path.{_∙_}
 use Prim.Native.Nat.{_-_}
 use native.Mathlib.Omega.{arith}
 use lib.ListN.{length}
 use Rattle.answer.specs.Number.{numberOf}
-use Rattle.recording.proofs.Recordings.{Progress, progress-start, progress-end, progress-length, progress-room, progress-count, progress-more}
+use Rattle.recording.proofs.Recordings.{Progress, progress-start, progress-end, progress-room, progress-length, progress-count, progress-more}
 use borrow.Author.Needs.{needs}
 use Rattle.recording.proofs.receive_blocks.Statement.{statement}
 use Rattle.recording.proofs.receive_blocks.Tie as tie
 
 abbrev Inv-loop : tie.InvT-loop
-Inv-loop bytes room₀ state₀ at₀ count₀ room state at count = Progress state₀ bytes room₀ room state at count
+Inv-loop bytes marks room₀ state₀ at₀ count₀ room state at count = Progress state₀ bytes marks room₀ room state at count
 
 abbrev μ-loop : tie.MeasureT-loop
-μ-loop bytes room₀ state₀ at₀ count₀ room state at count = length bytes - at
+μ-loop bytes marks room₀ state₀ at₀ count₀ room state at count = length bytes - at
 
 loop-holds : tie.Need-loop-holds Inv-loop μ-loop
-loop-holds c = progress-start _ _ _ (c .before .before .pre)
+loop-holds c = progress-start _ _ _ _ (c .before .before .before .pre .0)
 
 sub-loop : tie.Need-sub-loop Inv-loop μ-loop
 sub-loop c = c .loop .inv .within
 
-add-end : tie.Need-add-end Inv-loop μ-loop
-add-end c = omega (arith, c .loop-test .taken, c .before .loop .inv .within)
+sub-receive-at : tie.Need-sub-receive-at Inv-loop μ-loop
+sub-receive-at c = progress-room (c .before .loop .inv)
 
-sub-receive : tie.Need-sub-receive Inv-loop μ-loop
-sub-receive c = search needs
+part-receive-at-start : tie.Need-part-receive-at-start Inv-loop μ-loop
+part-receive-at-start c = progress-room (c .before .loop .inv)
 
-part-receive-start : tie.Need-part-receive-start Inv-loop μ-loop
-part-receive-start c = search needs
+part-receive-at-end : tie.Need-part-receive-at-end Inv-loop μ-loop
+part-receive-at-end c = search needs
 
-part-receive-end : tie.Need-part-receive-end Inv-loop μ-loop
-part-receive-end c = omega (arith, c .loop-test .taken, c .before .loop .inv .within)
-
-sub-receive-2 : tie.Need-sub-receive-2 Inv-loop μ-loop
-sub-receive-2 c = progress-room (c .before .before .loop .inv)
-
-part-receive-start-2 : tie.Need-part-receive-start-2 Inv-loop μ-loop
-part-receive-start-2 c = progress-room (c .before .before .loop .inv)
-
-part-receive-end-2 : tie.Need-part-receive-end-2 Inv-loop μ-loop
-part-receive-end-2 c = search needs
-
-receive-requires : tie.Need-receive-requires Inv-loop μ-loop
-receive-requires c κs = search needs
+receive-at-requires : tie.Need-receive-at-requires Inv-loop μ-loop
+receive-at-requires c κs = (omega (arith, c .before .loop-test .taken, c .before .before .loop .inv .within), c .before .before .before .before .before .before .pre .1)
 
 given-bytes-requires : tie.Need-given-bytes-requires Inv-loop μ-loop
 given-bytes-requires c κs = search needs
 
 add-count : tie.Need-add-count Inv-loop μ-loop
-add-count c =
-    let r = c .before .before .before .before in
-    let l = r .before .before .before in
-    omega (arith, c .given-bytes .ensures, progress-count (l .before .loop .inv) (l .loop-test .taken) (numberOf (r .receive .result .answer)))
+add-count c = omega (arith, c .given-bytes .ensures, progress-count (c .before .before .before .before .before .before .before .loop .inv) (c .before .before .before .before .before .before .loop-test .taken) (numberOf (c .before .before .before .before .receive-at .result .answer)))
+
+add-at : tie.Need-add-at Inv-loop μ-loop
+add-at c = omega (arith, c .before .before .before .before .before .before .loop-test .taken, c .before .before .before .before .before .before .before .loop .inv .within)
 
 loop-less : tie.Need-loop-less Inv-loop μ-loop
-loop-less c =
-    let l = c .before .before .before .before .before .before .before in
-    omega (arith, l .loop-test .taken)
+loop-less c = omega (arith, c .before .before .before .before .before .before .loop-test .taken)
 
 loop-again : tie.Need-loop-again Inv-loop μ-loop
-loop-again c =
-    let r = c .before .before .before .before in
-    let l = r .before .before .before in
-    progress-more (l .before .loop .inv) (l .loop-test .taken) (r .receive .ensures) (c .given-bytes .ensures)
+loop-again c = progress-more (c .before .before .before .before .before .before .before .loop .inv) (c .before .before .before .before .before .before .loop-test .taken) (c .before .before .before .before .receive-at .ensures) (c .given-bytes .ensures)
 
 same-length : tie.Need-same-length Inv-loop μ-loop
 same-length c = progress-length (c .before .loop .inv)
@@ -79,16 +63,13 @@ receive-blocks-spec =
     μ-loop
     loop-holds
     sub-loop
-    add-end
-    sub-receive
-    part-receive-start
-    part-receive-end
-    sub-receive-2
-    part-receive-start-2
-    part-receive-end-2
-    receive-requires
+    sub-receive-at
+    part-receive-at-start
+    part-receive-at-end
+    receive-at-requires
     given-bytes-requires
     add-count
+    add-at
     loop-less
     loop-again
     same-length

@@ -1,8 +1,14 @@
--- `reed_solomon::decode` meets its contract: a block whose residue is zero is a codeword, and any other is repaired.
+-- `reed_solomon::decode` meets its contract: a block whose residue is zero is a codeword, and any other is repaired, as one without marks.
 -- Assumes nothing.
-use mathlib.Core.Path.{sym, ap, _∙_}
-use Rattle.reed_solomon.specs.Steps.{allZero}
+use mathlib.Core.Path.{refl, sym, ap, _∙_}
+use native.Mathlib.Omega.{arith}
 use Rattle.common.proofs.Entries.{bytes-of}
+use Rattle.reed_solomon.specs.Code.{noChange}
+use Rattle.reed_solomon.specs.Marks.{noMarks}
+use Rattle.reed_solomon.specs.Steps.{allZero}
+use Rattle.reed_solomon.specs.declared.Decoded.the-variants.{Corrected}
+use Rattle.reed_solomon.proofs.Marks.{no-marks}
+use Rattle.reed_solomon.proofs.MarkedDistance.{marked-none, without-marks}
 use Rattle.reed_solomon.proofs.Outcome.{clean}
 use borrow.Author.Needs.{needs}
 use Rattle.reed_solomon.proofs.decode.Statement.{statement}
@@ -22,18 +28,22 @@ same-length c = search needs
 
 returns-2 : tie.Need-returns-2
 returns-2 c =
-    let k = c .before .before .before .before in
     let m = c .before .before .before .before .before .before .args .block .now in
-    (k .if1 .left, clean m (k .if1 .left) (bytes-of m (λ i. k .before .slice-known .given i .fits)) (ap allZero (sym (c .before .before .residue .ensures)) ∙ sym (c .before .is-zero .ensures) ∙ c .if2 .taken))
+    let n = c .before .before .before .before .if1 .left in
+    without-marks m m (Corrected noChange)
+    (n, no-marks, clean m n noMarks refl (omega (arith, marked-none 204)) (bytes-of m (λ i. c .before .before .before .before .before .slice-known .given i .fits)) (ap allZero (sym (c .before .before .residue .ensures)) ∙ sym (c .before .is-zero .ensures) ∙ c .if2 .taken))
+
+slice-aggregate-repair : tie.Need-slice-aggregate-repair
+slice-aggregate-repair c = search needs
 
 repair-requires : tie.Need-repair-requires
-repair-requires c κs = search needs
+repair-requires c κs = (c .before .before .before .before .before .before .if1 .left, c .before .before .before .before .residue .ensures, no-marks, sym (marked-none 204), omega arith)
 
 same-length-2 : tie.Need-same-length-2
 same-length-2 c = search needs
 
 returns-3 : tie.Need-returns-3
-returns-3 c = search needs
+returns-3 c = without-marks (c .before .before .before .before .before .before .before .before .before .before .before .args .block .now) (c .before .before .repair .last .0) (c .before .before .repair .result) (c .before .before .repair .ensures)
 
 pub decode-spec : {M : Type 1} → statement M
 decode-spec =
@@ -44,6 +54,7 @@ decode-spec =
     is-zero-requires
     same-length
     returns-2
+    slice-aggregate-repair
     repair-requires
     same-length-2
     returns-3)

@@ -1,6 +1,7 @@
 -- `receiver::Receiver::new` meets its contract.
 -- Assumes nothing.
 use mathlib.Core.Path.{ap, _∙_}
+use lib.ListN.{replicate}
 use Rattle.delay_branches.specs.Block.{fresh}
 use Rattle.delay_branches.specs.declared.Branches.{Branches}
 use Rattle.group_sync.specs.Group.{freshSync}
@@ -23,11 +24,11 @@ new-requires-3 c κs = search needs
 returns : tie.Need-returns
 unfolding freshReceiver
 returns c =
-    ap (λ (d : Branches). record { deinterleaver = record { branches = d }; sync = c .before .new2 .result; counts = c .new3 .result })
+    ap (λ (d : Branches). record { deinterleaver = record { branches = d }; marks = replicate 1122 0; sync = c .before .new2 .result; counts = c .new3 .result })
     (c .before .before .new .ensures)
-    ∙ ap (λ (s : GroupSync). record { deinterleaver = record { branches = fresh }; sync = s; counts = c .new3 .result })
+    ∙ ap (λ (s : GroupSync). record { deinterleaver = record { branches = fresh }; marks = replicate 1122 0; sync = s; counts = c .new3 .result })
     (c .before .new2 .ensures)
-    ∙ ap (λ (n : Counts). record { deinterleaver = record { branches = fresh }; sync = freshSync; counts = n }) (c .new3 .ensures)
+    ∙ ap (λ (n : Counts). record { deinterleaver = record { branches = fresh }; marks = replicate 1122 0; sync = freshSync; counts = n }) (c .new3 .ensures)
 
 pub new-spec : {M : Type 1} → statement M
 new-spec = tie.close (tie.spec new-requires new-requires-2 new-requires-3 returns)

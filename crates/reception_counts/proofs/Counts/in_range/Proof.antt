@@ -67,7 +67,7 @@ mul-if9 c = search needs
 
 -- past the tests of the blocks, what is left are those of the changes
 changes-left : (c : tie.Else8) → let n = c .before .before .before .before .before .before .before .before .before .args .self in
-    countsInRange n ≡ pick (leb (n .changed) (8 * acceptedBlocks n)) (pick (leb (n .changed) (n .bits)) (leb (n .bits) (8 * n .changed)) false) false
+    countsInRange n ≡ pick (leb (n .changed) (16 * acceptedBlocks n)) (pick (leb (n .changed) (n .bits)) (leb (n .bits) (8 * n .changed)) false) false
 unfolding countsInRange
 changes-left c =
     let h : c .before .before .before .before .before .before .before .before .before .args .self .taken ≤ 4294967295 = omega arith in

@@ -27,7 +27,7 @@ Inv-loop count values bits₀ l₀ bits l = Counting values count bits l
 abbrev μ-loop : tie.MeasureT-loop
 μ-loop count values bits₀ l₀ bits l = count - l
 
-module _ (values : List ℕ) (count bits l : ℕ) (n : length values ≡ 16) (b : count ≤ 8) (c : Counting values count bits l) where
+module _ (values : List ℕ) (count bits l : ℕ) (n : length values ≡ 16) (b : count ≤ 16) (c : Counting values count bits l) where
   counting-more : l < count → (k : ℕ) → k ≡ unequalBits 8 (getD values l 0) 0 → Counting values count (bits + k) (l + 1)
   unfolding weighed
   counting-more h k e = record {

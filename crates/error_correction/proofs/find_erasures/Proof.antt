@@ -1,0 +1,23 @@
+-- `error_correction::find_erasures` meets its contract.
+-- Assumes nothing.
+use mathlib.Core.Path.{_∙_, subst}
+use native.Mathlib.Omega.{arith}
+use Rattle.error_correction.specs.Correction.{one, FoundRoots}
+use Rattle.error_correction.proofs.RootSearch.{found-none}
+use borrow.Author.Needs.{needs}
+use Rattle.error_correction.proofs.find_erasures.Statement.{statement}
+use Rattle.error_correction.proofs.find_erasures.Tie as tie
+
+returns : tie.Need-returns
+returns c = found-none _ _ _ _ _ (c .before .before .pre .1) (c .if1 .taken)
+
+find-roots-requires : tie.Need-find-roots-requires
+find-roots-requires c κs = search needs
+
+returns-2 : tie.Need-returns-2
+returns-2 c =
+    let r = c .find-roots .result in
+    subst (FoundRoots (c .before .before .before .args .u .now) one (r .degrees) (r .places)) (c .find-roots .ensures .number ∙ c .before .before .before .pre .1) (c .find-roots .ensures)
+
+pub find-erasures-spec : {M : Type 1} → statement M
+find-erasures-spec = tie.close (tie.spec returns find-roots-requires returns-2)

@@ -1,0 +1,61 @@
+-- The marks in the delays: they stay 0 or 1, and where none comes and none is there, none leaves. So what decoding means without marks holds then.
+-- Assumes nothing.
+use mathlib.Core.Path.{_≡_, refl, sym, ap, _∙_, subst}
+use mathlib.Core.Bool.{true}
+use mathlib.Core.List.{List}
+use Prim.Native.Nat.{ℕ, _≤_, _<_}
+use native.Mathlib.Omega.{arith}
+use borrow.Author.Tests.{eq-eqb, lt-ltb}
+use lib.ListN.{length, getD, replicate, length-replicate}
+use lib.Seq.{ext-getD}
+use Rattle.common.specs.Lists.{Entries}
+use Rattle.byte_lanes.proofs.Powers.{zeros-at}
+use Rattle.reed_solomon.specs.Decode.{Decodes}
+use Rattle.reed_solomon.specs.Marks.{Marks, largest, areMarks, noMarks, DecodesMarked}
+use Rattle.reed_solomon.specs.declared.Decoded.{Decoded}
+use Rattle.reed_solomon.proofs.Marks.{largest-least, largest-most, marks-of}
+use Rattle.reed_solomon.proofs.MarkedDistance.{without-marks}
+use Rattle.delay_branches.specs.Block.{blockOut, after}
+use Rattle.delay_branches.specs.declared.Branches.{Branches}
+use Rattle.delay_branches.specs.declared.Side.the-variants.{Receiving}
+use Rattle.delay_branches.proofs.Blocks.{Good, good-after, length-out, entries-out, entries-after}
+use Rattle.receiver.specs.Receive.{marksIn, markBranches, Unmarked, delayedMarks}
+use Rattle.receiver.specs.declared.Receiver.{Receiver}
+
+-- ---- none
+
+-- a list of zeros, by its length
+zeros-only : (n : ℕ) (l : List ℕ) → length l ≡ n → Entries (λ x. x ≡ 0) l → l ≡ replicate n 0
+zeros-only n l e z = ext-getD 0 l (replicate n 0) (e ∙ sym (length-replicate n 0)) (λ i h. z i ∙ sym (zeros-at n i))
+
+module _ (positions : List ℕ) where
+  abbrev none : Branches
+  none = markBranches (replicate 1122 0) positions
+
+  pub none-leaves : blockOut Receiving none noMarks ≡ noMarks
+  none-leaves = zeros-only 204 (blockOut Receiving none noMarks) (length-out Receiving none noMarks) (entries-out (λ x. x ≡ 0) refl Receiving none noMarks (zeros-at 1122) (zeros-at 204))
+
+  pub none-stays : Good Receiving none → after Receiving none noMarks .cells ≡ replicate 1122 0
+  none-stays g = zeros-only 1122 (after Receiving none noMarks .cells) (good-after Receiving none noMarks g .cells) (entries-after (λ x. x ≡ 0) refl Receiving none noMarks (zeros-at 1122) (zeros-at 204))
+
+-- a state without a mark and a block without one: what is decoded has none, and decoding is that without marks
+pub plain-decodes : (s : Receiver) (came left : List ℕ) (decoded : Decoded) → Unmarked s → DecodesMarked (delayedMarks s noMarks) came left decoded → Decodes came left decoded
+plain-decodes s came left decoded u d =
+    without-marks came left decoded
+    (subst (λ (m : List ℕ). DecodesMarked m came left decoded)
+    (ap (λ (c : List ℕ). blockOut Receiving (markBranches c (s .deinterleaver .branches .positions)) noMarks) u ∙ none-leaves (s .deinterleaver .branches .positions)) d)
+
+-- ---- marks
+
+pub bits-of : (l : List ℕ) → largest l < 2 → Entries (λ x. x ≤ 1) l
+bits-of l h i = omega (arith, largest-least l i)
+
+bits-largest : (l : List ℕ) → Entries (λ x. x ≤ 1) l → largest l < 2
+bits-largest l e = omega (arith, largest-most l 1 (λ i h. e i))
+
+module _ (s : Branches) (marks : List ℕ) (h : largest (s .cells) < 2) (m : Marks marks) where
+  bits : Entries (λ x. x ≤ 1) marks
+  bits i = omega (arith, largest-least marks i, largest-most marks 1 (λ i l. m .bits i (omega (arith, m .size))))
+
+  pub stay-marks : largest (after Receiving s marks .cells) < 2
+  stay-marks = bits-largest (after Receiving s marks .cells) (entries-after (λ x. x ≤ 1) (omega arith) Receiving s marks (bits-of (s .cells) h) bits)

@@ -1,0 +1,116 @@
+-- `receiver::Receiver::receive_marked` meets its contract.
+-- Assumes nothing.
+use mathlib.Core.Path.{_≡_, refl, sym, ap, _∙_}
+use mathlib.Core.Bool.{true}
+use Prim.Native.Nat.{ℕ, _+_}
+use native.Mathlib.Omega.{arith}
+use borrow.Author.Tests.{eq-eqb, ne-eqb, lt-ltb, le-ltb, not-true, not-false, eqb-true}
+use lib.ListN.{length, replicate}
+use Rattle.reed_solomon.specs.Marks.{areMarks, largest}
+use Rattle.reed_solomon.proofs.Marks.{marks-of, largest-none, largest-most}
+use Rattle.receiver.specs.Receive.{inRange}
+use Rattle.receiver.proofs.Calls.{refused-call, state-range}
+use borrow.Author.Needs.{needs}
+use Rattle.receiver.proofs.Receiver.receive_marked.Statement.{statement}
+use Rattle.receiver.proofs.Receiver.receive_marked.Tie as tie
+
+sum-none : (a b : ℕ) → a + b ≡ 0 → (a ≡ 0) × (b ≡ 0)
+sum-none a b e = (omega arith, omega arith)
+
+-- past the first test, the marks in the delays, and past the test of the marks that come
+good : (c : tie.Else1) → inRange (c .before .before .before .before .before .before .before .before .before .args .self) ≡ true
+good c = sym (c .before .parts-in-range .ensures) ∙ not-false _ (c .if1 .left)
+
+held : (c : tie.Start) → length (c .args .self .marks) ≡ 1122
+held c = search needs
+
+marked : (c : tie.Else3) → areMarks (c .before .before .before .before .before .before .before .before .before .before .before .before .args .marks .now) ≡ true
+marked c = sym (c .before .are-marks .ensures) ∙ not-false _ (c .if3 .left)
+
+slice-aggregate-largest-mark : tie.Need-slice-aggregate-largest-mark
+slice-aggregate-largest-mark c = search needs
+
+largest-mark-requires : tie.Need-largest-mark-requires
+largest-mark-requires c κs = search needs
+
+parts-in-range-requires : tie.Need-parts-in-range-requires
+parts-in-range-requires c κs = search needs
+
+returns : tie.Need-returns
+returns c =
+    let a = c .before .before .before .before .before .before .before .before .before .args in
+    let e = sym (c .before .parts-in-range .ensures) ∙ not-true _ (c .if1 .taken) in
+    refused-call (a .self) (a .block .now) (a .marks .now) (a .room .now) _ _ (simp e) (simp e) refl
+
+returns-2 : tie.Need-returns-2
+returns-2 c =
+    let a = c .before .before .before .before .before .before .before .before .before .before .args in
+    refused-call (a .self) (a .block .now) (a .marks .now) (a .room .now) _ _ (simp (good (c .before), ne-eqb _ _ (c .if2 .taken))) (simp (good (c .before), ne-eqb _ _ (c .if2 .taken))) refl
+
+are-marks-requires : tie.Need-are-marks-requires
+are-marks-requires c κs = search needs
+
+returns-3 : tie.Need-returns-3
+returns-3 c =
+    let a = c .before .before .before .before .before .before .before .before .before .before .before .before .args in
+    let e = sym (c .before .are-marks .ensures) ∙ not-true _ (c .if3 .taken) in
+    refused-call (a .self) (a .block .now) (a .marks .now) (a .room .now) _ _ (simp (good (c .before .before .before), eq-eqb _ _ (c .before .before .if2 .left), e)) (simp (good (c .before .before .before), eq-eqb _ _ (c .before .before .if2 .left), e)) refl
+
+returns-4 : tie.Need-returns-4
+returns-4 c =
+    let a = c .before .before .before .before .before .before .before .before .before .before .before .before .before .args in
+    refused-call (a .self) (a .block .now) (a .marks .now) (a .room .now) _ _
+    (simp (good (c .before .before .before .before), eq-eqb _ _ (c .before .before .before .if2 .left), marked (c .before), lt-ltb _ _ (c .if4 .taken))) (simp (good (c .before .before .before .before), eq-eqb _ _ (c .before .before .before .if2 .left), marked (c .before), lt-ltb _ _ (c .if4 .taken))) refl
+
+returns-5 : tie.Need-returns-5
+returns-5 c =
+    let a = c .before .before .before .before .before .before .before .before .before .before .before .before .before .before .args in
+    refused-call (a .self) (a .block .now) (a .marks .now) (a .room .now) _ _
+    (simp (good (c .before .before .before .before .before), eq-eqb _ _ (c .before .before .before .before .if2 .left), marked (c .before .before), le-ltb _ _ (c .before .if4 .left), le-ltb _ _ (c .if5 .taken)))
+    (simp (good (c .before .before .before .before .before), eq-eqb _ _ (c .before .before .before .before .if2 .left), marked (c .before .before), le-ltb _ _ (c .before .if4 .left), le-ltb _ _ (c .if5 .taken))) refl
+
+largest-mark-requires-2 : tie.Need-largest-mark-requires-2
+largest-mark-requires-2 c κs = search needs
+
+add-none : tie.Need-add-none
+add-none c =
+    let s = c .before .before .before .before .before .before .before .before .before .before .before .before .before .before .before in
+    let h = state-range (s .args .self) (good (c .before .before .before .before .before .before)) .marks in
+    let l = largest-most (s .args .marks .now) 1 (λ i b. marks-of (s .args .marks .now) (marked (c .before .before .before)) .bits i (omega (arith, marks-of (s .args .marks .now) (marked (c .before .before .before)) .size))) in
+    record { fits = omega (arith, c .before .before .before .before .before .before .before .before .largest-mark .ensures, c .largest-mark2 .ensures, h, l) }
+
+take-block-requires : tie.Need-take-block-requires
+take-block-requires c κs =
+    let s = c .before .before .before .before .before .before .before .before .before .before .before .before .before .before .before .before in
+    let m = marks-of (s .args .marks .now) (marked (c .before .before .before .before)) in (
+      record { range = good (c .before .before .before .before .before .before .before); size = c .before .before .before .before .before .before .if2 .left; marked = marked (c .before .before .before .before); enough = c .before .before .before .if4 .left; more = c .before .before .if5 .left },
+      λ z. (
+        largest-none (s .args .self .marks) (sym (c .before .before .before .before .before .before .before .before .before .largest-mark .ensures) ∙ sum-none (c .before .before .before .before .before .before .before .before .before .largest-mark .result) (c .before .largest-mark2 .result) (eqb-true _ _ z) .0) ∙ ap (λ (n : ℕ). replicate n 0) (held s),
+        largest-none (s .args .marks .now) (sym (c .before .largest-mark2 .ensures) ∙ sum-none (c .before .before .before .before .before .before .before .before .before .largest-mark .result) (c .before .largest-mark2 .result) (eqb-true _ _ z) .1) ∙ ap (λ (n : ℕ). replicate n 0) (m .size),
+      ),
+    )
+
+same-length : tie.Need-same-length
+same-length c = search needs
+
+returns-6 : tie.Need-returns-6
+returns-6 c = search needs
+
+pub receive-marked-spec : {M : Type 1} → statement M
+receive-marked-spec =
+    tie.close
+    (tie.spec
+    slice-aggregate-largest-mark
+    largest-mark-requires
+    parts-in-range-requires
+    returns
+    returns-2
+    are-marks-requires
+    returns-3
+    returns-4
+    returns-5
+    largest-mark-requires-2
+    add-none
+    take-block-requires
+    same-length
+    returns-6)

@@ -1,0 +1,140 @@
+-- Marks: how many bytes are marked, the largest of them, and when they are marks.
+-- Assumes nothing.
+use mathlib.Core.Path.{_≡_, refl, sym, ap, ap₂, _∙_}
+use mathlib.Core.Bool.{true, false}
+use mathlib.Core.List.{List, [], _∷_, _++_}
+use Prim.Native.Nat.{ℕ, zero, suc, _+_, _≤_, _<_, max}
+use native.Mathlib.Decide.{ℕ-discrete}
+use native.Mathlib.Numerals.{add-one}
+use native.Mathlib.Omega.{arith}
+use borrow.Author.Tests.{eq-eqb, ne-eqb, lt-ltb, eqb-true, ltb-true}
+use lib.Dec.{eqb}
+use lib.ListN.{length, getD, take, replicate}
+use lib.Seq.{take-suc, take-all}
+use Rattle.common.specs.Choice.{pick}
+use Rattle.common.proofs.Choice.{false-true, both-true}
+use Rattle.reed_solomon.specs.Marks.{Marks, largest, areMarks, noMarks, marked}
+
+-- 1 where a byte is marked
+abbrev pub mark : ℕ → ℕ
+mark m = pick (eqb m 0) 0 1
+
+pub mark-clear : (m : ℕ) → m ≡ 0 → mark m ≡ 0
+mark-clear m e = simp (eq-eqb m 0 e)
+
+pub mark-marked : (m : ℕ) → (m ≡ 0 → ⊥) → mark m ≡ 1
+mark-marked m n = simp (ne-eqb m 0 n)
+
+pub marked-append : (a b : List ℕ) → marked (a ++ b) ≡ marked a + marked b
+unfolding marked
+marked-append [] b = omega arith
+marked-append (m ∷ a) b = omega (arith, marked-append a b)
+
+-- ---- counting the marks
+
+mark-bit : (m : ℕ) → m ≤ 1 → mark m ≡ m
+mark-bit m h = go (ℕ-discrete m 0)
+  where
+    go : Dec (m ≡ 0) → mark m ≡ m
+    go (yes e) = mark-clear m e ∙ sym e
+    go (no n) = omega (arith, mark-marked m n)
+
+pub marked-most : (l : List ℕ) → marked l ≤ length l
+unfolding marked
+marked-most [] = omega arith
+marked-most (m ∷ l) = omega (arith, one (ℕ-discrete m 0), marked-most l)
+  where
+    one : Dec (m ≡ 0) → mark m ≤ 1
+    one (yes e) = omega (arith, mark-clear m e)
+    one (no n) = omega (arith, mark-marked m n)
+
+-- where none is counted, none is marked
+pub marked-zero : (ms : List ℕ) → marked ms ≡ 0 → (i : ℕ) → getD ms i 0 ≡ 0
+unfolding marked
+marked-zero [] h i = refl
+marked-zero (m ∷ ms) h zero = go (ℕ-discrete m 0)
+  where
+    go : Dec (m ≡ 0) → m ≡ 0
+    go (yes e) = e
+    go (no n) = absurd (omega (arith, mark-marked m n))
+marked-zero (m ∷ ms) h (suc i) = marked-zero ms (omega arith) i
+
+-- the first i marks are counted
+pub record CountedTo (marks : List ℕ) (count i : ℕ) : Type 0 where
+  pub most : i ≤ 204
+  pub total : count ≡ marked (take i marks)
+  pub fits : count ≤ i
+
+pub counted-none : (marks : List ℕ) → CountedTo marks 0 0
+unfolding marked
+counted-none marks = record { most = omega arith; total = refl; fits = omega arith }
+
+pub counted-more : (marks : List ℕ) (count i : ℕ) → Marks marks → i < 204 → CountedTo marks count i → CountedTo marks (count + getD marks i 0) (i + 1)
+unfolding marked
+counted-more marks count i m l c =
+    let b = m .bits i l in
+    let n = m .size in
+    let e : take (i + 1) marks ≡ take i marks ++ getD marks i 0 ∷ [] = ap (λ (k : ℕ). take k marks) (add-one i) ∙ take-suc marks i 0 (omega arith) in
+    record {
+      most = omega arith;
+      total = omega (arith, c .total, ap marked e, marked-append (take i marks) (getD marks i 0 ∷ []), mark-bit (getD marks i 0) b);
+      fits = omega (arith, c .fits);
+    }
+
+pub counted-all : (marks : List ℕ) (count i : ℕ) → Marks marks → 204 ≤ i → CountedTo marks count i → count ≡ marked marks
+counted-all marks count i m l c = c .total ∙ ap marked (take-all i marks (omega (arith, m .size)))
+
+-- ---- the largest
+
+pub largest-append : (a b : List ℕ) → largest (a ++ b) ≡ max (largest a) (largest b)
+unfolding largest
+largest-append [] b = omega arith
+largest-append (x ∷ a) b = omega (arith, largest-append a b)
+
+-- one element more
+pub largest-more : (l : List ℕ) (i : ℕ) → i < length l → largest (take (i + 1) l) ≡ max (largest (take i l)) (getD l i 0)
+unfolding largest
+largest-more l i h = ap (λ (k : ℕ). largest (take k l)) (add-one i) ∙ ap largest (take-suc l i 0 h) ∙ largest-append (take i l) (getD l i 0 ∷ []) ∙ omega arith
+
+pub largest-whole : (l : List ℕ) (i : ℕ) → length l ≤ i → largest (take i l) ≡ largest l
+largest-whole l i h = ap largest (take-all i l h)
+
+pub largest-least : (l : List ℕ) (i : ℕ) → getD l i 0 ≤ largest l
+unfolding largest
+largest-least [] i = omega arith
+largest-least (x ∷ l) zero = omega arith
+largest-least (x ∷ l) (suc i) = omega (arith, largest-least l i)
+
+pub largest-most : (l : List ℕ) (n : ℕ) → ((i : ℕ) → i < length l → getD l i 0 ≤ n) → largest l ≤ n
+unfolding largest
+largest-most [] n h = omega arith
+largest-most (x ∷ l) n h = omega (arith, h zero (omega arith), largest-most l n (λ i b. h (suc i) (omega arith)))
+
+-- where the largest is zero, all are
+pub largest-none : (l : List ℕ) → largest l ≡ 0 → l ≡ replicate (length l) 0
+unfolding largest
+largest-none [] h = refl
+largest-none (x ∷ l) h = let e : x ≡ 0 = omega arith in ap₂ (λ (a : ℕ) (b : List ℕ). a ∷ b) e (largest-none l (omega arith))
+
+pub largest-zeros : (n : ℕ) → largest (replicate n 0) ≡ 0
+unfolding largest
+largest-zeros zero = refl
+largest-zeros (suc n) = omega (arith, largest-zeros n)
+
+-- ---- when they are marks
+
+pub marks-of : (marks : List ℕ) → areMarks marks ≡ true → Marks marks
+marks-of marks e =
+    let a = both-true _ _ e in
+    record { size = eqb-true _ _ (a .0); bits = λ i h. omega (arith, largest-least marks i, ltb-true (largest marks) 2 (a .1)) }
+
+pub marks-not : (marks : List ℕ) → areMarks marks ≡ false → Marks marks → ⊥
+marks-not marks e m =
+    let l : largest marks < 2 = omega (arith, largest-most marks 1 (λ i h. m .bits i (omega (arith, m .size)))) in
+    false-true (sym e ∙ simp (eq-eqb _ _ (m .size), lt-ltb _ _ l))
+
+pub are-marks-none : areMarks noMarks ≡ true
+are-marks-none = let l : largest noMarks < 2 = omega (arith, largest-zeros 204) in simp (lt-ltb _ _ l)
+
+pub no-marks : Marks noMarks
+no-marks = marks-of noMarks are-marks-none
