@@ -6,7 +6,8 @@
  * them, and nothing is kept elsewhere. A buffer is a pointer and its length. The
  * functions test what they are lent, so any length and any bytes may come; what
  * the caller owes is that lengths are true and that buffers of one call do not
- * overlap. Room beyond what is given is never written.
+ * overlap. Room beyond what is given is never written. The functions bring no
+ * marks of doubtful bytes; marks that a state holds act.
  *
  * Answers:
  *   0  done; of a block: a packet was given
@@ -14,7 +15,7 @@
  *   4  room too short
  *   5  the bytes of the state stand for no receiver: a field is out of its range
  *   7  the receiver has taken 4,294,967,295 blocks
- *   8  no codeword within eight bytes
+ *   8  no codeword within eight bytes, or none by the rule for marked bytes
  *   9  the deinterleaver is filling: the first eleven blocks
  *  10  a codeword, while no start of a group was seen
  *  11  a codeword without the sync byte that is due
@@ -35,8 +36,9 @@
  *     1160      8  lost         part of the sum
  *     1168      8  waiting      part of the sum
  *     1176      8  outofstep    part of the sum
- *     1184      8  changed      to 8 (delivered + waiting + outofstep)
+ *     1184      8  changed      to 16 (delivered + waiting + outofstep)
  *     1192      8  bits         changed to 8 changed
+ *     1200   1122  marks        each 0 or 1: the marks of the bytes in the cells
  * Two different strings of bytes never stand for one receiver. */
 #ifndef DVBS_BRIDGE_H
 #define DVBS_BRIDGE_H
@@ -48,7 +50,7 @@
 extern "C" {
 #endif
 
-enum { DVBS_BRIDGE_STATE = 1200, DVBS_BRIDGE_BLOCK = 204, DVBS_BRIDGE_PACKET = 188, DVBS_BRIDGE_COUNT = 8 };
+enum { DVBS_BRIDGE_STATE = 2322, DVBS_BRIDGE_BLOCK = 204, DVBS_BRIDGE_PACKET = 188, DVBS_BRIDGE_COUNT = 8 };
 
 /* The numbers of the counts. */
 enum {

@@ -16,6 +16,11 @@ use Rattle.common.proofs.Choice.{both-true}
 use Rattle.receiver.specs.declared.Receiver.{Receiver}
 use Rattle.bridge.specs.State.{Field, part, fieldsOf, layout, stateLength}
 
+-- a fact of a field, before those of the fields after it
+infixr 10 _&_
+pub _&_ : {A B : Type 0} → A → B → A × B
+a & b = (a, b)
+
 -- from a byte on to an end, no byte is left out and none is in two fields
 abbrev pub contiguous : ℕ → List Field → ℕ → Bool
 contiguous at [] end = eqb at end

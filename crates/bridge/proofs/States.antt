@@ -25,7 +25,7 @@ use Rattle.receiver.specs.declared.Receiver.{Receiver}
 use Rattle.receiver.proofs.Reached.{Sound, sound-range, sound-fresh}
 use Rattle.bridge.specs.State.{placeOf, placeByte, Field, layout, stateLength, part, numberIn, stateOf, bytesOf, StandsFor}
 use Rattle.bridge.specs.State as field
-use Rattle.bridge.proofs.Fields.{layout-contiguous, fields-joined, fields-found, fields-length}
+use Rattle.bridge.proofs.Fields.{_&_, layout-contiguous, fields-joined, fields-found, fields-length}
 
 -- ---- one field
 
@@ -86,31 +86,21 @@ module _ (bytes : List ℕ) (n : length bytes ≡ stateLength) where
 
     read-fields : All (λ f. f .held (stateOf bytes) ≡ part f bytes) layout
     unfolding stateOf
-    read-fields = (
-      refl,
-      (
-        refl,
-        (
-          ap (λ (p : ℕ). p ∷ []) (place-back (numberIn field.place bytes)) ∙ byte-of field.place refl (omega arith),
-          (
-            byte-of field.missed refl (omega arith),
-            (
-              number-bytes field.taken (omega arith),
-              (
-                number-bytes field.filling (omega arith),
-                (
-                  number-bytes field.delivered (omega arith),
-                  (
-                    number-bytes field.lost (omega arith),
-                    (number-bytes field.waiting (omega arith), (number-bytes field.outofstep (omega arith), (number-bytes field.changed (omega arith), (number-bytes field.bits (omega arith), tt)))),
-                  ),
-                ),
-              ),
-            ),
-          ),
-        ),
-      ),
-    )
+    read-fields =
+        refl
+        & refl
+        & (ap (λ (p : ℕ). p ∷ []) (place-back (numberIn field.place bytes)) ∙ byte-of field.place refl (omega arith))
+        & byte-of field.missed refl (omega arith)
+        & number-bytes field.taken (omega arith)
+        & number-bytes field.filling (omega arith)
+        & number-bytes field.delivered (omega arith)
+        & number-bytes field.lost (omega arith)
+        & number-bytes field.waiting (omega arith)
+        & number-bytes field.outofstep (omega arith)
+        & number-bytes field.changed (omega arith)
+        & number-bytes field.bits (omega arith)
+        & refl
+        & tt
 
     -- what is read and written again is as it was
     pub written-read : bytesOf (stateOf bytes) ≡ bytes
@@ -129,43 +119,36 @@ one-receiver bytes s t h k = sym (h .read) ∙ k .read
 
 -- its fields as they are put
 pub fields-put : (s : Receiver) (place : ℕ) (counts bytes : List ℕ) → place ≡ placeByte (s .sync .place) → counts ≡ countBytes (s .counts) ++ []
-    → bytes ≡ s .deinterleaver .branches .cells ++ s .deinterleaver .branches .positions ++ (place ∷ s .sync .missed ∷ []) ++ counts → bytes ≡ bytesOf s
+    → bytes ≡ s .deinterleaver .branches .cells ++ s .deinterleaver .branches .positions ++ (place ∷ s .sync .missed ∷ []) ++ counts ++ s .marks → bytes ≡ bytesOf s
 unfolding bytesOf countBytes
 fields-put s place counts bytes p c e =
     let b = s .deinterleaver .branches in
     let sync : List ℕ = placeByte (s .sync .place) ∷ s .sync .missed ∷ [] in
+    let tail : List ℕ = countBytes (s .counts) ++ s .marks in
     e
-    ∙ ap₂ (λ (x : ℕ) (l : List ℕ). b .cells ++ b .positions ++ (x ∷ s .sync .missed ∷ []) ++ l) p (c ∙ append-nil (countBytes (s .counts)))
-    ∙ append-assoc (b .cells ++ b .positions) sync (countBytes (s .counts))
-    ∙ append-assoc (b .cells) (b .positions) (sync ++ countBytes (s .counts))
+    ∙ ap₂ (λ (x : ℕ) (l : List ℕ). b .cells ++ b .positions ++ (x ∷ s .sync .missed ∷ []) ++ l ++ s .marks) p (c ∙ append-nil (countBytes (s .counts)))
+    ∙ append-assoc (b .cells ++ b .positions ++ sync) (countBytes (s .counts)) (s .marks)
+    ∙ append-assoc (b .cells ++ b .positions) sync tail
+    ∙ append-assoc (b .cells) (b .positions) (sync ++ tail)
+    ∙ ap (λ (l : List ℕ). b .cells ++ (b .positions ++ (sync ++ (countBytes (s .counts) ++ l)))) (sym (append-nil (s .marks)))
 
 module _ (s : Receiver) (g : Sound s) where
   sized : All (λ f. length (f .held s) ≡ f .size) layout
-  sized = (
-    g .branches .cells,
-    (
-      g .branches .positions,
-      (
-        refl,
-        (
-          refl,
-          (
-            length-to 8 (s .counts .taken),
-            (
-              length-to 8 (s .counts .filling),
-              (
-                length-to 8 (s .counts .delivered),
-                (
-                  length-to 8 (s .counts .lost),
-                  (length-to 8 (s .counts .waiting), (length-to 8 (s .counts .outofstep), (length-to 8 (s .counts .changed), (length-to 8 (s .counts .bits), tt)))),
-                ),
-              ),
-            ),
-          ),
-        ),
-      ),
-    ),
-  )
+  sized =
+      g .branches .cells
+      & g .branches .positions
+      & refl
+      & refl
+      & length-to 8 (s .counts .taken)
+      & length-to 8 (s .counts .filling)
+      & length-to 8 (s .counts .delivered)
+      & length-to 8 (s .counts .lost)
+      & length-to 8 (s .counts .waiting)
+      & length-to 8 (s .counts .outofstep)
+      & length-to 8 (s .counts .changed)
+      & length-to 8 (s .counts .bits)
+      & g .marks
+      & tt
 
   found : All (λ f. part f (bytesOf s) ≡ f .held s) layout
   unfolding bytesOf
@@ -197,6 +180,7 @@ module _ (s : Receiver) (g : Sound s) where
       let bits-same = again (n .bits) (omega arith) field.bits (p .1 .1 .1 .1 .1 .1 .1 .1 .1 .1 .1 .0) in
       λ i. record {
         deinterleaver = record { branches = record { cells = p .0 i; positions = p .1 .0 i } };
+        marks = p .1 .1 .1 .1 .1 .1 .1 .1 .1 .1 .1 .1 .0 i;
         sync = record { place = place-same i; missed = missed-same i };
         counts = record {
           taken = taken-same i;

@@ -5,15 +5,15 @@ use mathlib.Core.Bool.{Bool, true, false}
 use mathlib.Core.List.{List}
 use mathlib.Core.Logic.{_⊎_, inl, inr}
 use Prim.Native.Nat.{ℕ, _<_}
-use native.Mathlib.Decide.{ℕ-discrete}
 use native.Mathlib.Omega.{arith}
-use borrow.Author.Tests.{eq-eqb, ne-eqb, ltb-true}
-use lib.Dec.{eqb, ltb}
+use borrow.Author.Tests.{ne-eqb}
+use lib.Dec.{eqb}
 use lib.ListN.{length}
 use Rattle.common.specs.Choice.{pick}
 use Rattle.common.specs.Lists.{ByteEntries}
 use Rattle.common.proofs.Choice.{false-true}
 use Rattle.answer.specs.Number.{numberOf}
+use Rattle.reed_solomon.specs.Marks.{noMarks}
 use Rattle.group_sync.specs.declared.Outcome.{Outcome}
 use Rattle.group_sync.specs.declared.Outcome.the-variants.{Filling, Delivered, Lost, Waiting, OutOfStep}
 use Rattle.reception_counts.specs.Counts.{outcomeNumber}
@@ -37,49 +37,38 @@ sound-read bytes n e =
     let r = state-range (stateOf bytes) e in
     record {
       branches = record { cells = part-length bytes n field.cells (omega arith); positions = part-length bytes n field.positions (omega arith); range = r .branches };
+      marks = part-length bytes n field.marks (omega arith);
+      small = r .marks;
       sync = r .sync;
       counts = counts-range (stateOf bytes .counts) (r .counts);
     }
 
 -- ---- refusals
 
-refused-number : (number : ℕ) → refuses number ≡ true → (0 < number) × (number < 8)
-refused-number number h = by (ℕ-discrete number 0)
-  where
-    by : Dec (number ≡ 0) → (0 < number) × (number < 8)
-    by (yes e) = false-true (sym (refused-zero e) ∙ h)
-      where
-        refused-zero : number ≡ 0 → refuses number ≡ false
-        refused-zero e = simp (eq-eqb number 0 e)
-    by (no e) = (omega arith, ltb-true number 8 (sym (refused-below e) ∙ h))
-      where
-        refused-below : (number ≡ 0 → ⊥) → refuses number ≡ ltb number 8
-        refused-below e = simp (ne-eqb number 0 e)
-
--- a block taken is answered 0 or 8 to 11
-outcome-not : (o : Outcome) (r : ℕ) → r ≡ outcomeNumber o → 0 < r → r < 8 → ⊥
-outcome-not Filling r e h k = omega arith
-outcome-not (Delivered place) r e h k = omega arith
-outcome-not Lost r e h k = omega arith
-outcome-not Waiting r e h k = omega arith
-outcome-not OutOfStep r e h k = omega arith
+-- a block that comes to something is taken
+outcome-taken : (o : Outcome) → refuses (outcomeNumber o) ≡ false
+outcome-taken Filling = refl
+outcome-taken (Delivered place) = refl
+outcome-taken Lost = refl
+outcome-taken Waiting = refl
+outcome-taken OutOfStep = refl
 
 -- a refusal of the receiver leaves it and the room as they were
 pub refused-same : (s : Receiver) (block room : List ℕ) (received : Received) (exit : List ℕ) → Receives s block room received exit
     → refuses (numberOf (received .answer)) ≡ true → (received .receiver ≡ s) × (exit ≡ room)
-refused-same s block room received exit g h = by (ready-or-refused s block room)
+refused-same s block room received exit g h = by (ready-or-refused s block noMarks room)
   where
     unpicked : (n : ℕ) (a b : List ℕ) → 0 < n → pick (eqb n 0) a b ≡ b
     unpicked n a b h = simp (ne-eqb n 0 (λ e. omega arith))
 
-    by : Ready s block room ⊎ Refused s block room → (received .receiver ≡ s) × (exit ≡ room)
+    by : Ready s block noMarks room ⊎ Refused s block noMarks room → (received .receiver ≡ s) × (exit ≡ room)
     by (inl y) =
-        let few = refused-number (numberOf (received .answer)) h in
-        absurd (outcome-not (stepOf s (g .left) (g .decoded) .outcome) (numberOf (received .answer))
-        (g .number ∙ ready-number s block room y (g .left) (g .decoded)) (few .0) (few .1))
+        let o = stepOf s (g .left) (g .decoded) .outcome in
+        let e = g .number ∙ ready-number s block noMarks room y (g .left) (g .decoded) in
+        false-true (sym (outcome-taken o) ∙ sym (ap refuses e) ∙ h)
     by (inr f) = (
-      g .state ∙ refused-state s block room (g .left) (g .decoded) f,
-      g .written ∙ unpicked (refusal s block room) (roomAfter (stepOf s (g .left) (g .decoded) .outcome) (g .left) room) room (f .some),
+      g .state ∙ refused-state s block noMarks room (g .left) (g .decoded) f,
+      g .written ∙ unpicked (refusal s block noMarks room) (roomAfter (stepOf s (g .left) (g .decoded) .outcome) (g .left) room) room (f .some),
     )
 
 -- ---- the call
@@ -117,6 +106,6 @@ module _ (state block room : List ℕ) (n : length state ≡ stateLength) (e : B
       by : (t : Bool) → inRange (stateOf state) ≡ t → BridgeTakes state block room r (bytesOf (received .receiver)) exit
       by false f = absurd (false-true (sym h ∙ ap refuses (five f)))
       by true t =
-          let c : Call = record { block = block; room = room; left = g .left; decoded = g .decoded } in
+          let c : Call = record { block = block; marks = noMarks; room = room; left = g .left; decoded = g .decoded } in
           let sound = subst Sound (sym (g .state)) (sound-call (stateOf state) c (sound-read state n t) (g .decodes)) in
           as-receiver (stateOf state) (stands t) received g q refl (stands-written (received .receiver) sound)

@@ -1,7 +1,7 @@
 -- What the functions for the bridge give: document 02, P14. Of a block this is said by the promise of the receiver's own call.
 -- Assumes nothing.
 use mathlib.Core.Path.{_≡_}
-use mathlib.Core.Bool.{Bool, false}
+use mathlib.Core.Bool.{Bool}
 use mathlib.Core.List.{List, _++_}
 use Prim.Native.Nat.{ℕ}
 use lib.Dec.{eqb, ltb}
@@ -10,6 +10,7 @@ use Rattle.common.specs.Choice.{pick}
 use Rattle.answer.specs.Number.{numberOf}
 use Rattle.count_bytes.specs.Bytes.{toBytes, numbersOf}
 use Rattle.receiver.specs.Receive.{freshReceiver, inRange, Receives}
+use Rattle.receiver.specs.Run.{takenBy}
 use Rattle.receiver.specs.declared.Receiver.{Receiver}
 use Rattle.receiver.specs.declared.Received.{Received}
 use Rattle.bridge.specs.State.{stateLength, stateOf, bytesOf, StandsFor}
@@ -24,9 +25,9 @@ freshBytes state = pick (eqb (length state) stateLength) (bytesOf freshReceiver)
 
 -- ---- a block
 
--- the answers of the receiver that are refusals
+-- the answers of the receiver with which no block is taken
 abbrev pub refuses : ℕ → Bool
-refuses number = pick (eqb number 0) false (ltb number 8)
+refuses number = eqb (takenBy number) 0
 
 -- Bytes that stand for a receiver: its own call, and the bytes after it are those of the receiver after it, for which they stand.
 -- Any other bytes are refused, by their length or as out of range, and all is as it was.

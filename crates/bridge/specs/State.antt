@@ -1,4 +1,4 @@
--- The state of a receiver as 1,200 bytes. The layout is a table of fields; reading and writing both go by it.
+-- The state of a receiver as 2,322 bytes. The layout is a table of fields; reading and writing both go by it.
 -- Assumes nothing.
 use mathlib.Core.Path.{_≡_}
 use mathlib.Core.Bool.{true}
@@ -72,7 +72,7 @@ waiting = countField 1168 (λ n. n .waiting)
 abbrev pub outofstep : Field
 outofstep = countField 1176 (λ n. n .outofstep)
 
--- at most 8 for each block that is delivered, waiting or out of step
+-- at most 16 for each block that is delivered, waiting or out of step
 abbrev pub changed : Field
 changed = countField 1184 (λ n. n .changed)
 
@@ -80,15 +80,20 @@ changed = countField 1184 (λ n. n .changed)
 abbrev pub bits : Field
 bits = countField 1192 (λ n. n .bits)
 
+-- the marks of the bytes in the delay branches, cell by cell: 0 or 1
+abbrev pub marks : Field
+marks = field 1200 1122 (λ s. s .marks)
+
 -- All fields in their order. Each begins where the one before it ends (proofs/Fields.antt), and the receiver's own range test,
 -- `inRange`, asks the ranges: no bit is spare.
 abbrev pub layout : List Field
 layout =
     cells ∷ positions ∷ place ∷ missed
-    ∷ taken ∷ filling ∷ delivered ∷ lost ∷ waiting ∷ outofstep ∷ changed ∷ bits ∷ []
+    ∷ taken ∷ filling ∷ delivered ∷ lost ∷ waiting ∷ outofstep ∷ changed ∷ bits
+    ∷ marks ∷ []
 
 abbrev pub stateLength : ℕ
-stateLength = 1200
+stateLength = 2322
 
 -- ---- reading and writing
 
@@ -115,6 +120,7 @@ countsIn bytes = record {
 unfoldable pub stateOf : List ℕ → Receiver
 stateOf bytes = record {
   deinterleaver = record { branches = record { cells = part cells bytes; positions = part positions bytes } };
+  marks = part marks bytes;
   sync = record { place = placeOf (numberIn place bytes); missed = numberIn missed bytes };
   counts = countsIn bytes;
 }

@@ -24,7 +24,9 @@ const MISSED: usize = 1135;
 
 pub const COUNTS: usize = 1136;
 
-pub const STATE_LENGTH: usize = 1200;
+const MARKS: usize = 1200;
+
+pub const STATE_LENGTH: usize = 2322;
 
 // 0 to 7 for a place that is known, 8 for one that is not. Greater ones are no places, and the receiver refuses them.
 fn place_of(byte: u8) -> Place
@@ -46,7 +48,7 @@ fn place_byte(place: Place) -> u8
     }
 }
 
-// A byte for each cell of the delay branches.
+// A byte for each cell of the delay branches: those in them, or their marks.
 fn cells_at(bytes: &[u8], at: usize) -> [u8; 1122]
     requires { ⌜ at + 1122 ≤ length (now bytes) ⌝ }
     ensures { λ r. ⌜ r ≡ take 1122 (drop at (now (bytes .entry))) ⌝ }
@@ -70,7 +72,7 @@ fn positions_at(bytes: &[u8], at: usize) -> [u8; 12]
 
 // The receiver that bytes stand for. Whether its numbers are in range is asked by the receiver.
 pub fn read_state(bytes: &[u8]) -> Receiver
-    requires { ⌜ length (now bytes) ≡ 1200 ⌝ }
+    requires { ⌜ length (now bytes) ≡ 2322 ⌝ }
     ensures { λ r. ⌜ r ≡ stateOf (now (bytes .entry)) ⌝ }
 {
     let cells = cells_at(bytes, CELLS);
@@ -81,29 +83,39 @@ pub fn read_state(bytes: &[u8]) -> Receiver
     let missed = bytes[MISSED];
     let sync = GroupSync { place, missed };
     let counts = counts_at(bytes, COUNTS);
+    let marks = cells_at(bytes, MARKS);
     Receiver {
         deinterleaver,
+        marks,
         sync,
         counts,
     }
 }
 
 // Writes the fields to their places. The place and what is missed are side by side, and so are the counts.
-fn put_fields(cells: &[u8], positions: &[u8], sync: &[u8], counts: &[u8], bytes: &mut [u8])
+fn put_fields(
+    cells: &[u8],
+    positions: &[u8],
+    sync: &[u8],
+    counts: &[u8],
+    marks: &[u8],
+    bytes: &mut [u8],
+)
     requires { ⌜
-        (length (now cells) ≡ 1122) × (length (now positions) ≡ 12) × (length (now sync) ≡ 2) × (length (now counts) ≡ 64)
-        × (length (now bytes) ≡ 1200) ⌝ }
-    ensures { λ _. ⌜ now (bytes .exit) ≡ now (cells .entry) ++ now (positions .entry) ++ now (sync .entry) ++ now (counts .entry) ⌝ }
+        (length (now cells) ≡ 1122) × (length (now positions) ≡ 12) × (length (now sync) ≡ 2) × (length (now counts) ≡ 64) × (length (now marks) ≡ 1122)
+        × (length (now bytes) ≡ 2322) ⌝ }
+    ensures { λ _. ⌜ now (bytes .exit) ≡ now (cells .entry) ++ now (positions .entry) ++ now (sync .entry) ++ now (counts .entry) ++ now (marks .entry) ⌝ }
 {
     common::put(cells, CELLS, bytes);
     common::put(positions, POSITIONS, bytes);
     common::put(sync, PLACE, bytes);
     common::put(counts, COUNTS, bytes);
+    common::put(marks, MARKS, bytes);
 }
 
 // The bytes that stand for a receiver.
 pub fn write_state(receiver: Receiver, bytes: &mut [u8])
-    requires { ⌜ length (now bytes) ≡ 1200 ⌝ }
+    requires { ⌜ length (now bytes) ≡ 2322 ⌝ }
     ensures { λ _. ⌜ now (bytes .exit) ≡ bytesOf receiver ⌝ }
 {
     let deinterleaver = receiver.deinterleaver;
@@ -114,7 +126,8 @@ pub fn write_state(receiver: Receiver, bytes: &mut [u8])
     let place = group_sync.place;
     let sync = [place_byte(place), group_sync.missed];
     let held = receiver.counts;
+    let marks = receiver.marks;
     let mut counts = [0u8; 64];
     put_counts(held, &mut counts);
-    put_fields(&cells, &positions, &sync, &counts, bytes);
+    put_fields(&cells, &positions, &sync, &counts, &marks, bytes);
 }

@@ -12,14 +12,20 @@ use layout::STATE_LENGTH;
 use layout::read_state;
 use layout::write_state;
 
-// Whether an answer of the receiver is a refusal: 1 to 7.
+// Whether an answer of the receiver is a refusal: other than 0 and 8 to 11.
 fn is_refusal(number: u8) -> bool
     ensures { λ r. ⌜ r ≡ refuses number ⌝ }
 {
     if number == 0 {
         return false;
     }
-    number < 8
+    if number < 8 {
+        return true;
+    }
+    if number < 12 {
+        return false;
+    }
+    true
 }
 
 // Makes the state of a fresh receiver: the number of the answer.

@@ -26,18 +26,22 @@ shared-slice-read-missed c = search needs
 counts-at-requires : tie.Need-counts-at-requires
 counts-at-requires c κs = search needs
 
+cells-at-requires-2 : tie.Need-cells-at-requires-2
+cells-at-requires-2 c κs = search needs
+
 returns : tie.Need-returns
 unfolding stateOf
 returns c =
-    let s = c .before .before .before .before .before .before .before in
+    let s = c .before .before .before .before .before .before .before .before in
     let bytes = s .args .bytes .now in
     let n = s .pre in
-    let place = c .before .before .place-of .ensures ∙ ap placeOf (byte-in bytes 1134 (omega arith)) in
+    let place = c .before .before .before .place-of .ensures ∙ ap placeOf (byte-in bytes 1134 (omega arith)) in
     let missed = byte-in bytes 1135 (omega arith) in
     λ i. record {
-      deinterleaver = record { branches = record { cells = c .before .before .before .before .before .cells-at .ensures i; positions = c .before .before .before .before .positions-at .ensures i } };
+      deinterleaver = record { branches = record { cells = c .before .before .before .before .before .before .cells-at .ensures i; positions = c .before .before .before .before .before .positions-at .ensures i } };
+      marks = c .cells-at2 .ensures i;
       sync = record { place = place i; missed = missed i };
-      counts = c .counts-at .ensures i;
+      counts = c .before .counts-at .ensures i;
     }
 
 pub read-state-spec : {M : Type 1} → statement M
@@ -50,4 +54,5 @@ read-state-spec =
     place-of-requires
     shared-slice-read-missed
     counts-at-requires
+    cells-at-requires-2
     returns)

@@ -26,6 +26,9 @@ slice-aggregate-put-fields-3 c = search needs
 slice-aggregate-put-fields-4 : tie.Need-slice-aggregate-put-fields-4
 slice-aggregate-put-fields-4 c = search needs
 
+slice-aggregate-put-fields-5 : tie.Need-slice-aggregate-put-fields-5
+slice-aggregate-put-fields-5 c = search needs
+
 put-fields-requires : tie.Need-put-fields-requires
 put-fields-requires c κs = search needs
 
@@ -34,11 +37,11 @@ same-length c = search needs
 
 returns : tie.Need-returns
 returns c =
-    let receiver = c .before .before .before .before .before .before .before .before .before .before .before .before .before .before .before .before .before .before .before .args .receiver in
-    let place-byte = c .before .before .before .before .before .before .before .before .before .before .before .before .place-byte in
-    let put-counts = c .before .before .before .before .before .before .before .before .before .put-counts in
+    let receiver = c .before .before .before .before .before .before .before .before .before .before .before .before .before .before .before .before .before .before .before .before .before .args .receiver in
+    let place-byte = c .before .before .before .before .before .before .before .before .before .before .before .before .before .before .place-byte in
+    let put-counts = c .before .before .before .before .before .before .before .before .before .before .put-counts in
     let put-fields = c .before .before .put-fields in
-    fields-put receiver (place-byte .result) (put-counts .last .1 .0) (put-fields .last .1 .1 .1 .1 .0) (place-byte .ensures) (put-counts .ensures) (put-fields .ensures)
+    fields-put receiver (place-byte .result) (put-counts .last .1 .0) (put-fields .last .1 .1 .1 .1 .1 .0) (place-byte .ensures) (put-counts .ensures) (put-fields .ensures)
 
 pub write-state-spec : {M : Type 1} → statement M
 write-state-spec =
@@ -51,6 +54,7 @@ write-state-spec =
     slice-aggregate-put-fields-2
     slice-aggregate-put-fields-3
     slice-aggregate-put-fields-4
+    slice-aggregate-put-fields-5
     put-fields-requires
     same-length
     returns)
