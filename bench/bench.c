@@ -32,6 +32,11 @@ enum { POOL = 1024, RUN = 256, FACTORS = 256, REPEATS = 200 };
 static uint8_t packets[RUN * 188], data[POOL][188], coded[POOL][204];
 static uint8_t harmed[5][POOL][204]; /* 0, 1, 4, 8 errors, and no codeword */
 static const int errors_of[5] = {0, 1, 4, 8, 12};
+static uint8_t doubtful[3][POOL][204], marks[3][POOL][204]; /* with marks: f and e */
+static const int marks_of[3][2] = {{8, 0}, {8, 4}, {16, 0}};
+#ifdef HAVE_LIBFEC
+static int places[3][POOL][16]; /* libfec counts the 51 bytes that are not sent */
+#endif
 static uint8_t factors[FACTORS];
 static uint8_t coded_run[RUN * 204], clean_stream[RUN * 204], harmed_stream[RUN * 204];
 static uint8_t room[RUN * 1632], block[204], answer[2], counts[64], result[6];
@@ -78,6 +83,24 @@ static void prepare(void)
             harm(harmed[e][p], coded[p], errors_of[e]);
         }
     }
+    for (int m = 0; m < 3; m++)
+        for (int p = 0; p < POOL; p++) {
+            uint8_t *b = doubtful[m][p];
+            memcpy(b, coded[p], 204);
+            harm(b, coded[p], marks_of[m][0]);
+            for (int n = 0, f = 0; n < 204; n++)
+                if ((marks[m][p][n] = b[n] != coded[p][n])) {
+#ifdef HAVE_LIBFEC
+                    places[m][p][f] = 51 + n;
+#endif
+                    f++;
+                }
+            for (int e = marks_of[m][1]; e > 0;) {
+                int n = random_byte() % 204;
+                if (b[n] == coded[p][n])
+                    b[n] ^= random_nonzero(), e--;
+            }
+        }
     for (int p = 0; p < RUN; p++) {
         uint8_t randomized[188];
         PLAIN(randomize)((uint8_t)(p % 8), packets + 188 * p, 188, randomized, 188);
@@ -156,6 +179,21 @@ static void decode(const struct kernel *k, int side, int n)
     sink += block[0];
 }
 
+static void decode_marked(const struct kernel *k, int side, int n)
+{
+    memcpy(block, doubtful[k->argument][n % POOL], 204);
+    if (side == LIBRARY)
+        sink += dvbs_rs_decode_marked(block, 204, marks[k->argument][n % POOL], 204, answer, sizeof answer);
+#ifdef HAVE_LIBFEC
+    else {
+        int eras[16];
+        memcpy(eras, places[k->argument][n % POOL], sizeof eras);
+        sink += (uint64_t)decode_rs_char(fec, block, eras, marks_of[k->argument][0]);
+    }
+#endif
+    sink += block[0];
+}
+
 static void randomize(const struct kernel *k, int side, int n)
 {
     const uint8_t *p = packets + 188 * (n % RUN);
@@ -230,7 +268,7 @@ static void bridge(const struct kernel *k, int side, int n)
     sink += written;
 }
 
-enum { TWO = 3, THREE = 7 };
+enum { TWO = 3, BESIDE_LIBFEC = 5, THREE = 7 };
 static const struct kernel kernels[] = {
     {"scale", "field product, 16 lanes", FACTORS, TWO, 0, scale},
     {"rs_encode", "RS encode", 1, THREE, 0, encode},
@@ -239,6 +277,9 @@ static const struct kernel kernels[] = {
     {"rs_decode_4", "RS decode, 4 errors", 1, THREE, 2, decode},
     {"rs_decode_8", "RS decode, 8 errors", 1, THREE, 3, decode},
     {"rs_decode_lost", "RS decode, uncorrectable", 1, THREE, 4, decode},
+    {"rs_decode_f8", "RS decode, 8 marks", 1, BESIDE_LIBFEC, 0, decode_marked},
+    {"rs_decode_f8_e4", "RS decode, 8 and 4", 1, BESIDE_LIBFEC, 1, decode_marked},
+    {"rs_decode_f16", "RS decode, 16 marks", 1, BESIDE_LIBFEC, 2, decode_marked},
     {"randomize", "randomizer", 1, TWO, 0, randomize},
     {"interleave", "interleaver", RUN, TWO, 0, interleave},
     {"inner_code_1_2", "inner coder, 1/2", RUN, TWO, 0, inner_code},

@@ -17,14 +17,15 @@
  *      a number of blocks that is not the recording's
  *   6  a rate other than 0 to 4
  *   7  the receiver has taken 4,294,967,295 blocks
- *   8  no codeword within eight bytes
+ *   8  no codeword within eight bytes; with marks, none with 2 e + f at most 16
  *  12  symbols that do not make whole puncturing patterns
  *  13  a run of more than 1,632 bits
  *  14  a symbol above 3
  *  15  done, with a null packet put in
  *  16  the recording has no such block
+ *  20  not a mark for each byte, or a mark above 1
  * Where several are due, the first in the order 6, 5, 16, 1 or 3, 2, 12, 13, 14,
- * 4, 7 is given. */
+ * 20, 4, 7 is given. */
 #ifndef DVBS_H
 #define DVBS_H
 
@@ -56,6 +57,17 @@ uint8_t dvbs_rs_encode(const uint8_t *data, size_t data_len,
  * least two bytes for the count. */
 uint8_t dvbs_rs_decode(uint8_t *block, size_t block_len,
                        uint8_t *count, size_t count_len);
+
+/* The same with a mark for each of the 204 bytes, 1 for a doubtful one and 0 for
+ * any other. Where f bytes are marked, the codeword that differs from the block
+ * in e bytes that are not marked, 2 e + f at most 16, is left, if there is one:
+ * there is at most one. Marks that turn out wrong cost as much as right ones, and
+ * more than sixteen are always 8, also for a block that is clean: mark fewer, or
+ * none. The counts are those of bytes and bits that differ, marked or not. With
+ * no mark this is dvbs_rs_decode. 3, then 20, then 4, then 8 or 0. */
+uint8_t dvbs_rs_decode_marked(uint8_t *block, size_t block_len,
+                              const uint8_t *marks, size_t marks_len,
+                              uint8_t *count, size_t count_len);
 
 /* What a fresh sender sends for the packets, which lie one after the other;
  * rates 0 to 4 are 1/2, 2/3, 3/4, 5/6, 7/8. Returns how many symbols were
@@ -97,6 +109,17 @@ uint64_t dvbs_receive_run(const uint8_t *blocks, size_t blocks_len,
                           uint8_t *room, size_t room_len,
                           uint8_t *counts, size_t counts_len,
                           uint8_t *answer, size_t answer_len);
+
+/* The same with a mark for each byte of the recording, 1 for a doubtful one and 0
+ * for any other: marks_len is blocks_len. They are delayed as their bytes are,
+ * and each block is decoded with its own, as by dvbs_rs_decode_marked: a block
+ * with more than sixteen of them is lost, also where it is clean. Marks that are
+ * not such: 20, before 4. */
+uint64_t dvbs_receive_run_marked(const uint8_t *blocks, size_t blocks_len,
+                                 const uint8_t *marks, size_t marks_len,
+                                 uint8_t *room, size_t room_len,
+                                 uint8_t *counts, size_t counts_len,
+                                 uint8_t *answer, size_t answer_len);
 
 /* Block p of a recording, repaired, p from 0: the 204 bytes, the counts and the
  * answer 8 that a fresh receiver's repair has at its call p + 12. A view of the

@@ -17,7 +17,7 @@ use Rattle.common.proofs.Lists.{length-listOf}
 use Rattle.reed_solomon.specs.Code.{distance, differ}
 use Rattle.reed_solomon.specs.Encode.{encoded}
 use Rattle.reed_solomon.proofs.Distance.{differ-append}
-use Rattle.reed_solomon.proofs.Laws.{few-changes}
+use Rattle.reed_solomon.proofs.Laws.{within-eight}
 use Rattle.randomizer.specs.Stream.{Packet, randomizedStream}
 use Rattle.delay_branches.specs.Block.{fresh}
 use Rattle.delay_branches.specs.declared.Side.the-variants.{Receiving}
@@ -28,14 +28,15 @@ use Rattle.interleaver.proofs.Whole.{length-run}
 use Rattle.interleaver.proofs.Blocks.{length-flatten}
 use Rattle.group_sync.specs.Stream.{beforeGroup}
 use Rattle.reception_counts.specs.declared.Counts.{Counts}
-use Rattle.receiver.specs.Receive.{freshReceiver, delayedBlock}
-use Rattle.receiver.specs.Run.{Call, answerOf, after, Calls, afterCalls, history, acceptedBy, overAccepted, blocksOf, answers, Roomy}
+use Rattle.receiver.specs.Receive.{freshReceiver, Unmarked, delayedBlock}
+use Rattle.receiver.specs.Run.{Call, answerOf, after, Calls, afterCalls, history, acceptedBy, overAccepted, blocksOf, answers, Plain, Roomy}
 use Rattle.receiver.specs.Begun.{lefts, BegunAt}
 use Rattle.receiver.specs.Kept.{Kept}
 use Rattle.receiver.specs.declared.Receiver.{Receiver}
 use Rattle.receiver.proofs.Reached.{sound-fresh}
 use Rattle.receiver.proofs.Histories.{history-counts}
-use Rattle.receiver.proofs.Outcomes.{Unrefused, next-unrefused, branches-after}
+use Rattle.receiver.proofs.Outcomes.{Unrefused, plain-marked, next-unrefused, branches-after, unmarked-after}
+use Rattle.receiver.proofs.Decoding.{plain-decodes}
 use Rattle.receiver.proofs.Reception.{blocks-count, came-gathered, coded-size, coded-gathered, coded-nears, near-received}
 use Rattle.receiver.proofs.Promised.{kept-calls}
 use Rattle.burst_tolerance.specs.Places.{span, count}
@@ -146,26 +147,26 @@ lefts-drop zero cs = refl
 lefts-drop (suc k) [] = refl
 lefts-drop (suc k) (c ∷ cs) = lefts-drop k cs
 
--- calls that no test refuses: whatever decoding leaves is within eight bytes
-left-near : (cs : List Call) (s : Receiver) → Unrefused s cs → (i : ℕ) → i < length cs
+-- calls that no test refuses and in which no mark comes: whatever decoding leaves is within eight bytes
+left-near : (cs : List Call) (s : Receiver) → Unrefused s cs → Unmarked s → All Plain cs → (i : ℕ) → i < length cs
     → differ (getD (run Receiving (s .deinterleaver .branches) (blocksOf cs)) i []) (getD (lefts cs) i []) ≤ 8
 unfolding run
-left-near [] s u i h = absurd (not-suc-le-zero h)
-left-near (c ∷ cs) s u zero h = few-changes (delayedBlock s (c .block)) (c .left) (c .decoded) (u .decodes .0) .few
-left-near (c ∷ cs) s u (suc i) h =
+left-near [] s u z pl i h = absurd (not-suc-le-zero h)
+left-near (c ∷ cs) s u z pl zero h = within-eight (delayedBlock s (c .block)) (c .left) (c .decoded) (plain-decodes s c cs u z (pl .0))
+left-near (c ∷ cs) s u z pl (suc i) h =
     subst (λ (b : Branches). differ (getD (run Receiving b (blocksOf cs)) i []) (getD (lefts cs) i []) ≤ 8) (branches-after s c cs u)
-    (left-near cs (after s c) (next-unrefused s c cs u) i (omega arith))
+    (left-near cs (after s c) (next-unrefused s c cs u) (unmarked-after s c cs u z (pl .0)) (pl .1) i (omega arith))
 
 -- ---- the stream
 
 module _ (packets : List (List ℕ)) (ws : All Packet packets) (m : ℕ) (cs : List Call) (h : m + length cs ≤ length packets)
-    (l : length cs ≤ 4294967295) (bs : All (Length 204) (blocksOf cs)) (rs : All Roomy cs) (ds : Calls freshReceiver cs) where
+    (l : length cs ≤ 4294967295) (bs : All (Length 204) (blocksOf cs)) (pl : All Plain cs) (rs : All Roomy cs) (ds : Calls freshReceiver cs) where
   abbrev coded : List (List ℕ)
   coded = map encoded (randomizedStream packets)
 
   calls : Unrefused freshReceiver cs
   unfolding freshReceiver
-  calls = record { sound = sound-fresh; most = omega arith; sizes = bs; rooms = rs; decodes = ds }
+  calls = record { sound = sound-fresh; most = omega arith; sizes = bs; marked = plain-marked cs pl; rooms = rs; decodes = ds }
 
   -- the block that call i + 12 repairs, and the one sent
   wrong-is : (i : ℕ) → i + 11 < length cs
@@ -220,7 +221,7 @@ module _ (packets : List (List ℕ)) (ws : All Packet packets) (m : ℕ) (cs : L
           (b (204 * i) span (omega arith) (omega (arith, length-flatten 204 (blocksOf cs) bs, blocks-count cs))))
 
       begun : BegunAt m packets cs
-      begun = near-received packets ws m cs calls (coded-nears packets ws m cs h each)
+      begun = near-received packets ws m cs calls pl (coded-nears packets ws m cs h each)
 
   -- a block with more wrong bytes is not repaired to what was sent
   pub never-repaired : (p : ℕ) → p + 11 < length cs → 8 < wrongIn (sentBytes packets m) (receivedBytes cs) p
@@ -232,7 +233,7 @@ module _ (packets : List (List ℕ)) (ws : All Packet packets) (m : ℕ) (cs : L
       getD-drop 11 (run Receiving fresh (blocksOf cs)) p [] ∙ ap (λ (j : ℕ). getD (run Receiving fresh (blocksOf cs)) j []) i in
       let d : differ (getD (run Receiving fresh (blocksOf cs)) (p + 11) []) (getD (lefts cs) (p + 11) []) ≡ wrongIn (sentBytes packets m) (receivedBytes cs) p =
       ap₂ differ (sym a) e ∙ wrong-is p k in
-      omega (arith, left-near cs freshReceiver calls (p + 11) k, d, w)
+      omega (arith, left-near cs freshReceiver calls refl pl (p + 11) k, d, w)
 
 -- ---- of the promise of `receive`
 
@@ -244,7 +245,7 @@ burst-promised packets ws m blocks h l bs b numbers given last k =
     let c = kept-calls k in
     let n : length (c .calls) ≡ length blocks = sym (blocks-count (c .calls)) ∙ ap length (c .lent) in
     let t =
-    burst-received packets ws m (c .calls) (omega arith) (omega arith) (subst (All (Length 204)) (sym (c .lent)) bs) (c .roomy) (c .decodes)
+    burst-received packets ws m (c .calls) (omega arith) (omega arith) (subst (All (Length 204)) (sym (c .lent)) bs) (c .plain) (c .roomy) (c .decodes)
     (subst (λ (x : List (List ℕ)). Bursts (sentBytes packets m) (flatten x)) (sym (c .lent)) b) in
     record {
       answered =

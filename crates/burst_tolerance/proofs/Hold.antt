@@ -15,7 +15,7 @@ use Rattle.interleaver.specs.Stream.{interleaved}
 use Rattle.interleaver.proofs.Streams.{length-delayed, delayed-lengths}
 use Rattle.interleaver.proofs.Blocks.{length-flatten}
 use Rattle.receiver.specs.Receive.{freshReceiver}
-use Rattle.receiver.specs.Run.{Call, Calls, blocksOf, Roomy}
+use Rattle.receiver.specs.Run.{Call, Calls, blocksOf, Plain, Roomy}
 use Rattle.receiver.specs.Begun.{lefts}
 use Rattle.receiver.proofs.Reception.{blocks-count, coded-size}
 use Rattle.burst_tolerance.specs.Burst.{sentBytes, receivedBytes, wrongIn}
@@ -47,10 +47,10 @@ nine : wrongIn (sentBytes packets 0) (harmed 4080 97 (sentBytes packets 0)) 20 �
 nine = wrong-inside 4080 97 (sentBytes packets 0) 20 (omega (arith, sent-length)) ∙ refl
 
 -- and so it is not repaired to what was sent
-spoilt : (cs : List Call) → All (Length 204) (blocksOf cs) → receivedBytes cs ≡ harmed 4080 97 (sentBytes packets 0) → All Roomy cs
+spoilt : (cs : List Call) → All (Length 204) (blocksOf cs) → receivedBytes cs ≡ harmed 4080 97 (sentBytes packets 0) → All Plain cs → All Roomy cs
     → Calls freshReceiver cs → getD (lefts cs) (20 + 11) [] ≡ getD (map encoded (randomizedStream packets)) 20 [] → ⊥
-spoilt cs bs e rs ds =
-    never-repaired packets sendable 0 cs (omega (arith, many)) (omega (arith, many)) bs rs ds 20 (omega (arith, many))
+spoilt cs bs e pl rs ds =
+    never-repaired packets sendable 0 cs (omega (arith, many)) (omega (arith, many)) bs pl rs ds 20 (omega (arith, many))
     (omega (arith, ap (λ (x : List ℕ). wrongIn (sentBytes packets 0) x 20) e ∙ nine))
   where
     many : length cs ≡ 40

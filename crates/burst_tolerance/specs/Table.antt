@@ -10,7 +10,7 @@ use Rattle.common.specs.Lists.{All, Length, listOf}
 use Rattle.reed_solomon.specs.Encode.{encoded}
 use Rattle.randomizer.specs.Stream.{randomizedStream}
 use Rattle.receiver.specs.Receive.{freshReceiver}
-use Rattle.receiver.specs.Run.{Call, Calls, blocksOf, Roomy}
+use Rattle.receiver.specs.Run.{Call, Calls, blocksOf, Plain, Roomy}
 use Rattle.receiver.specs.Begun.{lefts}
 use Rattle.burst_tolerance.specs.Places.{inside}
 use Rattle.burst_tolerance.specs.Burst.{sentBytes, receivedBytes, wrongIn}
@@ -36,7 +36,7 @@ pub data Case : Type 0 where
 abbrev pub Holds : Case → Type 0
 Holds (puts start many block wrong) = wrongIn (sentBytes packets 0) (harmed start many (sentBytes packets 0)) block ≡ wrong
 Holds (not-repaired start many block) =
-    (cs : List Call) → All (Length 204) (blocksOf cs) → receivedBytes cs ≡ harmed start many (sentBytes packets 0) → All Roomy cs
+    (cs : List Call) → All (Length 204) (blocksOf cs) → receivedBytes cs ≡ harmed start many (sentBytes packets 0) → All Plain cs → All Roomy cs
     → Calls freshReceiver cs → getD (lefts cs) (block + 11) [] ≡ getD (map encoded (randomizedStream packets)) block [] → ⊥
 
 abbrev pub cases : List Case

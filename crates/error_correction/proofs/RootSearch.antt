@@ -87,16 +87,16 @@ eval-one y =
 pub value-one : (u : List ℕ) (i : ℕ) → i < 204 → getD (valuesOf u one) i 0 ≡ masked (getD u i 0) 1
 value-one u i h = value-at u one i h ∙ ap (λ (v : Fin 256). masked (getD u i 0) (v .0)) (eval-one (point i)) ∙ ap (masked (getD u i 0)) (byte-val 1 (lit< tt))
 
-module _ (u q x m v w : List ℕ) (i d : ℕ) (h : i ≤ 204) (p : PowersFrom i x) (g : ValuesAt (take (d + 1) q) x v) (z : EndsAt q d)
-    (y : m ≡ take 16 (drop i u)) (k : Masked m v w) (lw : length w ≡ 16) where
+module _ (u q x v w : List ℕ) (i d : ℕ) (h : i ≤ 204) (p : PowersFrom i x) (g : ValuesAt (take (d + 1) q) x v) (z : EndsAt q d)
+    (k : Masked (take 16 (drop i u)) v w) (lw : length w ≡ 16) where
   lane-value : (j : ℕ) → j < 16 → getD v j 0 ≡ eval (ops bytes) (elements q) (point (i + j)) .0
   lane-value j l =
       sym (byte-val (getD v j 0) (g .small j l))
       ∙ ap (λ (u : Fin 256). u .0)
       (g .each j l ∙ sym (eval-cut (d + 1) q (byte (getD x j 0)) (λ k b. z .zeros k (omega arith))) ∙ ap (eval (ops bytes) (elements q)) (powers-at i x p j l))
 
-  lane-mark : (j : ℕ) → j < 16 → getD m j 0 ≡ getD u (i + j) 0
-  lane-mark j l = ap (λ (r : List ℕ). getD r j 0) y ∙ getD-take 16 (drop i u) j 0 l ∙ getD-drop i u j 0
+  lane-mark : (j : ℕ) → j < 16 → getD (take 16 (drop i u)) j 0 ≡ getD u (i + j) 0
+  lane-mark j l = getD-take 16 (drop i u) j 0 l ∙ getD-drop i u j 0
 
   -- the lanes below degree 204 are the next of the values
   pub lanes-next : take (204 - i) w ≡ take 16 (drop i (valuesOf u q))

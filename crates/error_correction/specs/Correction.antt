@@ -28,9 +28,10 @@ pub record EndsAt (q : List ℕ) (d : ℕ) : Type 0 where
 pub record Unmarked (marks : List ℕ) : Type 0 where
   pub each : (i : ℕ) → getD marks i 0 ≡ 0
 
--- the marks of a block by degree: the byte of degree d stands at place 203 - d
+-- the marks of a block by degree, and zeros after them: the byte of degree d stands at place 203 - d
 pub record ByDegree (marks u : List ℕ) : Type 0 where
   pub each : (d : ℕ) → d < 204 → getD u d 0 ≡ getD marks (203 - d) 0
+  pub after : (d : ℕ) → 204 ≤ d → getD u d 0 ≡ 0
 
 -- a value, and zero at an erasure, where the mark m is not zero
 abbrev pub masked : ℕ → ℕ → ℕ

@@ -3,7 +3,7 @@
 ghost use mathlib.Core.Path.{_≡_};
 ghost use mathlib.Core.List.{_∷_};
 ghost use Prim.Native.Nat.{ℕ, _+_, _-_, _<_, _≤_};
-ghost use lib.ListN.{length, getD, take};
+ghost use lib.ListN.{length, getD, take, drop};
 ghost use Rattle.error_correction.specs.Correction.{EndsAt, Unmarked, ByDegree, masked, Masked, zerosFrom, Listed, rootsOf, one, FoundRoots, monic, RootProduct, FractionsAt, ErrorValues, sumOf, Explained, correctedBy, changedIn};
 
 // The degrees of the erasures and those at which the locator vanishes, in order, their places, and how many they are. The places after them are zero.
@@ -51,6 +51,17 @@ fn masked_values(m: [u8; 16], v: [u8; 16]) -> [u8; 16]
         j += 1;
     }
     w
+}
+
+// Sixteen values from degree i on, and zero at the erasures; f says how many there are, and without any the values stay.
+fn with_erasures(u: &[u8], f: usize, i: usize, v: [u8; 16]) -> [u8; 16]
+    requires { ⌜ (i + 16 ≤ length (now u)) × (f ≡ 0 → Unmarked (now u)) ⌝ }
+    ensures { λ w. ⌜ Masked (take 16 (drop i (now (u .entry)))) v w ⌝ }
+{
+    if f == 0 {
+        return v;
+    }
+    masked_values(byte_lanes::sixteen(u, i), v)
 }
 
 // The degree of a polynomial of nine coefficients, and 0 of the zero polynomial.
@@ -104,9 +115,10 @@ fn list_zeros(
     }
 }
 
-// The degrees below 204 of the erasures and those at which the locator vanishes, sixteen places at a time; u has the marks by degree.
-pub fn find_roots(u: &[u8], q: [u8; 9]) -> Roots
-    requires { ⌜ (length (now u) ≡ 208) × (length (rootsOf (now u) q) ≤ 16) ⌝ }
+// The degrees below 204 of the erasures and those at which the locator vanishes, sixteen places at a time; u has the marks by degree, and f says how many
+// bytes are marked.
+pub fn find_roots(u: &[u8], f: usize, q: [u8; 9]) -> Roots
+    requires { ⌜ (length (now u) ≡ 208) × (f ≡ 0 → Unmarked (now u)) × (length (rootsOf (now u) q) ≤ 16) ⌝ }
     ensures { λ r. ⌜ FoundRoots (now (u .entry)) q (r .degrees) (r .places) (r .count) ⌝ }
 {
     let end = degree(&q) + 1;
@@ -120,10 +132,7 @@ pub fn find_roots(u: &[u8], q: [u8; 9]) -> Roots
     let mut x = byte_lanes::first_powers();
     let mut i: u8 = 0;
     while i < 208 {
-        let v = masked_values(
-            byte_lanes::sixteen(u, i as usize),
-            byte_lanes::evaluate(&q[..end], x),
-        );
+        let v = with_erasures(u, f, i as usize, byte_lanes::evaluate(&q[..end], x));
         let degrees = found.degrees;
         let places = found.places;
         let r = list_zeros(degrees, places, found.count, v, x, i);
@@ -149,7 +158,7 @@ pub fn find_erasures(u: &[u8], count: usize) -> Roots
             count: 0,
         };
     }
-    find_roots(u, [1, 0, 0, 0, 0, 0, 0, 0, 0])
+    find_roots(u, count, [1, 0, 0, 0, 0, 0, 0, 0, 0])
 }
 
 // A polynomial moved up by one power of x, without its highest coefficient.

@@ -16,7 +16,9 @@ use Rattle.reed_solomon.specs.Decode.{changedBy}
 use Rattle.reed_solomon.specs.declared.Changed.{Changed}
 use Rattle.reed_solomon.specs.declared.Decoded.{Decoded}
 use Rattle.reed_solomon.specs.declared.Decoded.the-variants.{Corrected}
-use Rattle.reed_solomon.proofs.Laws.{Same, decodes-near}
+use Rattle.reed_solomon.specs.Marks.{noMarks, cost}
+use Rattle.reed_solomon.proofs.Laws.{Same, decodes-near-marked}
+use Rattle.reed_solomon.proofs.Marks.{are-marks-none, marks-of}
 use Rattle.reed_solomon.specs.Encode.{encoded}
 use Rattle.randomizer.specs.Stream.{Packet, randomizedStream}
 use Rattle.randomizer.proofs.Whole.{packet-lengths}
@@ -24,11 +26,12 @@ use Rattle.interleaver.specs.Stream.{interleaved}
 use Rattle.interleaver.proofs.Blocks.{length-flatten, flatten-join}
 use Rattle.delay_branches.specs.declared.Side.the-variants.{Receiving}
 use Rattle.delay_branches.proofs.Blocks.{length-out}
-use Rattle.receiver.specs.Receive.{freshReceiver, delayedBlock, ofAccepted, stepOf, stateAfter, Ready, Receives}
+use Rattle.receiver.specs.Receive.{freshReceiver, marksIn, delayedBlock, delayedMarks, ofAccepted, stepOf, stateAfter, Ready, ReceivesMarked, Receives}
 use Rattle.receiver.specs.Kept.{Kept}
 use Rattle.receiver.specs.declared.Receiver.{Receiver}
 use Rattle.receiver.specs.declared.Received.{Received}
-use Rattle.receiver.proofs.Calls.{ready-number, ready-state, changed-is}
+use Rattle.receiver.proofs.Calls.{state-range, ready-number, ready-state, changed-is}
+use Rattle.receiver.proofs.MarkDelays.{leave-marks}
 use Rattle.receiver.proofs.Reached.{sound-range, sound-fresh}
 use Rattle.receiver.proofs.Promised.{promised-received}
 use Rattle.recording.specs.Returned.{sentBytes, Returns}
@@ -39,38 +42,41 @@ pub refusing : (r : Received) (exit : List ℕ) → Receives freshReceiver (repl
     → 0 < numberOf (r .answer) → numberOf (r .answer) < 8 → ⊥
 unfolding freshReceiver
 refusing r exit p h l =
-    let y : Ready freshReceiver (replicate 204 0) (replicate 188 0) = record {
+    let y : Ready freshReceiver (replicate 204 0) noMarks (replicate 188 0) = record {
       range = sound-range freshReceiver sound-fresh;
       size = refl;
+      marked = are-marks-none;
       enough = omega arith;
       more = omega arith;
     } in
-    let e : numberOf (r .answer) ≡ 9 = p .number ∙ ready-number freshReceiver (replicate 204 0) (replicate 188 0) y (p .left) (p .decoded) in
+    let e : numberOf (r .answer) ≡ 9 = p .number ∙ ready-number freshReceiver (replicate 204 0) noMarks (replicate 188 0) y (p .left) (p .decoded) in
     omega arith
 
--- Invented counts of changed bytes and bits: where some codeword is within eight bytes of the block that the branches give,
+-- Invented counts of changed bytes and bits: where 2 e + f is at most 16 for some codeword and the block and marks that the branches give,
 -- the counts grow by the bytes and bits in which they differ, and by nothing else.
-pub invented-changes : (s : Receiver) (block room : List ℕ) (r : Received) (exit : List ℕ) → Receives s block room r exit → Ready s block room
-    → 11 ≤ s .counts .taken → (c : List ℕ) → Codeword c → differ (delayedBlock s block) c ≤ 8
+pub invented-changes : (s : Receiver) (block marks room : List ℕ) (r : Received) (exit : List ℕ) → ReceivesMarked s block marks room r exit → Ready s block marks room
+    → 11 ≤ s .counts .taken → (c : List ℕ) → Codeword c → cost (delayedMarks s marks) (delayedBlock s block) c ≤ 16
     → ((r .receiver .counts .changed ≡ s .counts .changed + differ (delayedBlock s block) c)
     × (r .receiver .counts .bits ≡ s .counts .bits + differBits (delayedBlock s block) c) → ⊥) → ⊥
 unfolding stateAfter
-invented-changes s block room r exit p y h c w l n =
+invented-changes s block marks room r exit p y h c w l n =
     n (
       ap (λ (x : Receiver). x .counts .changed) state ∙ ap (λ (k : ℕ). s .counts .changed + k) (added (λ x. x .bytes) refl),
       ap (λ (x : Receiver). x .counts .bits) state ∙ ap (λ (k : ℕ). s .counts .bits + k) (added (λ x. x .bits) refl),
     )
   where
-    state : r .receiver ≡ stateAfter s block (p .left) (p .decoded)
-    state = p .state ∙ ready-state s block room y (p .left) (p .decoded)
+    state : r .receiver ≡ stateAfter s block marks (p .left) (p .decoded)
+    state = p .state ∙ ready-state s block marks room y (p .left) (p .decoded)
 
     same : Same (p .left) c (p .decoded) (Corrected (changes (delayedBlock s block) c))
-    same = decodes-near (delayedBlock s block) c (p .left) (p .decoded) (length-out Receiving (s .deinterleaver .branches) block) w l (p .decodes)
+    same =
+        decodes-near-marked (delayedMarks s marks) (delayedBlock s block) c (p .left) (p .decoded) (length-out Receiving (s .deinterleaver .branches) block)
+        (leave-marks (marksIn s) marks (state-range s (y .range) .marks) (marks-of marks (y .marked))) w l (p .decodes)
 
     added : (f : Changed → ℕ) → f noChange ≡ 0
         → ofAccepted (stepOf s (p .left) (p .decoded) .outcome) (f (changes (delayedBlock s block) (p .left))) ≡ f (changes (delayedBlock s block) c)
     added f z =
-        simp (le-ltb _ _ h) (sym (changed-is s block room y f z (p .left) (p .decoded) (p .decodes)) ∙ ap (λ (x : Decoded). f (changedBy x)) (same .answer))
+        simp (le-ltb _ _ h) (sym (changed-is s block marks room y f z (p .left) (p .decoded) (p .decodes)) ∙ ap (λ (x : Decoded). f (changedBy x)) (same .answer))
 
 -- A receiver that never gives a packet, whatever its answers are (8, 9 or 10 for all, say): of twelve packets that were sent the first is given.
 pub giving-none : (packets : List (List ℕ)) → All Packet packets → 11 < length packets → length packets ≤ 4294967295 → (numbers : List ℕ) (last : Receiver)

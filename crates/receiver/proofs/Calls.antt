@@ -1,13 +1,14 @@
 -- Laws of one call of the receiver.
 -- Assumes nothing.
 use mathlib.Core.Path.{_≡_, refl, sym, ap, ap₂, _∙_}
-use mathlib.Core.Bool.{true, false}
+use mathlib.Core.Bool.{Bool, true, false}
 use mathlib.Core.List.{List, _++_, append-nil}
 use Prim.Native.Nat.{ℕ, _≤_, _<_}
 use native.Mathlib.Omega.{arith}
 use borrow.Author.Tests.{eq-eqb, lt-ltb, le-ltb, ltb-true}
-use lib.Dec.{eqb}
+use lib.Dec.{ltb, eqb}
 use lib.ListN.{length, getD, drop, drop-of-length-le}
+use Rattle.common.specs.Choice.{pick}
 use Rattle.common.proofs.Choice.{both-true}
 use Rattle.answer.specs.Number.{numberOf}
 use Rattle.answer.specs.declared.Answer.{Answer}
@@ -53,6 +54,14 @@ state-range s e =
 pub state-in-range : (s : Receiver) → StateRange s → inRange s ≡ true
 unfolding inRange
 state-in-range s r = simp (r .branches, lt-ltb _ _ (r .marks), r .sync, r .counts)
+
+-- the test of a state by its parts, where most is the largest of the marks in the delays
+pub parts-range : (s : Receiver) (most : ℕ) (r : Bool) → most ≡ largest (s .marks)
+    → r ≡ pick (branch.within Receiving (s .deinterleaver .branches .positions) 12) (pick (ltb most 2) (pick (syncInRange (s .sync)) (countsInRange (s .counts)) false) false) false
+    → r ≡ inRange s
+unfolding inRange
+parts-range s most r e f =
+    f ∙ ap (λ (k : ℕ). pick (branch.within Receiving (s .deinterleaver .branches .positions) 12) (pick (ltb k 2) (pick (syncInRange (s .sync)) (countsInRange (s .counts)) false) false) false) e
 
 -- an accepted block is in the sums over the accepted blocks
 pub accepted-whole : (s : GroupSync) (first n : ℕ) → syncInRange s ≡ true → ofAccepted (groupStep s (repair.Accepted first) .outcome) n ≡ n

@@ -33,7 +33,7 @@ use Rattle.receiver.specs.Receive.{Unmarked, delayedBlock, delayedMarks,
 use Rattle.receiver.specs.Run.{Call, after, blocksOf, Plain}
 use Rattle.receiver.specs.Begun.{lefts, repairs}
 use Rattle.receiver.specs.declared.Receiver.{Receiver}
-use Rattle.receiver.proofs.MarkDelays.{plain-decodes}
+use Rattle.receiver.proofs.MarkDelays.{none-decodes}
 use Rattle.receiver.proofs.Outcomes.{Unrefused, next-unrefused, branches-after, unmarked-after}
 
 -- ---- one packet as it is sent
@@ -89,6 +89,12 @@ pub record Repaired (n : ℕ) (ps : List (List ℕ)) (cs : List Call) : Type 0 w
   pub blocks : lefts cs ≡ take (length cs) (map encoded (randomizedFrom n ps))
   pub accepted : repairs cs ≡ sentFrom n (length cs)
 
+-- a call without marks from a state without one decodes as without marks
+pub plain-decodes : (s : Receiver) (c : Call) (cs : List Call) → Unrefused s (c ∷ cs) → Unmarked s → Plain c → Decodes (delayedBlock s (c .block)) (c .left) (c .decoded)
+plain-decodes s c cs u z e =
+    none-decodes s (delayedBlock s (c .block)) (c .left) (c .decoded) z
+    (subst (λ (m : List ℕ). DecodesMarked (delayedMarks s m) (delayedBlock s (c .block)) (c .left) (c .decoded)) e (u .decodes .0))
+
 repaired : (n : ℕ) (ps : List (List ℕ)) (cs : List Call) (s : Receiver) → Unrefused s cs → Unmarked s → All Plain cs → All Packet ps
     → Nears (run Receiving (s .deinterleaver .branches) (blocksOf cs)) (map encoded (randomizedFrom n ps)) → Repaired n ps cs
 unfolding run randomizedFrom
@@ -96,9 +102,7 @@ repaired n ps [] s u z pl ws q = record { blocks = refl; accepted = refl }
 repaired n [] (c ∷ cs) s u z pl ws q = absurd q
 repaired n (p ∷ ps) (c ∷ cs) s u z pl ws q =
     let k : length (delayedBlock s (c .block)) ≡ 204 = length-out Receiving (s .deinterleaver .branches) (c .block) in
-    let d : Decodes (delayedBlock s (c .block)) (c .left) (c .decoded) =
-    plain-decodes s (delayedBlock s (c .block)) (c .left) (c .decoded) z
-    (subst (λ (m : List ℕ). DecodesMarked (delayedMarks s m) (delayedBlock s (c .block)) (c .left) (c .decoded)) (pl .0) (u .decodes .0)) in
+    let d = plain-decodes s c cs u z (pl .0) in
     let r =
     repaired (n + 1) ps cs (after s c) (next-unrefused s c cs u) (unmarked-after s c cs u z (pl .0)) (pl .1) (ws .1)
     (subst (λ (b : Branches). Nears (run Receiving b (blocksOf cs)) (map encoded (randomizedFrom (n + 1) ps))) (sym (branches-after s c cs u)) (q .1)) in

@@ -39,15 +39,15 @@ module _ (positions : List ℕ) where
   none-stays g = zeros-only 1122 (after Receiving none noMarks .cells) (good-after Receiving none noMarks g .cells) (entries-after (λ x. x ≡ 0) refl Receiving none noMarks (zeros-at 1122) (zeros-at 204))
 
 -- a state without a mark and a block without one: what is decoded has none, and decoding is that without marks
-pub plain-decodes : (s : Receiver) (came left : List ℕ) (decoded : Decoded) → Unmarked s → DecodesMarked (delayedMarks s noMarks) came left decoded → Decodes came left decoded
-plain-decodes s came left decoded u d =
+pub none-decodes : (s : Receiver) (came left : List ℕ) (decoded : Decoded) → Unmarked s → DecodesMarked (delayedMarks s noMarks) came left decoded → Decodes came left decoded
+none-decodes s came left decoded u d =
     without-marks came left decoded
     (subst (λ (m : List ℕ). DecodesMarked m came left decoded)
     (ap (λ (c : List ℕ). blockOut Receiving (markBranches c (s .deinterleaver .branches .positions)) noMarks) u ∙ none-leaves (s .deinterleaver .branches .positions)) d)
 
 -- ---- marks
 
-pub bits-of : (l : List ℕ) → largest l < 2 → Entries (λ x. x ≤ 1) l
+bits-of : (l : List ℕ) → largest l < 2 → Entries (λ x. x ≤ 1) l
 bits-of l h i = omega (arith, largest-least l i)
 
 bits-largest : (l : List ℕ) → Entries (λ x. x ≤ 1) l → largest l < 2
@@ -56,6 +56,10 @@ bits-largest l e = omega (arith, largest-most l 1 (λ i h. e i))
 module _ (s : Branches) (marks : List ℕ) (h : largest (s .cells) < 2) (m : Marks marks) where
   bits : Entries (λ x. x ≤ 1) marks
   bits i = omega (arith, largest-least marks i, largest-most marks 1 (λ i l. m .bits i (omega (arith, m .size))))
+
+  -- what leaves is a mark for each byte of a block, and what stays is in range
+  pub leave-marks : Marks (blockOut Receiving s marks)
+  leave-marks = record { size = length-out Receiving s marks; bits = λ i b. entries-out (λ x. x ≤ 1) (omega arith) Receiving s marks (bits-of (s .cells) h) bits i }
 
   pub stay-marks : largest (after Receiving s marks .cells) < 2
   stay-marks = bits-largest (after Receiving s marks .cells) (entries-after (λ x. x ≤ 1) (omega arith) Receiving s marks (bits-of (s .cells) h) bits)

@@ -52,7 +52,7 @@ Unmarked s = s .marks ≡ replicate 1122 0
 unfoldable pub inRange : Receiver → Bool
 unfolding countsInRange
 inRange s =
-    pick (branch.inRange Receiving (s .deinterleaver .branches))
+    pick (branch.within Receiving (s .deinterleaver .branches .positions) 12)
     (pick (ltb (largest (s .marks)) 2)
     (pick (syncInRange (s .sync)) (countsInRange (s .counts)) false)
     false)

@@ -1,12 +1,14 @@
 // The receiving chain: interleaved blocks in, transport packets out. EN 300 421, 4.4, taken backwards.
 ghost use mathlib.Core.Path.{_≡_};
-ghost use mathlib.Core.Bool.{true};
+ghost use mathlib.Core.Bool.{true, false};
 ghost use Prim.Native.Nat.{_≤_};
+ghost use lib.Dec.{ltb};
 ghost use lib.ListN.{length, replicate};
+ghost use Rattle.common.specs.Choice.{pick};
 ghost use Rattle.answer.specs.Number.{numberOf};
-ghost use Rattle.group_sync.specs.Group.{PlaceOf};
-ghost use Rattle.reception_counts.specs.Counts.{outcomeNumber};
-ghost use Rattle.reed_solomon.specs.Marks.{largest, noMarks, DecodesMarked};
+ghost use Rattle.group_sync.specs.Group.{syncInRange, PlaceOf};
+ghost use Rattle.reception_counts.specs.Counts.{countsInRange, outcomeNumber};
+ghost use Rattle.reed_solomon.specs.Marks.{noMarks, DecodesMarked};
 ghost use Rattle.delay_branches.specs.Branch as branch;
 ghost use Rattle.delay_branches.specs.Block.{blockOut, after};
 ghost use Rattle.receiver.specs.Receive.{freshReceiver, inRange, markBranches, Unmarked, repairOf, roomAfter, Ready, ReceivesMarked, Receives};
@@ -14,6 +16,7 @@ use answer::Answer;
 use delay_branches::Branches;
 use delay_branches::Side;
 use delay_branches::pass_block;
+use delay_branches::positions_within;
 use group_sync::GroupSync;
 use group_sync::Outcome;
 use group_sync::Repair;
@@ -161,15 +164,13 @@ fn take_block(
     }
 }
 
-// Whether each number is in its range, where most is the largest of the marks in the delays.
-fn parts_in_range(receiver: Receiver, most: u8) -> bool
-    requires { ⌜ most ≡ largest (receiver .marks) ⌝ }
-    ensures { λ r. ⌜ r ≡ inRange receiver ⌝ }
+// Whether the positions are within their branches, the largest of the marks in the delays is a mark, and the place and the counts are in range.
+// By its parts, so that no state is copied.
+fn parts_in_range(positions: [u8; 12], most: u8, sync: GroupSync, counts: Counts) -> bool
+    ensures { λ r. ⌜
+        r ≡ pick (branch.within Side.Receiving positions 12) (pick (ltb most 2) (pick (syncInRange sync) (countsInRange counts) false) false) false ⌝ }
 {
-    let deinterleaver = receiver.deinterleaver;
-    let sync = receiver.sync;
-    let counts = receiver.counts;
-    if !deinterleaver.in_range() {
+    if !positions_within(Side::Receiving, positions) {
         return false;
     }
     if most >= 2 {
@@ -208,19 +209,28 @@ impl Receiver {
     pub fn in_range(self) -> bool
         ensures { λ r. ⌜ r ≡ inRange self ⌝ }
     {
+        let deinterleaver = self.deinterleaver;
+        let branches = deinterleaver.branches;
+        let positions = branches.positions;
         let marks = self.marks;
-        parts_in_range(self, reed_solomon::largest_mark(&marks))
+        let sync = self.sync;
+        let counts = self.counts;
+        parts_in_range(positions, reed_solomon::largest_mark(&marks), sync, counts)
     }
 
     // Takes a block of 204 interleaved bytes with a mark, 0 or 1, for each, and writes the packet that it completes.
     pub fn receive_marked(self, block: &[u8], marks: &[u8], room: &mut [u8]) -> Received
         ensures { λ r. ⌜ ReceivesMarked self (now (block .entry)) (now (marks .entry)) (now (room .entry)) r (now (room .exit)) ⌝ }
     {
+        let deinterleaver = self.deinterleaver;
+        let branches = deinterleaver.branches;
+        let positions = branches.positions;
         let held = self.marks;
+        let sync = self.sync;
         let counts = self.counts;
         let taken = counts.taken;
         let most = reed_solomon::largest_mark(&held);
-        if !parts_in_range(self, most) {
+        if !parts_in_range(positions, most, sync, counts) {
             return Received {
                 answer: Answer::StateRange,
                 receiver: self,

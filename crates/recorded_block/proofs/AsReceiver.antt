@@ -13,9 +13,10 @@ use Rattle.common.specs.Lists.{All, Length}
 use Rattle.answer.specs.Number.{numberOf}
 use Rattle.reed_solomon.specs.Code.{changes, noChange}
 use Rattle.reed_solomon.specs.Decode.{Decodes, decodedNumber, changedBy}
+use Rattle.reed_solomon.specs.Marks.{noMarks}
 use Rattle.reed_solomon.specs.declared.Changed.{Changed}
 use Rattle.reed_solomon.specs.declared.Decoded.{Decoded}
-use Rattle.reed_solomon.specs.declared.Decoded.the-variants.{Corrected, Uncorrectable, BlockLength}
+use Rattle.reed_solomon.specs.declared.Decoded.the-variants.{Corrected, Uncorrectable, BlockLength, MarkValue}
 use Rattle.reed_solomon.proofs.Laws.{unique}
 use Rattle.delay_branches.specs.Block as block
 use Rattle.delay_branches.specs.Block.{fresh, blockOut}
@@ -31,12 +32,13 @@ use Rattle.group_sync.specs.Group.{groupStep}
 use Rattle.group_sync.specs.declared.Outcome.{Outcome}
 use Rattle.group_sync.proofs.Synchronization.{accepted-outcome}
 use Rattle.reception_counts.specs.Counts.{outcomeNumber}
-use Rattle.receiver.specs.Receive.{freshReceiver, delayedBlock, repairOf, ofAccepted, stepOf, stateAfter, Ready, Receives}
-use Rattle.receiver.specs.Run.{Call, after, afterCalls, blocksOf}
+use Rattle.receiver.specs.Receive.{freshReceiver, Unmarked, delayedBlock, repairOf, ofAccepted, stepOf, stateAfter, Ready, Receives}
+use Rattle.receiver.specs.Run.{Call, after, afterCalls, blocksOf, Plain}
 use Rattle.receiver.specs.declared.Receiver.{Receiver}
 use Rattle.receiver.specs.declared.Received.{Received}
 use Rattle.receiver.proofs.Calls.{state-range, ready-number, ready-state, changed-is}
-use Rattle.receiver.proofs.Outcomes.{Unrefused, next-unrefused, branches-after, taken-after}
+use Rattle.receiver.proofs.Outcomes.{Unrefused, next-unrefused, branches-after, taken-after, unmarked-after}
+use Rattle.receiver.proofs.MarkDelays.{none-decodes}
 use Rattle.receiver.proofs.Reception.{blocks-count}
 use Rattle.recorded_block.specs.Block.{blockRefusal, roomWith, GivesBlock}
 use Rattle.recorded_block.specs.declared.RepairedBlock.{RepairedBlock}
@@ -50,6 +52,10 @@ branches-calls (c ∷ cs) s u =
     branches-calls cs (after s c) (next-unrefused s c cs u) ∙ ap (λ (b : Branches). runAfter Receiving b (blocksOf cs)) (branches-after s c cs u)
 
 -- and as many blocks taken as there were calls
+unmarked-calls : (cs : List Call) (s : Receiver) → Unrefused s cs → Unmarked s → All Plain cs → Unmarked (afterCalls s cs)
+unmarked-calls [] s u z pl = z
+unmarked-calls (c ∷ cs) s u z pl = unmarked-calls cs (after s c) (next-unrefused s c cs u) (unmarked-after s c cs u z (pl .0)) (pl .1)
+
 taken-calls : (cs : List Call) (s : Receiver) → Unrefused s cs → afterCalls s cs .counts .taken ≡ s .counts .taken + length cs
 taken-calls [] s u = omega arith
 taken-calls (c ∷ cs) s u = omega (arith, taken-calls cs (after s c) (next-unrefused s c cs u), taken-after s c cs u)
@@ -65,7 +71,7 @@ all-last [] b g h = (h, tt)
 all-last (x ∷ bs) b g h = (g .0, all-last bs b (g .1) h)
 
 -- The calls before call p + 12, and its block. The recording begins with their blocks.
-module _ (p : ℕ) (before : List Call) (u : Unrefused freshReceiver before) (n : length before ≡ p + 11) (came : List ℕ) (z : length came ≡ 204) (rest : List ℕ) where
+module _ (p : ℕ) (before : List Call) (u : Unrefused freshReceiver before) (pl : All Plain before) (n : length before ≡ p + 11) (came : List ℕ) (z : length came ≡ 204) (rest : List ℕ) where
   abbrev recorded : List ℕ
   recorded = flatten (blocksOf before) ++ (came ++ rest)
 
@@ -98,12 +104,19 @@ module _ (p : ℕ) (before : List Call) (u : Unrefused freshReceiver before) (n 
       ∙ sym (gathered-front (flatten whole) rest p (omega (arith, length-flatten 204 whole sizes, count)))
       ∙ ap (λ (x : List ℕ). gathered x p) front
 
+  -- no mark is in the delays, so that it is decoded as without marks
+  plain : (lent exit′ : List ℕ) (received : Received) (v : Receives (afterCalls freshReceiver before) came lent received exit′)
+      → Decodes (delayedBlock (afterCalls freshReceiver before) came) (v .left) (v .decoded)
+  unfolding freshReceiver
+  plain lent exit′ received v =
+      none-decodes (afterCalls freshReceiver before) (delayedBlock (afterCalls freshReceiver before) came) (v .left) (v .decoded) (unmarked-calls before freshReceiver u refl pl) (v .decodes)
+
   -- so the block, the counts and the answer are those of that call's repair
   pub as-receiver : (lent exit′ : List ℕ) (received : Received) (v : Receives (afterCalls freshReceiver before) came lent received exit′)
       → (blocks : ℕ) (room : List ℕ) (r : RepairedBlock) (exit : List ℕ) → blockRefusal recorded blocks p room ≡ 0 → GivesBlock recorded blocks p room r exit
       → (numberOf (r .answer) ≡ decodedNumber (v .decoded)) × (r .changed ≡ changedBy (v .decoded)) × (exit ≡ roomWith (v .decoded) (v .left) room)
   as-receiver lent exit′ received v blocks room r exit e g =
-      let q = unique (gathered recorded p) (g .left) (v .left) (g .decoded) (v .decoded) (g .decodes) (rw call-gathered at (v .decodes)) in (
+      let q = unique (gathered recorded p) (g .left) (v .left) (g .decoded) (v .decoded) (g .decodes) (rw call-gathered at (plain lent exit′ received v)) in (
         g .number ∙ simp e (ap decodedNumber (q .answer)),
         g .changed ∙ simp e (ap changedBy (q .answer)),
         g .written ∙ simp e (ap₂ (λ (x : Decoded) (y : List ℕ). roomWith x y room) (q .answer) (q .block)),
@@ -111,7 +124,7 @@ module _ (p : ℕ) (before : List Call) (u : Unrefused freshReceiver before) (n 
 
   -- What the call shows of it: it is answered 8 where the block is, and its sums of changed bytes and bits grow by the block's.
   module _ (lent exit′ : List ℕ) (received : Received) (v : Receives (afterCalls freshReceiver before) came lent received exit′)
-      (y : Ready (afterCalls freshReceiver before) came lent) (blocks : ℕ) (room : List ℕ) (r : RepairedBlock) (exit : List ℕ)
+      (y : Ready (afterCalls freshReceiver before) came noMarks lent) (blocks : ℕ) (room : List ℕ) (r : RepairedBlock) (exit : List ℕ)
       (e : blockRefusal recorded blocks p room ≡ 0) (g : GivesBlock recorded blocks p room r exit) where
     past : Receiver
     past = afterCalls freshReceiver before
@@ -130,7 +143,7 @@ module _ (p : ℕ) (before : List Call) (u : Unrefused freshReceiver before) (n 
 
     answered : numberOf (received .answer) ≡ outcomeNumber (outcome (v .decoded))
     unfolding past
-    answered = v .number ∙ ready-number past came lent y (v .left) (v .decoded) ∙ ap outcomeNumber stepped
+    answered = v .number ∙ ready-number past came noMarks lent y (v .left) (v .decoded) ∙ ap outcomeNumber stepped
 
     -- a block that is accepted is not answered 8, and one that is not accepted is
     lost-or-not : (decoded : Decoded) → Decodes (delayedBlock past came) (v .left) decoded
@@ -140,12 +153,13 @@ module _ (p : ℕ) (before : List Call) (u : Unrefused freshReceiver before) (n 
         accepted-outcome (λ o. eqb (outcomeNumber o) 8 ≡ false) (past .sync) (getD (v .left) 0 0) (λ q l. refl) refl refl (state-range past (y .range) .sync)
     lost-or-not Uncorrectable d = refl
     lost-or-not BlockLength d = absurd (d .0 (length-out Receiving (past .deinterleaver .branches) came))
+    lost-or-not MarkValue d = absurd d
 
     pub lost-as-received : eqb (numberOf (r .answer)) 8 ≡ eqb (numberOf (received .answer)) 8
     unfolding past
     lost-as-received =
         ap (λ (k : ℕ). eqb k 8) (as-receiver lent exit′ received v blocks room r exit e g .0)
-        ∙ sym (ap (λ (k : ℕ). eqb k 8) answered ∙ lost-or-not (v .decoded) (v .decodes))
+        ∙ sym (ap (λ (k : ℕ). eqb k 8) answered ∙ lost-or-not (v .decoded) (plain lent exit′ received v))
 
     -- of each number of changes, what the call adds to its sum is the block's
     added : (f : Changed → ℕ) → f noChange ≡ 0
@@ -153,14 +167,14 @@ module _ (p : ℕ) (before : List Call) (u : Unrefused freshReceiver before) (n 
     unfolding past outcome
     added f z =
         ap (λ (o : Outcome). ofAccepted o (f (changes (delayedBlock past came) (v .left)))) stepped
-        ∙ sym (changed-is past came lent y f z (v .left) (v .decoded) (v .decodes))
+        ∙ sym (changed-is past came noMarks lent y f z (v .left) (v .decoded) (v .decodes))
         ∙ sym (ap f (as-receiver lent exit′ received v blocks room r exit e g .1))
 
     pub changed-as-received : (received .receiver .counts .changed ≡ afterCalls freshReceiver before .counts .changed + r .changed .bytes)
         × (received .receiver .counts .bits ≡ afterCalls freshReceiver before .counts .bits + r .changed .bits)
     unfolding past stateAfter
     changed-as-received =
-        let s = v .state ∙ ready-state past came lent y (v .left) (v .decoded) in (
+        let s = v .state ∙ ready-state past came noMarks lent y (v .left) (v .decoded) in (
           ap (λ (x : Receiver). x .counts .changed) s ∙ ap (λ (k : ℕ). past .counts .changed + k) (added (λ x. x .bytes) refl),
           ap (λ (x : Receiver). x .counts .bits) s ∙ ap (λ (k : ℕ). past .counts .bits + k) (added (λ x. x .bits) refl),
         )

@@ -18,6 +18,8 @@ use Rattle.reed_solomon.specs.declared.Changed.{Changed}
 use Rattle.reed_solomon.specs.declared.Decoded.{Decoded}
 use Rattle.reed_solomon.specs.declared.Decoded.the-variants.{Corrected}
 use Rattle.reed_solomon.proofs.Codewords.{codeword-length}
+use Rattle.reed_solomon.specs.Marks.{noMarks}
+use Rattle.reed_solomon.proofs.MarkedDistance.{without-marks}
 use Rattle.reed_solomon.proofs.Laws.{total, unique}
 use Rattle.interleaver.specs.Gathered.{placeIn, gathered}
 use Rattle.interleaver.proofs.Gathering.{gathered-same}
@@ -48,9 +50,9 @@ module _ (bytes : List ℕ) (blocks p : ℕ) (room : List ℕ) where
   pub refused-with : (k : ℕ) (r : RepairedBlock) → blockRefusal bytes blocks p room ≡ k → 0 < k → numberOf (r .answer) ≡ k → r .changed ≡ noChange
       → GivesBlock bytes blocks p room r room
   refused-with k r e h n c =
-      let t = total (gathered bytes p) in
+      let t = total noMarks (gathered bytes p) in
       let f : eqb (blockRefusal bytes blocks p room) 0 ≡ false = ap (λ (i : ℕ). eqb i 0) e ∙ ne-eqb k 0 (λ z. omega arith) in
-      record { left = t .left; decoded = t .answer; decodes = t .decodes; number = n ∙ sym e ∙ simp f; changed = c ∙ simp f; written = simp f }
+      record { left = t .left; decoded = t .answer; decodes = without-marks (gathered bytes p) (t .left) (t .answer) (t .decodes); number = n ∙ sym e ∙ simp f; changed = c ∙ simp f; written = simp f }
 
   pub given-block : blockRefusal bytes blocks p room ≡ 0 → (left : List ℕ) (decoded : Decoded) → Decodes (gathered bytes p) left decoded
       → (r : RepairedBlock) (exit : List ℕ) → numberOf (r .answer) ≡ decodedNumber decoded → r .changed ≡ changedBy decoded

@@ -10,7 +10,7 @@ use Rattle.answer.specs.Number.{numberOf}
 use Rattle.reed_solomon.specs.Code.{noChange}
 use Rattle.reed_solomon.specs.Decode.{Decodes, decodedNumber, changedBy}
 use Rattle.reed_solomon.specs.declared.Decoded.{Decoded}
-use Rattle.reed_solomon.specs.declared.Decoded.the-variants.{Corrected, Uncorrectable, BlockLength}
+use Rattle.reed_solomon.specs.declared.Decoded.the-variants.{Corrected, Uncorrectable, BlockLength, MarkValue}
 use Rattle.interleaver.specs.Gathered.{placeIn, gathered}
 use Rattle.recorded_block.specs.declared.RepairedBlock.{RepairedBlock}
 
@@ -28,6 +28,7 @@ abbrev pub roomWith : Decoded → List ℕ → List ℕ → List ℕ
 roomWith (Corrected changed) left room = left ++ drop 204 room
 roomWith Uncorrectable left room = room
 roomWith BlockLength left room = room
+roomWith MarkValue left room = room
 
 -- The 204 bytes gathered decode to an outcome, and the call is this function of it.
 -- Decoding is total and unique, so the call is decided.

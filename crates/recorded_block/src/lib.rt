@@ -88,6 +88,10 @@ pub fn repaired_block(bytes: &[u8], blocks: u64, p: u64, room: &mut [u8]) -> Rep
             answer: Answer::BlockLength,
             changed: Changed { bytes: 0, bits: 0 },
         },
+        Decoded::MarkValue => RepairedBlock {
+            answer: Answer::MarkValue,
+            changed: Changed { bytes: 0, bits: 0 },
+        },
     }
 }
 

@@ -59,7 +59,7 @@ fn receive_at(
 }
 
 // Takes the whole blocks, each with a call. Its packet goes into the room after the one before. There is a mark for each byte, or none at all.
-pub fn receive_blocks(receiver: Receiver, bytes: &[u8], marks: &[u8], room: &mut [u8]) -> Batch
+fn receive_marked_blocks(receiver: Receiver, bytes: &[u8], marks: &[u8], room: &mut [u8]) -> Batch
     requires { ⌜
         (188 * (length (now bytes) / 204) ≤ length (now room))
         × ((length (now marks) ≡ 0) ⊎ (length (now marks) ≡ length (now bytes))) ⌝ }
@@ -79,6 +79,15 @@ pub fn receive_blocks(receiver: Receiver, bytes: &[u8], marks: &[u8], room: &mut
         count,
         receiver: state,
     }
+}
+
+// The same with no mark for any byte.
+pub fn receive_blocks(receiver: Receiver, bytes: &[u8], room: &mut [u8]) -> Batch
+    requires { ⌜ 188 * (length (now bytes) / 204) ≤ length (now room) ⌝ }
+    ensures { λ r. ⌜ Takes receiver (now (bytes .entry)) [] (now (room .entry)) (r .count) (r .receiver) (now (room .exit)) ⌝ }
+{
+    let none = [0u8; 0];
+    receive_marked_blocks(receiver, bytes, &none, room)
 }
 
 // Takes the whole blocks of a recording, and writes their packets one after the other. Bytes after the last whole block are not taken.
@@ -112,7 +121,7 @@ fn take_recording(receiver: Receiver, bytes: &[u8], marks: &[u8], room: &mut [u8
             receiver,
         };
     }
-    let batch = receive_blocks(receiver, bytes, marks, room);
+    let batch = receive_marked_blocks(receiver, bytes, marks, room);
     let count = batch.count;
     let receiver = batch.receiver;
     Recorded {
@@ -131,7 +140,7 @@ pub fn receive_recording(receiver: Receiver, bytes: &[u8], room: &mut [u8]) -> R
 }
 
 // Whether there is a mark, 0 or 1, for each byte.
-fn are_marks_for(bytes: &[u8], marks: &[u8]) -> bool
+pub fn are_marks_for(bytes: &[u8], marks: &[u8]) -> bool
     ensures { λ r. ⌜ r ≡ marksFor (now (bytes .entry)) (now (marks .entry)) ⌝ }
 {
     if marks.len() != bytes.len() {

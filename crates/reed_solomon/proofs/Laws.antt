@@ -110,6 +110,13 @@ few-changes marks came left r d = record { few = few r d; least = bits-least cam
     few BlockLength d = kept (d .1)
     few MarkValue d = kept (d .2)
 
+-- without marks at most eight
+pub within-eight : (came left : List ℕ) (r : Decoded) → Decodes came left r → differ came left ≤ 8
+within-eight came left (Corrected k) d = d .1 .within
+within-eight came left Uncorrectable d = omega (arith, ap (differ came) (d .1 .unchanged) ∙ differ-none came)
+within-eight came left BlockLength d = omega (arith, ap (differ came) (d .1) ∙ differ-none came)
+within-eight came left MarkValue d = absurd d
+
 -- ---- total
 
 pub record Outcome (marks came : List ℕ) : Type 0 where

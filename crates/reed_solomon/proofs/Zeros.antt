@@ -5,7 +5,7 @@ use mathlib.Core.List.{List, [], _∷_, _++_, map, reverse}
 use mathlib.Core.Logic.{_⊎_, inl, inr}
 use Prim.Native.Nat.{ℕ, zero, suc, _+_, _-_, _≤_, _<_, Fin}
 use Prim.{tt}
-use native.Mathlib.Decide.{ℕ-discrete}
+use native.Mathlib.Decide.{ℕ-discrete, decLt}
 use native.Mathlib.Nat.{add-zero, not-suc-le-zero}
 use native.Mathlib.Numerals.{add-one}
 use native.Mathlib.Omega.{arith}
@@ -22,7 +22,7 @@ use Rattle.algebra.proofs.Syndromes.{syndrome}
 use Rattle.algebra.proofs.Terms.{terms}
 use Rattle.galois.proofs.Instance.{bytes, byte}
 use Rattle.byte_lanes.specs.Lanes.{point}
-use Rattle.error_correction.specs.Correction.{ByDegree, masked, valuesOf, zerosFrom, rootsOf, one}
+use Rattle.error_correction.specs.Correction.{Unmarked, ByDegree, masked, valuesOf, zerosFrom, rootsOf, one}
 use Rattle.error_correction.proofs.RootSearch.{length-values, value-one}
 use Rattle.reed_solomon.specs.Marks.{marked}
 use Rattle.reed_solomon.proofs.MarkedDistance.{marked-reverse}
@@ -158,6 +158,14 @@ zeros-marked n [] (y ∷ ms) h m = absurd (omega arith)
 zeros-marked n (x ∷ l) [] h m = absurd (omega arith)
 zeros-marked n (x ∷ l) (y ∷ ms) h m =
     omega (arith, zeros-cons n x l, hit-mark n x y (m 0 (omega arith)), zeros-marked (n + 1) l ms (omega arith) (λ i k. m (suc i) (omega arith)))
+
+-- where no byte is marked, no degree is
+pub unmarked-degrees : (marks u : List ℕ) → ByDegree marks u → ((i : ℕ) → getD marks i 0 ≡ 0) → Unmarked u
+unmarked-degrees marks u c z = record { each = λ d. by d (decLt d 204) }
+  where
+    by : (d : ℕ) → Dec (d < 204) → getD u d 0 ≡ 0
+    by d (yes h) = c .each d h ∙ z (203 - d)
+    by d (no h) = c .after d (omega arith)
 
 -- there are as many erasures as marks
 pub erasures-count : (marks u : List ℕ) → length marks ≡ 204 → ByDegree marks u → length (rootsOf u one) ≡ marked marks

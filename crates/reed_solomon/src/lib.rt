@@ -100,7 +100,7 @@ fn repair(block: &mut [u8], residue: [u8; 16], marks: &[u8], f: usize) -> Decode
     let erased = erasures.places;
     let size = (16 - f) / 2;
     let q = error_locator::locator(error_locator::modified(s, erased, f), size);
-    let roots = error_correction::find_roots(&by_degree, q);
+    let roots = error_correction::find_roots(&by_degree, f, q);
     let degrees = roots.degrees;
     let places = roots.places;
     let count = roots.count;

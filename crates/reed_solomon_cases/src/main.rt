@@ -24,6 +24,7 @@ fn number(decoded: Decoded) -> u64 {
         Decoded::Corrected(_) => 0,
         Decoded::Uncorrectable => 8,
         Decoded::BlockLength => 3,
+        Decoded::MarkValue => 20,
     }
 }
 
@@ -82,6 +83,7 @@ fn tallied(
             }
         }
         Decoded::BlockLength => {}
+        Decoded::MarkValue => {}
     }
     Tally {
         corrected: tally.corrected,

@@ -95,7 +95,7 @@ pub record ReceptionOf (bytes : List ℕ) : Type 0 where
 
 pub reception-total : (bytes : List ℕ) → length bytes ≤ 204 * 4294967295 → ReceptionOf bytes
 reception-total bytes h =
-    let r = recording-total freshReceiver bytes in
+    let r = recording-total freshReceiver bytes [] in
     record {
       written = flatten (r .packets);
       stream = holding (r .last) (restOf bytes);

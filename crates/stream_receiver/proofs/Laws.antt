@@ -70,7 +70,7 @@ pub reception-none : Reception [] [] freshStream
 unfolding freshStream flatten
 reception-none = record {
   packets = [];
-  recording = recording-few freshReceiver [] (omega arith);
+  recording = recording-few freshReceiver [] [] (omega arith);
   given = refl;
   kept = refl;
   few = omega arith;
@@ -78,8 +78,8 @@ reception-none = record {
 
 -- ---- one piece more
 
-takes-out : {s last : Receiver} {bytes room exit : List ℕ} {count : ℕ} (t : Takes s bytes room count last exit) → take count exit ≡ flatten (t .packets)
-takes-out {s} {last} {bytes} {room} {exit} {count} t = ap (take count) (t .written) ∙ take-at (flatten (t .packets)) (drop count room) count (sym (t .counted))
+takes-out : {s last : Receiver} {bytes marks room exit : List ℕ} {count : ℕ} (t : Takes s bytes marks room count last exit) → take count exit ≡ flatten (t .packets)
+takes-out {s} {last} {bytes} {marks} {room} {exit} {count} t = ap (take count) (t .written) ∙ take-at (flatten (t .packets)) (drop count room) count (sym (t .counted))
 
 rest-join : (a b : List ℕ) → restOf (restOf a ++ b) ≡ restOf (a ++ b)
 rest-join a b =
@@ -101,8 +101,8 @@ module _ {bytes written : List ℕ} {i : StreamReceiver} (r : Reception bytes wr
       → Reception (bytes ++ piece) (written ++ take count exit) next
   reception-taken-piece t h =
       let k = t .takes in
-      let g : Recording (i .receiver) (restOf bytes ++ piece) (k .packets) (next .receiver)
-      = subst (λ (x : List ℕ). Recording (i .receiver) (x ++ piece) (k .packets) (next .receiver)) (reception-bytes r) (k .recording) in
+      let g : Recording (i .receiver) (restOf bytes ++ piece) [] (k .packets) (next .receiver)
+      = subst (λ (x : List ℕ). Recording (i .receiver) (x ++ piece) [] (k .packets) (next .receiver)) (reception-bytes r) (k .recording) in
       record {
         packets = r .packets ++ k .packets;
         recording = recording-join piece (r .recording) g;

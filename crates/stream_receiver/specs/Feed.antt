@@ -2,7 +2,7 @@
 -- Assumes nothing.
 use mathlib.Core.Path.{_≡_}
 use mathlib.Core.Bool.{Bool, false}
-use mathlib.Core.List.{List, _++_}
+use mathlib.Core.List.{List, [], _++_}
 use Prim.Native.Nat.{ℕ, _+_, _-_, _*_, _/_, _<_}
 use lib.Dec.{ltb}
 use lib.ListN.{length, take, replicate}
@@ -38,7 +38,7 @@ capacityOf i = 204 * (4294967295 - i .receiver .counts .taken) - i .held
 
 -- What a piece comes to, after the bytes held: a recording of both, with the packets in the room. The bytes after its last whole block are held.
 pub record TakesPiece (i : StreamReceiver) (piece room : List ℕ) (count : ℕ) (next : StreamReceiver) (exit : List ℕ) : Type 0 where
-  pub takes : Takes (i .receiver) (heldBytes i ++ piece) room count (next .receiver) exit
+  pub takes : Takes (i .receiver) (heldBytes i ++ piece) [] room count (next .receiver) exit
   pub kept : next ≡ holding (next .receiver) (restOf (heldBytes i ++ piece))
 
 -- The tests before the work, in the order of document 01: 5 for a state out of range, 4 where there is not room for a packet for each block

@@ -46,7 +46,7 @@ bytesOut (c ∷ cs) = take (c .count) (c .exit) ++ bytesOut cs
 -- written, and the bytes after the last whole block are held. There are no more bytes than those of the blocks that can be counted.
 pub record Reception (bytes written : List ℕ) (i : StreamReceiver) : Type 0 where
   pub packets : List (List ℕ)
-  pub recording : Recording freshReceiver bytes packets (i .receiver)
+  pub recording : Recording freshReceiver bytes [] packets (i .receiver)
   pub given : written ≡ flatten packets
   pub kept : i ≡ holding (i .receiver) (restOf bytes)
   pub few : length bytes ≤ 204 * 4294967295
@@ -55,7 +55,7 @@ pub record Reception (bytes written : List ℕ) (i : StreamReceiver) : Type 0 wh
 pub record PassReport (bytes text : List ℕ) : Type 0 where
   pub packets : List (List ℕ)
   pub last : Receiver
-  pub recording : Recording freshReceiver bytes packets last
+  pub recording : Recording freshReceiver bytes [] packets last
   pub text-is : text ≡ reportText (last .counts) (length bytes % 204)
 
 -- the answer, the length and the room after a text is written into a room

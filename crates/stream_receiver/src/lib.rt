@@ -1,6 +1,6 @@
 // A reception in progress: a receiver that takes received bytes in pieces of any length, and holds those of a block that is not whole yet.
 ghost use mathlib.Core.Path.{_≡_};
-ghost use mathlib.Core.List.{_++_};
+ghost use mathlib.Core.List.{[], _++_};
 ghost use Prim.Native.Nat.{_+_, _-_, _*_, _/_, _%_, _≤_, _<_};
 ghost use lib.ListN.{length, take};
 ghost use Rattle.answer.specs.Number.{numberOf};
@@ -73,7 +73,7 @@ fn finish_block(stream: StreamReceiver, filler: &[u8], room: &mut [u8]) -> Batch
         × (length (now filler) ≡ (204 - stream .held) % 204)
         × (188 * ((stream .held + length (now filler)) / 204) ≤ length (now room)) ⌝ }
     ensures { λ r. ⌜
-        Takes (stream .receiver) (heldBytes stream ++ now (filler .entry)) (now (room .entry)) (r .count) (r .receiver) (now (room .exit)) ⌝ }
+        Takes (stream .receiver) (heldBytes stream ++ now (filler .entry)) [] (now (room .entry)) (r .count) (r .receiver) (now (room .exit)) ⌝ }
 {
     let receiver = stream.receiver;
     let pending = stream.pending;

@@ -12,7 +12,7 @@ returns : tie.Need-returns
 returns c = found-none _ _ _ _ _ (c .before .before .pre .1) (c .if1 .taken)
 
 find-roots-requires : tie.Need-find-roots-requires
-find-roots-requires c κs = search needs
+find-roots-requires c κs = (c .before .before .pre .0, λ z. absurd (c .if1 .left z), omega (arith, c .before .before .pre .1, c .before .before .pre .2))
 
 returns-2 : tie.Need-returns-2
 returns-2 c =

@@ -13,25 +13,26 @@ use Rattle.error_correction.proofs.find_roots.Statement.{statement}
 use Rattle.error_correction.proofs.find_roots.Tie as tie
 
 abbrev Inv-loop : tie.InvT-loop
-Inv-loop u q end found₀ x₀ i₀ found x i = (i ≤ 208) × (i % 16 ≡ 0) × (length x ≡ 16) × PowersFrom i x × Searched u q (found .degrees) (found .places) (found .count) i
+Inv-loop u f q end found₀ x₀ i₀ found x i = (i ≤ 208) × (i % 16 ≡ 0) × (length x ≡ 16) × PowersFrom i x × Searched u q (found .degrees) (found .places) (found .count) i
 
 abbrev μ-loop : tie.MeasureT-loop
-μ-loop u q end found₀ x₀ i₀ found x i = 208 - i
+μ-loop u f q end found₀ x₀ i₀ found x i = 208 - i
 
 -- the lanes are the next of the values
-next : (e : tie.After-masked-values Inv-loop μ-loop) → take (204 - e .before .before .before .before .before .loop .i) (e .masked-values .result) ≡ take 16 (drop (e .before .before .before .before .before .loop .i) (valuesOf (e .before .before .before .before .before .before .before .before .before .before .args .u .now) (e .before .before .before .before .before .before .before .before .before .before .args .t2)))
+next : (e : tie.After-with-erasures Inv-loop μ-loop)
+    → take (204 - e .before .before .before .before .loop .i) (e .with-erasures .result) ≡ take 16 (drop (e .before .before .before .before .loop .i) (valuesOf (e .before .before .before .before .before .before .before .before .before .args .u .now) (e .before .before .before .before .before .before .before .before .before .args .t3)))
 next e =
-    let s = e .before .before .before .before .before .before .before .before .before .before in
-    let d = e .before .before .before .before .before .before .before .degree in
-    let l = e .before .before .before .before .before .loop in
-    lanes-next (s .args .u .now) (s .args .t2) (l .x) (e .before .before .before .sixteen .result) (e .before .evaluate .result) (e .masked-values .result) (l .i) (d .result) (omega (arith, l .inv .1)) (l .inv .3) (e .before .evaluate .ensures)
-    (ends-of (s .args .t2) (d .result) (s .good .1 .0 .1 .0 .1) (d .ensures .0)) (e .before .before .before .sixteen .ensures) (e .masked-values .ensures) (e .masked-values .ok .1 .0 .1)
+    let s = e .before .before .before .before .before .before .before .before .before in
+    let d = e .before .before .before .before .before .before .degree in
+    let l = e .before .before .before .before .loop in
+    lanes-next (s .args .u .now) (s .args .t3) (l .x) (e .before .evaluate .result) (e .with-erasures .result) (l .i) (d .result) (omega (arith, l .inv .1)) (l .inv .3) (e .before .evaluate .ensures)
+    (ends-of (s .args .t3) (d .result) (s .good .1 .1 .0 .1 .0 .1) (d .ensures .0)) (e .with-erasures .ensures) (e .with-erasures .ok .1 .0 .1)
 
 slice-aggregate-degree : tie.Need-slice-aggregate-degree Inv-loop μ-loop
 slice-aggregate-degree c = search needs
 
 degree-requires : tie.Need-degree-requires Inv-loop μ-loop
-degree-requires c κs = omega (arith, c .before .before .good .1 .0 .1 .0 .1)
+degree-requires c κs = omega (arith, c .before .before .good .1 .1 .0 .1 .0 .1)
 
 add-end : tie.Need-add-end Inv-loop μ-loop
 add-end c = omega (arith, c .degree .ensures .0 .most)
@@ -42,34 +43,25 @@ first-powers-requires c κs = search needs
 loop-holds : tie.Need-loop-holds Inv-loop μ-loop
 loop-holds c = (search needs, search needs, c .first-powers .ok .1 .0 .1, c .first-powers .ensures, searched-none _ _)
 
-cast-sixteen : tie.Need-cast-sixteen Inv-loop μ-loop
-cast-sixteen c = search needs
-
-sixteen-requires : tie.Need-sixteen-requires Inv-loop μ-loop
-sixteen-requires c κs = omega (arith, c .before .loop .inv .1, c .before .before .before .before .before .before .pre .0)
+cast-with-erasures : tie.Need-cast-with-erasures Inv-loop μ-loop
+cast-with-erasures c = search needs
 
 array-share-prefix-q : tie.Need-array-share-prefix-q Inv-loop μ-loop
-array-share-prefix-q c = omega (arith, c .before .before .before .before .degree .ensures .0 .most, c .before .before .before .before .before .before .before .good .1 .0 .1 .0 .1)
+array-share-prefix-q c = omega (arith, c .before .before .before .degree .ensures .0 .most, c .before .before .before .before .before .before .good .1 .1 .0 .1 .0 .1)
 
 slice-aggregate-evaluate : tie.Need-slice-aggregate-evaluate Inv-loop μ-loop
-slice-aggregate-evaluate c =
-    let s = c .before .before .before .before .before .before .before .before in
-    let d = c .before .before .before .before .before .degree in
-    sym (length-prefix (s .args .t2) (d .result) (s .good .1 .0 .1 .0 .1) (d .ensures .0))
+slice-aggregate-evaluate c = sym (length-prefix (c .before .before .before .before .before .before .before .args .t3) (c .before .before .before .before .degree .result) (c .before .before .before .before .before .before .before .good .1 .1 .0 .1 .0 .1) (c .before .before .before .before .degree .ensures .0))
 
 evaluate-requires : tie.Need-evaluate-requires Inv-loop μ-loop
-evaluate-requires c κs =
-    let s = c .before .before .before .before .before .before .before .before in
-    let d = c .before .before .before .before .before .degree in
-    omega (arith, length-prefix (s .args .t2) (d .result) (s .good .1 .0 .1 .0 .1) (d .ensures .0))
+evaluate-requires c κs = omega (arith, length-prefix (c .before .before .before .before .before .before .before .args .t3) (c .before .before .before .before .degree .result) (c .before .before .before .before .before .before .before .good .1 .1 .0 .1 .0 .1) (c .before .before .before .before .degree .ensures .0))
 
-masked-values-requires : tie.Need-masked-values-requires Inv-loop μ-loop
-masked-values-requires c κs = search needs
+with-erasures-requires : tie.Need-with-erasures-requires Inv-loop μ-loop
+with-erasures-requires c κs = (omega (arith, c .before .before .before .loop .inv .1, c .before .before .before .before .before .before .before .before .pre .0), c .before .before .before .before .before .before .before .before .pre .1)
 
 list-zeros-requires : tie.Need-list-zeros-requires Inv-loop μ-loop
 list-zeros-requires c κs =
-    let l = c .before .before .before .before .before .before .before .loop in
-    (omega (arith, l .inv .1), searched-room _ _ _ _ _ _ (l .inv .4) _ _ (omega (arith, l .inv .1)) (l .inv .3) (next (c .before .before)) (c .before .before .before .before .before .before .before .before .before .before .before .before .pre .1))
+    let l = c .before .before .before .before .before .before .loop in
+    (omega (arith, l .inv .1), searched-room _ _ _ _ _ _ (l .inv .4) _ _ (omega (arith, l .inv .1)) (l .inv .3) (next (c .before .before)) (c .before .before .before .before .before .before .before .before .before .before .before .pre .2))
 
 next-powers-requires : tie.Need-next-powers-requires Inv-loop μ-loop
 next-powers-requires c κs = search needs
@@ -82,7 +74,7 @@ loop-less c = search needs
 
 loop-again : tie.Need-loop-again Inv-loop μ-loop
 loop-again c =
-    let l = c .before .before .before .before .before .before .before .before .before .loop in (
+    let l = c .before .before .before .before .before .before .before .before .loop in (
       omega (arith, l .inv .1),
       omega (arith, l .inv .1),
       c .next-powers .ok .1 .0 .1,
@@ -104,12 +96,11 @@ find-roots-spec =
     add-end
     first-powers-requires
     loop-holds
-    cast-sixteen
-    sixteen-requires
+    cast-with-erasures
     array-share-prefix-q
     slice-aggregate-evaluate
     evaluate-requires
-    masked-values-requires
+    with-erasures-requires
     list-zeros-requires
     next-powers-requires
     add-i

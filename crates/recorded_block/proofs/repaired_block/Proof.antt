@@ -85,6 +85,9 @@ enum-told c = search needs
 enum-told-2 : tie.Need-enum-told-2
 enum-told-2 c = search needs
 
+enum-told-3 : tie.Need-enum-told-3
+enum-told-3 c = search needs
+
 same-length : tie.Need-same-length
 same-length c = search needs
 
@@ -125,6 +128,15 @@ returns-7 c =
     given-block (a .bytes .now) (a .blocks) (a .p) (a .room .now) (none e) (d .decode .last .0) (d .decode .result) (decodes d) _ _
     (sym (ap decodedNumber q)) (sym (ap changedBy q)) (sym (ap (λ (x : Decoded). roomWith x (d .decode .last .0) (a .room .now)) q))
 
+returns-8 : tie.Need-returns-8
+returns-8 c =
+    let d = c .before .before .before in
+    let e = d .before .before .before .before .before in
+    let a = e .before .before .before .before .before .before .before .before .args in
+    let q = c .enum-told3 .given .1 in
+    given-block (a .bytes .now) (a .blocks) (a .p) (a .room .now) (none e) (d .decode .last .0) (d .decode .result) (decodes d) _ _
+    (sym (ap decodedNumber q)) (sym (ap changedBy q)) (sym (ap (λ (x : Decoded). roomWith x (d .decode .last .0) (a .room .now)) q))
+
 pub repaired-block-spec : {M : Type 1} → statement M
 repaired-block-spec =
     tie.close
@@ -144,7 +156,9 @@ repaired-block-spec =
     put-requires
     enum-told
     enum-told-2
+    enum-told-3
     same-length
     returns-5
     returns-6
-    returns-7)
+    returns-7
+    returns-8)

@@ -36,14 +36,14 @@ sub-if3 c =
 returns-3 : tie.Need-returns-3
 returns-3 c = refused (simp (good (c .before .before), le-ltb _ _ (c .before .if2 .left), lt-ltb _ _ (c .if3 .taken))) (omega arith) refl refl refl
 
-receive-blocks-requires : tie.Need-receive-blocks-requires
-receive-blocks-requires c κs = search needs
+receive-marked-blocks-requires : tie.Need-receive-marked-blocks-requires
+receive-marked-blocks-requires c κs = search needs
 
 same-length : tie.Need-same-length
 same-length c = search needs
 
 returns-4 : tie.Need-returns-4
-returns-4 c = taken (simp (good (c .before .before .before .before .before .before .before), le-ltb _ _ (c .before .before .before .before .before .before .if2 .left), le-ltb _ _ (c .before .before .before .before .before .if3 .left))) refl (c .before .before .before .receive-blocks .ensures)
+returns-4 c = taken (simp (good (c .before .before .before .before .before .before .before), le-ltb _ _ (c .before .before .before .before .before .before .if2 .left), le-ltb _ _ (c .before .before .before .before .before .if3 .left))) refl (c .before .before .before .receive-marked-blocks .ensures)
 
 pub take-recording-spec : {M : Type 1} → statement M
 take-recording-spec =
@@ -55,6 +55,6 @@ take-recording-spec =
     returns-2
     sub-if3
     returns-3
-    receive-blocks-requires
+    receive-marked-blocks-requires
     same-length
     returns-4)

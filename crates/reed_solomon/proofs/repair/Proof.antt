@@ -13,7 +13,7 @@ use Rattle.error_correction.specs.Correction.{rootsOf, Explained}
 use Rattle.reed_solomon.proofs.Completeness.{roots-most}
 use Rattle.reed_solomon.proofs.Marks.{marked-zero}
 use Rattle.reed_solomon.proofs.Outcome.{Decoding, rejected, repaired, degrees-range}
-use Rattle.reed_solomon.proofs.Zeros.{erasures-count}
+use Rattle.reed_solomon.proofs.Zeros.{unmarked-degrees, erasures-count}
 use borrow.Author.Needs.{needs}
 use Rattle.reed_solomon.proofs.repair.Statement.{statement}
 use Rattle.reed_solomon.proofs.repair.Tie as tie
@@ -76,7 +76,12 @@ slice-aggregate-find-roots : tie.Need-slice-aggregate-find-roots
 slice-aggregate-find-roots c = search needs
 
 find-roots-requires : tie.Need-find-roots-requires
-find-roots-requires c κs = (c .before .before .before .before .before .before .by-degree .ok .1 .0 .1, few-roots (c .before))
+find-roots-requires c κs =
+    let t = c .before .before .before .before .before .before .before .before .before .before in (
+      c .before .before .before .before .before .before .by-degree .ok .1 .0 .1,
+      λ z. unmarked-degrees (t .args .marks .now) _ (c .before .before .before .before .before .before .by-degree .ensures) (marked-zero (t .args .marks .now) (sym (t .pre .3) ∙ z)),
+      few-roots (c .before),
+    )
 
 root-product-requires : tie.Need-root-product-requires
 root-product-requires c κs = few-found (c .before .before)

@@ -6,10 +6,10 @@ use Prim.Native.Nat.{ℕ, _+_}
 use native.Mathlib.Omega.{arith}
 use borrow.Author.Tests.{eq-eqb, ne-eqb, lt-ltb, le-ltb, not-true, not-false, eqb-true}
 use lib.ListN.{length, replicate}
-use Rattle.reed_solomon.specs.Marks.{areMarks, largest}
+use Rattle.reed_solomon.specs.Marks.{areMarks}
 use Rattle.reed_solomon.proofs.Marks.{marks-of, largest-none, largest-most}
 use Rattle.receiver.specs.Receive.{inRange}
-use Rattle.receiver.proofs.Calls.{refused-call, state-range}
+use Rattle.receiver.proofs.Calls.{parts-range, refused-call, state-range}
 use borrow.Author.Needs.{needs}
 use Rattle.receiver.proofs.Receiver.receive_marked.Statement.{statement}
 use Rattle.receiver.proofs.Receiver.receive_marked.Tie as tie
@@ -17,14 +17,17 @@ use Rattle.receiver.proofs.Receiver.receive_marked.Tie as tie
 sum-none : (a b : ℕ) → a + b ≡ 0 → (a ≡ 0) × (b ≡ 0)
 sum-none a b e = (omega arith, omega arith)
 
--- past the first test, the marks in the delays, and past the test of the marks that come
-good : (c : tie.Else1) → inRange (c .before .before .before .before .before .before .before .before .before .args .self) ≡ true
-good c = sym (c .before .parts-in-range .ensures) ∙ not-false _ (c .if1 .left)
+-- the test of the state, past it, the marks in the delays, and past the test of the marks that come
+range : (c : tie.After-parts-in-range) → c .parts-in-range .result ≡ inRange (c .before .before .before .before .before .before .before .before .before .before .before .before .args .self)
+range c = parts-range (c .before .before .before .before .before .before .before .before .before .before .before .before .args .self) _ _ (c .before .largest-mark .ensures) (c .parts-in-range .ensures)
+
+good : (c : tie.Else1) → inRange (c .before .before .before .before .before .before .before .before .before .before .before .before .before .args .self) ≡ true
+good c = sym (range (c .before)) ∙ not-false _ (c .if1 .left)
 
 held : (c : tie.Start) → length (c .args .self .marks) ≡ 1122
 held c = search needs
 
-marked : (c : tie.Else3) → areMarks (c .before .before .before .before .before .before .before .before .before .before .before .before .args .marks .now) ≡ true
+marked : (c : tie.Else3) → areMarks (c .before .before .before .before .before .before .before .before .before .before .before .before .before .before .before .before .args .marks .now) ≡ true
 marked c = sym (c .before .are-marks .ensures) ∙ not-false _ (c .if3 .left)
 
 slice-aggregate-largest-mark : tie.Need-slice-aggregate-largest-mark
@@ -38,13 +41,13 @@ parts-in-range-requires c κs = search needs
 
 returns : tie.Need-returns
 returns c =
-    let a = c .before .before .before .before .before .before .before .before .before .args in
-    let e = sym (c .before .parts-in-range .ensures) ∙ not-true _ (c .if1 .taken) in
+    let a = c .before .before .before .before .before .before .before .before .before .before .before .before .before .args in
+    let e = sym (range (c .before)) ∙ not-true _ (c .if1 .taken) in
     refused-call (a .self) (a .block .now) (a .marks .now) (a .room .now) _ _ (simp e) (simp e) refl
 
 returns-2 : tie.Need-returns-2
 returns-2 c =
-    let a = c .before .before .before .before .before .before .before .before .before .before .args in
+    let a = c .before .before .before .before .before .before .before .before .before .before .before .before .before .before .args in
     refused-call (a .self) (a .block .now) (a .marks .now) (a .room .now) _ _ (simp (good (c .before), ne-eqb _ _ (c .if2 .taken))) (simp (good (c .before), ne-eqb _ _ (c .if2 .taken))) refl
 
 are-marks-requires : tie.Need-are-marks-requires
@@ -52,19 +55,19 @@ are-marks-requires c κs = search needs
 
 returns-3 : tie.Need-returns-3
 returns-3 c =
-    let a = c .before .before .before .before .before .before .before .before .before .before .before .before .args in
+    let a = c .before .before .before .before .before .before .before .before .before .before .before .before .before .before .before .before .args in
     let e = sym (c .before .are-marks .ensures) ∙ not-true _ (c .if3 .taken) in
     refused-call (a .self) (a .block .now) (a .marks .now) (a .room .now) _ _ (simp (good (c .before .before .before), eq-eqb _ _ (c .before .before .if2 .left), e)) (simp (good (c .before .before .before), eq-eqb _ _ (c .before .before .if2 .left), e)) refl
 
 returns-4 : tie.Need-returns-4
 returns-4 c =
-    let a = c .before .before .before .before .before .before .before .before .before .before .before .before .before .args in
+    let a = c .before .before .before .before .before .before .before .before .before .before .before .before .before .before .before .before .before .args in
     refused-call (a .self) (a .block .now) (a .marks .now) (a .room .now) _ _
     (simp (good (c .before .before .before .before), eq-eqb _ _ (c .before .before .before .if2 .left), marked (c .before), lt-ltb _ _ (c .if4 .taken))) (simp (good (c .before .before .before .before), eq-eqb _ _ (c .before .before .before .if2 .left), marked (c .before), lt-ltb _ _ (c .if4 .taken))) refl
 
 returns-5 : tie.Need-returns-5
 returns-5 c =
-    let a = c .before .before .before .before .before .before .before .before .before .before .before .before .before .before .args in
+    let a = c .before .before .before .before .before .before .before .before .before .before .before .before .before .before .before .before .before .before .args in
     refused-call (a .self) (a .block .now) (a .marks .now) (a .room .now) _ _
     (simp (good (c .before .before .before .before .before), eq-eqb _ _ (c .before .before .before .before .if2 .left), marked (c .before .before), le-ltb _ _ (c .before .if4 .left), le-ltb _ _ (c .if5 .taken)))
     (simp (good (c .before .before .before .before .before), eq-eqb _ _ (c .before .before .before .before .if2 .left), marked (c .before .before), le-ltb _ _ (c .before .if4 .left), le-ltb _ _ (c .if5 .taken))) refl
@@ -74,14 +77,21 @@ largest-mark-requires-2 c κs = search needs
 
 add-none : tie.Need-add-none
 add-none c =
-    let s = c .before .before .before .before .before .before .before .before .before .before .before .before .before .before .before in
-    let h = state-range (s .args .self) (good (c .before .before .before .before .before .before)) .marks in
-    let l = largest-most (s .args .marks .now) 1 (λ i b. marks-of (s .args .marks .now) (marked (c .before .before .before)) .bits i (omega (arith, marks-of (s .args .marks .now) (marked (c .before .before .before)) .size))) in
-    record { fits = omega (arith, c .before .before .before .before .before .before .before .before .largest-mark .ensures, c .largest-mark2 .ensures, h, l) }
+    let s = c .before .before .before .before .before .before .before .before .before .before .before .before .before .before .before .before .before .before .before in
+    let m = marks-of (s .args .marks .now) (marked (c .before .before .before)) in
+    record {
+      fits = omega (
+        arith,
+        c .before .before .before .before .before .before .before .before .largest-mark .ensures,
+        c .largest-mark2 .ensures,
+        state-range (s .args .self) (good (c .before .before .before .before .before .before)) .marks,
+        largest-most (s .args .marks .now) 1 (λ i b. m .bits i (omega (arith, m .size))),
+      );
+    }
 
 take-block-requires : tie.Need-take-block-requires
 take-block-requires c κs =
-    let s = c .before .before .before .before .before .before .before .before .before .before .before .before .before .before .before .before in
+    let s = c .before .before .before .before .before .before .before .before .before .before .before .before .before .before .before .before .before .before .before .before in
     let m = marks-of (s .args .marks .now) (marked (c .before .before .before .before)) in (
       record { range = good (c .before .before .before .before .before .before .before); size = c .before .before .before .before .before .before .if2 .left; marked = marked (c .before .before .before .before); enough = c .before .before .before .if4 .left; more = c .before .before .if5 .left },
       λ z. (
