@@ -4,14 +4,14 @@
 /// What the reference gives.
 pub mod expected {
     use crate::answer::Answer;
-    use crate::interleaver::{BRANCHES, DEPTH};
+    use crate::interleaver::{Branches, BRANCHES, DEPTH};
     use crate::receiver::{Counts, Receiver, FILLING, MOST_BLOCKS};
     use crate::{BLOCK_LENGTH, GROUP_LENGTH, PACKET_LENGTH};
 
-    pub const STATE_LENGTH: usize = 1200;
+    pub const STATE_LENGTH: usize = 2322;
 
     /// The fields: name, offset, bytes.
-    pub const LAYOUT: [(&str, usize, usize); 12] = [
+    pub const LAYOUT: [(&str, usize, usize); 13] = [
         ("cells", 0, 1122),
         ("positions", 1122, 12),
         ("place", 1134, 1),
@@ -24,6 +24,7 @@ pub mod expected {
         ("outofstep", 1176, 8),
         ("changed", 1184, 8),
         ("bits", 1192, 8),
+        ("marks", 1200, 1122),
     ];
 
     /// The byte of the place that is not known.
@@ -52,24 +53,43 @@ pub mod expected {
         c.taken <= MOST_BLOCKS
             && five.iter().map(|n| *n as u128).sum::<u128>() == c.taken as u128
             && c.filling == c.taken.min(FILLING)
-            && c.changed as u128 <= 8 * accepted
+            && c.changed as u128 <= 16 * accepted
             && c.bits >= c.changed
             && c.bits as u128 <= 8 * c.changed as u128
+    }
+
+    /// Branches from their cells, with the oldest of each at its position.
+    fn fill(branches: &mut Branches, mut cells: &[u8], positions: &[usize]) {
+        for (branch, position) in positions.iter().enumerate() {
+            let (own, rest) = cells.split_at(cells_in(branch));
+            branches.queues[branch] = own[*position..].iter().chain(&own[..*position]).copied().collect();
+            cells = rest;
+        }
+    }
+
+    /// The cells of branches, with the oldest of each at its position.
+    fn cells_of(branches: &Branches, positions: &[usize]) -> Vec<u8> {
+        let mut cells = Vec::new();
+        for (branch, queue) in branches.queues.iter().enumerate() {
+            let back = cells_in(branch) - positions[branch];
+            cells.extend(queue.iter().skip(back).chain(queue.iter().take(back)));
+        }
+        cells
     }
 
     /// The receiver that the bytes stand for, and the positions of its branches.
     pub fn read(state: &[u8]) -> Option<(Receiver, Vec<usize>)> {
         let mut receiver = Receiver::fresh();
         let positions: Vec<usize> = field(state, "positions").iter().map(|p| *p as usize).collect();
-        let mut cells = field(state, "cells");
-        for (branch, position) in positions.iter().enumerate() {
-            let (own, rest) = cells.split_at(cells_in(branch));
-            cells = rest;
-            if *position >= own.len().max(1) {
-                return None;
-            }
-            receiver.branches.queues[branch] = own[*position..].iter().chain(&own[..*position]).copied().collect();
+        if positions.iter().enumerate().any(|(branch, position)| *position >= cells_in(branch).max(1)) {
+            return None;
         }
+        let marks = field(state, "marks");
+        if marks.iter().any(|mark| *mark > 1) {
+            return None;
+        }
+        fill(&mut receiver.branches, field(state, "cells"), &positions);
+        fill(&mut receiver.marks, marks, &positions);
         let missed = field(state, "missed")[0];
         receiver.place = match field(state, "place")[0] {
             NOT_KNOWN if missed == 0 => None,
@@ -91,13 +111,9 @@ pub mod expected {
     }
 
     pub fn write(receiver: &Receiver, positions: &[usize], state: &mut [u8]) {
-        let mut cells = Vec::new();
-        for (branch, queue) in receiver.branches.queues.iter().enumerate() {
-            let back = cells_in(branch) - positions[branch];
-            cells.extend(queue.iter().skip(back).chain(queue.iter().take(back)));
-        }
         let mut put = |name: &str, bytes: &[u8]| state[place_of(name)].copy_from_slice(bytes);
-        put("cells", &cells);
+        put("cells", &cells_of(&receiver.branches, positions));
+        put("marks", &cells_of(&receiver.marks, positions));
         put("positions", &positions.iter().map(|p| *p as u8).collect::<Vec<_>>());
         put("place", &[receiver.place.map_or(NOT_KNOWN, |place| place as u8)]);
         put("missed", &[receiver.odd as u8]);
@@ -116,6 +132,11 @@ pub mod expected {
     }
 
     pub fn take(state: &mut [u8], block: &[u8], room: &mut [u8]) -> u8 {
+        take_marked(state, block, &[0; BLOCK_LENGTH], room)
+    }
+
+    /// A block with marks, which the bridge does not take: a state with marks in its delays comes from elsewhere.
+    pub fn take_marked(state: &mut [u8], block: &[u8], marks: &[u8], room: &mut [u8]) -> u8 {
         if state.len() != STATE_LENGTH {
             return Answer::StateLength.number();
         }
@@ -123,7 +144,7 @@ pub mod expected {
             return Answer::StateRange.number();
         };
         let before = receiver.counts.taken;
-        let answer = receiver.receive(block, room);
+        let answer = receiver.receive_marked(block, marks, room);
         if receiver.counts.taken > before {
             assert!(block.len() == BLOCK_LENGTH && room.len() >= PACKET_LENGTH);
             for (branch, position) in positions.iter_mut().enumerate().take(BRANCHES - 1) {

@@ -46,6 +46,25 @@ pub mod expected {
         answer.number()
     }
 
+    /// With marks: 20 after 3 and before 4.
+    pub fn rs_decode_marked(block: &mut [u8], marks: &[u8], count: &mut [u8]) -> u8 {
+        if block.len() != BLOCK_LENGTH {
+            return Answer::BlockLength.number();
+        }
+        if !reed_solomon::are_marks(marks, BLOCK_LENGTH) {
+            return Answer::MarkValue.number();
+        }
+        if count.len() < 2 {
+            return Answer::ShortRoom.number();
+        }
+        let (answer, changed) = reed_solomon::decode_marked(block, marks);
+        if answer == Answer::Done {
+            count[0] = changed.bytes as u8;
+            count[1] = changed.bits as u8;
+        }
+        answer.number()
+    }
+
     /// The whole run is tested first; a refused run writes nothing. The answer is 15
     /// where a null packet was put in.
     pub fn send_run(rate: u8, packets: &[u8], room: &mut [u8], answer: &mut [u8]) -> u64 {
@@ -111,7 +130,16 @@ pub mod expected {
     /// byte is lent for the answer, nothing is done. Short room for the counts
     /// or for 188 bytes for each whole block is 4, and only that is written.
     pub fn receive_run(blocks: &[u8], room: &mut [u8], counts: &mut [u8], answer: &mut [u8]) -> u64 {
+        receive_run_marked(blocks, &vec![0; blocks.len()], room, counts, answer)
+    }
+
+    /// The same with a mark for each byte; marks that are not such are 20, before 4.
+    pub fn receive_run_marked(blocks: &[u8], marks: &[u8], room: &mut [u8], counts: &mut [u8], answer: &mut [u8]) -> u64 {
         if answer.is_empty() {
+            return 0;
+        }
+        if !reed_solomon::are_marks(marks, blocks.len()) {
+            answer[0] = Answer::MarkValue.number();
             return 0;
         }
         let whole = blocks.len() / BLOCK_LENGTH;
@@ -121,8 +149,8 @@ pub mod expected {
         }
         let mut receiver = Receiver::fresh();
         let mut written = 0;
-        for block in blocks.chunks_exact(BLOCK_LENGTH) {
-            if receiver.receive(block, &mut room[written..]) == Answer::Done {
+        for (block, marked) in blocks.chunks_exact(BLOCK_LENGTH).zip(marks.chunks(BLOCK_LENGTH)) {
+            if receiver.receive_marked(block, marked, &mut room[written..]) == Answer::Done {
                 written += PACKET_LENGTH;
             }
         }
@@ -169,6 +197,14 @@ pub mod library {
             ) -> u8;
             pub fn dvbs_rs_encode(data: *const u8, data_len: usize, room: *mut u8, room_len: usize) -> u8;
             pub fn dvbs_rs_decode(block: *mut u8, block_len: usize, count: *mut u8, count_len: usize) -> u8;
+            pub fn dvbs_rs_decode_marked(
+                block: *mut u8,
+                block_len: usize,
+                marks: *const u8,
+                marks_len: usize,
+                count: *mut u8,
+                count_len: usize,
+            ) -> u8;
             pub fn dvbs_send_run(
                 rate: u8,
                 packets: *const u8,
@@ -191,6 +227,18 @@ pub mod library {
             pub fn dvbs_receive_run(
                 blocks: *const u8,
                 blocks_len: usize,
+                room: *mut u8,
+                room_len: usize,
+                counts: *mut u8,
+                counts_len: usize,
+                answer: *mut u8,
+                answer_len: usize,
+            ) -> u64;
+            pub fn dvbs_receive_run_marked(
+                blocks: *const u8,
+                blocks_len: usize,
+                marks: *const u8,
+                marks_len: usize,
                 room: *mut u8,
                 room_len: usize,
                 counts: *mut u8,
@@ -232,6 +280,19 @@ pub mod library {
         unsafe { c::dvbs_rs_decode(block.as_mut_ptr(), block.len(), count.as_mut_ptr(), count.len()) }
     }
 
+    pub fn rs_decode_marked(block: &mut [u8], marks: &[u8], count: &mut [u8]) -> u8 {
+        unsafe {
+            c::dvbs_rs_decode_marked(
+                block.as_mut_ptr(),
+                block.len(),
+                marks.as_ptr(),
+                marks.len(),
+                count.as_mut_ptr(),
+                count.len(),
+            )
+        }
+    }
+
     pub fn send_run(rate: u8, packets: &[u8], room: &mut [u8], answer: &mut [u8]) -> u64 {
         unsafe {
             c::dvbs_send_run(
@@ -266,6 +327,23 @@ pub mod library {
             c::dvbs_receive_run(
                 blocks.as_ptr(),
                 blocks.len(),
+                room.as_mut_ptr(),
+                room.len(),
+                counts.as_mut_ptr(),
+                counts.len(),
+                answer.as_mut_ptr(),
+                answer.len(),
+            )
+        }
+    }
+
+    pub fn receive_run_marked(blocks: &[u8], marks: &[u8], room: &mut [u8], counts: &mut [u8], answer: &mut [u8]) -> u64 {
+        unsafe {
+            c::dvbs_receive_run_marked(
+                blocks.as_ptr(),
+                blocks.len(),
+                marks.as_ptr(),
+                marks.len(),
                 room.as_mut_ptr(),
                 room.len(),
                 counts.as_mut_ptr(),

@@ -1,5 +1,6 @@
-//! The block receiver of document 01: delays, repair, group place (as document 02
-//! amends it under P4), derandomizing, and the counts of a pass.
+//! The block receiver of document 01: delays, repair (with marks, document 02,
+//! P11), group place (as document 02 amends it under P4), derandomizing, and the
+//! counts of a pass.
 
 use crate::answer::Answer;
 use crate::interleaver::Branches;
@@ -29,6 +30,8 @@ impl Counts {
 
 pub struct Receiver {
     pub branches: Branches,
+    /// The marks, delayed as their bytes are.
+    pub marks: Branches,
     pub place: Option<usize>,
     /// The mark: the last block that was not lost began with neither sync byte.
     pub odd: bool,
@@ -37,17 +40,25 @@ pub struct Receiver {
 
 impl Receiver {
     pub fn fresh() -> Self {
-        Receiver { branches: Branches::deinterleaver(), place: None, odd: false, counts: Counts::default() }
+        Receiver { branches: Branches::deinterleaver(), marks: Branches::deinterleaver(), place: None, odd: false, counts: Counts::default() }
     }
 
     pub fn counts(&self) -> Counts {
         self.counts
     }
 
-    /// One block; a packet is in the room where the answer is Done.
+    /// One block without marks: they are 0 where none come.
     pub fn receive(&mut self, block: &[u8], room: &mut [u8]) -> Answer {
+        self.receive_marked(block, &[0; BLOCK_LENGTH], room)
+    }
+
+    /// One block and its marks; a packet is in the room where the answer is Done.
+    pub fn receive_marked(&mut self, block: &[u8], marks: &[u8], room: &mut [u8]) -> Answer {
         if block.len() != BLOCK_LENGTH {
             return Answer::BlockLength;
+        }
+        if !reed_solomon::are_marks(marks, BLOCK_LENGTH) {
+            return Answer::MarkValue;
         }
         if room.len() < PACKET_LENGTH {
             return Answer::ShortRoom;
@@ -55,7 +66,7 @@ impl Receiver {
         if self.counts.taken == MOST_BLOCKS {
             return Answer::Full;
         }
-        let answer = self.take(block, room);
+        let answer = self.take(block, marks, room);
         self.counts.taken += 1;
         match answer {
             Answer::Done => self.counts.delivered += 1,
@@ -68,13 +79,15 @@ impl Receiver {
         answer
     }
 
-    fn take(&mut self, block: &[u8], room: &mut [u8]) -> Answer {
+    fn take(&mut self, block: &[u8], marks: &[u8], room: &mut [u8]) -> Answer {
         let mut ordered = [0; BLOCK_LENGTH];
         self.branches.pass(block, &mut ordered);
+        let mut erased = [0; BLOCK_LENGTH];
+        self.marks.pass(marks, &mut erased);
         if self.counts.taken < FILLING {
             return Answer::Filling;
         }
-        let (answer, changed) = reed_solomon::decode(&mut ordered);
+        let (answer, changed) = reed_solomon::decode_marked(&mut ordered, &erased);
         if answer == Answer::NoCodeword {
             // Lost blocks don't count either way: the mark stays.
             self.place = self.place.map(|place| (place + 1) % GROUP_LENGTH);
@@ -217,8 +230,36 @@ mod tests {
     }
 
     #[test]
+    fn marks_are_delayed_as_their_bytes_are() {
+        let mut r = Xorshift::new(10);
+        let sent = packets(&mut r, 40);
+        let mut stream = interleaved_stream(&sent);
+        // Sixteen wrong bytes, all marked, in each block that the delays give: byte n of block p came as byte 204 (p + n mod 12) + n.
+        let mut marks = vec![0; stream.len()];
+        for p in 0..29 {
+            for n in r.places(16, 204) {
+                let at = 204 * (p + n % 12) + n;
+                stream[at] ^= 1 + r.below(255) as u8;
+                marks[at] = 1;
+            }
+        }
+        let (mut receiver, mut got) = (Receiver::fresh(), Vec::new());
+        for (block, marked) in stream.chunks_exact(204).zip(marks.chunks_exact(204)) {
+            let mut room = [0; 188];
+            if receiver.receive_marked(block, marked, &mut room) == Answer::Done {
+                got.extend(room);
+            }
+        }
+        assert_eq!(got, sent[..29 * 188]);
+        assert_eq!(receiver.counts().in_order()[..7], [40, 11, 29, 0, 0, 0, 29 * 16]);
+    }
+
+    #[test]
     fn refusals_count_nowhere() {
         let mut receiver = Receiver::fresh();
+        assert_eq!(receiver.receive_marked(&[0; 203], &[2; 204], &mut [0; 0]), Answer::BlockLength);
+        assert_eq!(receiver.receive_marked(&[0; 204], &[2; 204], &mut [0; 0]), Answer::MarkValue);
+        assert_eq!(receiver.receive_marked(&[0; 204], &[0; 203], &mut [0; 0]), Answer::MarkValue);
         assert_eq!(receiver.receive(&[0; 203], &mut [0; 0]), Answer::BlockLength);
         assert_eq!(receiver.receive(&[0; 204], &mut [0; 187]), Answer::ShortRoom);
         assert_eq!(receiver.counts(), Counts::default());

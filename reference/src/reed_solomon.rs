@@ -1,6 +1,7 @@
 //! Outer coding, RS(204,188,T=8) (clause 4.4.2). Field arithmetic by
 //! logarithms; decoding by Berlekamp-Massey, Chien search over the 204 places
-//! that are sent, and Forney's formula, with the result verified.
+//! that are sent, and Forney's formula, with the result verified; with marks
+//! (document 02, P11) Berlekamp-Massey begins with the locator of the erasures.
 
 use crate::answer::Answer;
 use crate::{BLOCK_LENGTH, PACKET_LENGTH};
@@ -146,6 +147,42 @@ fn berlekamp_massey(s: &[u8; CHECK_LENGTH]) -> ([u8; CHECK_LENGTH + 1], usize) {
     (locator, length)
 }
 
+/// The same with places that are known beforehand: the product of 1 + x lambda^k
+/// over their exponents k, and from it the locator of these and of the errors,
+/// and how many both are (Blahut).
+fn berlekamp_massey_from(s: &[u8; CHECK_LENGTH], erasures: &[usize]) -> ([u8; CHECK_LENGTH + 1], usize) {
+    let known = erasures.len();
+    let mut locator = [0; CHECK_LENGTH + 1];
+    locator[0] = 1;
+    for &exponent in erasures {
+        for i in (1..=CHECK_LENGTH).rev() {
+            locator[i] ^= multiply(locator[i - 1], power(exponent));
+        }
+    }
+    let mut before = locator;
+    let mut length = known;
+    for n in known..CHECK_LENGTH {
+        let mut discrepancy = 0;
+        for i in 0..=n {
+            discrepancy ^= multiply(locator[i], s[n - i]);
+        }
+        before.rotate_right(1);
+        before[0] = 0;
+        if discrepancy == 0 {
+            continue;
+        }
+        let kept = locator;
+        for i in 0..=CHECK_LENGTH {
+            locator[i] ^= multiply(discrepancy, before[i]);
+        }
+        if 2 * length <= n + known {
+            length = n + 1 + known - length;
+            before = kept.map(|c| divide(c, discrepancy));
+        }
+    }
+    (locator, length)
+}
+
 /// Value of a polynomial, lowest coefficient first.
 fn evaluate(polynomial: &[u8], at: u8) -> u8 {
     polynomial.iter().rev().fold(0, |sum, &c| multiply(sum, at) ^ c)
@@ -172,16 +209,52 @@ pub fn changed(came: &[u8], left: &[u8]) -> Changed {
 /// The codeword within eight bytes of the block and what differs between them,
 /// or none.
 pub fn nearest_codeword(block: &[u8]) -> Option<([u8; BLOCK_LENGTH], Changed)> {
-    let mut repaired = [0; BLOCK_LENGTH];
-    repaired.copy_from_slice(block);
     let s = syndromes(block);
-    if s == [0; CHECK_LENGTH] {
-        return Some((repaired, Changed::default()));
-    }
     let (locator, length) = berlekamp_massey(&s);
     if length > CORRECTABLE {
         return None;
     }
+    let repaired = corrected(block, &s, &locator)?;
+    // Nothing above is trusted: the result must be a codeword within eight bytes.
+    let changed = changed(block, &repaired);
+    if changed.bytes <= CORRECTABLE && is_codeword(&repaired) {
+        Some((repaired, changed))
+    } else {
+        None
+    }
+}
+
+/// Twice the unmarked bytes in which two blocks differ, and the marks: 2 e + f.
+pub fn cost(marks: &[u8], came: &[u8], codeword: &[u8]) -> usize {
+    let marked = marks.iter().filter(|&&m| m == 1).count();
+    let errors = (0..BLOCK_LENGTH).filter(|&n| marks[n] == 0 && came[n] != codeword[n]).count();
+    2 * errors + marked
+}
+
+/// The codeword with 2 e + f at most 16 and what differs, or none. Marks are 0 or 1.
+pub fn codeword_with_marks(block: &[u8], marks: &[u8]) -> Option<([u8; BLOCK_LENGTH], Changed)> {
+    let erasures: Vec<usize> = (0..BLOCK_LENGTH).filter(|&n| marks[n] == 1).map(|n| BLOCK_LENGTH - 1 - n).collect();
+    if erasures.len() > CHECK_LENGTH {
+        return None;
+    }
+    let s = syndromes(block);
+    let (locator, length) = berlekamp_massey_from(&s, &erasures);
+    if 2 * (length - erasures.len()) + erasures.len() > CHECK_LENGTH {
+        return None;
+    }
+    let repaired = corrected(block, &s, &locator)?;
+    // Nothing above is trusted: the result must be a codeword with 2 e + f at most 16.
+    if cost(marks, block, &repaired) <= CHECK_LENGTH && is_codeword(&repaired) {
+        Some((repaired, changed(block, &repaired)))
+    } else {
+        None
+    }
+}
+
+/// The block with the errors at the roots of the locator taken away.
+fn corrected(block: &[u8], s: &[u8; CHECK_LENGTH], locator: &[u8; CHECK_LENGTH + 1]) -> Option<[u8; BLOCK_LENGTH]> {
+    let mut repaired = [0; BLOCK_LENGTH];
+    repaired.copy_from_slice(block);
     // Evaluator: syndromes times locator, modulo x^16.
     let mut evaluator = [0; CHECK_LENGTH];
     for i in 0..CHECK_LENGTH {
@@ -198,7 +271,7 @@ pub fn nearest_codeword(block: &[u8]) -> Option<([u8; BLOCK_LENGTH], Changed)> {
     for n in 0..BLOCK_LENGTH {
         let exponent = BLOCK_LENGTH - 1 - n;
         let inverse = power(255 - exponent);
-        if evaluate(&locator, inverse) != 0 {
+        if evaluate(locator, inverse) != 0 {
             continue;
         }
         let slope = evaluate(&derivative, inverse);
@@ -208,13 +281,7 @@ pub fn nearest_codeword(block: &[u8]) -> Option<([u8; BLOCK_LENGTH], Changed)> {
         let quotient = divide(evaluate(&evaluator, inverse), slope);
         repaired[n] ^= multiply(power(exponent), quotient);
     }
-    // Nothing above is trusted: the result must be a codeword within eight bytes.
-    let changed = changed(block, &repaired);
-    if changed.bytes <= CORRECTABLE && is_codeword(&repaired) {
-        Some((repaired, changed))
-    } else {
-        None
-    }
+    Some(repaired)
 }
 
 /// Repairs a block in place. What changed is given where the answer is Done.
@@ -223,6 +290,29 @@ pub fn decode(block: &mut [u8]) -> (Answer, Changed) {
         return (Answer::BlockLength, Changed::default());
     }
     match nearest_codeword(block) {
+        Some((codeword, changed)) => {
+            block.copy_from_slice(&codeword);
+            (Answer::Done, changed)
+        }
+        None => (Answer::NoCodeword, Changed::default()),
+    }
+}
+
+/// Whether there is a mark, 0 or 1, for each of so many bytes.
+pub fn are_marks(marks: &[u8], bytes: usize) -> bool {
+    marks.len() == bytes && marks.iter().all(|&m| m <= 1)
+}
+
+/// Repairs a block in place with a mark for each byte. What changed is given where
+/// the answer is Done.
+pub fn decode_marked(block: &mut [u8], marks: &[u8]) -> (Answer, Changed) {
+    if block.len() != BLOCK_LENGTH {
+        return (Answer::BlockLength, Changed::default());
+    }
+    if !are_marks(marks, BLOCK_LENGTH) {
+        return (Answer::MarkValue, Changed::default());
+    }
+    match codeword_with_marks(block, marks) {
         Some((codeword, changed)) => {
             block.copy_from_slice(&codeword);
             (Answer::Done, changed)
@@ -370,7 +460,69 @@ mod tests {
     }
 
     #[test]
+    fn marks_and_errors_on_either_side_of_the_line() {
+        let mut r = Xorshift::new(5);
+        for case in 0..19 * 300 {
+            let marked = case % 19;
+            let errors = (16usize.saturating_sub(marked) / 2 + case / 19 % 3).saturating_sub(1);
+            let mut sent = [0; 204];
+            encode(&r.bytes(188), &mut sent);
+            let (mut block, mut marks) = (sent, [0; 204]);
+            let places = r.places(marked + errors, 204);
+            for (i, &n) in places.iter().enumerate() {
+                // A marked byte may be right.
+                if i >= marked || r.below(3) > 0 {
+                    block[n] ^= 1 + r.below(255) as u8;
+                }
+                marks[n] = (i < marked) as u8;
+            }
+            let came = block;
+            let (answer, told) = decode_marked(&mut block, &marks);
+            if 2 * errors + marked <= 16 {
+                assert_eq!((answer, told), (Answer::Done, changed(&came, &sent)));
+                assert_eq!(block, sent);
+            } else if answer == Answer::Done {
+                assert!(block != sent && cost(&marks, &came, &block) <= 16 && is_codeword(&block));
+            } else {
+                assert_eq!((answer, told, block), (Answer::NoCodeword, Changed::default(), came));
+            }
+        }
+    }
+
+    #[test]
+    fn no_marks_is_the_decoder_without_them() {
+        let mut r = Xorshift::new(6);
+        for case in 0..3000 {
+            let mut block = [0; 204];
+            encode(&r.bytes(188), &mut block);
+            for n in r.places(case % 12, 204) {
+                block[n] ^= 1 + r.below(255) as u8;
+            }
+            let mut same = block;
+            assert_eq!(decode_marked(&mut same, &[0; 204]), decode(&mut block));
+            assert_eq!(same, block);
+        }
+    }
+
+    #[test]
+    fn seventeen_marks_are_too_many_for_a_clean_block() {
+        let mut sent = [0; 204];
+        encode(&Xorshift::new(7).bytes(188), &mut sent);
+        for (count, answer) in [(16, Answer::Done), (17, Answer::NoCodeword), (204, Answer::NoCodeword)] {
+            let mut marks = [0; 204];
+            marks[..count].fill(1);
+            let mut block = sent;
+            assert_eq!(decode_marked(&mut block, &marks), (answer, Changed::default()));
+            assert_eq!(block, sent);
+        }
+    }
+
+    #[test]
     fn lengths() {
+        assert_eq!(decode_marked(&mut [0; 203], &[2; 3]).0, Answer::BlockLength);
+        assert_eq!(decode_marked(&mut [0; 204], &[0; 203]).0, Answer::MarkValue);
+        assert_eq!(decode_marked(&mut [0; 204], &[0; 205]).0, Answer::MarkValue);
+        assert_eq!(decode_marked(&mut [0; 204], &[2; 204]).0, Answer::MarkValue);
         assert_eq!(decode(&mut [0; 203]).0, Answer::BlockLength);
         assert_eq!(decode(&mut [0; 205]).0, Answer::BlockLength);
         assert_eq!(encode(&[0; 187], &mut [0; 204]), Answer::PacketLength);

@@ -127,6 +127,24 @@ fn rs_decode(s: &mut Score, block: &[u8], count: Vec<u8>) -> (u8, Vec<u8>) {
     (want, m)
 }
 
+fn rs_decode_marked(s: &mut Score, block: &[u8], marks: &[u8], count: Vec<u8>) -> (u8, Vec<u8>, Vec<u8>) {
+    let (mut a, mut b) = (block.to_vec(), block.to_vec());
+    let (mut m, mut n) = (count.clone(), count);
+    let want = expected::rs_decode_marked(&mut a, marks, &mut m);
+    let got = library::rs_decode_marked(&mut b, marks, &mut n);
+    let inputs = if s.only_case.is_some() {
+        format!("block {}, marks {}, count of {}", hex(block), hex(marks), m.len())
+    } else {
+        format!("block of {}, marks of {}, count of {}", block.len(), marks.len(), m.len())
+    };
+    s.same(
+        &inputs,
+        &[("answer", &[want]), ("count", &m), ("block", &a)],
+        &[("answer", &[got]), ("count", &n), ("block", &b)],
+    );
+    (want, m, a)
+}
+
 fn send_run(s: &mut Score, rate: u8, packets: &[u8], room: Vec<u8>, answer: Vec<u8>) -> (u8, u64) {
     let (mut a, mut b) = (room.clone(), room);
     let (mut m, mut n) = (answer.clone(), answer);
@@ -165,6 +183,37 @@ fn receive_run_told(s: &mut Score, blocks: &[u8], room: Vec<u8>, counts: Vec<u8>
     }
     a.truncate(want as usize);
     (a, eight)
+}
+
+/// With marks: the packets, the answer and the counts.
+fn receive_run_marked(
+    s: &mut Score,
+    blocks: &[u8],
+    marks: &[u8],
+    room: Vec<u8>,
+    counts: Vec<u8>,
+    answer: Vec<u8>,
+) -> (Vec<u8>, Vec<u8>, Vec<u8>) {
+    let (mut a, mut b) = (room.clone(), room);
+    let (mut m, mut n) = (counts.clone(), counts);
+    let (mut t, mut u) = (answer.clone(), answer);
+    let want = expected::receive_run_marked(blocks, marks, &mut a, &mut m, &mut t);
+    let got = library::receive_run_marked(blocks, marks, &mut b, &mut n, &mut u);
+    let inputs = format!(
+        "blocks of {}, marks of {}, room of {}, counts of {}, answer of {}",
+        blocks.len(),
+        marks.len(),
+        a.len(),
+        m.len(),
+        t.len()
+    );
+    s.same(
+        &inputs,
+        &[("bytes", &want.to_le_bytes()), ("counts", &m), ("answer", &t), ("room", &a)],
+        &[("bytes", &got.to_le_bytes()), ("counts", &n), ("answer", &u), ("room", &b)],
+    );
+    a.truncate(want as usize);
+    (a, t, m)
 }
 
 /// The answer, and the block where there is one.
@@ -464,6 +513,189 @@ fn decode_kinds(s: &mut Score) {
         }
         let block = codeword(r);
         rs_decode(s, &block, vec![0xA5; case as usize % 4]);
+    });
+}
+
+/// Marks on so many bytes, of which one in four is right all the same, and errors
+/// in other bytes.
+fn doubt(r: &mut Xorshift, block: &mut [u8], marked: usize, errors: usize) -> Vec<u8> {
+    let mut marks = vec![0; BLOCK_LENGTH];
+    for (i, n) in r.places(marked + errors, BLOCK_LENGTH).into_iter().enumerate() {
+        marks[n] = (i < marked) as u8;
+        if i >= marked || r.below(4) > 0 {
+            block[n] ^= 1 + r.below(255) as u8;
+        }
+    }
+    marks
+}
+
+fn marked_kinds(s: &mut Score) {
+    let mut seen = [0u64; 2];
+    s.kind("rs_decode_marked: 0 to 18 marks, errors on either side of the line", 19 * 6_000, |s, r, case| {
+        let marked = case as usize % 19;
+        let errors = (16usize.saturating_sub(marked) / 2 + case as usize / 19 % 5).saturating_sub(2);
+        let sent = codeword(r);
+        let mut block = sent.clone();
+        let marks = doubt(r, &mut block, marked, errors);
+        let before = count_before(r);
+        let (answer, count, left) = rs_decode_marked(s, &block, &marks, before);
+        let within = 2 * errors + marked <= 16;
+        if within {
+            let bytes = sent.iter().zip(&block).filter(|(a, b)| a != b).count() as u8;
+            let bits = sent.iter().zip(&block).map(|(a, b)| (a ^ b).count_ones()).sum::<u32>() as u8;
+            assert_eq!((answer, &count[..2], &left), (0, &[bytes, bits][..], &sent));
+        }
+        if marked > 16 {
+            assert_eq!((answer, &left), (8, &block));
+        }
+        seen[within as usize] += 1;
+    });
+    if seen != [0; 2] {
+        println!("  beyond the line, within it: {seen:?}");
+    }
+    s.kind("rs_decode_marked: any marks and errors", 60_000, |s, r, case| {
+        let mut block = if case % 10 == 9 { r.bytes(BLOCK_LENGTH) } else { codeword(r) };
+        let (marked, errors) = (r.below(20), r.below(12));
+        let mut marks = doubt(r, &mut block, marked, errors);
+        if case % 5 == 0 {
+            // Crowded into the check bytes, or all over.
+            let (low, high) = [(188, 204), (0, 204), (100, 120)][r.below(3)];
+            marks.fill(0);
+            let count = r.below(high - low + 1).min(18);
+            r.places(count, high - low).into_iter().for_each(|n| marks[low + n] = 1);
+        }
+        let before = count_before(r);
+        rs_decode_marked(s, &block, &marks, before);
+    });
+    let mut drawn = 0u64;
+    s.kind("rs_decode_marked: between two codewords", 40_000, |s, r, case| {
+        // Two codewords 17 bytes apart: f of these bytes marked, of the others part of the way.
+        let a = codeword(r);
+        let at = r.below(188);
+        let factor = 1 + r.below(255) as u8;
+        let mut other = a.clone();
+        for (k, g) in reference::reed_solomon::generator().iter().enumerate() {
+            other[at + k] ^= times(*g, factor);
+        }
+        let (marked, taken) = (case as usize % 18, case as usize / 18 % 18);
+        let mut block = a.clone();
+        let mut marks = vec![0; BLOCK_LENGTH];
+        for (i, k) in r.places(17, 17).into_iter().enumerate() {
+            if i < marked {
+                marks[at + k] = 1;
+                block[at + k] = [a[at + k], other[at + k], r.byte()][r.below(3)];
+            } else if i < marked + taken {
+                block[at + k] = other[at + k];
+            }
+        }
+        let before = count_before(r);
+        let (answer, _, left) = rs_decode_marked(s, &block, &marks, before);
+        drawn += (answer == 0 && left == other) as u64;
+    });
+    if drawn > 0 {
+        println!("  drawn to the other codeword: {drawn}");
+    }
+    s.kind("rs_decode_marked: no marks, as rs_decode", 20_000, |s, r, case| {
+        let mut block = codeword(r);
+        harm(r, &mut block, case as usize % 12, 0, 204);
+        let (answer, count, left) = rs_decode_marked(s, &block, &[0; 204], vec![0xA5; 2]);
+        let (mut same, mut told) = (block, vec![0xA5; 2]);
+        assert_eq!(library::rs_decode(&mut same, &mut told), answer);
+        assert_eq!((same, told), (left, count));
+    });
+    s.kind("rs_decode_marked: refusals", 410, |s, r, case| {
+        for length in [case as usize, 204] {
+            for count in [0, 1, 2, 3] {
+                let block = if length == 204 { codeword(r) } else { r.bytes(length) };
+                // Too few marks, too many, as many as the block has bytes; and one that is no mark.
+                for many in [0, 203, 204, 205, case as usize] {
+                    let marks: Vec<u8> = (0..many).map(|_| (r.below(40) == 0) as u8).collect();
+                    rs_decode_marked(s, &block, &marks, vec![0xA5; count]);
+                }
+                let mut marks = vec![0; 204];
+                marks[r.below(204)] = [2, 3, 0x80, 0xFF][case as usize % 4];
+                rs_decode_marked(s, &block, &marks, vec![0xA5; count]);
+            }
+        }
+    });
+    let mut total = [0u64; 8];
+    s.kind("receive_run_marked: harmed bytes, most of them marked", 240, |s, r, case| {
+        let count = 20 + r.below(120);
+        let p = packets(r, count);
+        let mut stream = interleaved_stream(&p);
+        let rest = r.below(204);
+        stream.extend(r.bytes(rest));
+        // One byte in 8 to one in 200 wrong; of them and of the others some marked.
+        let one_in = 8 + r.below(12) * (case as usize % 17);
+        let missed = 1 + r.below(20);
+        let false_marks = 30 + r.below(3000);
+        let marks: Vec<u8> = stream
+            .iter_mut()
+            .map(|byte| {
+                if r.below(one_in) == 0 {
+                    *byte = r.byte();
+                    (r.below(missed) > 0) as u8
+                } else {
+                    (r.below(false_marks) == 0) as u8
+                }
+            })
+            .collect();
+        let room = room_of(r, stream.len() / 204 * 188);
+        let (_, answer, counts) = receive_run_marked(s, &stream, &marks, room, vec![0xA5; COUNTS_LENGTH], vec![0xA5]);
+        assert_eq!(answer, [0]);
+        for (sum, bytes) in total.iter_mut().zip(counts.chunks_exact(8)) {
+            *sum += u64::from_le_bytes(bytes.try_into().unwrap());
+        }
+    });
+    if total != [0; 8] {
+        println!("  taken, filling, delivered, lost, waiting, outofstep, changed, bits: {total:?}");
+    }
+    s.kind("receive_run_marked: a burst of 192 bytes, marked", 2448, |s, r, case| {
+        // At most sixteen bytes of a block, all marked: none is lost.
+        let p = packets(r, 40);
+        let mut stream = interleaved_stream(&p);
+        let mut marks = vec![0; stream.len()];
+        let start = 12 * 204 + case as usize;
+        for n in start..start + 192 {
+            stream[n] ^= 1 + r.below(255) as u8;
+            marks[n] = 1;
+        }
+        let (got, answer, _) = receive_run_marked(s, &stream, &marks, vec![0xA5; 40 * 188], vec![0xA5; COUNTS_LENGTH], vec![0xA5]);
+        assert_eq!(answer, [0]);
+        assert_eq!(got, p[..29 * 188]);
+    });
+    s.kind("receive_run_marked: no marks, as receive_run", 60, |s, r, case| {
+        let p = packets(r, 30);
+        let mut stream = interleaved_stream(&p);
+        stream.iter_mut().for_each(|byte| if r.below(40 + case as usize) == 0 { *byte = r.byte() });
+        let none = vec![0; stream.len()];
+        let (got, _, counts) = receive_run_marked(s, &stream, &none, vec![0xA5; 30 * 188], vec![0xA5; COUNTS_LENGTH], vec![0xA5]);
+        let (mut room, mut told, mut answer) = (vec![0xA5; 30 * 188], vec![0xA5; COUNTS_LENGTH], vec![0xA5]);
+        let written = library::receive_run(&stream, &mut room, &mut told, &mut answer);
+        room.truncate(written as usize);
+        assert_eq!((room, told), (got, counts));
+    });
+    s.kind("receive_run_marked: refusals", 60, |s, r, case| {
+        let count = case as usize % 20;
+        let p = packets(r, count);
+        let mut stream = interleaved_stream(&p);
+        let rest = [0, 1, 203][case as usize % 3];
+        stream.extend(r.bytes(rest));
+        let good = vec![0; stream.len()];
+        let mut bad = good.clone();
+        if let Some(last) = bad.last_mut() {
+            *last = 2;
+        }
+        let mut longer = good.clone();
+        longer.push(0);
+        for marks in [&good[..], &bad, &longer, &good[..good.len().saturating_sub(1)], &[]] {
+            for (counts, answer) in [0, 63, 64, 65].into_iter().flat_map(|c| [0, 1, 2].map(|a| (c, a))) {
+                for room in [188 * count, (188 * count).saturating_sub(1), 0] {
+                    let room = r.bytes(room);
+                    receive_run_marked(s, &stream, marks, room, vec![0xA5; counts], vec![0xA5; answer]);
+                }
+            }
+        }
     });
 }
 
@@ -1047,6 +1279,7 @@ fn main() {
     println!("the reference against {}", library::NAME);
     stage_kinds(&mut s);
     decode_kinds(&mut s);
+    marked_kinds(&mut s);
     send_kinds(&mut s);
     read_kinds(&mut s);
     receive_kinds(&mut s);

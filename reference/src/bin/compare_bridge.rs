@@ -15,6 +15,7 @@ use reference::{exports, BLOCK_LENGTH, INVERTED_SYNC, PACKET_LENGTH, SYNC};
 const POSITIONS: usize = 1122;
 const PLACE: usize = 1134;
 const COUNTS: usize = 1136;
+const MARKS: usize = 1200;
 
 mod guarded {
     use std::ffi::c_void;
@@ -202,12 +203,15 @@ fn in_range(r: &mut Xorshift) -> Vec<u8> {
     let (delivered, lost, waiting) = (share(r), share(r), share(r));
     let outofstep = most - filling - delivered - lost - waiting;
     let accepted = delivered + waiting + outofstep;
-    let changed = [0, 8 * accepted, r.next() % (8 * accepted + 1)][r.below(3)];
+    let changed = [0, 16 * accepted, r.next() % (16 * accepted + 1)][r.below(3)];
     let bits = [changed, 8 * changed, changed + r.next() % (7 * changed + 1)][r.below(3)];
     let counts = [most, filling, delivered, lost, waiting, outofstep, changed, bits];
     for (k, count) in counts.iter().enumerate() {
         state[COUNTS + 8 * k..COUNTS + 8 * k + 8].copy_from_slice(&count.to_le_bytes());
     }
+    // No marks, some, or as many as not.
+    let one_in = [0, 40, 2][r.below(3)];
+    state[MARKS..].iter_mut().for_each(|mark| *mark = (one_in > 0 && r.below(one_in.max(1)) == 0) as u8);
     assert!(expected::read(&state).is_some());
     state
 }
@@ -259,18 +263,18 @@ fn state_kinds(s: &mut Score) {
     let (mut accepted, mut refused) = (0u64, 0u64);
     let mut tell = |answer: u8| if answer == 5 { refused += 1 } else { accepted += 1 };
     s.kind("random states", 500_000, |s, r, case| {
-        // All bytes at random; only the cells in range; all in range; all but one field.
+        // All bytes at random; only cells and marks in range; all in range; all but one byte.
         let mut state = in_range(r);
         match case % 4 {
             0 => state = r.bytes(STATE_LENGTH),
             1 => {
-                let few = r.bytes(STATE_LENGTH - POSITIONS);
-                state[POSITIONS..].copy_from_slice(&few);
+                let few = r.bytes(MARKS - POSITIONS);
+                state[POSITIONS..MARKS].copy_from_slice(&few);
             }
             2 => (),
             _ => {
-                let at = POSITIONS + r.below(STATE_LENGTH - POSITIONS);
-                state[at] = r.byte();
+                let (low, high) = [(POSITIONS, MARKS), (MARKS, STATE_LENGTH)][r.below(2)];
+                state[low + r.below(high - low)] = r.byte();
             }
         }
         let length = [0, 187, 188, 189][r.below(4)];
@@ -282,8 +286,8 @@ fn state_kinds(s: &mut Score) {
         let lent = r.bytes(length);
         s.count(r, &state, number, &lent);
     });
-    // Every bit that is not a cell's, and some of those.
-    const BITS: u64 = 8 * (STATE_LENGTH - POSITIONS) as u64;
+    // Every bit that is no cell's and no mark's, and some of those.
+    const BITS: usize = 8 * (MARKS - POSITIONS);
     s.kind("single bits of states in range", 800, |s, r, case| {
         let mut state = in_range(r);
         if case % 2 == 0 {
@@ -296,8 +300,12 @@ fn state_kinds(s: &mut Score) {
         }
         let block = some_block(r);
         let room = r.bytes(PACKET_LENGTH);
-        for bit in 0..BITS + 16 {
-            let bit = if bit < BITS { 8 * POSITIONS + bit as usize } else { r.below(8 * POSITIONS) };
+        for bit in 0..BITS + 80 {
+            let bit = match bit.checked_sub(BITS) {
+                None => 8 * POSITIONS + bit,
+                Some(0..=15) => r.below(8 * POSITIONS),
+                Some(_) => 8 * MARKS + r.below(8 * (STATE_LENGTH - MARKS)),
+            };
             let mut other = state.clone();
             other[bit / 8] ^= 1 << (bit % 8);
             tell(s.take(r, &other, &block, &room).0);
@@ -337,7 +345,7 @@ fn refusal_kinds(s: &mut Score) {
         let mut numbers = [MOST_BLOCKS - 1, FILLING, 0, MOST_BLOCKS - 1 - FILLING, 0, 0, 0, 0];
         if r.below(2) == 0 {
             numbers.swap(2, 3);
-            numbers[6] = 8 * numbers[2];
+            numbers[6] = 16 * numbers[2];
             numbers[7] = 8 * numbers[6];
         }
         for (k, count) in numbers.iter().enumerate() {
@@ -350,6 +358,38 @@ fn refusal_kinds(s: &mut Score) {
         for number in 0..8 {
             s.count(r, &after, number, &room);
         }
+    });
+    // Marks that came before the bridge takes over act when their bytes leave the delays. The wrong bytes of each block are among the seventeen
+    // of its first branch, which come eleven blocks before it leaves: so those of the blocks that came before are marked, all of them, and sixteen are
+    // repaired; those of the blocks after are not, and eight are.
+    s.kind("marks in the delays", 180, |s, r, case| {
+        let wrong = case as usize % 18;
+        let sent = packets(r, 40);
+        let mut all = interleaved_stream(&sent);
+        let mut marks = vec![0; all.len()];
+        for p in 0..40 {
+            for i in r.places(wrong, 17) {
+                let at = BLOCK_LENGTH * p + 12 * i;
+                all[at] ^= 1 + r.byte() % 255;
+                marks[at] = 1;
+            }
+        }
+        let mut state = vec![0; STATE_LENGTH];
+        expected::fresh(&mut state);
+        let turn = 11 + r.below(12);
+        let mut lost = Vec::new();
+        for (k, (block, marked)) in all.chunks_exact(BLOCK_LENGTH).zip(marks.chunks_exact(BLOCK_LENGTH)).enumerate() {
+            let mut room = r.bytes(PACKET_LENGTH);
+            if k < turn {
+                expected::take_marked(&mut state, block, marked, &mut room);
+            } else {
+                let (answer, after, _) = s.take(r, &state, block, &room);
+                lost.push(answer == 8);
+                state = after;
+            }
+        }
+        assert!(lost[..11].iter().all(|one| *one == (wrong > 16)), "{wrong}: {lost:?}");
+        assert!(lost[11..].iter().all(|one| *one == (wrong > 8)), "{wrong}: {lost:?}");
     });
     // Sync bytes of all kinds at every place, with the mark and without.
     s.kind("every place", 9 * 2 * 4, |s, r, case| {
