@@ -1,6 +1,6 @@
 #!/bin/bash
 # The tests: the Rattle gate, then what stands beside the crates: the exported functions against the second coder and
-# decoder of reference/, the programs on inputs in pieces, the commands of README.md, and the usage lines of the programs.
+# decoder of reference/, the programs on inputs in pieces and on pass reports, the commands of README.md, and the usage lines of the programs.
 # The gate's line `N passed, 0 failed` comes last, and only where all of it passed.
 set -euo pipefail
 cd "$(dirname "$0")"
@@ -51,8 +51,11 @@ quietly cargo test "${in_reference[@]}"
 EXPORTS_DIR=$PWD/target/staticlib cargo run --quiet "${in_reference[@]}" --bin compare
 EXPORTS_DIR=$PWD/target/staticlib cargo run --quiet "${in_reference[@]}" --bin compare_bridge
 cargo run --quiet "${in_reference[@]}" --bin compare_calls target/bin/send_calls
+cargo run --quiet "${in_reference[@]}" --bin compare_reports target/bin/report_calls
+cargo run --quiet "${in_reference[@]}" --bin compare_seasons target/bin/season target/bin/report_calls
 
 bash tests/pieces.sh
+bash tests/reports.sh
 
 # The commands of README.md that use what was built, as they stand there.
 sed -n '/^## The programs/,/^## Reading/s/^    //p' README.md > "$work/commands"
@@ -80,14 +83,23 @@ usage() {
     [ ! -s "$work/out" ] && [ "$(wc -l < "$work/err")" = 1 ] && grep -q "^usage: $1 " "$work/err" || fail "usage line: $*"
 }
 usage dvbs_send
-usage dvbs_send 5
+usage dvbs_send 6
 usage dvbs_send 22
 usage dvbs_send 2 2
 usage dvbs_read
 usage dvbs_read 5
 usage dvbs_read 2 2
+usage dvbs_read_soft
+usage dvbs_read_soft 5
+usage dvbs_read_soft 2 2
 usage dvbs_receive 0
 usage pass_report 0
+usage report_form
+usage report_form 0
+usage report_form 3
+usage report_form 11
+usage report_form 1 1
+usage season 0
 usage recording_block
 usage recording_block crates/recording_block/data/recording
 usage recording_block crates/recording_block/data/recording 1x

@@ -22,8 +22,16 @@ static void *fec, *viterbi;
 static uint8_t soft[2 * 1632]; /* libfec's order: Y, then X; 0 for a sure 0, 255 for a sure 1 */
 #endif
 
-enum { LIBRARY, PLAIN_C, LIBFEC, SIDES };
-static const char *const side_names[SIDES] = {"library", "plain", "libfec"};
+#ifdef HAVE_VOLK
+#include <volk/volk.h>
+/* GNU Radio's decoder: VOLK's kernel for constraint length 7, and the way back as GNU Radio's cc_decoder does it. */
+static uint8_t volk_soft[2 * 1632] __attribute__((aligned(64)));
+static uint8_t volk_branches[64] __attribute__((aligned(64))), volk_metrics[2][64] __attribute__((aligned(64)));
+static uint8_t volk_decisions[8 * 1632] __attribute__((aligned(64)));
+#endif
+
+enum { LIBRARY, PLAIN_C, LIBFEC, VOLK, SIDES };
+static const char *const side_names[SIDES] = {"library", "plain", "libfec", "volk"};
 
 /* A call takes the next of POOL blocks, so that no branch is learnt by heart, or
  * RUN blocks at once. */
@@ -41,6 +49,8 @@ static uint8_t factors[FACTORS];
 static uint8_t coded_run[RUN * 204], clean_stream[RUN * 204], harmed_stream[RUN * 204];
 static uint8_t room[RUN * 1632], block[204], answer[2], counts[64], result[6];
 static uint8_t runs[5][1632]; /* the symbols of a longest run at each rate, whose last six bits are 0 */
+static float points_i[5][1632], points_q[5][1632]; /* the same as received points, with noise */
+static uint8_t lost[1632];                         /* one symbol in sixteen is lost */
 static const int run_symbols[5] = {1632, 1224, 1088, 978, 932}, run_bits[5] = {1632, 1632, 1632, 1630, 1631};
 static volatile uint64_t sink;
 
@@ -120,7 +130,13 @@ static void prepare(void)
         bytes[203] = 0;
         PLAIN(inner_code)((uint8_t)rate, bytes, 204, room, sizeof room);
         memcpy(runs[rate], room, (size_t)run_symbols[rate]);
+        for (int i = 0; i < run_symbols[rate]; i++) {
+            points_i[rate][i] = (runs[rate][i] & 2 ? -1.0f : 1.0f) + ((float)random_byte() - 127.5f) / 128;
+            points_q[rate][i] = (runs[rate][i] & 1 ? -1.0f : 1.0f) + ((float)random_byte() - 127.5f) / 128;
+        }
     }
+    for (int i = 0; i < 1632; i++)
+        lost[i] = random_byte() % 16 == 0;
     memset(room, 0xa5, sizeof room);
 #ifdef HAVE_LIBFEC
     for (int i = 0; i < 1632; i++) {
@@ -129,6 +145,17 @@ static void prepare(void)
     }
     viterbi = create_viterbi27(1632);
     fec = init_rs_char(8, 0x11d, 0, 1, 16, 51);
+#endif
+#ifdef HAVE_VOLK
+    /* The generators with the newest bit first: 171 and 133 octal, turned round. */
+    static const int generators[2] = {0117, 0155};
+    for (int i = 0; i < 1632; i++) {
+        volk_soft[2 * i] = runs[0][i] >> 1 ? 255 : 0;
+        volk_soft[2 * i + 1] = runs[0][i] & 1 ? 255 : 0;
+    }
+    for (int s = 0; s < 32; s++)
+        for (int g = 0; g < 2; g++)
+            volk_branches[32 * g + s] = __builtin_parity((unsigned)(2 * s & generators[g])) ? 255 : 0;
 #endif
 }
 
@@ -227,11 +254,11 @@ static void read_run(const struct kernel *k, int side, int n)
 {
     int rate = k->argument;
     (void)n;
-    if (side != LIBFEC)
+    if (side == LIBRARY || side == PLAIN_C)
         sink += (side == LIBRARY ? dvbs_read_run : PLAIN(read_run))((uint8_t)rate, 0, runs[rate], (size_t)run_symbols[rate], room,
                                                                     (size_t)run_bits[rate], result, 6);
 #ifdef HAVE_LIBFEC
-    else {
+    else if (side == LIBFEC) {
         uint8_t packed[204] = {0};
         init_viterbi27(viterbi, 0);
         update_viterbi27_blk(viterbi, soft, 1632);
@@ -240,6 +267,31 @@ static void read_run(const struct kernel *k, int side, int n)
             room[i] = packed[i / 8] >> (7 - i % 8) & 1;
     }
 #endif
+#ifdef HAVE_VOLK
+    else if (side == VOLK) {
+        memset(volk_metrics[0], 63, 64);
+        volk_metrics[0][0] = 0;
+        memset(volk_decisions, 0, sizeof volk_decisions);
+        volk_8u_x4_conv_k7_r2_8u(volk_metrics[1], volk_metrics[0], volk_soft, volk_decisions, 1626, 6, volk_branches);
+        unsigned state = 0;
+        for (int i = 1632; i-- > 0;) {
+            uint32_t words[2];
+            memcpy(words, volk_decisions + 8 * i, 8);
+            room[i] = state & 1;
+            state = state >> 1 | (words[state / 32] >> state % 32 & 1) << 5;
+        }
+    }
+#endif
+    sink += room[0];
+}
+
+static void read_soft_run(const struct kernel *k, int side, int n)
+{
+    int rate = k->argument;
+    size_t symbols = (size_t)run_symbols[rate];
+    (void)n;
+    sink += (side == LIBRARY ? dvbs_read_soft_run : PLAIN(read_soft_run))((uint8_t)rate, 0, points_i[rate], symbols, points_q[rate], symbols,
+                                                                          lost, symbols, room, (size_t)run_bits[rate], result, 6);
     sink += room[0];
 }
 
@@ -268,7 +320,7 @@ static void bridge(const struct kernel *k, int side, int n)
     sink += written;
 }
 
-enum { TWO = 3, BESIDE_LIBFEC = 5, THREE = 7 };
+enum { TWO = 3, BESIDE_LIBFEC = 5, THREE = 7, FOUR = 15 };
 static const struct kernel kernels[] = {
     {"scale", "field product, 16 lanes", FACTORS, TWO, 0, scale},
     {"rs_encode", "RS encode", 1, THREE, 0, encode},
@@ -287,16 +339,20 @@ static const struct kernel kernels[] = {
     {"inner_code_3_4", "inner coder, 3/4", RUN, TWO, 2, inner_code},
     {"inner_code_5_6", "inner coder, 5/6", RUN, TWO, 3, inner_code},
     {"inner_code_7_8", "inner coder, 7/8", RUN, TWO, 4, inner_code},
+    {"inner_code_16qam", "inner coder, 16QAM 3/4", RUN, TWO, 5, inner_code},
     {"send_1_2", "send a packet, 1/2", RUN, TWO, 0, send},
     {"send_2_3", "send a packet, 2/3", RUN, TWO, 1, send},
     {"send_3_4", "send a packet, 3/4", RUN, TWO, 2, send},
     {"send_5_6", "send a packet, 5/6", RUN, TWO, 3, send},
     {"send_7_8", "send a packet, 7/8", RUN, TWO, 4, send},
-    {"read_1_2", "read 1,632 bits, 1/2", 1, THREE, 0, read_run},
+    {"send_16qam", "send a packet, 16QAM 3/4", RUN, TWO, 5, send},
+    {"read_1_2", "read 1,632 bits, 1/2", 1, FOUR, 0, read_run},
     {"read_2_3", "read 1,632 bits, 2/3", 1, TWO, 1, read_run},
     {"read_3_4", "read 1,632 bits, 3/4", 1, TWO, 2, read_run},
     {"read_5_6", "read 1,630 bits, 5/6", 1, TWO, 3, read_run},
     {"read_7_8", "read 1,631 bits, 7/8", 1, TWO, 4, read_run},
+    {"read_soft_1_2", "read 1,632 softly, 1/2", 1, TWO, 0, read_soft_run},
+    {"read_soft_3_4", "read 1,632 softly, 3/4", 1, TWO, 2, read_soft_run},
     {"receive_clean", "receive a block, clean", RUN, TWO, 0, receive},
     {"receive_harmed", "receive a block, harmed", RUN, TWO, 1, receive},
     {"bridge_clean", "through the bridge, clean", RUN, TWO, 0, bridge},
@@ -308,6 +364,10 @@ static int has(const struct kernel *k, int side)
 {
 #ifndef HAVE_LIBFEC
     if (side == LIBFEC)
+        return 0;
+#endif
+#ifndef HAVE_VOLK
+    if (side == VOLK)
         return 0;
 #endif
     return k->sides >> side & 1;
@@ -378,11 +438,11 @@ static int table(const char *counts_file)
            "Interleaver, inner coder, sending, receiving: one call on %d blocks from a fresh state, divided.\n"
            "Data is random. Rooms are not cleared: they are lent as the call before left them. A block to be\n"
            "decoded is copied in afresh before every call, inside the measure, on every side.\n"
-           "Plain C is built at -O3, libfec as its package has it. Times: best of %d, the sides taking turns.\n"
+           "Plain C is built at -O3, libfec and VOLK as their packages have them. Times: best of %d, the sides taking turns.\n"
            "Ratio: the library's time to the peer's.\n\n",
            RUN, REPEATS);
-    printf("%-25s|          instructions            |          time, ns                |       ratio of times\n", "");
-    printf("%-25s|    library    plain C     libfec |    library    plain C     libfec | to plain C  to libfec\n", "kernel");
+    printf("%-25s|                instructions                 |                  time, ns                   |         ratio of times\n", "");
+    printf("%-25s|    library    plain C     libfec       VOLK |    library    plain C     libfec       VOLK | to plain C  to libfec    to VOLK\n", "kernel");
     int bad = 0;
     for (int i = 0; i < KERNELS; i++) {
         const struct kernel *k = &kernels[i];

@@ -285,9 +285,32 @@ static size_t inner_code(struct inner *c, const uint8_t *bytes, int count, uint8
     return written;
 }
 
+/* 16QAM 3/4 of EN 301 210: of three bytes the first is coded, beside the bit pairs of the others. */
+static size_t code_16qam(struct inner *c, const uint8_t *bytes, int count, uint8_t *room)
+{
+    size_t written = 0;
+    for (int n = 0; n + 3 <= count; n += 3) {
+        unsigned beside = (unsigned)bytes[n + 1] << 8 | bytes[n + 2];
+        for (int k = 7; k >= 0; k--) {
+            unsigned window = c->memory | (bytes[n] >> k & 1u) << 6;
+            unsigned xy = xy_table[window];
+            c->memory = window >> 1;
+            room[written++] = (uint8_t)(4 * (beside >> 2 * k & 3) + 2 * (xy & 1) + (xy >> 1));
+        }
+    }
+    return written;
+}
+
+static size_t code(struct inner *c, const uint8_t *bytes, int count, uint8_t *room)
+{
+    return c->rate == 5 ? code_16qam(c, bytes, count, room) : inner_code(c, bytes, count, room);
+}
+
 /* Symbols of so many bits from a fresh coder. */
 static uint64_t symbols_of(int rate, uint64_t bits)
 {
+    if (rate == 5)
+        return bits / 3;
     static const int bits_in[5] = {1, 2, 3, 5, 7}, bits_out[5] = {2, 3, 4, 6, 8};
     uint64_t out = bits / (uint64_t)bits_in[rate] * (uint64_t)bits_out[rate];
     for (uint64_t i = 0; i < bits % (uint64_t)bits_in[rate]; i++)
@@ -301,7 +324,7 @@ uint64_t PLAIN(send_run)(uint8_t rate, const uint8_t *packets, size_t packets_le
     if (answer_len < 1)
         return 0;
     answer[0] = 0;
-    if (rate > 4)
+    if (rate > 5)
         return answer[0] = 6, 0;
     if (packets_len % PACKET)
         return answer[0] = 1, 0;
@@ -320,7 +343,7 @@ uint64_t PLAIN(send_run)(uint8_t rate, const uint8_t *packets, size_t packets_le
         mask(p % GROUP, p % GROUP ? 0x47 : 0xb8, packet, block);
         check_bytes(block, block + PACKET);
         pass(&branches, 0, block, out);
-        written += inner_code(&inner, out, BLOCK, room + written);
+        written += code(&inner, out, BLOCK, room + written);
     }
     return written;
 }
@@ -427,12 +450,12 @@ void PLAIN(interleave)(const uint8_t *blocks, size_t blocks_len, uint8_t *room, 
 
 uint64_t PLAIN(inner_code)(uint8_t rate, const uint8_t *blocks, size_t blocks_len, uint8_t *room, size_t room_len)
 {
-    if (rate > 4 || room_len / 8 < blocks_len)
+    if (rate > 5 || room_len / 8 < blocks_len)
         return 0;
     struct inner inner = {rate, 0, -1, 0};
     uint64_t written = 0;
     for (size_t n = 0; blocks_len - n >= BLOCK; n += BLOCK)
-        written += inner_code(&inner, blocks + n, BLOCK, room + written);
+        written += code(&inner, blocks + n, BLOCK, room + written);
     return written;
 }
 
@@ -442,6 +465,50 @@ uint64_t PLAIN(inner_code)(uint8_t rate, const uint8_t *blocks, size_t blocks_le
 static const struct {
     size_t bits, symbols;
 } patterns[5] = {{1, 1}, {4, 3}, {3, 2}, {5, 3}, {7, 4}};
+
+/* What deciding each received I and Q bit as 0, and as 1, costs. */
+static uint8_t costs[2 * 1632][2];
+
+/* The bits that cost the least, and the result. */
+static uint64_t decode(uint8_t rate, uint8_t memory, size_t count, uint8_t *room, uint8_t *result)
+{
+    uint32_t metric[64], next[64];
+    static uint8_t oldest[1632][64];
+    for (int s = 0; s < 64; s++)
+        metric[s] = s == memory ? 0 : 100000;
+    size_t at = 0; /* the next received bit */
+    for (size_t k = 0; k < count; k++) {
+        int sent = punctured[rate].sent[k % (size_t)punctured[rate].length];
+        uint8_t step[2][2] = {{0, 0}, {0, 0}};
+        for (int y = 0; y < 2; y++)
+            if (sent & (y ? 1 : 2)) {
+                memcpy(step[y], costs[at], 2);
+                at++;
+            }
+        for (int s = 0; s < 64; s++) {
+            uint32_t way[2];
+            for (int d = 0; d < 2; d++) {
+                int window = (s >> 5) << 6 | (s & 31) << 1 | d;
+                way[d] = metric[(s & 31) << 1 | d] + step[0][__builtin_parity(window & 0171)] + step[1][__builtin_parity(window & 0133)];
+            }
+            oldest[k][s] = way[1] < way[0];
+            next[s] = way[1] < way[0] ? way[1] : way[0];
+        }
+        memcpy(metric, next, sizeof metric);
+    }
+    int s = 0;
+    for (int t = 1; t < 64; t++)
+        if (metric[t] < metric[s])
+            s = t;
+    result[1] = (uint8_t)s;
+    for (int i = 0; i < 4; i++)
+        result[2 + i] = (uint8_t)(metric[s] >> 8 * i);
+    for (size_t k = count; k-- > 0;) {
+        room[k] = (uint8_t)(s >> 5);
+        s = (s & 31) << 1 | oldest[k][s];
+    }
+    return count;
+}
 
 uint64_t PLAIN(read_run)(uint8_t rate, uint8_t memory, const uint8_t *symbols, size_t symbols_len, uint8_t *room, size_t room_len,
                          uint8_t *result, size_t result_len)
@@ -464,45 +531,59 @@ uint64_t PLAIN(read_run)(uint8_t rate, uint8_t memory, const uint8_t *symbols, s
             return result[0] = 14, 0;
     if (room_len < count)
         return result[0] = 4, 0;
+    for (size_t i = 0; i < symbols_len; i++) {
+        costs[2 * i][0] = symbols[i] >> 1;
+        costs[2 * i][1] = !(symbols[i] >> 1);
+        costs[2 * i + 1][0] = symbols[i] & 1;
+        costs[2 * i + 1][1] = !(symbols[i] & 1);
+    }
+    return decode(rate, memory, count, room, result);
+}
 
-    uint32_t metric[64], next[64];
-    static uint8_t oldest[1632][64];
-    for (int s = 0; s < 64; s++)
-        metric[s] = s == memory ? 0 : 100000;
-    size_t at = 0; /* the next received bit */
-    for (size_t k = 0; k < count; k++) {
-        int sent = punctured[rate].sent[k % (size_t)punctured[rate].length];
-        int received[2] = {-1, -1};
-        for (int y = 0; y < 2; y++)
-            if (sent & (y ? 1 : 2)) {
-                received[y] = symbols[at / 2] >> (1 - at % 2) & 1;
-                at++;
-            }
-        for (int s = 0; s < 64; s++) {
-            uint32_t way[2];
-            for (int d = 0; d < 2; d++) {
-                int window = (s >> 5) << 6 | (s & 31) << 1 | d;
-                way[d] = metric[(s & 31) << 1 | d];
-                if (received[0] >= 0)
-                    way[d] += received[0] != __builtin_parity(window & 0171);
-                if (received[1] >= 0)
-                    way[d] += received[1] != __builtin_parity(window & 0133);
-            }
-            oldest[k][s] = way[1] < way[0];
-            next[s] = way[1] < way[0] ? way[1] : way[0];
-        }
-        memcpy(metric, next, sizeof metric);
+/* ---- the same by soft decisions ---- */
+
+static const float thresholds[7] = {-0.75f, -0.5f, -0.25f, 0, 0.25f, 0.5f, 0.75f};
+
+static void soft_costs(float x, int lost, uint8_t cost[2])
+{
+    uint8_t level = 0;
+    for (int t = 0; t < 7; t++)
+        level += thresholds[t] <= x;
+    cost[0] = (uint8_t)(7 - level);
+    cost[1] = level;
+    if (x != x)
+        cost[0] = cost[1] = 0;
+    if (lost)
+        cost[0] = cost[1] = 0;
+}
+
+uint64_t PLAIN(read_soft_run)(uint8_t rate, uint8_t memory, const float *i, size_t i_len, const float *q, size_t q_len,
+                              const uint8_t *lost, size_t lost_len, uint8_t *room, size_t room_len, uint8_t *result,
+                              size_t result_len)
+{
+    if (result_len < 6)
+        return 0;
+    memset(result, 0, 6);
+    result[1] = memory;
+    if (rate > 4)
+        return result[0] = 6, 0;
+    if (memory > 63)
+        return result[0] = 5, 0;
+    if (i_len != q_len || i_len != lost_len)
+        return result[0] = 24, 0;
+    for (size_t k = 0; k < lost_len; k++)
+        if (lost[k] > 1)
+            return result[0] = 24, 0;
+    if (i_len % patterns[rate].symbols)
+        return result[0] = 12, 0;
+    size_t count = i_len / patterns[rate].symbols * patterns[rate].bits;
+    if (count > 1632)
+        return result[0] = 13, 0;
+    if (room_len < count)
+        return result[0] = 4, 0;
+    for (size_t k = 0; k < i_len; k++) {
+        soft_costs(i[k], lost[k], costs[2 * k]);
+        soft_costs(q[k], lost[k], costs[2 * k + 1]);
     }
-    int s = 0;
-    for (int t = 1; t < 64; t++)
-        if (metric[t] < metric[s])
-            s = t;
-    result[1] = (uint8_t)s;
-    for (int i = 0; i < 4; i++)
-        result[2 + i] = (uint8_t)(metric[s] >> 8 * i);
-    for (size_t k = count; k-- > 0;) {
-        room[k] = (uint8_t)(s >> 5);
-        s = (s & 31) << 1 | oldest[k][s];
-    }
-    return count;
+    return decode(rate, memory, count, room, result);
 }

@@ -22,6 +22,9 @@ uint64_t PLAIN(send_run)(uint8_t rate, const uint8_t *packets, size_t packets_le
                          uint8_t *answer, size_t answer_len);
 uint64_t PLAIN(read_run)(uint8_t rate, uint8_t memory, const uint8_t *symbols, size_t symbols_len, uint8_t *room, size_t room_len,
                          uint8_t *result, size_t result_len);
+uint64_t PLAIN(read_soft_run)(uint8_t rate, uint8_t memory, const float *i, size_t i_len, const float *q, size_t q_len,
+                              const uint8_t *lost, size_t lost_len, uint8_t *room, size_t room_len, uint8_t *result,
+                              size_t result_len);
 uint64_t PLAIN(receive_run)(const uint8_t *blocks, size_t blocks_len, uint8_t *room, size_t room_len,
                             uint8_t *counts, size_t counts_len, uint8_t *answer, size_t answer_len);
 uint8_t PLAIN(recording_block)(const uint8_t *recording, size_t recording_len, uint64_t blocks, uint64_t p,

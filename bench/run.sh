@@ -1,7 +1,7 @@
 #!/bin/bash
 # Builds the library and its peers, counts instructions with callgrind, takes times side by side, prints one table,
 # and draws it: docs/performance.svg. What is built, and the table, stay in target/bench.
-# libfec and valgrind come from Debian where they are missing; what cannot be had is said and skipped. CC may name another
+# libfec, VOLK and valgrind come from Debian where they are missing; what cannot be had is said and skipped. CC may name another
 # compiler.
 set -euo pipefail
 cd "$(dirname "$0")/.."
@@ -20,6 +20,10 @@ has_libfec() {
         | "$cc" -x c - -o "$build/probe" -lfec 2> /dev/null
 }
 
+has_volk() {
+    printf '#include <volk/volk.h>\nint main(void){return volk_8u_x4_conv_k7_r2_8u==0;}\n' | "$cc" -x c - -o "$build/probe" -lvolk 2> /dev/null
+}
+
 mkdir -p "$build"
 for library in exports bridge kernels; do
     rt staticlib "$library" > "$build/$library.log" 2>&1 || { cat "$build/$library.log"; exit 1; }
@@ -30,6 +34,12 @@ if has_libfec; then
     flags=(-DHAVE_LIBFEC) peers=(-lfec)
 else
     echo "libfec is missing (Debian: libfec-dev); its columns are skipped"
+fi
+has_volk || install libvolk2-dev
+if has_volk; then
+    flags+=(-DHAVE_VOLK) peers+=(-lvolk)
+else
+    echo "VOLK is missing (Debian: libvolk2-dev); its columns are skipped"
 fi
 "$cc" -std=gnu11 -O3 -Wall -Wextra -c bench/plain.c -o "$build/plain.o"
 "$cc" -std=gnu11 -O2 -Wall -Wextra "${flags[@]}" bench/bench.c "$build/plain.o" -Ltarget/staticlib -lexports -lbridge -lkernels "${peers[@]}" -o "$build/bench"

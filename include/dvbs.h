@@ -15,7 +15,7 @@
  *   4  room too short
  *   5  a number is out of its range: here a place above 7, a memory above 63, or
  *      a number of blocks that is not the recording's
- *   6  a rate other than 0 to 4
+ *   6  a mode other than 0 to 5; for reading, a rate other than 0 to 4
  *   7  the receiver has taken 4,294,967,295 blocks
  *   8  no codeword within eight bytes; with marks, none with 2 e + f at most 16
  *  12  symbols that do not make whole puncturing patterns
@@ -23,9 +23,12 @@
  *  14  a symbol above 3
  *  15  done, with a null packet put in
  *  16  the recording has no such block
+ * 17 to 19 and 21 are answers about the texts of pass reports, which the programs
+ * read and write, and no function here.
  *  20  not a mark for each byte, or a mark above 1
- * Where several are due, the first in the order 6, 5, 16, 1 or 3, 2, 12, 13, 14,
- * 20, 4, 7 is given. */
+ *  24  the lists of a soft run are not of one length, or a mark is above 1
+ * Where several are due, the first in the order 6, 5, 24, 16, 1 or 3, 2, 12, 13,
+ * 14, 20, 4, 7 is given. */
 #ifndef DVBS_H
 #define DVBS_H
 
@@ -70,14 +73,15 @@ uint8_t dvbs_rs_decode_marked(uint8_t *block, size_t block_len,
                               uint8_t *count, size_t count_len);
 
 /* What a fresh sender sends for the packets, which lie one after the other;
- * rates 0 to 4 are 1/2, 2/3, 3/4, 5/6, 7/8. Returns how many symbols were
- * written, one byte each, 2 I + Q; answer[0] is the answer. A packet gives at
- * most 1,632 symbols. In place of 188 bytes that do not begin with 47 hex a null
+ * modes 0 to 4 are QPSK 1/2, 2/3, 3/4, 5/6, 7/8, and 5 is 16QAM 3/4 of EN 301
+ * 210. Returns how many symbols were written, one byte each: 2 I + Q, and at
+ * 16QAM 8 U2 + 4 U1 + 2 C2 + C1; answer[0] is the answer. A packet gives at most
+ * 1,632 symbols, and at 16QAM 544. In place of 188 bytes that do not begin with 47 hex a null
  * packet is sent (47 1F FF 10 and 184 bytes FF), and the answer is 15 where at
  * least one was, else 0: a caller that has nothing to send lends 188 zeros.
  * Lengths are tested before anything is sent. Where no byte is lent for the
  * answer: returns 0, writes nothing. */
-uint64_t dvbs_send_run(uint8_t rate, const uint8_t *packets, size_t packets_len,
+uint64_t dvbs_send_run(uint8_t mode, const uint8_t *packets, size_t packets_len,
                        uint8_t *room, size_t room_len,
                        uint8_t *answer, size_t answer_len);
 
@@ -95,6 +99,20 @@ uint64_t dvbs_read_run(uint8_t rate, uint8_t memory,
                        const uint8_t *symbols, size_t symbols_len,
                        uint8_t *room, size_t room_len,
                        uint8_t *result, size_t result_len);
+
+/* The same by soft decisions. Of each symbol come the numbers I and Q of the
+ * received point, of which 1.0 is sent for 0 and -1.0 for 1, and 1 where the
+ * symbol was lost or else 0. The level of a number is how many of -0.75, -0.5,
+ * -0.25, 0, 0.25, 0.5, 0.75 are at or below it. Deciding its bit as 0 costs 7 less
+ * the level, and as 1 the level; a NaN costs nothing either way, and neither does
+ * anything of a lost symbol. The bits written are those that cost the least, and
+ * the number in the result is what they cost. Otherwise as dvbs_read_run. */
+uint64_t dvbs_read_soft_run(uint8_t rate, uint8_t memory,
+                            const float *i, size_t i_len,
+                            const float *q, size_t q_len,
+                            const uint8_t *lost, size_t lost_len,
+                            uint8_t *room, size_t room_len,
+                            uint8_t *result, size_t result_len);
 
 /* What a fresh receiver gives for the whole blocks of a recording; bytes after
  * the last of them are left alone. Returns how many bytes of packets were

@@ -1,12 +1,13 @@
 """The library, stage by stage, against GNU Radio's gr-dtv, whose DVB-T energy
 dispersal, outer code, outer interleaver and inner code are those of
-EN 300 421. Argument: the program built from stages.c."""
+EN 300 421, and its soft decisions against gr-trellis. Argument: the program
+built from stages.c."""
 
 import subprocess
 import sys
 
 import numpy as np
-from gnuradio import blocks, dtv, gr
+from gnuradio import blocks, dtv, gr, trellis
 
 STAGES = sys.argv[1]
 PACKETS = 960
@@ -90,5 +91,64 @@ for rate in range(5):
     longer = library(np.concatenate([packets] + [tail] * 3), "send", str(rate))
     theirs = peer(dtv.dvbt_viterbi_decoder(dtv.MOD_QPSK, dtv.NH, CODES[rate], 768), longer, 1, 1)
     compare(f"our symbols at {RATES[rate]} through its Viterbi decoder", interleaved, theirs, 1, "bytes", PACKETS * 204)
+
+# Soft decisions. gr-trellis takes what each symbol of the mother code would cost at each step, and gives bits of least cost; where several tie, any.
+PATTERNS = [("1", "1"), ("1010", "1111"), ("101", "110"), ("10101", "11010"), ("1000101", "1111010")]
+RUNS = 60
+
+
+def parities(bits, taps):
+    window = np.concatenate([np.zeros(6, int), bits])
+    return sum(window[6 - k : len(window) - k] for k in taps) % 2
+
+
+def soft_costs(points, lost):
+    level = sum((points >= np.float32(t)).astype(int) for t in (-0.75, -0.5, -0.25, 0, 0.25, 0.5, 0.75))
+    free = np.isnan(points) | lost
+    return np.where(free, 0, 7 - level), np.where(free, 0, level)
+
+
+for rate, (keep_x, keep_y) in enumerate(PATTERNS):
+    length = 1632 // len(keep_x) * len(keep_x)
+    keep = np.array([[x == "1", y == "1"] for x, y in zip(keep_x, keep_y)])
+    keep = np.tile(keep, (length // len(keep_x), 1))
+    fed, steps, costs_of = [], [], []
+    for run in range(RUNS):
+        sent = random.integers(0, 2, length)
+        coded_bits = np.stack([parities(sent, (0, 1, 2, 3, 6)), parities(sent, (0, 2, 3, 5, 6))], axis=1)
+        flat = coded_bits[keep].reshape(-1, 2)
+        points = (1 - 2 * flat + random.normal(0, 0.25 + 0.1 * (run % 6), flat.shape)).astype(np.float32)
+        points[random.random(points.shape) < 0.01] = np.nan
+        lost = random.random(len(points)) < 0.03
+        fed.append(points[:, 0].tobytes() + points[:, 1].tobytes() + lost.astype(np.uint8).tobytes())
+        zero, one = soft_costs(points, lost[:, None])
+        placed = np.zeros((length, 2, 2), int)
+        placed[keep] = np.stack([zero.reshape(-1), one.reshape(-1)], axis=1)
+        costs_of.append(placed)
+        steps.append((placed[:, 0, :, None] + placed[:, 1, None, :]).reshape(-1))
+    n = len(flat)
+    ours = library(np.frombuffer(b"".join(fed), np.uint8), "read_soft", str(rate), str(n)).reshape(RUNS, length + 4)
+    top = gr.top_block()
+    source = blocks.vector_source_f(np.concatenate(steps).astype(np.float32).tolist(), False)
+    sink = blocks.vector_sink_b()
+    top.connect(source, trellis.viterbi_b(trellis.fsm(1, 2, [0o171, 0o133]), length, 0, -1), sink)
+    top.run()
+    theirs = np.array(sink.data(), dtype=np.uint8).reshape(-1, length)
+
+    def cost(bits, placed):
+        bits = bits.astype(int)
+        x, y = parities(bits, (0, 1, 2, 3, 6)), parities(bits, (0, 2, 3, 5, 6))
+        at = np.arange(length)
+        return int(placed[at, 0, x].sum() + placed[at, 1, y].sum())
+
+    wrong = ties = 0
+    for run in range(RUNS):
+        told = int.from_bytes(ours[run, length:].tobytes(), "little")
+        mine, its = cost(ours[run, :length], costs_of[run]), cost(theirs[run], costs_of[run])
+        wrong += told != mine or told != its
+        ties += told == its and bool(np.any(ours[run, :length] != theirs[run]))
+    wrong += len(theirs) != RUNS
+    different += wrong
+    print(f"GNU Radio, soft decisions at {RATES[rate]}: {RUNS} runs compared, {wrong} different (other bits of the same cost in {ties})", flush=True)
 
 sys.exit(different != 0)

@@ -92,6 +92,21 @@ int main(int argc, char **argv)
         out_len = dvbs_receive_run(in, in_len, out, 16 * in_len + 4096, counts, sizeof counts, &answer, 1);
         if (answer)
             fail("the run was refused");
+    } else if (!strcmp(stage, "read_soft") && argc > 3) {
+        /* Runs of so many symbols, I, Q and marks of each one after the other, from memory 0: the bits of each, and what they cost. */
+        uint8_t rate = (uint8_t)atoi(argv[2]), result[DVBS_RESULT];
+        size_t n = (size_t)atoi(argv[3]);
+        for (size_t at = 0; at + 9 * n <= in_len; at += 9 * n) {
+            float *i = malloc(4 * n), *q = malloc(4 * n);
+            memcpy(i, in + at, 4 * n);
+            memcpy(q, in + at + 4 * n, 4 * n);
+            out_len += dvbs_read_soft_run(rate, 0, i, n, q, n, in + at + 8 * n, n, out + out_len, 1632, result, sizeof result);
+            if (result[0])
+                fail("the run was refused");
+            memcpy(out + out_len, result + 2, 4);
+            out_len += 4;
+            free(i), free(q);
+        }
     } else {
         fail("which stage?");
     }

@@ -20,9 +20,14 @@ pub enum Answer {
     NoSymbol = 14,
     NullPacket = 15,
     NoSuchBlock = 16,
+    NotReport = 17,
+    WrongSums = 18,
+    FormKept = 19,
     MarkValue = 20,
+    TooManyReports = 21,
     StateLength = 22,
     NoSuchCount = 23,
+    SoftLists = 24,
 }
 
 impl Answer {

@@ -109,12 +109,32 @@ pub mod expected {
         if result.len() < RESULT_LENGTH {
             return 0;
         }
-        match inner_decoder::read_run(rate, memory, symbols, room.len()) {
+        put_run(inner_decoder::read_run(rate, memory, symbols, room.len()), memory, room, result)
+    }
+
+    /// The same by soft decisions.
+    pub fn read_soft_run(
+        rate: u8,
+        memory: u8,
+        i: &[f32],
+        q: &[f32],
+        lost: &[u8],
+        room: &mut [u8],
+        result: &mut [u8],
+    ) -> u64 {
+        if result.len() < RESULT_LENGTH {
+            return 0;
+        }
+        put_run(inner_decoder::read_soft_run(rate, memory, i, q, lost, room.len()), memory, room, result)
+    }
+
+    fn put_run(read: Result<inner_decoder::Run, Answer>, memory: u8, room: &mut [u8], result: &mut [u8]) -> u64 {
+        match read {
             Ok(run) => {
                 room[..run.bits.len()].copy_from_slice(&run.bits);
                 result[0] = Answer::Done.number();
                 result[1] = run.memory;
-                result[2..RESULT_LENGTH].copy_from_slice(&run.differing.to_le_bytes());
+                result[2..RESULT_LENGTH].copy_from_slice(&run.cost.to_le_bytes());
                 run.bits.len() as u64
             }
             Err(refusal) => {
@@ -224,6 +244,20 @@ pub mod library {
                 result: *mut u8,
                 result_len: usize,
             ) -> u64;
+            pub fn dvbs_read_soft_run(
+                rate: u8,
+                memory: u8,
+                i: *const f32,
+                i_len: usize,
+                q: *const f32,
+                q_len: usize,
+                lost: *const u8,
+                lost_len: usize,
+                room: *mut u8,
+                room_len: usize,
+                result: *mut u8,
+                result_len: usize,
+            ) -> u64;
             pub fn dvbs_receive_run(
                 blocks: *const u8,
                 blocks_len: usize,
@@ -314,6 +348,33 @@ pub mod library {
                 memory,
                 symbols.as_ptr(),
                 symbols.len(),
+                room.as_mut_ptr(),
+                room.len(),
+                result.as_mut_ptr(),
+                result.len(),
+            )
+        }
+    }
+
+    pub fn read_soft_run(
+        rate: u8,
+        memory: u8,
+        i: &[f32],
+        q: &[f32],
+        lost: &[u8],
+        room: &mut [u8],
+        result: &mut [u8],
+    ) -> u64 {
+        unsafe {
+            c::dvbs_read_soft_run(
+                rate,
+                memory,
+                i.as_ptr(),
+                i.len(),
+                q.as_ptr(),
+                q.len(),
+                lost.as_ptr(),
+                lost.len(),
                 room.as_mut_ptr(),
                 room.len(),
                 result.as_mut_ptr(),

@@ -1,9 +1,13 @@
 //! Inner coding (clause 4.4.3): the rate 1/2 convolutional code, K = 7, bit by
-//! bit, punctured by the rows P of table 2.
+//! bit, punctured by the rows P of table 2; and 16QAM 3/4 of EN 301 210, clause
+//! 4.6.3, by the rows of its tables 3 and 4.
 
 use crate::answer::Answer;
 
+/// QPSK at five rates, and 16QAM 3/4 after them.
 pub const RATES: u8 = 5;
+pub const MODES: u8 = 6;
+pub const SIXTEEN_QAM: u8 = 5;
 
 /// G1 (X) and G2 (Y); the top one of the seven bits is the newest.
 const G1: u8 = 0o171;
@@ -17,6 +21,19 @@ const PUNCTURING: [(&str, &str); RATES as usize] = [
     ("10101", "11010"),
     ("1000101", "1111010"),
 ];
+
+/// EN 301 210, table 3, 16QAM 3/4: the bits of bytes A, B, D that go to NE2, NE1
+/// and E1, the first one first. The table has them from right to left.
+const NE2: &str = "B7 B5 B3 B1 D7 D5 D3 D1";
+const NE1: &str = "B6 B4 B2 B0 D6 D4 D2 D0";
+const E1: &str = "A7 A6 A5 A4 A3 A2 A1 A0";
+
+/// A bit of a group of three bytes, by its name.
+fn input_bit(group: &[u8], name: &str) -> u8 {
+    let name = name.as_bytes();
+    let byte = group["ABD".bytes().position(|letter| letter == name[0]).unwrap()];
+    byte >> (name[1] - b'0') & 1
+}
 
 pub struct InnerCoder {
     rate: usize,
@@ -38,7 +55,7 @@ pub fn pattern(rate: u8, k: usize) -> (bool, bool) {
 
 impl InnerCoder {
     pub fn fresh(rate: u8) -> Result<Self, Answer> {
-        if rate >= RATES {
+        if rate >= MODES {
             return Err(Answer::UnknownRate);
         }
         Ok(InnerCoder { rate: rate as usize, memory: 0, taken: 0, held: None })
@@ -101,8 +118,24 @@ impl InnerCoder {
         symbols
     }
 
-    /// Symbols 2 I + Q of the bytes, top bit first.
+    /// Table 4 of EN 301 210: U2 is NE2, U1 is NE1, C2 is Y1 and C1 is X1.
+    fn code_sixteen_qam(&mut self, bytes: &[u8]) -> Vec<u8> {
+        let mut symbols = Vec::with_capacity(8 * bytes.len() / 3);
+        for group in bytes.chunks_exact(3) {
+            for ((ne2, ne1), e1) in NE2.split(' ').zip(NE1.split(' ')).zip(E1.split(' ')) {
+                let (c1, c2) = self.mother(input_bit(group, e1));
+                let (u2, u1) = (input_bit(group, ne2), input_bit(group, ne1));
+                symbols.push(8 * u2 + 4 * u1 + 2 * c2 + c1);
+            }
+        }
+        symbols
+    }
+
+    /// Symbols of the bytes: at QPSK 2 I + Q, top bit first.
     pub fn code(&mut self, bytes: &[u8]) -> Vec<u8> {
+        if self.rate == SIXTEEN_QAM as usize {
+            return self.code_sixteen_qam(bytes);
+        }
         let mut symbols = Vec::with_capacity(8 * bytes.len());
         for &byte in bytes {
             for k in (0..8).rev() {
@@ -112,8 +145,11 @@ impl InnerCoder {
         symbols
     }
 
-    /// How many symbols the next `bits` bits give.
+    /// How many symbols the next `bits` bits of bytes give.
     pub fn symbols_due(&self, bits: usize) -> usize {
+        if self.rate == SIXTEEN_QAM as usize {
+            return bits / 3;
+        }
         let (keep_x, keep_y) = PUNCTURING[self.rate];
         let kept = |place: usize| {
             (keep_x.as_bytes()[place] == b'1') as usize + (keep_y.as_bytes()[place] == b'1') as usize
@@ -146,7 +182,32 @@ mod tests {
                 assert_eq!(coder.held, Some(0));
             }
         }
-        assert_eq!(InnerCoder::fresh(5).err(), Some(Answer::UnknownRate));
+        assert_eq!(InnerCoder::fresh(6).err(), Some(Answer::UnknownRate));
+    }
+
+    /// By hand from tables 3 and 4 of EN 301 210.
+    #[test]
+    fn sixteen_qam_by_hand() {
+        let mut coder = InnerCoder::fresh(SIXTEEN_QAM).ok().unwrap();
+        assert_eq!(coder.code(&[0x80, 0xC6, 0x39]), [15, 1, 7, 11, 0, 14, 11, 4]);
+        let mut coder = InnerCoder::fresh(SIXTEEN_QAM).ok().unwrap();
+        assert_eq!(coder.code(&[0x01, 0, 0]), [0, 0, 0, 0, 0, 0, 0, 3]);
+        assert_eq!(coder.code(&[0, 0, 0]), [1, 3, 3, 0, 2, 3, 0, 0]);
+    }
+
+    /// X and Y of the symbols are what rate 1/2 sends for the bytes A alone; the
+    /// bits beside them are those of B and D as they come.
+    #[test]
+    fn the_coded_bits_of_sixteen_qam_are_those_of_rate_half() {
+        let mut r = Xorshift::new(7);
+        let bytes = r.bytes(204 * 30);
+        let symbols = InnerCoder::fresh(SIXTEEN_QAM).ok().unwrap().code(&bytes);
+        let first: Vec<u8> = bytes.iter().step_by(3).copied().collect();
+        let coded: Vec<u8> = symbols.iter().map(|s| 2 * (s & 1) + (s >> 1 & 1)).collect();
+        assert_eq!(coded, InnerCoder::fresh(0).ok().unwrap().code(&first));
+        let others: Vec<u8> = bytes.chunks(3).flat_map(|group| [group[1], group[2]]).collect();
+        let pairs: Vec<u8> = others.iter().flat_map(|b| [b >> 6, b >> 4 & 3, b >> 2 & 3, b & 3]).collect();
+        assert_eq!(symbols.iter().map(|s| s >> 2).collect::<Vec<u8>>(), pairs);
     }
 
     /// The rows I and Q of table 2, as (is Y, index of the bit).
@@ -182,8 +243,8 @@ mod tests {
     #[test]
     fn symbols_of_a_block() {
         let mut r = Xorshift::new(6);
-        let allowed: [&[usize]; 5] = [&[1632], &[1224], &[1088], &[979, 980], &[932, 933]];
-        for rate in 0..5 {
+        let allowed: [&[usize]; 6] = [&[1632], &[1224], &[1088], &[979, 980], &[932, 933], &[544]];
+        for rate in 0..6 {
             let mut coder = InnerCoder::fresh(rate).ok().unwrap();
             for _ in 0..40 {
                 let due = coder.symbols_due(1632);

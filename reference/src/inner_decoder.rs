@@ -1,8 +1,10 @@
-//! Reading runs of received symbols (document 02, P1): the bits whose coding
-//! differs from them in the fewest I and Q bits; where several tie, the one with
-//! 0 at the last place where they differ. Two searches: over every sequence, and
-//! the Viterbi algorithm with whole paths, which compares paths that tie from
-//! their last bit back.
+//! Reading runs of received symbols (document 02, P1 and P8): the bits whose
+//! coding costs the least; where several tie, the one with 0 at the last place
+//! where they differ. By hard decisions an I or Q bit that differs costs 1. By
+//! soft decisions the level of a received number, 0 to 7, says what its bit
+//! costs. Two searches, over any costs: over every sequence, and the Viterbi
+//! algorithm with whole paths, which compares paths that tie from their last bit
+//! back.
 
 use crate::answer::Answer;
 use crate::inner_code::{pattern, InnerCoder, RATES};
@@ -12,30 +14,53 @@ pub const LONGEST: usize = 1632;
 /// Up to so many bits every sequence is tried.
 const SHORT: usize = 12;
 
-/// A read run: its bits, the coder's memory after them, and the number of I and
-/// Q bits that differ.
+/// What deciding a received I or Q bit as 0, and as 1, costs.
+type BitCosts = [u32; 2];
+
+/// A read run: its bits, the coder's memory after them, and what they cost.
 #[derive(Debug, PartialEq, Eq)]
 pub struct Run {
     pub bits: Vec<u8>,
     pub memory: u8,
-    pub differing: u32,
+    pub cost: u32,
 }
 
-fn differing(received: &[u8], sent: &[u8]) -> u32 {
-    assert_eq!(received.len(), sent.len());
-    received.iter().zip(sent).map(|(a, b)| (a ^ b).count_ones()).sum()
+/// I and Q of each symbol, by hard decisions.
+fn hard(symbols: &[u8]) -> Vec<BitCosts> {
+    symbols.iter().flat_map(|s| [s >> 1 & 1, s & 1]).map(|bit| [bit as u32, 1 - bit as u32]).collect()
+}
+
+/// The level: thresholds lie at every quarter from -3/4 to 3/4, so it is found
+/// by dividing. Quarters of an f32 are exact in f64.
+pub fn level(x: f32) -> u32 {
+    ((x as f64 * 4.0).floor() + 4.0).clamp(0.0, 7.0) as u32
+}
+
+/// A number's bit, by its level.
+fn soft(x: f32) -> BitCosts {
+    if x.is_nan() {
+        [0, 0]
+    } else {
+        [7 - level(x), level(x)]
+    }
+}
+
+/// What the coding of some bits costs.
+fn cost(received: &[BitCosts], sent: &[u8]) -> u32 {
+    assert_eq!(received.len(), 2 * sent.len());
+    sent.iter().flat_map(|s| [s >> 1, s & 1]).zip(received).map(|(bit, costs)| costs[bit as usize]).sum()
 }
 
 /// Every sequence of `count` bits, those with 0 last coming first.
-pub fn by_all_sequences(rate: u8, memory: u8, symbols: &[u8], count: usize) -> Run {
+fn by_all_sequences(rate: u8, memory: u8, received: &[BitCosts], count: usize) -> Run {
     let mut best: Option<Run> = None;
     for number in 0u32..1 << count {
         // The last bit counts most in the number.
         let bits: Vec<u8> = (0..count).map(|i| (number >> i & 1) as u8).collect();
         let mut coder = InnerCoder::after(rate, memory);
-        let differing = differing(symbols, &coder.code_bits(&bits));
-        if best.as_ref().map_or(true, |b| differing < b.differing) {
-            best = Some(Run { bits, memory: coder.memory(), differing });
+        let cost = cost(received, &coder.code_bits(&bits));
+        if best.as_ref().map_or(true, |b| cost < b.cost) {
+            best = Some(Run { bits, memory: coder.memory(), cost });
         }
     }
     best.expect("there is a sequence of every length")
@@ -45,7 +70,7 @@ pub fn by_all_sequences(rate: u8, memory: u8, symbols: &[u8], count: usize) -> R
 /// 2^k.
 #[derive(Clone, PartialEq, Eq, PartialOrd, Ord)]
 struct Path {
-    differing: u32,
+    cost: u32,
     /// The highest word first, so that the derived order compares the last bits
     /// first.
     bits: Vec<u64>,
@@ -54,16 +79,16 @@ struct Path {
 /// The Viterbi algorithm: of the paths into one memory only the first in the
 /// order of cost, and then of bits from the last one back, can be part of the
 /// answer.
-pub fn by_viterbi(rate: u8, memory: u8, symbols: &[u8], count: usize) -> Run {
+fn by_viterbi(rate: u8, memory: u8, received: &[BitCosts], count: usize) -> Run {
     let words = count / 64 + 1;
     let mut paths: Vec<Option<Path>> = vec![None; 64];
-    paths[memory as usize] = Some(Path { differing: 0, bits: vec![0; words] });
-    // The received bits in the order in which they were sent.
-    let mut received = symbols.iter().flat_map(|s| [s >> 1 & 1, s & 1]);
+    paths[memory as usize] = Some(Path { cost: 0, bits: vec![0; words] });
+    let mut received = received.iter();
     for k in 0..count {
         let (keep_x, keep_y) = pattern(rate, k);
-        let x = if keep_x { received.next() } else { None };
-        let y = if keep_y { received.next() } else { None };
+        // A coded bit that was not sent costs nothing either way.
+        let x = if keep_x { *received.next().expect("X was received") } else { [0, 0] };
+        let y = if keep_y { *received.next().expect("Y was received") } else { [0, 0] };
         let mut next: Vec<Option<Path>> = vec![None; 64];
         for (from, path) in paths.iter().enumerate() {
             let Some(path) = path else { continue };
@@ -71,7 +96,7 @@ pub fn by_viterbi(rate: u8, memory: u8, symbols: &[u8], count: usize) -> Run {
                 let mut coder = InnerCoder::after(rate, from as u8);
                 let (sent_x, sent_y) = coder.mother(bit);
                 let mut longer = path.clone();
-                longer.differing += x.map_or(0, |x| (x != sent_x) as u32) + y.map_or(0, |y| (y != sent_y) as u32);
+                longer.cost += x[sent_x as usize] + y[sent_y as usize];
                 longer.bits[words - 1 - k / 64] |= (bit as u64) << (k % 64);
                 let slot = &mut next[coder.memory() as usize];
                 if slot.as_ref().map_or(true, |there| longer < *there) {
@@ -88,37 +113,68 @@ pub fn by_viterbi(rate: u8, memory: u8, symbols: &[u8], count: usize) -> Run {
         .min_by(|a, b| a.1.cmp(&b.1))
         .expect("a path always goes on");
     let bits = (0..count).map(|k| (path.bits[words - 1 - k / 64] >> (k % 64) & 1) as u8).collect();
-    Run { bits, memory: memory as u8, differing: path.differing }
+    Run { bits, memory: memory as u8, cost: path.cost }
 }
 
-/// Reads a run. Refusals in the order 6, 5, 12, 13, 14, 4.
-pub fn read_run(rate: u8, memory: u8, symbols: &[u8], room: usize) -> Result<Run, Answer> {
+fn search(rate: u8, memory: u8, received: &[BitCosts], count: usize) -> Run {
+    if count <= SHORT {
+        by_all_sequences(rate, memory, received, count)
+    } else {
+        by_viterbi(rate, memory, received, count)
+    }
+}
+
+/// The bits of so many symbols; 12 where they make no whole patterns, then 13.
+fn length_of(rate: u8, symbols: usize) -> Result<usize, Answer> {
+    let length = InnerCoder::pattern_length(rate);
+    let per_pattern = InnerCoder::after(rate, 0).symbols_due(length);
+    if symbols % per_pattern != 0 {
+        return Err(Answer::BrokenPattern);
+    }
+    let count = symbols / per_pattern * length;
+    if count > LONGEST {
+        return Err(Answer::LongRun);
+    }
+    Ok(count)
+}
+
+/// 6, then 5.
+fn coder_known(rate: u8, memory: u8) -> Result<(), Answer> {
     if rate >= RATES {
         return Err(Answer::UnknownRate);
     }
     if memory > 63 {
         return Err(Answer::StateRange);
     }
-    let length = InnerCoder::pattern_length(rate);
-    let per_pattern = InnerCoder::after(rate, 0).symbols_due(length);
-    if symbols.len() % per_pattern != 0 {
-        return Err(Answer::BrokenPattern);
-    }
-    let count = symbols.len() / per_pattern * length;
-    if count > LONGEST {
-        return Err(Answer::LongRun);
-    }
+    Ok(())
+}
+
+/// Reads a run. Refusals in the order 6, 5, 12, 13, 14, 4.
+pub fn read_run(rate: u8, memory: u8, symbols: &[u8], room: usize) -> Result<Run, Answer> {
+    coder_known(rate, memory)?;
+    let count = length_of(rate, symbols.len())?;
     if symbols.iter().any(|&s| s > 3) {
         return Err(Answer::NoSymbol);
     }
     if room < count {
         return Err(Answer::ShortRoom);
     }
-    Ok(if count <= SHORT {
-        by_all_sequences(rate, memory, symbols, count)
-    } else {
-        by_viterbi(rate, memory, symbols, count)
-    })
+    Ok(search(rate, memory, &hard(symbols), count))
+}
+
+/// Reads a run by soft decisions. Refusals in the order 6, 5, 24, 12, 13, 4.
+pub fn read_soft_run(rate: u8, memory: u8, i: &[f32], q: &[f32], lost: &[u8], room: usize) -> Result<Run, Answer> {
+    coder_known(rate, memory)?;
+    if i.len() != q.len() || i.len() != lost.len() || lost.iter().any(|&mark| mark > 1) {
+        return Err(Answer::SoftLists);
+    }
+    let count = length_of(rate, i.len())?;
+    if room < count {
+        return Err(Answer::ShortRoom);
+    }
+    let received: Vec<BitCosts> =
+        (0..i.len()).flat_map(|k| if lost[k] == 1 { [[0, 0]; 2] } else { [soft(i[k]), soft(q[k])] }).collect();
+    Ok(search(rate, memory, &received, count))
 }
 
 #[cfg(test)]
@@ -134,8 +190,11 @@ mod tests {
             let length = InnerCoder::pattern_length(rate);
             let count = length * r.below(SHORT / length + 1);
             let memory = r.byte() % 64;
-            let symbols: Vec<u8> = (0..InnerCoder::after(rate, 0).symbols_due(count)).map(|_| r.byte() % 4).collect();
-            assert_eq!(by_all_sequences(rate, memory, &symbols, count), by_viterbi(rate, memory, &symbols, count));
+            let most = [2, 8][case as usize / 5 % 2];
+            let received: Vec<BitCosts> = (0..2 * InnerCoder::after(rate, 0).symbols_due(count))
+                .map(|_| [r.below(most) as u32, r.below(most) as u32])
+                .collect();
+            assert_eq!(by_all_sequences(rate, memory, &received, count), by_viterbi(rate, memory, &received, count));
         }
     }
 
@@ -148,7 +207,19 @@ mod tests {
             let mut coder = InnerCoder::after(rate, 45);
             let symbols = coder.code_bits(&bits);
             let run = read_run(rate, 45, &symbols, count).ok().unwrap();
-            assert_eq!((run.bits, run.memory, run.differing), (bits, coder.memory(), 0));
+            assert_eq!((run.bits, run.memory, run.cost), (bits, coder.memory(), 0));
+        }
+    }
+
+    #[test]
+    fn levels_count_the_thresholds() {
+        let thresholds = [-0.75f32, -0.5, -0.25, 0.0, 0.25, 0.5, 0.75];
+        let mut numbers: Vec<f32> = vec![0.0, -0.0, f32::INFINITY, f32::NEG_INFINITY, f32::MAX, f32::MIN, f32::from_bits(1), f32::from_bits(0x8000_0001)];
+        for t in thresholds {
+            numbers.extend([t, f32::from_bits(t.to_bits().wrapping_add(1)), f32::from_bits(t.to_bits().wrapping_sub(1))]);
+        }
+        for x in numbers.into_iter().filter(|x| !x.is_nan()) {
+            assert_eq!(level(x), thresholds.iter().filter(|t| **t <= x).count() as u32, "{x:e}");
         }
     }
 }

@@ -8,6 +8,7 @@
 
 pub mod answer;
 pub mod bridge;
+pub mod channel;
 pub mod exports;
 pub mod inner_code;
 pub mod inner_decoder;
@@ -16,6 +17,8 @@ pub mod randomizer;
 pub mod receiver;
 pub mod recording;
 pub mod reed_solomon;
+pub mod report;
+pub mod season;
 pub mod sender;
 pub mod xorshift;
 

@@ -23,21 +23,21 @@ fn interleaved(input: &[u8]) -> Vec<u8> {
 
 #[test]
 fn zeros() {
-    let want = "form=1\ntaken=13\nfilling=11\ndelivered=0\nlost=0\nwaiting=2\noutofstep=0\nchanged=0\nrest=100\n";
+    let want = "form=2\ntaken=13\nfilling=11\ndelivered=0\nlost=0\nwaiting=2\noutofstep=0\nchanged=0\nbits=0\nrest=100\n";
     assert_eq!(report(&[0; 2752]), want);
 }
 
 #[test]
 fn nothing_and_the_ends_of_rest() {
     for (length, taken, rest) in [(0, 0, 0), (203, 0, 203), (204, 1, 0), (407, 1, 203)] {
-        let want = format!("form=1\ntaken={taken}\nfilling={taken}\ndelivered=0\nlost=0\nwaiting=0\noutofstep=0\nchanged=0\nrest={rest}\n");
+        let want = format!("form=2\ntaken={taken}\nfilling={taken}\ndelivered=0\nlost=0\nwaiting=0\noutofstep=0\nchanged=0\nbits=0\nrest={rest}\n");
         assert_eq!(report(&vec![0; length]), want);
     }
 }
 
 #[test]
 fn the_outside_stream() {
-    let want = "form=1\ntaken=40\nfilling=11\ndelivered=29\nlost=0\nwaiting=0\noutofstep=0\nchanged=0\nrest=0\n";
+    let want = "form=2\ntaken=40\nfilling=11\ndelivered=29\nlost=0\nwaiting=0\noutofstep=0\nchanged=0\nbits=0\nrest=0\n";
     assert_eq!(report(INTERLEAVED), want);
 }
 
@@ -55,4 +55,32 @@ fn null_packets_are_put_in() {
     let whole = [&null[..], PACKETS, &null].concat();
     assert_eq!(interleaved(&odd), interleaved(&whole));
     assert_eq!(interleaved(&odd).len(), 204 * 42);
+}
+
+/// What the channel writes for the symbols, as pairs of numbers.
+fn points(words: &[&str], symbols: &[u8]) -> Vec<(f32, f32)> {
+    let mut child = Command::new(env!("CARGO_BIN_EXE_channel")).args(words).stdin(Stdio::piped()).stdout(Stdio::piped()).spawn().unwrap();
+    // One that refuses its words may be gone before it reads.
+    let _ = child.stdin.take().unwrap().write_all(symbols);
+    let bytes = child.wait_with_output().unwrap().stdout;
+    let number = |b: &[u8]| f32::from_le_bytes([b[0], b[1], b[2], b[3]]);
+    bytes.chunks_exact(8).map(|p| (number(&p[..4]), number(&p[4..]))).collect()
+}
+
+#[test]
+fn the_channel() {
+    let symbols: Vec<u8> = (0..4000).map(|k| (k % 4) as u8).collect();
+    let clean = points(&["2", "60", "1"], &symbols);
+    assert_eq!(clean.len(), symbols.len());
+    for (point, symbol) in clean.iter().zip(&symbols) {
+        let (i, q) = reference::channel::sent(*symbol);
+        assert!((point.0 - i).abs() < 0.01 && (point.1 - q).abs() < 0.01);
+    }
+    let noisy = points(&["2", "3", "1", "lost=0.1", "burst=50/500"], &symbols);
+    assert!(noisy.iter().filter(|p| p.0.is_nan() && p.1.is_nan()).count() > 300);
+    let still = points(&["4", "inf", "1"], &symbols);
+    assert!(still.iter().zip(&symbols).all(|(point, symbol)| *point == reference::channel::sent(*symbol)));
+    assert!(points(&["5", "3", "1"], &symbols).is_empty());
+    assert!(points(&["2", "3"], &symbols).is_empty());
+    assert!(points(&["2", "3", "1", "burst=5/0"], &symbols).is_empty());
 }

@@ -37,12 +37,22 @@ pub enum Answer {
     NullPacket,
     // A recording has no such block, or a receiver would not take it.
     NoSuchBlock,
+    // A text is not that of a pass report, or a number in it is past its limit.
+    NotReport,
+    // The middle five counts of a report do not add up to taken, or filling is not the smaller of taken and 11.
+    WrongSums,
+    // A report that is to go back to form 1 tells its bits, or one is in the form wanted already.
+    FormKept,
     // There is not a mark for each byte, or one is above 1.
     MarkValue,
+    // Something follows the 4,096 reports of a season.
+    TooManyReports,
     // A state given as bytes is not as long as a state is.
     StateLength,
     // There is no count with this number.
     UnknownCount,
+    // The lists of a soft run are not of one length, or a mark is above 1.
+    SoftLists,
 }
 
 impl Answer {
@@ -68,9 +78,14 @@ impl Answer {
             Answer::SymbolRange => 14,
             Answer::NullPacket => 15,
             Answer::NoSuchBlock => 16,
+            Answer::NotReport => 17,
+            Answer::WrongSums => 18,
+            Answer::FormKept => 19,
             Answer::MarkValue => 20,
+            Answer::TooManyReports => 21,
             Answer::StateLength => 22,
             Answer::UnknownCount => 23,
+            Answer::SoftLists => 24,
         }
     }
 }

@@ -9,7 +9,7 @@ use lib.ListN.{length, getD}
 use Rattle.convolutional_code.specs.Bits.{bitsOf, Bits}
 use Rattle.convolutional_code.specs.Code.{tapsX, tapsY, nextMemory, coded, motherOf, memoryAfter, blockMother}
 use Rattle.convolutional_code.specs.Sweep.{oldest, offsetsX, offsetsY, totalAt, sweep, memoryAt}
-use Rattle.convolutional_code.proofs.Bits.{bits-at, bits-tail, bits-bits, block-bits}
+use Rattle.convolutional_code.proofs.Bits.{bits-at, bits-tail, bits-bits, length-bits}
 
 pub length-sweep : (os h : List ℕ) (n k : ℕ) → length (sweep os h n k) ≡ k
 unfolding sweep
@@ -107,14 +107,17 @@ memory-mother m (b ∷ bs) h t =
     ∙ s
     ∙ memory-mother next bs (next-small m b h (bits-at t 0)) (bits-tail t)
 
--- a block of 204 bytes
-module _ (memory : ℕ) (block : List ℕ) (h : memory < 64) (n : length block ≡ 204) where
-  swept : (os taps : List ℕ) → Offsets os taps → sweep os (oldest memory ++ bitsOf block) 0 1632 ≡ motherOf taps memory (bitsOf block)
-  swept os taps same = ap (sweep os (oldest memory ++ bitsOf block) 0) (sym (block-bits block n)) ∙ sweep-mother os taps same memory (bitsOf block) h (bits-bits block)
+-- the bits of some bytes
+module _ (memory : ℕ) (bytes : List ℕ) (k : ℕ) (h : memory < 64) (n : k ≡ 8 * length bytes) where
+  size : length (bitsOf bytes) ≡ k
+  size = length-bits bytes ∙ sym n
 
-  pub block-mother : sweep offsetsX (oldest memory ++ bitsOf block) 0 1632 ++ sweep offsetsY (oldest memory ++ bitsOf block) 0 1632
-      ≡ blockMother memory (bitsOf block)
+  swept : (os taps : List ℕ) → Offsets os taps → sweep os (oldest memory ++ bitsOf bytes) 0 k ≡ motherOf taps memory (bitsOf bytes)
+  swept os taps same = ap (sweep os (oldest memory ++ bitsOf bytes) 0) (sym size) ∙ sweep-mother os taps same memory (bitsOf bytes) h (bits-bits bytes)
+
+  pub block-mother : sweep offsetsX (oldest memory ++ bitsOf bytes) 0 k ++ sweep offsetsY (oldest memory ++ bitsOf bytes) 0 k
+      ≡ blockMother memory (bitsOf bytes)
   block-mother = ap₂ (λ (x y : List ℕ). x ++ y) (swept offsetsX tapsX (λ m b bs. refl)) (swept offsetsY tapsY (λ m b bs. refl))
 
-  pub block-memory : memoryAt (oldest memory ++ bitsOf block) 1632 ≡ memoryAfter memory (bitsOf block)
-  block-memory = ap (memoryAt (oldest memory ++ bitsOf block)) (sym (block-bits block n)) ∙ memory-mother memory (bitsOf block) h (bits-bits block)
+  pub block-memory : memoryAt (oldest memory ++ bitsOf bytes) k ≡ memoryAfter memory (bitsOf bytes)
+  block-memory = ap (memoryAt (oldest memory ++ bitsOf bytes)) (sym size) ∙ memory-mother memory (bitsOf bytes) h (bits-bits bytes)

@@ -15,17 +15,17 @@ use Rattle.convolutional_code.proofs.Bits.{bits-split, length-bits}
 -- the memory and i bytes of the block are unpacked
 pub record Unpacked (memory : ℕ) (block history : List ℕ) (i : ℕ) : Type 0 where
   pub front : take (8 * i + 6) history ≡ oldest memory ++ bitsOf (take i block)
-  pub size : length history ≡ 1638
+  pub size : length history ≡ 8 * length block + 6
 
-pub unpacked-none : (memory : ℕ) (block history rest : List ℕ) → history ≡ oldest memory ++ rest → length history ≡ 1638
+pub unpacked-none : (memory : ℕ) (block history rest : List ℕ) → history ≡ oldest memory ++ rest → length history ≡ 8 * length block + 6
     → Unpacked memory block history 0
 unfolding bitsOf
 unpacked-none memory block history rest e n = record { front = ap (take 6) e; size = n }
 
 pub unpacked-more : {memory : ℕ} {block history : List ℕ} {i : ℕ} → Unpacked memory block history i → (part after : List ℕ) (k : ℕ) → i < length block
-    → i < 204 → part ≡ bitsOf (getD block i 0 ∷ []) ++ after → length part ≡ length (midOf (8 * i + 6) k history)
+    → part ≡ bitsOf (getD block i 0 ∷ []) ++ after → length part ≡ length (midOf (8 * i + 6) k history)
     → Unpacked memory block (putMid (8 * i + 6) k history part) (i + 1)
-unpacked-more {memory} {block} {history} {i} u part after k l m p n =
+unpacked-more {memory} {block} {history} {i} u part after k l p n =
     let b : ℕ = getD block i 0 in
     let a : ℕ = 8 * i + 6 in
     let done : List ℕ = take a history ++ bitsOf (b ∷ []) in
@@ -58,9 +58,9 @@ unpacked-more {memory} {block} {history} {i} u part after k l m p n =
     next : (i : ℕ) → 8 * i + 6 + 8 ≡ 8 * (i + 1) + 6
     next i = omega arith
 
-pub unpacked-all : {memory : ℕ} {block history : List ℕ} {i : ℕ} → Unpacked memory block history i → i ≡ 204 → length block ≡ 204
+pub unpacked-all : {memory : ℕ} {block history : List ℕ} {i : ℕ} → Unpacked memory block history i → i ≡ length block
     → history ≡ oldest memory ++ bitsOf block
-unpacked-all {memory} {block} {history} {i} u e h =
+unpacked-all {memory} {block} {history} {i} u e =
     sym (take-all (8 * i + 6) history (omega (arith, u .size)))
     ∙ u .front
     ∙ ap (λ (x : List ℕ). oldest memory ++ bitsOf x) (take-all i block (omega arith))

@@ -58,16 +58,16 @@ fn unpack_byte(b: u8, room: &mut [u8])
     room[7] = b % 2;
 }
 
-// Writes the bits of the memory and of a block.
-fn unpack(memory: u8, block: &[u8], history: &mut [u8])
-    requires { ⌜ (length (now block) ≡ 204) × (length (now history) ≡ 1638) ⌝ }
-    ensures { λ r. ⌜ now (history .exit) ≡ oldest memory ++ bitsOf (now (block .entry)) ⌝ }
+// Writes the bits of the memory and of some bytes.
+fn unpack(memory: u8, bytes: &[u8], history: &mut [u8])
+    requires { ⌜ (length (now bytes) ≤ 204) × (length (now history) ≡ 8 * length (now bytes) + 6) ⌝ }
+    ensures { λ r. ⌜ now (history .exit) ≡ oldest memory ++ bitsOf (now (bytes .entry)) ⌝ }
 {
     unpack_memory(memory, history);
     let mut i: usize = 0;
-    while i < 204 {
+    while i < bytes.len() {
         let n = 8 * i + 6;
-        unpack_byte(block[i], &mut history[n..]);
+        unpack_byte(bytes[i], &mut history[n..]);
         i += 1;
     }
 }
@@ -83,6 +83,7 @@ fn parity(a: u8, b: u8, c: u8, d: u8, e: u8) -> u8
 // Writes a coded bit for each bit but the first six, from at on. The taps are counted from the oldest of seven bits.
 fn convolve(
     history: &[u8],
+    bits: usize,
     a: usize,
     b: usize,
     c: usize,
@@ -93,17 +94,18 @@ fn convolve(
 )
     requires { ⌜
         (Bits (now history))
-        × (length (now history) ≡ 1638)
+        × (bits ≤ 1632)
+        × (length (now history) ≡ bits + 6)
         × (a ≤ 6)
         × (b ≤ 6)
         × (c ≤ 6)
         × (d ≤ 6)
         × (e ≤ 6)
-        × (at + 1632 ≤ length (now coded)) ⌝ }
-    ensures { λ r. ⌜ now (coded .exit) ≡ placed (now (coded .entry)) at (sweep (a ∷ b ∷ c ∷ d ∷ e ∷ []) (now (history .entry)) 0 1632) ⌝ }
+        × (at + bits ≤ length (now coded)) ⌝ }
+    ensures { λ r. ⌜ now (coded .exit) ≡ placed (now (coded .entry)) at (sweep (a ∷ b ∷ c ∷ d ∷ e ∷ []) (now (history .entry)) 0 bits) ⌝ }
 {
     let mut n: usize = 0;
-    while n < 1632 {
+    while n < bits {
         coded[at + n] = parity(
             history[n + a],
             history[n + b],
@@ -116,12 +118,12 @@ fn convolve(
 }
 
 // Writes X and then Y of each bit but the first six.
-fn mother(history: &[u8], coded: &mut [u8])
-    requires { ⌜ (Bits (now history)) × (length (now history) ≡ 1638) × (length (now coded) ≡ 3264) ⌝ }
-    ensures { λ r. ⌜ now (coded .exit) ≡ sweep offsetsX (now (history .entry)) 0 1632 ++ sweep offsetsY (now (history .entry)) 0 1632 ⌝ }
+fn mother(history: &[u8], bits: usize, coded: &mut [u8])
+    requires { ⌜ (Bits (now history)) × (bits ≤ 1632) × (length (now history) ≡ bits + 6) × (length (now coded) ≡ bits + bits) ⌝ }
+    ensures { λ r. ⌜ now (coded .exit) ≡ sweep offsetsX (now (history .entry)) 0 bits ++ sweep offsetsY (now (history .entry)) 0 bits ⌝ }
 {
-    convolve(history, 6, 5, 4, 3, 0, coded, 0);
-    convolve(history, 6, 4, 3, 1, 0, coded, 1632);
+    convolve(history, bits, 6, 5, 4, 3, 0, coded, 0);
+    convolve(history, bits, 6, 4, 3, 1, 0, coded, bits);
 }
 
 // The number that six bits make, the oldest first.
@@ -133,29 +135,34 @@ fn six_bits(a: u8, b: u8, c: u8, d: u8, e: u8, f: u8) -> u8
 }
 
 // The memory that the last six bits make.
-fn memory_of(history: &[u8]) -> u8
-    requires { ⌜ (Bits (now history)) × (length (now history) ≡ 1638) ⌝ }
-    ensures { λ r. ⌜ r ≡ memoryAt (now (history .entry)) 1632 ⌝ }
+fn memory_of(history: &[u8], bits: usize) -> u8
+    requires { ⌜ (Bits (now history)) × (bits ≤ 1632) × (length (now history) ≡ bits + 6) ⌝ }
+    ensures { λ r. ⌜ r ≡ memoryAt (now (history .entry)) bits ⌝ }
 {
     six_bits(
-        history[1632],
-        history[1633],
-        history[1634],
-        history[1635],
-        history[1636],
-        history[1637],
+        history[bits],
+        history[bits + 1],
+        history[bits + 2],
+        history[bits + 3],
+        history[bits + 4],
+        history[bits + 5],
     )
 }
 
-// Writes X and then Y of each bit of a block. Gives the memory after it.
-pub fn code_block(memory: u8, block: &[u8], coded: &mut [u8]) -> u8
-    requires { ⌜ (memory < 64) × (length (now block) ≡ 204) × (length (now coded) ≡ 3264) ⌝ }
+// Writes X and then Y of each bit of some bytes, at most those of a block. Gives the memory after them. The history is lent for the bits of the memory
+// and of the bytes.
+pub fn code_bytes(memory: u8, bytes: &[u8], history: &mut [u8], coded: &mut [u8]) -> u8
+    requires { ⌜
+        (memory < 64)
+        × (length (now bytes) ≤ 204)
+        × (length (now history) ≡ 8 * length (now bytes) + 6)
+        × (length (now coded) ≡ 16 * length (now bytes)) ⌝ }
     ensures { λ r. ⌜
-        (r ≡ memoryAfter memory (bitsOf (now (block .entry))))
-        × (now (coded .exit) ≡ blockMother memory (bitsOf (now (block .entry)))) ⌝ }
+        (r ≡ memoryAfter memory (bitsOf (now (bytes .entry))))
+        × (now (coded .exit) ≡ blockMother memory (bitsOf (now (bytes .entry)))) ⌝ }
 {
-    let mut history = [0u8; 1638];
-    unpack(memory, block, &mut history);
-    mother(&history, coded);
-    memory_of(&history)
+    let bits = 8 * bytes.len();
+    unpack(memory, bytes, history);
+    mother(history, bits, coded);
+    memory_of(history, bits)
 }

@@ -77,7 +77,7 @@ advanced-small size p k h l = by (decLt (p + k) size)
     by (yes t) = rw (lt-ltb _ _ t) t
     by (no t) = rw (le-ltb (p + k) size (omega arith)) (omega arith)
 
-advanced-next : (size p k : ℕ) → p < size → k < size → nextOf size (advanced size p k) ≡ advanced size p (k + 1)
+pub advanced-next : (size p k : ℕ) → p < size → k < size → nextOf size (advanced size p k) ≡ advanced size p (k + 1)
 advanced-next size p k h l = by (decLt (p + k) size) (decLt (p + (k + 1)) size)
   where
     by : Dec (p + k < size) → Dec (p + (k + 1) < size) → nextOf size (advanced size p k) ≡ advanced size p (k + 1)

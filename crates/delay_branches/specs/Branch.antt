@@ -10,6 +10,10 @@ use Rattle.delay_branches.specs.declared.Side.{Side}
 use Rattle.delay_branches.specs.declared.Side.the-variants.{Sending, Receiving}
 use Rattle.delay_branches.specs.declared.Branches.{Branches}
 
+-- the branches that have these cells and positions
+abbrev pub laid : List ℕ → List ℕ → Branches
+laid cells positions = record { cells = cells; positions = positions }
+
 -- By how many blocks branch j delays its bytes. The de-interleaver has the branch indexes reversed.
 abbrev pub delayOf : Side → ℕ → ℕ
 delayOf Sending j = j

@@ -7,7 +7,7 @@ ghost use Prim.Native.Nat.{_+_, _-_, _<_, _≤_, max};
 ghost use lib.Dec.{eqb};
 ghost use lib.ListN.{length, take, drop};
 ghost use Rattle.common.specs.Choice.{pick};
-ghost use Rattle.delay_branches.specs.Branch.{delayOf, within, inRange, turned};
+ghost use Rattle.delay_branches.specs.Branch.{laid, delayOf, within, inRange, turned};
 ghost use Rattle.delay_branches.specs.Column.{column, placed};
 ghost use Rattle.delay_branches.specs.Block.{fresh, blockOut, after, positionAfter, advanced};
 
@@ -92,7 +92,30 @@ fn next_of(size: usize, p: usize) -> usize
 }
 
 // Puts the bytes of branch j into its cells, from a position on, and takes out those that were there. Gives the next position.
-fn exchange_column(
+// For 17 cells that follow each other. From fresh branches on it is always so, as each branch has a multiple of 17 cells.
+fn exchange_row(cells: &mut [u8], position: usize, j: usize, block: &[u8], room: &mut [u8]) -> usize
+    requires { ⌜
+        (position + 17 ≤ length (now cells))
+        × (j < 12) × (length (now block) ≡ 204) × (204 ≤ length (now room)) ⌝ }
+    ensures { λ r. ⌜
+        (r ≡ advanced (length (now (cells .entry))) position 17)
+        × (now (cells .exit) ≡ turned (length (now (cells .entry)) - r) (drop 17 (turned position (now (cells .entry)) ++ column j (now (block .entry)))))
+        × (now (room .exit) ≡ placed j (take 17 (turned position (now (cells .entry)) ++ column j (now (block .entry)))) (now (room .entry))) ⌝ }
+{
+    let mut k: usize = 0;
+    while k < 17 {
+        let n = 12 * k + j;
+        let p = position + k;
+        let out = cells[p];
+        cells[p] = block[n];
+        room[n] = out;
+        k += 1;
+    }
+    next_of(cells.len(), position + 16)
+}
+
+// The same with a test at each cell of whether it is the last.
+fn exchange_round(
     cells: &mut [u8],
     position: usize,
     j: usize,
@@ -121,6 +144,28 @@ fn exchange_column(
     p
 }
 
+// Puts the bytes of branch j into its cells, from a position on, and takes out those that were there. Gives the next position.
+fn exchange_column(
+    cells: &mut [u8],
+    position: usize,
+    j: usize,
+    block: &[u8],
+    room: &mut [u8],
+) -> usize
+    requires { ⌜
+        (17 ≤ length (now cells)) × (position < length (now cells))
+        × (j < 12) × (length (now block) ≡ 204) × (204 ≤ length (now room)) ⌝ }
+    ensures { λ r. ⌜
+        (r ≡ advanced (length (now (cells .entry))) position 17)
+        × (now (cells .exit) ≡ turned (length (now (cells .entry)) - r) (drop 17 (turned position (now (cells .entry)) ++ column j (now (block .entry)))))
+        × (now (room .exit) ≡ placed j (take 17 (turned position (now (cells .entry)) ++ column j (now (block .entry)))) (now (room .entry))) ⌝ }
+{
+    if cells.len() - position >= 17 {
+        return exchange_row(cells, position, j, block, room);
+    }
+    exchange_round(cells, position, j, block, room)
+}
+
 // Puts the bytes of branch j through its cells, if it has any.
 fn pass_column(cells: &mut [u8], position: u8, j: usize, block: &[u8], room: &mut [u8]) -> u8
     requires { ⌜
@@ -138,6 +183,34 @@ fn pass_column(cells: &mut [u8], position: u8, j: usize, block: &[u8], room: &mu
     exchange_column(cells, position as usize, j, block, room) as u8
 }
 
+// Puts a block through cells by positions that are in range. Gives the next positions.
+pub fn pass_cells(
+    side: Side,
+    cells: &mut [u8],
+    positions: [u8; 12],
+    block: &[u8],
+    room: &mut [u8],
+) -> [u8; 12]
+    requires { ⌜
+        (within side positions 12 ≡ true) × (length (now cells) ≡ 1122) × (length (now block) ≡ 204) × (204 ≤ length (now room)) ⌝ }
+    ensures { λ r. ⌜
+        (r ≡ after side (laid (now (cells .entry)) positions) (now (block .entry)) .positions)
+        × (now (cells .exit) ≡ after side (laid (now (cells .entry)) positions) (now (block .entry)) .cells)
+        × (now (room .exit) ≡ blockOut side (laid (now (cells .entry)) positions) (now (block .entry)) ++ drop 204 (now (room .entry))) ⌝ }
+{
+    let mut next = positions;
+    let mut base: usize = 0;
+    let mut j: usize = 0;
+    while j < 12 {
+        let end = base + 17 * side.delay(j);
+        let position = next[j];
+        next[j] = pass_column(&mut cells[base..end], position, j, block, room);
+        base = end;
+        j += 1;
+    }
+    next
+}
+
 // Puts a block through branches whose positions are in range.
 pub fn pass_block(side: Side, branches: Branches, block: &[u8], room: &mut [u8]) -> Branches
     requires { ⌜ (inRange side branches ≡ true) × (length (now block) ≡ 204) × (204 ≤ length (now room)) ⌝ }
@@ -146,16 +219,7 @@ pub fn pass_block(side: Side, branches: Branches, block: &[u8], room: &mut [u8])
         × (now (room .exit) ≡ blockOut side branches (now (block .entry)) ++ drop 204 (now (room .entry))) ⌝ }
 {
     let mut cells = branches.cells;
-    let mut positions = branches.positions;
-    let mut base: usize = 0;
-    let mut j: usize = 0;
-    while j < 12 {
-        let end = base + 17 * side.delay(j);
-        let position = positions[j];
-        let next = pass_column(&mut cells[base..end], position, j, block, room);
-        positions[j] = next;
-        base = end;
-        j += 1;
-    }
+    let before = branches.positions;
+    let positions = pass_cells(side, &mut cells, before, block, room);
     Branches { cells, positions }
 }

@@ -2,14 +2,16 @@
 -- Assumes nothing.
 use mathlib.Core.Bool.{Bool, true, false}
 use mathlib.Core.Path.{_≡_, refl, sym, _∙_, ap}
-use mathlib.Core.List.{List, [], _∷_, flatten}
+use mathlib.Core.List.{List, [], _∷_, _++_, flatten}
 use Prim.Native.Nat.{ℕ, zero, suc, _+_, _-_, _*_, _/_, _%_, _<_, _≤_}
 use native.Mathlib.Omega.{arith}
-use native.Mathlib.Nat.{add-zero, add-suc, zero-mod, mod-add-mod, mod-lt}
+use native.Mathlib.Nat.{add-zero, add-suc, zero-mod, mod-one, mod-add-mod, mod-lt}
 use native.Mathlib.Numerals.{add-one}
 use lib.Dec.{eqb, ltb, leb, ltb→lt, leb→le}
-use lib.ListN.{length, getD, set}
+use lib.ListN.{length, getD, set, take, drop, length-append, length-drop}
+use lib.Seq.{length-take-le, getD-take}
 use Rattle.common.proofs.Each.{Each, each-none, each-more}
+use Rattle.common.proofs.Lists.{put-own}
 use Rattle.puncturing.specs.Mode.{modeOf}
 use Rattle.puncturing.specs.Step.{patternLength}
 use Rattle.puncturing.proofs.Places.{tested-at, agreed-at}
@@ -87,7 +89,7 @@ width-three q e = ap width e
 -- ---- the places of a run
 
 pub kind-lt : (rate place : ℕ) → rate < 5 → place < patternLength rate → (0 < kind rate place) × (kind rate place ≤ 3)
-unfolding kind patternLength modeOf flatten
+unfolding kind modeOf flatten
 kind-lt rate place h l = (
   ltb→lt 0 (kind rate place) (tested-at (λ r p. ltb 0 (kind r p)) tt rate place h l),
   leb→le (kind rate place) 3 (tested-at (λ r p. leb (kind r p) 3) tt rate place h l),
@@ -95,7 +97,7 @@ kind-lt rate place h l = (
 
 pub table-is : (rate place : ℕ) → rate < 5 → place < patternLength rate
     → getD (3 ∷ 0 ∷ 0 ∷ 0 ∷ 0 ∷ 0 ∷ 0 ∷ 3 ∷ 1 ∷ 3 ∷ 1 ∷ 0 ∷ 0 ∷ 0 ∷ 3 ∷ 1 ∷ 2 ∷ 0 ∷ 0 ∷ 0 ∷ 0 ∷ 3 ∷ 1 ∷ 2 ∷ 1 ∷ 2 ∷ 0 ∷ 0 ∷ 3 ∷ 1 ∷ 1 ∷ 1 ∷ 2 ∷ 1 ∷ 2 ∷ []) (7 * rate + place) 0 ≡ kind rate place
-unfolding kind patternLength modeOf flatten
+unfolding kind modeOf flatten
 table-is rate place h l =
     agreed-at (λ r p. getD (3 ∷ 0 ∷ 0 ∷ 0 ∷ 0 ∷ 0 ∷ 0 ∷ 3 ∷ 1 ∷ 3 ∷ 1 ∷ 0 ∷ 0 ∷ 0 ∷ 3 ∷ 1 ∷ 2 ∷ 0 ∷ 0 ∷ 0 ∷ 0 ∷ 3 ∷ 1 ∷ 2 ∷ 1 ∷ 2 ∷ 0 ∷ 0 ∷ 3 ∷ 1 ∷ 1 ∷ 1 ∷ 2 ∷ 1 ∷ 2 ∷ []) (7 * r + p) 0) kind tt rate place h l
 
@@ -109,6 +111,38 @@ unfolding first
 first-le rate k n h =
     let e : n ≡ suc k + (n - suc k) = omega arith in
     rw e (first-le-add rate (suc k) (n - suc k))
+
+-- ---- rate 1/2: both coded bits of every bit are sent
+
+half-kind : (k : ℕ) → kindAt 0 k ≡ 3
+unfolding kind modeOf flatten
+half-kind k = ap (kind 0) (mod-one k)
+
+pub half-first : (n : ℕ) → first 0 n ≡ 2 * n
+unfolding first
+half-first zero = refl
+half-first (suc n) = let e : width (kindAt 0 n) ≡ 2 = ap width (half-kind n) in omega (arith, half-first n)
+
+pub half-value : (l : List ℕ) (t : ℕ) → getD l t 0 ≡ stepValue l 0 t
+unfolding stepValue
+half-value l t =
+    let e : t ≡ 2 * first 0 (t / 4) + t % 4 = omega (arith, half-first (t / 4)) in
+    ap (λ (k : ℕ). getD l k 0) e ∙ ap (λ (q : ℕ). value l q (first 0 (t / 4)) (t % 4)) (sym (half-kind (t / 4)))
+
+-- so the costs are put as they are
+pub half-spread : (l room exit : List ℕ) (n m : ℕ) → m ≡ 4 * n → 4 * n ≤ length l → 4 * n ≤ length room
+    → exit ≡ take 0 room ++ take m l ++ drop (0 + length (take m l)) room
+    → (length exit ≡ length room) × ((t : ℕ) → t < 4 * n → getD exit t 0 ≡ stepValue l 0 t)
+half-spread l room exit n m q h k e =
+    let part = take m l in
+    let size : length part ≡ m = length-take-le m l (omega arith) in (
+      ap length e ∙ (length-append part (drop (0 + length part) room) ∙ omega (arith, size, length-drop (0 + length part) room)),
+      λ t g.
+          let i : 0 + t ≡ t = omega arith in
+          ap (λ (x : List ℕ). getD x t 0) e
+          ∙ (ap (λ (j : ℕ). getD (part ++ drop (0 + length part) room) j 0) (sym i) ∙ put-own room part 0 t (omega (arith, size)) (omega (arith, size)))
+          ∙ (getD-take m l t 0 (omega arith) ∙ half-value l t),
+    )
 
 -- ---- the loop
 

@@ -5,6 +5,7 @@ ghost use Prim.Native.Nat.{ℕ, _+_, _*_, _%_, _<_, _≤_};
 ghost use lib.ListN.{length, getD};
 ghost use Rattle.puncturing.specs.Step.{patternLength};
 ghost use Rattle.depuncturing.specs.Steps.{kind, width, first, value, stepValue};
+use common::put;
 
 const KINDS: [u8; 35] = [
     3,
@@ -95,8 +96,8 @@ fn following(place: usize, pattern: usize) -> usize
     if next < pattern { next } else { 0 }
 }
 
-// Writes the four costs of each of n steps.
-pub fn spread_costs(costs: &[u8], rate: usize, pattern: usize, n: usize, room: &mut [u8])
+// Writes the four costs of each of n steps, place by place of the pattern.
+fn spread_places(costs: &[u8], rate: usize, pattern: usize, n: usize, room: &mut [u8])
     requires { ⌜ (rate < 5) × (pattern ≡ patternLength rate) × (0 < pattern) × (pattern ≤ 7) × (2 * first rate n ≤ length (now costs)) × (4 * n ≤ length (now room)) ⌝ }
     ensures { λ _. ⌜ (length (now (room .exit)) ≡ length (now (room .entry))) × ((t : ℕ) → t < 4 * n → getD (now (room .exit)) t 0 ≡ stepValue (now (costs .entry)) rate t) ⌝ }
 {
@@ -119,5 +120,18 @@ pub fn spread_costs(costs: &[u8], rate: usize, pattern: usize, n: usize, room: &
         j = f.next;
         place = following(place, pattern);
         k += 1;
+    }
+}
+
+// Writes the four costs of each of n steps. At rate 1/2 every coded bit is sent, and the costs stand as they are wanted.
+pub fn spread_costs(costs: &[u8], rate: usize, pattern: usize, n: usize, room: &mut [u8])
+    requires { ⌜ (rate < 5) × (pattern ≡ patternLength rate) × (0 < pattern) × (pattern ≤ 7) × (2 * first rate n ≤ length (now costs)) × (4 * n ≤ length (now room)) ⌝ }
+    ensures { λ _. ⌜ (length (now (room .exit)) ≡ length (now (room .entry))) × ((t : ℕ) → t < 4 * n → getD (now (room .exit)) t 0 ≡ stepValue (now (costs .entry)) rate t) ⌝ }
+{
+    if rate == 0 {
+        let end = 4 * n;
+        put(&costs[0..end], 0, room);
+    } else {
+        spread_places(costs, rate, pattern, n, room);
     }
 }

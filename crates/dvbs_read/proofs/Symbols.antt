@@ -1,16 +1,17 @@
--- The symbols at the front of some bytes, and what a piece of a stream leaves to be fed.
+-- The symbols at the front of some bytes, and their costs.
 -- Assumes nothing.
 use mathlib.Core.Path.{_≡_, sym, ap, subst, _∙_}
 use mathlib.Core.List.{List, [], _∷_, _++_}
-use Prim.Native.Nat.{ℕ, suc, _+_, _*_, _-_, _≤_, _<_}
+use Prim.Native.Nat.{ℕ, suc, _+_, _*_, _%_, _≤_, _<_}
 use native.Mathlib.Omega.{arith}
-use lib.ListN.{length, getD, take, drop, length-append, length-take, length-drop}
+use lib.ListN.{length, getD, take}
 use lib.Seq.{take-suc, length-take-le}
 use Rattle.common.specs.Lists.{All}
-use Rattle.symbol_stream.specs.Stream.{Ready, Feeds, gathered, read, heldOf, Closes}
-use Rattle.run_reader.specs.Read.{symbolsPerPattern}
+use Rattle.run_reader.specs.Cost.{differing, Costed}
+use Rattle.run_reader.proofs.Decisions.{Written, written-costed, written-small}
+use Rattle.symbol_stream.specs.History.{Took}
 use Rattle.symbol_stream.specs.declared.SymbolStream.{SymbolStream}
-use Rattle.symbol_stream.proofs.Streams.{numbers, short-run}
+use Rattle.dvbs_read.specs.Input.{TookInput}
 
 pub record Front (input : List ℕ) (i : ℕ) : Type 0 where
   pub most : i ≤ length input
@@ -31,40 +32,26 @@ front-more {input} {i} f h l =
       symbols = subst (All (λ x. x < 4)) (sym (ap (λ (k : ℕ). take k input) e ∙ take-suc input i 0 h)) (snoc (take i input) (getD input i 0) (f .symbols) l);
     }
 
--- a piece that is not empty is taken in part at least, and the bits that are decided stand in the room
-pub taken-some : {s next : SymbolStream} {piece room exit : List ℕ} {taken count : ℕ} → Ready s → Feeds s piece room next taken count exit → 0 < length piece
-    → (0 < taken) × (taken ≤ length piece) × (count ≤ 1632)
-taken-some {s} {piece = piece} g (gathered l et ec ex h) some = (omega arith, omega arith, omega arith)
-taken-some {s} {piece = piece} {taken = taken} g (read ss es le size ec after f h) some =
-    let n = numbers (s .rate) (g .known) in (
-      omega (
-        arith,
-        size,
-        ap length es,
-        length-append (heldOf s) (take taken piece),
-        length-take taken piece,
-        length-take (s .count) (s .held),
-        g .below,
-      ),
-      le,
-      omega (arith, n .bits-fewer),
-    )
+-- ---- their costs
 
--- the last bits of a stream stand in the room too
-pub closed-few : {s : SymbolStream} {room exit : List ℕ} {count rest : ℕ} → Ready s → Closes s room count rest exit → count ≤ 1632
-closed-few {s} g c =
-    let k = symbolsPerPattern (s .rate) * c .whole in
-    omega (
-      arith,
-      c .bits .counted,
-      short-run (s .rate) (take k (heldOf s)) (omega (arith, length-take k (heldOf s), length-take (s .count) (s .held), g .below)),
-    )
+module _ (input costs : List ℕ) (n : ℕ) (most : n ≤ length input) (symbols : All (λ x. x < 4) (take n input)) (w : Written (take n input) costs)
+    (long : 4 * length input ≤ length costs) where
+  size : length (take n input) ≡ n
+  size = length-take-le n input most
 
--- the same of what is left of a piece
-pub fed-some : {s next : SymbolStream} (piece : List ℕ) (at : ℕ) {room exit : List ℕ} {taken count : ℕ} → Ready s
-    → Feeds s (take (length piece - at) (drop at piece)) room next taken count exit → at < length piece
-    → (0 < taken) × (at + taken ≤ length piece) × (count ≤ 1632)
-fed-some piece at g f h =
-    let l : length (take (length piece - at) (drop at piece)) ≡ length piece - at = length-take-le (length piece - at) (drop at piece) (omega (arith, length-drop at piece)) in
-    let t = taken-some g f (omega arith) in
-    (t .0, omega (arith, t .1), t .2)
+  enough : 4 * length (take n input) ≤ length costs
+  enough = omega (arith, size)
+
+  pub costs-small : All (λ c. c ≤ 7) (take (4 * n) costs)
+  costs-small = subst (λ (k : ℕ). All (λ c. c ≤ 7) (take (4 * k) costs)) size (written-small (take n input) costs w enough)
+
+  pub costs-fours : length (take (4 * n) costs) % 4 ≡ 0
+  costs-fours = let e = length-take-le (4 * n) costs (omega arith) in omega (arith, e)
+
+  pub took-input : {s next : SymbolStream} → Took s (take (4 * n) costs) next → TookInput s input next
+  took-input t = record {
+    count = n;
+    most = most;
+    symbols = symbols;
+    took = record { costs = take (4 * n) costs; costed = subst (λ (k : ℕ). Costed differing (take n input) (take (4 * k) costs)) size (written-costed (take n input) costs w enough); took = t };
+  }

@@ -1,5 +1,5 @@
-// dvbs_send RATE < packets > symbols
-// Sends the transport packets of standard input at a rate 0 to 4, and writes the symbols, one byte each, to standard output.
+// dvbs_send MODE < packets > symbols
+// Sends the transport packets of standard input in a mode 0 to 5, and writes the symbols, one byte each, to standard output.
 // No contract can say what is read or written. What is read stands at the front of a buffer, and is what the sending is fed with: `next_turn`.
 ghost use mathlib.Core.Path.{_≡_};
 ghost use mathlib.Core.Bool.{true};
@@ -122,7 +122,7 @@ fn send(sending: Sending)
 fn usage() {
     io::write_all(
         STDERR_FILENO,
-        b"usage: dvbs_send RATE < packets > symbols, RATE 0 to 4 for 1/2, 2/3, 3/4, 5/6 or 7/8\n",
+        b"usage: dvbs_send MODE < packets > symbols, MODE 0 to 4 for QPSK 1/2, 2/3, 3/4, 5/6 or 7/8, 5 for 16QAM 3/4\n",
     );
 }
 

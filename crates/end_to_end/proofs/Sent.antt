@@ -1,28 +1,32 @@
 -- Demand 2 over a stream: the symbols of a fresh sender, cut into runs of whole patterns in any way, each run read with the memory that the one before
--- gave, give the bits of the interleaved blocks up to the last whole pattern, at no cost.
+-- gave, give the bits of the interleaved blocks as far as the runs go, at no cost; up to the last whole pattern where less than one is left.
 -- Assumes nothing.
-use mathlib.Core.Path.{_≡_, sym, _∙_, ap}
+use mathlib.Core.Path.{_≡_, refl, sym, _∙_, ap}
 use mathlib.Core.List.{List, [], _∷_, _++_, flatten}
-use Prim.Native.Nat.{ℕ, _+_, _*_, _/_, _%_, _<_}
+use Prim.Native.Nat.{ℕ, _+_, _*_, _/_, _%_, _≤_, _<_}
 use native.Mathlib.Nat.{zero-add, zero-mod, mod-add-mod}
 use native.Mathlib.Omega.{arith}
 use lib.ListN.{length, take, length-append}
 use Rattle.common.specs.Lists.{All}
 use Rattle.convolutional_code.specs.Bits.{bitsOf}
 use Rattle.convolutional_code.proofs.Bits.{bits-bits}
+use Rattle.puncturing.specs.Mode.{modeOf}
 use Rattle.puncturing.specs.Step.{patternLength}
+use Rattle.puncturing.proofs.Places.{up}
+use Rattle.puncturing.proofs.WellFormed.{well-formed}
 use Rattle.inner_code.specs.Step.{symbolsOf}
-use Rattle.inner_code.proofs.Stream.{symbols-fresh}
+use Rattle.inner_code.proofs.Stream.{symbols-fresh, stream-qpsk}
 use Rattle.run_reader.specs.Cost.{coderAt}
-use Rattle.run_reader.specs.Read.{symbolsPerPattern}
+use Rattle.run_reader.specs.Read.{symbolsPerPattern, runLength}
 use Rattle.run_reader.specs.Runs.{Run, Readings}
-use Rattle.run_reader.proofs.Streams.{stream-read, up-to-last}
+use Rattle.run_reader.proofs.Streams.{fits, stream-read, up-to-last}
 use Rattle.sender.specs.Standard.{interleavedBlocks, onAir}
 use Rattle.sender.specs.Input.{Input, packetsFor}
 use Rattle.sender.specs.Send.{freshSender}
 use Rattle.sender.specs.Calls.{Calls}
 use Rattle.sender.specs.declared.Sender.{Sender}
 use Rattle.sender.proofs.History.{sent-on-air}
+use Rattle.end_to_end.specs.Blocks.{sentBits}
 
 -- runs of whole patterns, one after the other, are whole patterns
 runs-whole : (rate : ℕ) (rs : List (List ℕ)) → All (Run rate) rs → length (flatten rs) % symbolsPerPattern rate ≡ 0
@@ -34,22 +38,37 @@ runs-whole rate (r ∷ rs) g =
     ∙ (sym (mod-add-mod (length r) s (length (flatten rs)))
     ∙ (ap (λ (n : ℕ). (n + length (flatten rs)) % s) (g .0 .whole) ∙ (ap (λ (n : ℕ). n % s) (zero-add (length (flatten rs))) ∙ runs-whole rate rs (g .1))))
 
--- the bits that a list of packets is coded to, before the inner code
-unfoldable pub sentBits : List (List ℕ) → List ℕ
-sentBits packets = bitsOf (flatten (interleavedBlocks packets))
+-- ---- the theorem, of a fresh sender that was given any inputs, with null packets put in
 
--- whatever inputs the sender was given, with null packets put in
-pub sent-read : (rate : ℕ) → rate < 5 → {inputs : List (List ℕ)} {symbols : List ℕ} {last : Sender} → All Input inputs → Calls (freshSender rate) inputs symbols last
-    → (rs : List (List ℕ)) → All (Run rate) rs → (rest : List ℕ) → length rest < symbolsPerPattern rate → flatten rs ++ rest ≡ symbols
-    → {out : List ℕ} {cost memory : ℕ} → Readings rate 0 rs out cost memory
-    → (out ≡ take (patternLength rate * (length (sentBits (packetsFor inputs)) / patternLength rate)) (sentBits (packetsFor inputs))) × (cost ≡ 0)
-unfolding sentBits onAir
-sent-read rate hr {inputs} g c rs runs rest few e readings =
-    let bytes = flatten (interleavedBlocks (packetsFor inputs)) in
-    let w = bits-bits bytes in
-    let s : flatten rs ++ rest ≡ symbolsOf (coderAt rate 0) (bitsOf bytes) = e ∙ (sent-on-air rate hr g c .0 ∙ sym (symbols-fresh rate hr w)) in
-    let r = stream-read rate hr 0 (omega arith) (bitsOf bytes) w rs runs rest s readings in (
-      r .0
-          ∙ ap (λ (n : ℕ). take n (bitsOf bytes)) (up-to-last rate hr 0 (omega arith) (bitsOf bytes) w (flatten rs) rest (runs-whole rate rs runs) few s),
-      r .1,
-    )
+module _ (rate : ℕ) (hr : rate < 5) {inputs : List (List ℕ)} {symbols : List ℕ} {last : Sender} (g : All Input inputs)
+    (c : Calls modeOf (freshSender rate) inputs symbols last) (rs : List (List ℕ)) (runs : All (Run rate) rs) (rest : List ℕ) (e : flatten rs ++ rest ≡ symbols) where
+  abbrev bytes : List ℕ
+  bytes = flatten (interleavedBlocks (packetsFor inputs))
+
+  coded : flatten rs ++ rest ≡ symbolsOf (coderAt rate 0) (bitsOf bytes)
+  unfolding onAir
+  coded = e ∙ (sent-on-air (modeOf rate) (well-formed rate (up rate hr)) modeOf rate refl g c .0 ∙ (stream-qpsk rate hr bytes ∙ sym (symbols-fresh rate hr (bits-bits bytes))))
+
+  -- the bits of the interleaved blocks, as far as the runs go
+  pub sent-front : {out : List ℕ} {cost memory : ℕ} → Readings rate 0 rs out cost memory
+      → (out ≡ take (runLength rate (flatten rs)) (sentBits (packetsFor inputs))) × (cost ≡ 0)
+  unfolding sentBits
+  sent-front readings =
+      let r = stream-read rate hr 0 (omega arith) (bitsOf bytes) (bits-bits bytes) rs runs rest coded readings in
+      (r .0, r .1)
+
+  -- how far that is: within those bits; and where less than a pattern is left, to their last whole pattern
+  pub front-within : runLength rate (flatten rs) ≤ length (sentBits (packetsFor inputs))
+  unfolding sentBits
+  front-within = fits rate hr 0 (omega arith) (bitsOf bytes) (bits-bits bytes) (flatten rs) rest (runs-whole rate rs runs) coded
+
+  pub front-last : length rest < symbolsPerPattern rate
+      → runLength rate (flatten rs) ≡ patternLength rate * (length (sentBits (packetsFor inputs)) / patternLength rate)
+  unfolding sentBits
+  front-last few = up-to-last rate hr 0 (omega arith) (bitsOf bytes) (bits-bits bytes) (flatten rs) rest (runs-whole rate rs runs) few coded
+
+  pub sent-read : length rest < symbolsPerPattern rate → {out : List ℕ} {cost memory : ℕ} → Readings rate 0 rs out cost memory
+      → (out ≡ take (patternLength rate * (length (sentBits (packetsFor inputs)) / patternLength rate)) (sentBits (packetsFor inputs))) × (cost ≡ 0)
+  sent-read few readings =
+      let r = sent-front readings in
+      (r .0 ∙ ap (λ (n : ℕ). take n (sentBits (packetsFor inputs))) (front-last few), r .1)

@@ -1,1 +1,1 @@
-// The whole way, from packets to symbols and back: statements over the sender and the reader, no code.
+// The whole way, from packets to symbols and back: statements over the sender, the reader and the receiver, no code.

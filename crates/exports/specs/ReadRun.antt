@@ -1,19 +1,29 @@
--- What the exported reader of a run gives: the bits, and the answer, the memory after them and the cost in lent bytes.
+-- What the exported readers of a run give: the bits, and the answer, the memory after them and the cost in lent bytes.
 -- Assumes nothing.
 use mathlib.Core.Path.{_≡_}
 use mathlib.Core.List.{List, [], _∷_, _++_}
 use Prim.Native.Nat.{ℕ, _≤_, _<_}
+use lib.Ieee.{Float}
 use lib.ListN.{length, drop}
-use Rattle.run_reader.specs.Read.{Reads}
+use Rattle.run_reader.specs.Read.{Reads, ReadsSoft}
 use Rattle.count_bytes.specs.Bytes.{byteAt}
 
--- the number of the answer, the memory, and the cost in four bytes, the lowest first. A cost is at most 3,264, two for each bit.
+-- the number of the answer, the memory, and the cost in four bytes, the lowest first. A cost is at most 14 for each symbol, of which there are at most
+-- 1,632.
 abbrev pub resultBytes : ℕ → ℕ → ℕ → List ℕ
 resultBytes number memory cost = number ∷ memory ∷ byteAt 0 cost ∷ byteAt 1 cost ∷ byteAt 2 cost ∷ byteAt 3 cost ∷ []
 
--- Where fewer than six bytes are lent for the result, nothing is read and nothing is written. Else the run is answered, and the result says how.
-pub data ReadRunExported (rate memory : ℕ) (symbols room exit result left : List ℕ) (r : ℕ) : Type 0 where
-  no-room : length result < 6 → r ≡ 0 → exit ≡ room → left ≡ result → ReadRunExported rate memory symbols room exit result left r
-  answered : 6 ≤ length result → (number after cost : ℕ) → Reads rate memory symbols room number after cost r exit
-      → left ≡ resultBytes number after cost ++ drop 6 result
-      → ReadRunExported rate memory symbols room exit result left r
+-- Where fewer than six bytes are lent for the result, nothing is read and nothing is written. Else the run is answered as the reader promises,
+-- and the result says how.
+pub data RunExported (Promised : ℕ → ℕ → ℕ → ℕ → List ℕ → Type 0) (room exit result left : List ℕ) (r : ℕ) : Type 0 where
+  no-room : length result < 6 → r ≡ 0 → exit ≡ room → left ≡ result → RunExported Promised room exit result left r
+  answered : 6 ≤ length result → (number after cost : ℕ) → Promised number after cost r exit → left ≡ resultBytes number after cost ++ drop 6 result
+      → RunExported Promised room exit result left r
+
+-- by hard decisions
+abbrev pub ReadRunExported : ℕ → ℕ → List ℕ → List ℕ → List ℕ → List ℕ → List ℕ → ℕ → Type 0
+ReadRunExported rate memory symbols room = RunExported (Reads rate memory symbols room) room
+
+-- by soft decisions
+abbrev pub SoftRunExported : ℕ → ℕ → List Float → List Float → List ℕ → List ℕ → List ℕ → List ℕ → List ℕ → ℕ → Type 0
+SoftRunExported rate memory is qs lost room = RunExported (ReadsSoft rate memory is qs lost room) room

@@ -15,7 +15,7 @@ ghost use Rattle.exports.specs.Decode.{countAfter, DecodeExported, Decod
 ghost use Rattle.exports.specs.SendRun.{sendRunCount, sendRunRoom, sendRunAnswer};
 ghost use Rattle.exports.specs.ReceiveRun.{ReceiveRunExported, ReceiveMarkedRunExported};
 ghost use Rattle.exports.specs.RecordingBlock.{RecordingBlockExported};
-ghost use Rattle.exports.specs.ReadRun.{resultBytes, ReadRunExported};
+ghost use Rattle.exports.specs.ReadRun.{resultBytes, ReadRunExported, SoftRunExported};
 use count_bytes::byte_at;
 use count_bytes::put_counts;
 use recording::Recorded;
@@ -254,6 +254,30 @@ pub extern "C" fn dvbs_read_run(
         return 0;
     }
     let read = run_reader::read_run(rate, memory, symbols, room);
+    let answer = read.answer;
+    put_result(answer.number(), read.memory, read.cost, result);
+    read.count as u64
+}
+
+// Reads a run by soft decisions, from the numbers I and Q of each symbol and 1 where it was lost or 0: the number of bits written. The first six
+// bytes of result have the number of the answer, the memory after the run and the cost of its bits.
+#[no_mangle]
+pub extern "C" fn dvbs_read_soft_run(
+    rate: u8,
+    memory: u8,
+    i: &[f32],
+    q: &[f32],
+    lost: &[u8],
+    room: &mut [u8],
+    result: &mut [u8],
+) -> u64
+    ensures { λ r. ⌜
+        SoftRunExported rate memory (now (i .entry)) (now (q .entry)) (now (lost .entry)) (now (room .entry)) (now (room .exit)) (now (result .entry)) (now (result .exit)) r ⌝ }
+{
+    if result.len() < 6 {
+        return 0;
+    }
+    let read = run_reader::read_soft_run(rate, memory, i, q, lost, room);
     let answer = read.answer;
     put_result(answer.number(), read.memory, read.cost, result);
     read.count as u64

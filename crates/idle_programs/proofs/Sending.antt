@@ -15,12 +15,12 @@ use Rattle.randomizer.proofs.Whole.{packet-lengths}
 use Rattle.interleaver.proofs.Blocks.{length-flatten}
 use Rattle.convolutional_code.specs.Bits.{bitsOf, Bits}
 use Rattle.convolutional_code.proofs.Bits.{bits-bits}
-use Rattle.puncturing.specs.Mode.{modeOf}
+use Rattle.puncturing.specs.Mode.{modeOf, blockBits}
 use Rattle.puncturing.specs.Step.{patternLength, symbolsIn}
+use Rattle.puncturing.proofs.Places.{up}
 use Rattle.inner_code.specs.Stream.{symbols}
 use Rattle.inner_code.specs.Step.{symbolsOf}
-use Rattle.inner_code.specs.Encode.{freshCoder}
-use Rattle.inner_code.proofs.Stream.{symbols-fresh}
+use Rattle.inner_code.proofs.Stream.{symbols-fresh, stream-qpsk}
 use Rattle.run_reader.specs.Cost.{coderAt}
 use Rattle.run_reader.proofs.Patterns.{sent-whole}
 use Rattle.run_reader.proofs.Unharmed.{hard-decoded, own-best}
@@ -70,7 +70,7 @@ decided rate h {bs} {cs} b c m n e =
 
 -- 35 blocks make whole patterns at every rate
 whole-patterns : (rate j : ℕ) → rate < 5 → 1632 * (35 * j) % patternLength rate ≡ 0
-unfolding patternLength modeOf
+unfolding modeOf
 whole-patterns zero j h = omega arith
 whole-patterns (suc zero) j h = omega arith
 whole-patterns (suc (suc zero)) j h = omega arith
@@ -82,7 +82,7 @@ whole-patterns (suc (suc (suc (suc (suc rate))))) j h = absurd (omega arith)
 
 -- just room enough for n packets
 roomFor : ℕ → ℕ → List ℕ
-roomFor rate n = replicate (symbolsIn rate 0 (1632 * n)) 0
+roomFor rate n = replicate (symbolsIn rate 0 (blockBits rate * n)) 0
 
 module _ (f : Program) (keeps : Keeps f) (rate : ℕ) (h : rate < 5) where
   kept : (ps : List (List ℕ)) → All Packet ps → f rate (flatten ps) (roomFor rate (length ps)) .room ≡ onAir (modeOf rate) ps
@@ -91,11 +91,11 @@ module _ (f : Program) (keeps : Keeps f) (rate : ℕ) (h : rate < 5) where
       let l = packet-lengths ps g in
       let room = roomFor rate (length ps) in
       let e : packetsFor (packetsOf (flatten ps)) ≡ ps = ap packetsFor (packets-flatten ps l) ∙ packets-kept ps g in
-      let n : length (runSymbols rate (flatten ps)) ≡ symbolsIn rate 0 (1632 * length ps) = ap (λ (x : List (List ℕ)). length (onAir (modeOf rate) x)) e ∙ length-on-air rate h ps in
-      let k : length room ≡ symbolsIn rate 0 (1632 * length ps) = length-replicate {A = ℕ} (symbolsIn rate 0 (1632 * length ps)) 0 in
+      let n : length (runSymbols rate (flatten ps)) ≡ symbolsIn rate 0 (blockBits rate * length ps) = ap (λ (x : List (List ℕ)). length (onAir (modeOf rate) x)) e ∙ length-on-air rate (up rate h) ps in
+      let k : length room ≡ symbolsIn rate 0 (blockBits rate * length ps) = length-replicate {A = ℕ} (symbolsIn rate 0 (blockBits rate * length ps)) 0 in
       let w : length (flatten ps) % 188 ≡ 0 = (let m = length-flatten 188 ps l in omega arith) in
       let t : length (runSymbols rate (flatten ps)) ≤ length room = omega arith in
-      let z : runRefusal rate (flatten ps) room ≡ 0 = simp (lt-ltb _ _ h, eq-eqb _ _ w, le-ltb _ _ t) in
+      let z : runRefusal rate (flatten ps) room ≡ 0 = simp (lt-ltb _ _ (up rate h), eq-eqb _ _ w, le-ltb _ _ t) in
       keeps rate (flatten ps) room .written ∙ simp z
       (ap (λ (d : List ℕ). runSymbols rate (flatten ps) ++ d) (drop-of-length-le room {i = length (runSymbols rate (flatten ps))} (omega arith))
       ∙ append-nil (runSymbols rate (flatten ps)) ∙ ap (onAir (modeOf rate)) e)
@@ -129,7 +129,7 @@ module _ (f : Program) (keeps : Keeps f) (rate : ℕ) (h : rate < 5) where
         let air : onAir (modeOf rate) (samples before 0) ≡ onAir (modeOf rate) (samples before 1) =
         sym (kept (samples before 0) h0) ∙ ap (λ (n : ℕ). f rate (flatten (samples before 0)) (roomFor rate n) .room) (size 0)
         ∙ e ∙ ap (λ (n : ℕ). f rate (flatten (samples before 1)) (roomFor rate n) .room) (sym (size 1)) ∙ kept (samples before 1) h1 in
-        let s = decided rate h (bits-bits (sent 0)) (bits-bits (sent 1)) (whole 0) (whole 1) air in
+        let s = decided rate h (bits-bits (sent 0)) (bits-bits (sent 1)) (whole 0) (whole 1) (sym (stream-qpsk rate h (sent 0)) ∙ air ∙ stream-qpsk rate h (sent 1)) in
         let b =
         same-bits (samples before 0) (samples before 1) (packet-lengths (samples before 0) h0) (packet-lengths (samples before 1) h1) s before
         (omega (arith, samples-length before 0)) (omega (arith, samples-length before 1)) in

@@ -1,10 +1,10 @@
 -- Laws of the coder as a value: its range, how many symbols it gives, and that coding is the mother code followed by the puncturing.
 -- Assumes nothing.
-use mathlib.Core.Path.{_≡_, refl, ap, ap₂, sym, _∙_}
+use mathlib.Core.Path.{_≡_, refl, ap, ap₂, sym, subst, _∙_}
 use mathlib.Core.Bool.{true}
 use mathlib.Core.List.{List, [], _∷_, _++_, append-assoc}
-use Prim.Native.Nat.{ℕ, suc, suc-le-suc, _+_, _<_}
-use native.Mathlib.Nat.{add-zero, zero-add}
+use Prim.Native.Nat.{ℕ, zero, suc, suc-le-suc, _+_, _*_, _/_, _%_, _<_}
+use native.Mathlib.Nat.{add-zero, zero-add, add-comm, zero-mul, suc-mul, mul-assoc, mod-lt, div-add-mod'}
 use native.Mathlib.Omega.{arith}
 use borrow.Author.Tests.{ltb-true, leb-true, lt-ltb, le-leb}
 use lib.ListN.{length, getD, length-append, List·getD-append}
@@ -12,99 +12,206 @@ use lib.Seq.{getD-append-add}
 use Rattle.common.proofs.Choice.{both-true}
 use Rattle.convolutional_code.specs.Bits.{bitsOf, Bits, none, more}
 use Rattle.convolutional_code.specs.Code.{tapsX, tapsY, nextMemory, coded, motherOf, memoryAfter, blockMother}
-use Rattle.convolutional_code.proofs.Bits.{bits-bits, bits-split, block-bits, length-mother}
-use Rattle.puncturing.specs.Step.{nextPlace, listOf, punctured, heldAfter, symbolsIn}
+use Rattle.convolutional_code.proofs.Bits.{length-mother}
+use Rattle.puncturing.specs.Mode.{Mode, modeOf, blockBits, blockBitsBy, completed}
+use Rattle.puncturing.specs.WellFormed.{Beside, alone, paired, WellFormed}
+use Rattle.puncturing.specs.Step.{nextBy, listOf, countBy, nextPlace, punctured, heldAfter, symbolsIn}
 use Rattle.puncturing.specs.Run.{sentSymbols, placeAfter, heldBehind}
-use Rattle.puncturing.proofs.Steps.{some-bits, next-lt, held-in-range, symbol-count}
-use Rattle.inner_code.specs.Step.{inRange, InRange, coderStep, symbolStep, symbolsOf, coderAfter}
-use Rattle.inner_code.specs.Encode.{freshCoder, blockSymbols, blockCoder}
+use Rattle.puncturing.proofs.Places.{known}
+use Rattle.puncturing.proofs.WellFormed.{well-formed, next-by-lt, symbol-count-by, held-by-range}
+use Rattle.inner_code.specs.Converter.{encodedBits, uncodedNumbers, sequenced}
+use Rattle.inner_code.specs.Step.{inRangeBy, InRangeBy, stepBy, symbolBy, symbolsBy, coderBy, inRange, InRange, coderStep, symbolStep, symbolsOf, coderAfter}
+use Rattle.inner_code.specs.Encode.{freshCoder, blockSymbolsBy, blockCoderBy, blockSymbols, blockCoder}
 use Rattle.inner_code.specs.declared.InnerCoder.{InnerCoder}
+use Rattle.inner_code.proofs.Converter.{encoded-bits, length-encoded, length-uncoded, length-block-encoded, uncoded-none, encoded-append, uncoded-append, sequenced-append, length-sequenced, encoded-qpsk, uncoded-qpsk}
 
 -- ---- the range
 
+module _ (m : Mode) (c : InnerCoder) where
+  pub in-range-by : inRangeBy m c ≡ true → InRangeBy m c
+  unfolding inRangeBy
+  in-range-by e =
+      let a = both-true _ _ e in
+      let b = both-true _ _ (a .1) in
+      record { memory = ltb-true _ _ (a .0); place = ltb-true _ _ (b .0); held = leb-true _ _ (b .1) }
+
+  pub range-test-by : InRangeBy m c → inRangeBy m c ≡ true
+  unfolding inRangeBy
+  range-test-by g = simp (lt-ltb _ _ (g .memory), lt-ltb _ _ (g .place), le-leb _ _ (g .held))
+
 pub in-range : (c : InnerCoder) → inRange c ≡ true → InRange c
-unfolding inRange
-in-range c e =
-    let a = both-true _ _ e in
-    let b = both-true _ _ (a .1) in
-    let d = both-true _ _ (b .1) in
-    record { rate = ltb-true _ _ (a .0); memory = ltb-true _ _ (b .0); place = ltb-true _ _ (d .0); held = leb-true _ _ (d .1) }
+in-range c = in-range-by (modeOf (c .rate)) c
 
 pub range-test : (c : InnerCoder) → InRange c → inRange c ≡ true
-unfolding inRange
-range-test c g = simp (lt-ltb _ _ (g .rate), lt-ltb _ _ (g .memory), lt-ltb _ _ (g .place), le-leb _ _ (g .held))
+range-test c = range-test-by (modeOf (c .rate)) c
 
-pub fresh-in-range : (r : ℕ) → r < 5 → InRange (freshCoder r)
-fresh-in-range r h = record { rate = h; memory = omega arith; place = some-bits r h; held = omega arith }
+-- the rate is that of a mode, which is well formed
+pub rate-known : (c : InnerCoder) → InRange c → c .rate < 6
+rate-known c g = known (c .rate) (c .place) (g .place)
+
+pub formed : (c : InnerCoder) → InRange c → WellFormed (modeOf (c .rate))
+formed c g = well-formed (c .rate) (rate-known c g)
+
+parity-small : (n : ℕ) → n % 2 < 2
+parity-small n = omega arith
+
+module _ {m : Mode} (w : WellFormed m) where
+  pub fresh-in-range-by : (r : ℕ) → InRangeBy m (freshCoder r)
+  fresh-in-range-by r = record { memory = omega arith; place = w .some-bits; held = omega arith }
+
+  pub step-in-range-by : (c : InnerCoder) (b : ℕ) → InRangeBy m c → b < 2 → InRangeBy m (stepBy m c b)
+  step-in-range-by c b g h = record {
+    memory = omega (arith, g .memory);
+    place = next-by-lt m (w .some-bits) (c .place);
+    held =
+        held-by-range w (c .place) (g .place) (coded tapsX (c .memory) b) (coded tapsY (c .memory) b) (c .held)
+        (parity-small _) (parity-small _) (g .held);
+  }
+
+  pub coder-in-range-by : (c : InnerCoder) {bits : List ℕ} → InRangeBy m c → Bits bits → InRangeBy m (coderBy m c bits)
+  unfolding coderBy
+  coder-in-range-by c g none = g
+  coder-in-range-by c g (more {b} h t) = coder-in-range-by (stepBy m c b) (step-in-range-by c b g h) t
+
+  -- ---- how many symbols
+
+  pub length-symbols-by : (c : InnerCoder) {bits : List ℕ} → InRangeBy m c → Bits bits → length (symbolsBy m c bits) ≡ countBy m (c .place) (length bits)
+  unfolding symbolsBy countBy
+  length-symbols-by c g none = refl
+  length-symbols-by c g (more {b} {l} h t) =
+      length-append (listOf (symbolBy m c b)) (symbolsBy m (stepBy m c b) l)
+      ∙ ap₂ (λ (i j : ℕ). i + j)
+      (symbol-count-by w (c .place) (g .place) (coded tapsX (c .memory) b) (coded tapsY (c .memory) b) (c .held))
+      (length-symbols-by (stepBy m c b) (step-in-range-by c b g h) t)
+
+pub fresh-in-range : (r : ℕ) → r < 6 → InRange (freshCoder r)
+fresh-in-range r h = fresh-in-range-by (well-formed r h) r
 
 pub step-in-range : (c : InnerCoder) (b : ℕ) → InRange c → b < 2 → InRange (coderStep c b)
-step-in-range c b g h = record {
-  rate = g .rate;
-  memory = omega (arith, g .memory);
-  place = next-lt (c .rate) (c .place) (g .place);
-  held =
-      held-in-range (c .rate) (c .place) (coded tapsX (c .memory) b) (coded tapsY (c .memory) b) (c .held) (g .rate) (g .place) (omega arith);
-}
-
-pub coder-in-range : (c : InnerCoder) {bits : List ℕ} → InRange c → Bits bits → InRange (coderAfter c bits)
-unfolding coderAfter
-coder-in-range c g none = g
-coder-in-range c g (more {b} h t) = coder-in-range (coderStep c b) (step-in-range c b g h) t
-
--- ---- how many symbols
+step-in-range c b g h = step-in-range-by (formed c g) c b g h
 
 pub length-symbols : (c : InnerCoder) {bits : List ℕ} → InRange c → Bits bits → length (symbolsOf c bits) ≡ symbolsIn (c .rate) (c .place) (length bits)
-unfolding symbolsOf symbolsIn
-length-symbols c g none = refl
-length-symbols c g (more {b} {l} h t) =
-    length-append (listOf (symbolStep c b)) (symbolsOf (coderStep c b) l)
-    ∙ ap₂ (λ (m n : ℕ). m + n)
-    (symbol-count (c .rate) (c .place) (coded tapsX (c .memory) b) (coded tapsY (c .memory) b) (c .held) (g .rate) (g .place))
-    (length-symbols (coderStep c b) (step-in-range c b g h) t)
-
--- each block of 204 bytes gives as many symbols
-pub length-block : (c : InnerCoder) (block : List ℕ) → InRange c → length block ≡ 204
-    → length (blockSymbols c block) ≡ symbolsIn (c .rate) (c .place) 1632
-length-block c block g h = length-symbols c g (bits-bits block) ∙ ap (symbolsIn (c .rate) (c .place)) (block-bits block h)
+length-symbols c g t = length-symbols-by (formed c g) c g t
 
 -- ---- where the coder stands
 
+pub coder-rate-by : (m : Mode) (c : InnerCoder) (bits : List ℕ) → coderBy m c bits .rate ≡ c .rate
+unfolding coderBy
+coder-rate-by m c [] = refl
+coder-rate-by m c (b ∷ bs) = coder-rate-by m (stepBy m c b) bs
+
 pub coder-rate : (c : InnerCoder) (bits : List ℕ) → coderAfter c bits .rate ≡ c .rate
-unfolding coderAfter
-coder-rate c [] = refl
-coder-rate c (b ∷ bs) = coder-rate (coderStep c b) bs
+coder-rate c bits = coder-rate-by (modeOf (c .rate)) c bits
+
+pub coder-in-range : (c : InnerCoder) {bits : List ℕ} → InRange c → Bits bits → InRange (coderAfter c bits)
+coder-in-range c {bits} g t =
+    subst (λ (r : ℕ). InRangeBy (modeOf r) (coderAfter c bits)) (sym (coder-rate c bits)) (coder-in-range-by (formed c g) c g t)
 
 pub coder-place : (c : InnerCoder) (bits : List ℕ) → coderAfter c bits .place ≡ placeAfter (c .rate) (c .place) (length bits)
-unfolding coderAfter placeAfter
+unfolding coderBy placeAfter
 coder-place c [] = refl
 coder-place c (b ∷ bs) = coder-place (coderStep c b) bs
 
 pub coder-memory : (c : InnerCoder) (bits : List ℕ) → coderAfter c bits .memory ≡ memoryAfter (c .memory) bits
-unfolding coderAfter memoryAfter
+unfolding coderBy memoryAfter
 coder-memory c [] = refl
 coder-memory c (b ∷ bs) = coder-memory (coderStep c b) bs
 
+-- ---- the two branches
+
+-- a pattern of one bit
+single-pattern : (m : Mode) (p n : ℕ) → m .bits ≡ 1 → p < 1 → countBy m p n ≡ n * length (completed m 1)
+unfolding countBy
+single-pattern m p zero e h = sym (zero-mul (length (completed m 1)))
+single-pattern m p (suc n) e h =
+    let q : p + 1 ≡ 1 = omega arith in
+    let s = length (completed m 1) in
+    let next : nextBy m p < 1 = rw e (mod-lt (p + 1) (omega arith)) in
+    ap₂ (λ (i k : ℕ). length (completed m i) + k) q (single-pattern m (nextBy m p) n e next)
+    ∙ add-comm s (n * s)
+    ∙ sym (suc-mul n s)
+
+module _ {m : Mode} (w : WellFormed m) where
+  -- as many numbers beside as there are symbols
+  beside-all : (c : InnerCoder) → InRangeBy m c → m .bits ≡ 1 → length (m .uncoded) ≡ length (completed m 1)
+      → (bytes : List ℕ) → length (uncodedNumbers m bytes) ≡ length (symbolsBy m c (encodedBits m bytes))
+  beside-all c g e f bytes =
+      let n = length bytes / m .group in
+      let k = length (m .columns) in
+      let first : c .place < 1 = rw (← e) (g .place) in
+      length-uncoded m bytes
+      ∙ ap (λ (u : ℕ). n * (k * u)) f
+      ∙ sym (mul-assoc n k (length (completed m 1)))
+      ∙ ap (λ (j : ℕ). j * length (completed m 1)) (sym (length-encoded m bytes))
+      ∙ sym (length-symbols-by w c g (encoded-bits m bytes) ∙ single-pattern m (c .place) (length (encodedBits m bytes)) e first)
+
+  -- how many symbols a list of bytes gives
+  pub length-coded : (c : InnerCoder) → InRangeBy m c → (bytes : List ℕ)
+      → length (blockSymbolsBy m c bytes) ≡ countBy m (c .place) (length (encodedBits m bytes))
+  unfolding sequenced
+  length-coded c g bytes = by (w .beside) ∙ length-symbols-by w c g (encoded-bits m bytes)
+    where
+      by : Beside m → length (blockSymbolsBy m c bytes) ≡ length (symbolsBy m c (encodedBits m bytes))
+      by (alone e) = ap (λ (u : List ℕ). length (sequenced u (symbolsBy m c (encodedBits m bytes)))) (uncoded-none m e bytes)
+      by (paired e f p) =
+          length-sequenced (uncodedNumbers m bytes) (symbolsBy m c (encodedBits m bytes)) (beside-all c g e f bytes)
+
+  -- each block of 204 bytes gives as many
+  pub length-block-by : (c : InnerCoder) (block : List ℕ) → InRangeBy m c → length block ≡ 204
+      → length (blockSymbolsBy m c block) ≡ countBy m (c .place) (blockBitsBy m)
+  length-block-by c block g h = length-coded c g block ∙ ap (countBy m (c .place)) (length-block-encoded m block h)
+
+pub length-block : (c : InnerCoder) (block : List ℕ) → InRange c → length block ≡ 204
+    → length (blockSymbols c block) ≡ symbolsIn (c .rate) (c .place) (blockBits (c .rate))
+length-block c block g h = length-block-by (formed c g) c block g h
+
 -- ---- one list after another
 
+pub symbols-append-by : (m : Mode) (a b : List ℕ) (c : InnerCoder) → symbolsBy m c (a ++ b) ≡ symbolsBy m c a ++ symbolsBy m (coderBy m c a) b
+unfolding symbolsBy coderBy
+symbols-append-by m [] b c = refl
+symbols-append-by m (x ∷ a) b c =
+    let next = stepBy m c x in
+    ap (λ (l : List ℕ). listOf (symbolBy m c x) ++ l) (symbols-append-by m a b next)
+    ∙ sym (append-assoc (listOf (symbolBy m c x)) (symbolsBy m next a) (symbolsBy m (coderBy m next a) b))
+
 pub symbols-append : (a b : List ℕ) (c : InnerCoder) → symbolsOf c (a ++ b) ≡ symbolsOf c a ++ symbolsOf (coderAfter c a) b
-unfolding symbolsOf coderAfter
-symbols-append [] b c = refl
-symbols-append (x ∷ a) b c =
-    let next = coderStep c x in
-    ap (λ (l : List ℕ). listOf (symbolStep c x) ++ l) (symbols-append a b next)
-    ∙ sym (append-assoc (listOf (symbolStep c x)) (symbolsOf next a) (symbolsOf (coderAfter next a) b))
+symbols-append a b c =
+    symbols-append-by (modeOf (c .rate)) a b c
+    ∙ ap (λ (r : ℕ). symbolsOf c a ++ symbolsBy (modeOf r) (coderAfter c a) b) (sym (coder-rate c a))
 
-pub coder-append : (a b : List ℕ) (c : InnerCoder) → coderAfter c (a ++ b) ≡ coderAfter (coderAfter c a) b
-unfolding coderAfter
-coder-append [] b c = refl
-coder-append (x ∷ a) b c = coder-append a b (coderStep c x)
+coder-append-by : (m : Mode) (a b : List ℕ) (c : InnerCoder) → coderBy m c (a ++ b) ≡ coderBy m (coderBy m c a) b
+unfolding coderBy
+coder-append-by m [] b c = refl
+coder-append-by m (x ∷ a) b c = coder-append-by m a b (stepBy m c x)
 
--- the same for bytes: coding a stream in two parts, with the coder carried over, is coding it whole
-pub block-symbols-append : (a b : List ℕ) (c : InnerCoder) → blockSymbols c (a ++ b) ≡ blockSymbols c a ++ blockSymbols (blockCoder c a) b
-block-symbols-append a b c = ap (symbolsOf c) (bits-split a b) ∙ symbols-append (bitsOf a) (bitsOf b) c
+-- the same for bytes: coding whole groups and then the rest, with the coder carried over, is coding all
+module _ {m : Mode} (w : WellFormed m) (c : InnerCoder) (g : InRangeBy m c) (a b : List ℕ) (h : length a % m .group ≡ 0) where
+  groups-are : length a ≡ length a / m .group * m .group
+  groups-are = sym (div-add-mod' (length a) (m .group)) ∙ ap (λ (n : ℕ). length a / m .group * m .group + n) h ∙ add-zero _
 
-pub block-coder-append : (a b : List ℕ) (c : InnerCoder) → blockCoder c (a ++ b) ≡ blockCoder (blockCoder c a) b
-block-coder-append a b c = ap (coderAfter c) (bits-split a b) ∙ coder-append (bitsOf a) (bitsOf b) c
+  coded-parts : symbolsBy m c (encodedBits m (a ++ b)) ≡ symbolsBy m c (encodedBits m a) ++ symbolsBy m (blockCoderBy m c a) (encodedBits m b)
+  coded-parts =
+      ap (symbolsBy m c) (encoded-append m (length a / m .group) a b (w .some-group) groups-are)
+      ∙ symbols-append-by m (encodedBits m a) (encodedBits m b) c
+
+  pub block-symbols-append : blockSymbolsBy m c (a ++ b) ≡ blockSymbolsBy m c a ++ blockSymbolsBy m (blockCoderBy m c a) b
+  unfolding sequenced
+  block-symbols-append = by (w .beside)
+    where
+      by : Beside m → blockSymbolsBy m c (a ++ b) ≡ blockSymbolsBy m c a ++ blockSymbolsBy m (blockCoderBy m c a) b
+      by (alone e) =
+          let no = uncoded-none m e in
+          (λ i. sequenced (no (a ++ b) i) (coded-parts i))
+          ∙ (λ i. sequenced (sym (no a) i) (symbolsBy m c (encodedBits m a)) ++ sequenced (sym (no b) i) (symbolsBy m (blockCoderBy m c a) (encodedBits m b)))
+      by (paired e f p) =
+          ap₂ sequenced (uncoded-append m (length a / m .group) a b (w .some-group) groups-are) coded-parts
+          ∙ sequenced-append (uncodedNumbers m a) (uncodedNumbers m b) (symbolsBy m c (encodedBits m a)) (symbolsBy m (blockCoderBy m c a) (encodedBits m b))
+          (beside-all w c g e f a)
+
+  pub block-coder-append : blockCoderBy m c (a ++ b) ≡ blockCoderBy m (blockCoderBy m c a) b
+  block-coder-append =
+      ap (coderBy m c) (encoded-append m (length a / m .group) a b (w .some-group) groups-are) ∙ coder-append-by m (encodedBits m a) (encodedBits m b) c
 
 -- ---- the mother code, and then the puncturing
 
@@ -141,7 +248,7 @@ holds-block m bits n =
 
 symbols-held : (c : InnerCoder) (l : List ℕ) {n : ℕ} {bits : List ℕ} → Holds l n (c .memory) bits
     → symbolsOf c bits ≡ sentSymbols (c .rate) (c .place) (c .held) l n (length bits)
-unfolding symbolsOf sentSymbols
+unfolding symbolsBy sentSymbols
 symbols-held c l nothing = refl
 symbols-held c l (also {n} {b = b} {bs} ex ey t) =
     ap (λ (s : List ℕ). listOf (symbolStep c b) ++ s) (symbols-held (coderStep c b) l t)
@@ -157,7 +264,7 @@ coder-held : (c : InnerCoder) (l : List ℕ) {n : ℕ} {bits : List ℕ} → Hol
       place = placeAfter (c .rate) (c .place) (length bits);
       held = heldBehind (c .rate) (c .place) (c .held) l n (length bits);
     }
-unfolding coderAfter memoryAfter placeAfter heldBehind
+unfolding coderBy memoryAfter placeAfter heldBehind
 coder-held c l nothing = refl
 coder-held c l (also {n} {b = b} {bs} ex ey t) =
     coder-held (coderStep c b) l t
@@ -167,6 +274,15 @@ coder-held c l (also {n} {b = b} {bs} ex ey t) =
       place = placeAfter (c .rate) (nextPlace (c .rate) (c .place)) (length bs);
       held = heldBehind (c .rate) (nextPlace (c .rate) (c .place)) (heldAfter (c .rate) (c .place) (sym ex i) (sym ey i) (c .held)) l (suc n) (length bs);
     })
+
+-- at the QPSK rates every bit is coded, and nothing goes beside
+module _ (c : InnerCoder) (h : c .rate < 5) (block : List ℕ) where
+  pub qpsk-symbols : blockSymbols c block ≡ symbolsOf c (bitsOf block)
+  unfolding sequenced
+  qpsk-symbols = ap₂ (λ (u e : List ℕ). sequenced u (symbolsOf c e)) (uncoded-qpsk (c .rate) h block) (encoded-qpsk (c .rate) h block)
+
+  pub qpsk-coder : blockCoder c block ≡ coderAfter c (bitsOf block)
+  qpsk-coder = ap (coderAfter c) (encoded-qpsk (c .rate) h block)
 
 -- a block of 1,632 bits
 module _ (c : InnerCoder) (bits : List ℕ) (n : length bits ≡ 1632) where

@@ -6,11 +6,12 @@ use Prim.Native.Nat.{ℕ}
 use lib.Dec.{ltb, eqb}
 use lib.ListN.{length, drop}
 use Rattle.common.specs.Choice.{pick}
-use Rattle.convolutional_code.specs.Bits.{bitsOf}
-use Rattle.puncturing.specs.Step.{symbolsIn}
+use Rattle.puncturing.specs.Mode.{Mode, modeOf, blockBitsBy}
+use Rattle.puncturing.specs.Step.{countBy}
 use Rattle.puncturing.specs.declared.Symbol.{Symbol}
 use Rattle.puncturing.specs.declared.Symbol.the-variants.{None}
-use Rattle.inner_code.specs.Step.{inRange, coderStep, symbolStep, symbolsOf, coderAfter}
+use Rattle.inner_code.specs.Converter.{encodedBits, uncodedNumbers, sequenced}
+use Rattle.inner_code.specs.Step.{inRangeBy, symbolsBy, coderBy, inRange, coderStep, symbolStep}
 use Rattle.inner_code.specs.declared.InnerCoder.{InnerCoder}
 
 -- a coder at a rate, with memory, place and held bit 0
@@ -18,7 +19,7 @@ abbrev pub freshCoder : ℕ → InnerCoder
 freshCoder rate = record { rate = rate; memory = 0; place = 0; held = 0 }
 
 abbrev pub newNumber : ℕ → ℕ
-newNumber rate = pick (ltb rate 5) 0 6
+newNumber rate = pick (ltb rate 6) 0 6
 
 -- ---- one bit
 
@@ -37,21 +38,31 @@ stepSymbol c bit = pick (inRange c) (symbolStep c (bitValue bit)) None
 
 -- ---- one block
 
--- the symbols of a list of bytes, and the coder after them
-abbrev pub blockSymbols : InnerCoder → List ℕ → List ℕ
-blockSymbols c block = symbolsOf c (bitsOf block)
+-- the symbols of a list of bytes in a mode, and the coder after them
+abbrev pub blockSymbolsBy : Mode → InnerCoder → List ℕ → List ℕ
+blockSymbolsBy m c block = sequenced (uncodedNumbers m block) (symbolsBy m c (encodedBits m block))
 
-abbrev pub blockCoder : InnerCoder → List ℕ → InnerCoder
-blockCoder c block = coderAfter c (bitsOf block)
+abbrev pub blockCoderBy : Mode → InnerCoder → List ℕ → InnerCoder
+blockCoderBy m c block = coderBy m c (encodedBits m block)
 
 -- the symbols of a list of blocks, each coded by a call with the coder that the call before handed back
-unfoldable pub callsSymbols : InnerCoder → List (List ℕ) → List ℕ
-callsSymbols c [] = []
-callsSymbols c (b ∷ bs) = blockSymbols c b ++ callsSymbols (blockCoder c b) bs
+unfoldable pub callsBy : Mode → InnerCoder → List (List ℕ) → List ℕ
+callsBy m c [] = []
+callsBy m c (b ∷ bs) = blockSymbolsBy m c b ++ callsBy m (blockCoderBy m c b) bs
 
--- how many symbols a block of 204 bytes, 1,632 bits, gives; 0 of a coder that is out of range
+-- how many symbols a block of 204 bytes gives; 0 of a coder that is out of range
+abbrev pub symbolCountBy : Mode → InnerCoder → ℕ
+symbolCountBy m c = pick (inRangeBy m c) (countBy m (c .place) (blockBitsBy m)) 0
+
+-- in the mode of the coder's rate
+abbrev pub blockSymbols : InnerCoder → List ℕ → List ℕ
+blockSymbols c = blockSymbolsBy (modeOf (c .rate)) c
+
+abbrev pub blockCoder : InnerCoder → List ℕ → InnerCoder
+blockCoder c = blockCoderBy (modeOf (c .rate)) c
+
 abbrev pub symbolCount : InnerCoder → ℕ
-symbolCount c = pick (inRange c) (symbolsIn (c .rate) (c .place) 1632) 0
+symbolCount c = symbolCountBy (modeOf (c .rate)) c
 
 abbrev pub encodeNumber : InnerCoder → List ℕ → List ℕ → ℕ
 encodeNumber c block room = pick (inRange c) (pick (eqb (length block) 204) (pick (ltb (length room) (length (blockSymbols c block))) 4 0) 3) 5

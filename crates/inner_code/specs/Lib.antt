@@ -1,3 +1,5 @@
+pub mod Converter
 pub mod Stream
 pub mod Step
 pub mod Encode
+pub mod Triples

@@ -1,4 +1,4 @@
--- The inner coder as a value: what one bit, and what a list of bits, does to it.
+-- The inner coder as a value: what one bit, and what a list of bits of the encoded branch, does to it, in a mode.
 -- Assumes nothing.
 use mathlib.Core.Bool.{Bool, false}
 use mathlib.Core.List.{List, [], _∷_, _++_}
@@ -6,40 +6,58 @@ use Prim.Native.Nat.{ℕ, _<_, _≤_}
 use lib.Dec.{ltb, leb}
 use Rattle.common.specs.Choice.{pick}
 use Rattle.convolutional_code.specs.Code.{tapsX, tapsY, nextMemory, coded}
-use Rattle.puncturing.specs.Step.{patternLength, nextPlace, heldCount, listOf, punctured, heldAfter}
+use Rattle.puncturing.specs.Mode.{Mode, modeOf}
+use Rattle.puncturing.specs.Step.{nextBy, heldCountBy, listOf, puncturedBy, heldBy}
 use Rattle.puncturing.specs.declared.Symbol.{Symbol}
 use Rattle.inner_code.specs.declared.InnerCoder.{InnerCoder}
 
--- document 01, "State ranges": each number in its range, and the held bit 0 where none is held
-unfoldable pub inRange : InnerCoder → Bool
-inRange c =
-    pick (ltb (c .rate) 5)
-    (pick (ltb (c .memory) 64) (pick (ltb (c .place) (patternLength (c .rate))) (leb (c .held) (heldCount (c .rate) (c .place))) false) false)
-    false
+-- document 01, "State ranges": six bits of memory, a place of the mode's pattern, and the held bit 0 where none is held
+unfoldable pub inRangeBy : Mode → InnerCoder → Bool
+inRangeBy m c = pick (ltb (c .memory) 64) (pick (ltb (c .place) (m .bits)) (leb (c .held) (heldCountBy m (c .place))) false) false
 
-pub record InRange (c : InnerCoder) : Type 0 where
-  pub rate : c .rate < 5
+pub record InRangeBy (m : Mode) (c : InnerCoder) : Type 0 where
   pub memory : c .memory < 64
-  pub place : c .place < patternLength (c .rate)
-  pub held : c .held ≤ heldCount (c .rate) (c .place)
+  pub place : c .place < m .bits
+  pub held : c .held ≤ heldCountBy m (c .place)
 
 -- the coder after a bit, and the symbol that the bit completes
-abbrev pub coderStep : InnerCoder → ℕ → InnerCoder
-coderStep c bit = record {
+abbrev pub stepBy : Mode → InnerCoder → ℕ → InnerCoder
+stepBy m c bit = record {
   rate = c .rate;
   memory = nextMemory (c .memory) bit;
-  place = nextPlace (c .rate) (c .place);
-  held = heldAfter (c .rate) (c .place) (coded tapsX (c .memory) bit) (coded tapsY (c .memory) bit) (c .held);
+  place = nextBy m (c .place);
+  held = heldBy m (c .place) (coded tapsX (c .memory) bit) (coded tapsY (c .memory) bit) (c .held);
 }
 
-abbrev pub symbolStep : InnerCoder → ℕ → Symbol
-symbolStep c bit = punctured (c .rate) (c .place) (coded tapsX (c .memory) bit) (coded tapsY (c .memory) bit) (c .held)
+abbrev pub symbolBy : Mode → InnerCoder → ℕ → Symbol
+symbolBy m c bit = puncturedBy m (c .place) (coded tapsX (c .memory) bit) (coded tapsY (c .memory) bit) (c .held)
 
 -- the symbols of a list of bits, and the coder after them
-unfoldable pub symbolsOf : InnerCoder → List ℕ → List ℕ
-symbolsOf c [] = []
-symbolsOf c (b ∷ bs) = listOf (symbolStep c b) ++ symbolsOf (coderStep c b) bs
+unfoldable pub symbolsBy : Mode → InnerCoder → List ℕ → List ℕ
+symbolsBy m c [] = []
+symbolsBy m c (b ∷ bs) = listOf (symbolBy m c b) ++ symbolsBy m (stepBy m c b) bs
 
-unfoldable pub coderAfter : InnerCoder → List ℕ → InnerCoder
-coderAfter c [] = c
-coderAfter c (b ∷ bs) = coderAfter (coderStep c b) bs
+unfoldable pub coderBy : Mode → InnerCoder → List ℕ → InnerCoder
+coderBy m c [] = c
+coderBy m c (b ∷ bs) = coderBy m (stepBy m c b) bs
+
+-- ---- in the mode that the coder's rate is the number of
+
+-- The rate is in its range too: the pattern of a number that is no mode has no bits, so it has no place.
+abbrev pub inRange : InnerCoder → Bool
+inRange c = inRangeBy (modeOf (c .rate)) c
+
+abbrev pub InRange : InnerCoder → Type 0
+InRange c = InRangeBy (modeOf (c .rate)) c
+
+abbrev pub coderStep : InnerCoder → ℕ → InnerCoder
+coderStep c = stepBy (modeOf (c .rate)) c
+
+abbrev pub symbolStep : InnerCoder → ℕ → Symbol
+symbolStep c = symbolBy (modeOf (c .rate)) c
+
+abbrev pub symbolsOf : InnerCoder → List ℕ → List ℕ
+symbolsOf c = symbolsBy (modeOf (c .rate)) c
+
+abbrev pub coderAfter : InnerCoder → List ℕ → InnerCoder
+coderAfter c = coderBy (modeOf (c .rate)) c

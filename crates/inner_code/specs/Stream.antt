@@ -1,10 +1,11 @@
--- The inner code over a whole stream of bits: convolution, puncturing and the mapping to symbols.
+-- The inner code over a whole stream: conversion, convolution, puncturing and the mapping to symbols.
 -- Assumes nothing.
 use mathlib.Core.List.{List, [], _∷_, _++_, map}
 use Prim.Native.Nat.{ℕ, _+_, _-_, _%_}
 use lib.ListN.{length, drop}
 use Rattle.convolutional_code.specs.Code.{tapsX, tapsY, convolved}
 use Rattle.puncturing.specs.Mode.{CodedBit, X, Y, Mode, completed, binary}
+use Rattle.inner_code.specs.Converter.{encodedBits, uncodedNumbers, sequenced}
 
 -- a coded bit of the pattern, where the newest bit is bit i of it
 abbrev pub codedBit : ℕ → List ℕ → CodedBit → ℕ
@@ -23,6 +24,10 @@ unfoldable pub symbolsAfter : Mode → List ℕ → List ℕ → List ℕ
 symbolsAfter m past [] = []
 symbolsAfter m past (b ∷ bs) = sentAt m (length past % m .bits + 1) (b ∷ past) ++ symbolsAfter m (b ∷ past) bs
 
--- the symbols of a whole stream of bits
+-- the symbols of a whole stream of bits of the encoded branch
 unfoldable pub symbols : Mode → List ℕ → List ℕ
 symbols m bits = symbolsAfter m [] bits
+
+-- the symbols of a whole stream of bytes: the bits E are coded, and the bits U go beside them
+unfoldable pub streamSymbols : Mode → List ℕ → List ℕ
+streamSymbols m bytes = sequenced (uncodedNumbers m bytes) (symbols m (encodedBits m bytes))

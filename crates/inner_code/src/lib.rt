@@ -1,4 +1,4 @@
-// The inner coder: convolutional mother code, puncturing and the mapping to QPSK symbols. EN 300 421, 4.4.3 and 4.5.
+// The inner coder: convolutional mother code, puncturing and the mapping to symbols. EN 300 421, 4.4.3 and 4.5, and EN 301 210, 4.6.3.
 ghost use mathlib.Core.Path.{_≡_};
 ghost use Prim.Native.Nat.{_<_, _≤_};
 ghost use mathlib.Core.List.{_++_};
@@ -6,8 +6,11 @@ ghost use lib.ListN.{length, drop};
 ghost use Rattle.answer.specs.Number.{numberOf};
 ghost use Rattle.inner_code.specs.Step.{InRange, inRange};
 ghost use Rattle.inner_code.specs.Encode.{freshCoder, newNumber, bitValue, stepNumber, stepCoder, stepSymbol, blockSymbols, blockCoder, symbolCount, encodeNumber, encodeCoder, encodeCount, encodeRoom};
+
+mod qam;
+
 use answer::Answer;
-use convolutional_code::code_block;
+use convolutional_code::code_bytes;
 use convolutional_code::next_memory;
 use convolutional_code::x_of;
 use convolutional_code::y_of;
@@ -17,6 +20,7 @@ use puncturing::held_count;
 use puncturing::pattern_length;
 use puncturing::puncture;
 use puncturing::puncture_block;
+use qam::code_qam;
 
 // The state of the coder. place is where in the puncturing pattern the next bit stands; held is an I whose Q has not come, 0 where none is held.
 pub struct InnerCoder {
@@ -49,8 +53,8 @@ impl InnerCoder {
     // The bytes of a block.
     pub const BLOCK_LENGTH: usize = 204;
 
-    // The bits of each rate's puncturing pattern.
-    pub const PATTERN_LENGTHS: [u8; 5] = puncturing::PATTERN_LENGTHS;
+    // The bits of each mode's puncturing pattern.
+    pub const PATTERN_LENGTHS: [u8; 6] = puncturing::PATTERN_LENGTHS;
 
     pub fn new(rate: u8) -> Created
         ensures { λ r. ⌜ (numberOf (r .answer) ≡ newNumber rate) × (r .coder ≡ freshCoder rate) ⌝ }
@@ -61,7 +65,7 @@ impl InnerCoder {
             place: 0,
             held: 0,
         };
-        if rate < 5 {
+        if rate < 6 {
             return Created {
                 answer: Answer::Done,
                 coder,
@@ -81,7 +85,7 @@ impl InnerCoder {
         let memory = self.memory;
         let place = self.place;
         let held = self.held;
-        if rate >= 5 {
+        if rate >= 6 {
             return false;
         }
         if memory >= 64 {
@@ -175,9 +179,9 @@ fn bit_value(bit: bool) -> u8
     if bit { 1 } else { 0 }
 }
 
-// Codes a block into a room that is long enough.
-fn encode_block(coder: InnerCoder, block: &[u8], room: &mut [u8]) -> Encoded
-    requires { ⌜ (InRange coder) × (length (now block) ≡ 204) × (length (blockSymbols coder (now block)) ≤ length (now room)) ⌝ }
+// Codes a block at one of the five QPSK rates.
+fn encode_qpsk(coder: InnerCoder, block: &[u8], room: &mut [u8]) -> Encoded
+    requires { ⌜ (InRange coder) × (coder .rate < 5) × (length (now block) ≡ 204) × (length (blockSymbols coder (now block)) ≤ length (now room)) ⌝ }
     ensures { λ r. ⌜
         (numberOf (r .answer) ≡ 0)
         × (r .coder ≡ blockCoder coder (now (block .entry)))
@@ -188,8 +192,9 @@ fn encode_block(coder: InnerCoder, block: &[u8], room: &mut [u8]) -> Encoded
     let memory = coder.memory;
     let place = coder.place;
     let held = coder.held;
+    let mut history = [0u8; 1638];
     let mut coded = [0u8; 3264];
-    let next = code_block(memory, block, &mut coded);
+    let next = code_bytes(memory, block, &mut history, &mut coded);
     let progress = puncture_block(rate, place, held, &coded, room);
     Encoded {
         answer: Answer::Done,
@@ -201,4 +206,44 @@ fn encode_block(coder: InnerCoder, block: &[u8], room: &mut [u8]) -> Encoded
         },
         count: progress.count,
     }
+}
+
+// Codes a block at 16QAM 3/4: nothing is held, and the place stays 0.
+fn encode_qam(coder: InnerCoder, block: &[u8], room: &mut [u8]) -> Encoded
+    requires { ⌜ (InRange coder) × (coder .rate ≡ 5) × (length (now block) ≡ 204) × (length (blockSymbols coder (now block)) ≤ length (now room)) ⌝ }
+    ensures { λ r. ⌜
+        (numberOf (r .answer) ≡ 0)
+        × (r .coder ≡ blockCoder coder (now (block .entry)))
+        × (r .count ≡ length (blockSymbols coder (now (block .entry))))
+        × (now (room .exit) ≡ blockSymbols coder (now (block .entry)) ++ drop (length (blockSymbols coder (now (block .entry)))) (now (room .entry))) ⌝ }
+{
+    let rate = coder.rate;
+    let memory = coder.memory;
+    let next = code_qam(memory, block, room);
+    Encoded {
+        answer: Answer::Done,
+        coder: InnerCoder {
+            rate,
+            memory: next,
+            place: 0,
+            held: 0,
+        },
+        count: 544,
+    }
+}
+
+// Codes a block into a room that is long enough.
+fn encode_block(coder: InnerCoder, block: &[u8], room: &mut [u8]) -> Encoded
+    requires { ⌜ (InRange coder) × (length (now block) ≡ 204) × (length (blockSymbols coder (now block)) ≤ length (now room)) ⌝ }
+    ensures { λ r. ⌜
+        (numberOf (r .answer) ≡ 0)
+        × (r .coder ≡ blockCoder coder (now (block .entry)))
+        × (r .count ≡ length (blockSymbols coder (now (block .entry))))
+        × (now (room .exit) ≡ blockSymbols coder (now (block .entry)) ++ drop (length (blockSymbols coder (now (block .entry)))) (now (room .entry))) ⌝ }
+{
+    let rate = coder.rate;
+    if rate < 5 {
+        return encode_qpsk(coder, block, room);
+    }
+    encode_qam(coder, block, room)
 }

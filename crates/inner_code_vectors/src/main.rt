@@ -1,6 +1,7 @@
 // Compares the inner coder with the symbols that GNU Radio (gr-dtv) made of the same interleaved bytes, and shows both sides of each refusal.
 use inner_code::InnerCoder;
 use libc::STDOUT_FILENO;
+use puncturing::Symbol;
 
 // The coder after a block, and whether the block's symbols were those of the file.
 struct Compared {
@@ -101,6 +102,31 @@ fn answer_room(name: &[u8], rate: u8, place: u8, room: &mut [u8], length: usize)
     answer_encode(name, coder, &block, &mut room[..length]);
 }
 
+fn print_symbol(symbol: Symbol) {
+    if let Symbol::One(v) = symbol {
+        io::write_all(STDOUT_FILENO, b" ");
+        io::print_decimal(STDOUT_FILENO, v as u64);
+    }
+}
+
+// The symbols that the bits of byte 80 hex complete, one step after the other.
+fn print_steps(name: &[u8], mode: u8) {
+    let created = InnerCoder::new(mode);
+    let mut coder = created.coder;
+    let mut bit = true;
+    io::write_all(STDOUT_FILENO, name);
+    let mut k: usize = 0;
+    while k < 8 {
+        let stepped = coder.step(bit);
+        let symbol = stepped.symbol;
+        print_symbol(symbol);
+        coder = stepped.coder;
+        bit = false;
+        k += 1;
+    }
+    io::write_all(STDOUT_FILENO, b"\n");
+}
+
 fn main() {
     compare(0, b"symbols_rate0.bin");
     compare(1, b"symbols_rate1.bin");
@@ -110,8 +136,9 @@ fn main() {
     let bytes = [0u8; 205];
     let mut room = [0u8; 980];
     answer_new(b"fresh coder at rate 4: ", 4);
-    answer_new(b"fresh coder at rate 5: ", 5);
-    answer_block(b"coder of rate 5: ", 5, &bytes, 204);
+    answer_new(b"fresh coder of mode 5: ", 5);
+    answer_new(b"fresh coder of mode 6: ", 6);
+    answer_block(b"coder of mode 6: ", 6, &bytes, 204);
     answer_block(b"block of 203 bytes: ", 0, &bytes, 203);
     answer_block(b"block of 204 bytes: ", 0, &bytes, 204);
     answer_block(b"block of 205 bytes: ", 0, &bytes, 205);
@@ -123,4 +150,9 @@ fn main() {
     answer_room(b"rate 4, place 0, room of 933: ", 4, 0, &mut room, 933);
     answer_room(b"rate 4, place 1, room of 931: ", 4, 1, &mut room, 931);
     answer_room(b"rate 4, place 1, room of 932: ", 4, 1, &mut room, 932);
+    answer_room(b"mode 5, place 0, room of 543: ", 5, 0, &mut room, 543);
+    answer_room(b"mode 5, place 0, room of 544: ", 5, 0, &mut room, 544);
+    answer_room(b"mode 5, place 1, room of 544: ", 5, 1, &mut room, 544);
+    print_steps(b"80 hex bit by bit, rate 2:", 2);
+    print_steps(b"80 hex bit by bit, mode 5:", 5);
 }

@@ -2,23 +2,29 @@
 -- Assumes nothing.
 use mathlib.Core.Path.{_≡_, refl, ap, ap₂, sym, subst, _∙_}
 use mathlib.Core.List.{List, [], _∷_, _++_, append-assoc, append-nil}
-use Prim.Native.Nat.{ℕ, _+_, _-_, _*_, _≤_, _<_}
+use Prim.Native.Nat.{ℕ, zero, suc, _+_, _-_, _*_, _/_, _≤_, _<_}
+use native.Mathlib.Nat.{suc-mul, div-mul-le-self}
+use lib.Dec.{leb, leb→le}
 use native.Mathlib.Omega.{arith}
 use borrow.Author.Tests.{eq-eqb, le-ltb}
 use borrow.Rule.Slice.PartMut.{putMid, midOf}
 use lib.ListN.{length, take, drop, length-append, length-drop}
 use lib.Seq.{length-take-le}
 use Rattle.puncturing.specs.Step.{listOf}
-use Rattle.inner_code.specs.Step.{InRange, symbolStep, coderStep, symbolsOf}
-use Rattle.convolutional_code.specs.Bits.{bitsOf}
-use Rattle.inner_code.specs.Encode.{freshCoder, blockSymbols, blockCoder, callsSymbols, encodeCoder, encodeCount, encodeRoom}
+use Rattle.inner_code.specs.Step.{InRange, symbolsBy, symbolStep, coderStep, symbolsOf}
+use Rattle.common.specs.Lists.{All, Length}
+use Rattle.common.proofs.Computed as computed
+use Rattle.puncturing.specs.Mode.{modeOf, blockBits, blockBitsBy}
+use Rattle.inner_code.specs.Converter.{encodedBits}
+use Rattle.inner_code.specs.Encode.{freshCoder, blockSymbolsBy, blockCoderBy, callsBy, blockSymbols, blockCoder, encodeCoder, encodeCount, encodeRoom}
 use Rattle.inner_code.specs.declared.InnerCoder.{InnerCoder}
 use Rattle.puncturing.specs.declared.Symbol.{Symbol}
 use Rattle.puncturing.specs.declared.Symbol.the-variants.{None, One}
-use Rattle.convolutional_code.proofs.Bits.{bits-bits, block-bits}
-use Rattle.inner_code.proofs.Coder.{range-test, fresh-in-range, coder-in-range}
+use Rattle.puncturing.proofs.WellFormed.{well-formed}
+use Rattle.inner_code.proofs.Converter.{encoded-bits, length-block-encoded}
+use Rattle.inner_code.proofs.Coder.{range-test, rate-known, formed, fresh-in-range, coder-in-range, coder-rate, length-symbols, length-coded}
 use Rattle.inner_code.proofs.Stream.{calls-stream}
-use Rattle.kernels.specs.Blocks.{wholeBlocks}
+use Rattle.kernels.specs.Blocks.{blocksOf, wholeBlocks}
 use Rattle.kernels.specs.Code.{codedSymbols}
 use Rattle.kernels.proofs.Blocks.{blocksFrom, blocks-end, blocks-more, put-next}
 
@@ -29,14 +35,30 @@ at-most-one None = omega arith
 at-most-one (One s) = omega arith
 
 symbols-few : (c : InnerCoder) (bits : List ℕ) → length (symbolsOf c bits) ≤ length bits
-unfolding symbolsOf
+unfolding symbolsBy
 symbols-few c [] = omega arith
 symbols-few c (b ∷ bs) =
     let r = symbols-few (coderStep c b) bs in
     omega (arith, at-most-one (symbolStep c b), length-append (listOf (symbolStep c b)) (symbolsOf (coderStep c b) bs))
 
-block-few : (c : InnerCoder) (block : List ℕ) → length block ≡ 204 → length (blockSymbols c block) ≤ 1632
-block-few c block n = omega (arith, symbols-few c (bitsOf block), block-bits block n)
+bits-few : (r : ℕ) → r < 6 → blockBits r ≤ 1632
+unfolding blockBitsBy modeOf
+bits-few r h = leb→le _ _ (computed.below-at (λ r. leb (blockBits r) 1632) 6 tt r h)
+
+block-few : (c : InnerCoder) → InRange c → (block : List ℕ) → length block ≡ 204 → length (blockSymbols c block) ≤ 1632
+block-few c g block n =
+    let m = modeOf (c .rate) in
+    let bits = encodedBits m block in
+    let e : length (blockSymbols c block) ≡ length (symbolsOf c bits) = length-coded (formed c g) c g block ∙ sym (length-symbols c g (encoded-bits m block)) in
+    omega (arith, symbols-few c bits, length-block-encoded m block n, bits-few (c .rate) (rate-known c g))
+
+-- the blocks are whole
+blocks-whole : (n : ℕ) (bytes : List ℕ) → n * 204 ≤ length bytes → All (Length 204) (blocksOf n bytes)
+unfolding blocksOf
+blocks-whole zero bytes h = tt
+blocks-whole (suc n) bytes h =
+    let k : n * 204 + 204 ≤ length bytes = rw (← suc-mul n 204) h in
+    (length-take-le 204 bytes (omega arith), blocks-whole n (drop 204 bytes) (omega (arith, length-drop 204 bytes)))
 
 -- ---- a call on a coder in range, with a block and room enough, is answered
 
@@ -52,22 +74,26 @@ encode-done c block room g n l = simp (range-test c g, eq-eqb _ _ n, le-ltb _ _ 
 pub record Coding (rate : ℕ) (bytes room₀ room : List ℕ) (c : InnerCoder) (at count : ℕ) : Type 0 where
   pub within : at ≤ length bytes
   pub few : count ≤ 8 * at
+  pub rate-kept : c .rate ≡ rate
   pub range : InRange c
   pub front : List ℕ
   pub counted : length front ≡ count
   pub written : room ≡ front ++ drop count room₀
-  pub symbols : front ++ callsSymbols c (blocksFrom bytes at) ≡ codedSymbols rate bytes
+  pub symbols : front ++ callsBy (modeOf rate) c (blocksFrom bytes at) ≡ codedSymbols rate bytes
 
-pub coding-start : (rate : ℕ) (bytes room : List ℕ) (c : InnerCoder) → rate < 5 → c ≡ freshCoder rate → Coding rate bytes room room c 0 0
+pub coding-start : (rate : ℕ) (bytes room : List ℕ) (c : InnerCoder) → rate < 6 → c ≡ freshCoder rate → Coding rate bytes room room c 0 0
 unfolding codedSymbols
 coding-start rate bytes room c h e = record {
   within = omega arith;
   few = omega arith;
+  rate-kept = ap (λ (x : InnerCoder). x .rate) e;
   range = subst InRange (sym e) (fresh-in-range rate h);
   front = [];
   counted = refl;
   written = refl;
-  symbols = ap (λ (x : InnerCoder). callsSymbols x (wholeBlocks bytes)) e ∙ calls-stream rate (wholeBlocks bytes) h;
+  symbols =
+      ap (λ (x : InnerCoder). callsBy (modeOf rate) x (wholeBlocks bytes)) e
+      ∙ calls-stream (modeOf rate) (well-formed rate h) rate (wholeBlocks bytes) (blocks-whole (length bytes / 204) bytes (div-mul-le-self (length bytes) 204));
 }
 
 module _ {rate : ℕ} {bytes room₀ room : List ℕ} {c : InnerCoder} {at count : ℕ} (fits : 8 * length bytes ≤ length room₀) (p : Coding rate bytes room₀ room c at count) where
@@ -80,10 +106,10 @@ module _ {rate : ℕ} {bytes room₀ room : List ℕ} {c : InnerCoder} {at count
 
   pub coding-end : length bytes - at < 204
       → (count ≡ length (codedSymbols rate bytes)) × (room ≡ codedSymbols rate bytes ++ drop (length (codedSymbols rate bytes)) room₀)
-  unfolding callsSymbols
+  unfolding callsBy
   coding-end h =
       let e : p .front ≡ codedSymbols rate bytes
-      = sym (append-nil (p .front)) ∙ ap (λ (l : List (List ℕ)). p .front ++ callsSymbols c l) (sym (blocks-end bytes at h)) ∙ p .symbols in
+      = sym (append-nil (p .front)) ∙ ap (λ (l : List (List ℕ)). p .front ++ callsBy (modeOf rate) c l) (sym (blocks-end bytes at h)) ∙ p .symbols in
       let n : count ≡ length (codedSymbols rate bytes) = sym (p .counted) ∙ ap length e in
       (n, p .written ∙ ap₂ (λ (a : List ℕ) (k : ℕ). a ++ drop k room₀) e n)
 
@@ -111,7 +137,7 @@ module _ {rate : ℕ} {bytes room₀ room : List ℕ} {c : InnerCoder} {at count
       part-size = length-take-le (length room - count) (drop count room) (omega (arith, length-drop count room))
 
       enough : length (blockSymbols c block) ≤ length part
-      enough = omega (arith, block-few c block size, part-size, coding-length, p .few, p .within, h)
+      enough = omega (arith, block-few c (p .range) block size, part-size, coding-length, p .few, p .within, h)
 
       done : (next ≡ blockCoder c block) × (n ≡ length (blockSymbols c block)) × (exit ≡ blockSymbols c block ++ drop (length (blockSymbols c block)) part)
       unfolding block part
@@ -123,13 +149,14 @@ module _ {rate : ℕ} {bytes room₀ room : List ℕ} {c : InnerCoder} {at count
       coding-total = omega (arith, done .1, enough, part-size, coding-length, coding-room)
 
       pub coding-more : Coding rate bytes room₀ (putMid count (length room - count) room exit) next (at + 204) (count + n)
-      unfolding block part callsSymbols
+      unfolding block part callsBy
       coding-more =
           let symbols : List ℕ = blockSymbols c block in
           record {
             within = omega (arith, h, p .within);
-            few = omega (arith, p .few, done .1, block-few c block size);
-            range = subst InRange (sym (done .0)) (coder-in-range c (p .range) (bits-bits block));
+            few = omega (arith, p .few, done .1, block-few c (p .range) block size);
+            rate-kept = ap (λ (x : InnerCoder). x .rate) (done .0) ∙ coder-rate c (encodedBits (modeOf (c .rate)) block) ∙ p .rate-kept;
+            range = subst InRange (sym (done .0)) (coder-in-range c (p .range) (encoded-bits (modeOf (c .rate)) block));
             front = p .front ++ symbols;
             counted = length-append (p .front) symbols ∙ ap₂ (λ (i j : ℕ). i + j) (p .counted) (sym (done .1));
             written =
@@ -137,9 +164,12 @@ module _ {rate : ℕ} {bytes room₀ room : List ℕ} {c : InnerCoder} {at count
                 ∙ put-next (p .front) room₀ room count (p .counted) (p .written) symbols (length room - count) enough
                 ∙ ap (λ (j : ℕ). (p .front ++ symbols) ++ drop (count + j) room₀) (sym (done .1));
             symbols =
-                ap (λ (x : InnerCoder). (p .front ++ symbols) ++ callsSymbols x (blocksFrom bytes (at + 204))) (done .0)
+                ap (λ (x : InnerCoder). (p .front ++ symbols) ++ callsBy (modeOf rate) x (blocksFrom bytes (at + 204))) (done .0)
                 ∙ append-assoc (p .front) symbols _
-                ∙ ap (λ (j : ℕ). let b : List ℕ = take j (drop at bytes) in p .front ++ (blockSymbols c b ++ callsSymbols (blockCoder c b) (blocksFrom bytes (at + 204)))) is
-                ∙ ap (λ (l : List (List ℕ)). p .front ++ callsSymbols c l) (sym (blocks-more bytes at h))
+                ∙ (λ i.
+                let m = modeOf (p .rate-kept i) in
+                let b : List ℕ = take (is i) (drop at bytes) in
+                p .front ++ (blockSymbolsBy m c b ++ callsBy (modeOf rate) (blockCoderBy m c b) (blocksFrom bytes (at + 204))))
+                ∙ ap (λ (l : List (List ℕ)). p .front ++ callsBy (modeOf rate) c l) (sym (blocks-more bytes at h))
                 ∙ p .symbols;
           }

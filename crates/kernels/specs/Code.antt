@@ -7,17 +7,16 @@ use lib.Dec.{ltb}
 use lib.ListN.{length, drop}
 use Rattle.common.specs.Choice.{pick}
 use Rattle.puncturing.specs.Mode.{modeOf}
-use Rattle.convolutional_code.specs.Bits.{bitsOf}
-use Rattle.inner_code.specs.Stream.{symbols}
+use Rattle.inner_code.specs.Stream.{streamSymbols}
 use Rattle.kernels.specs.Blocks.{wholeBlocks}
 
 -- their symbols
 unfoldable pub codedSymbols : ℕ → List ℕ → List ℕ
-codedSymbols rate bytes = symbols (modeOf rate) (bitsOf (flatten (wholeBlocks bytes)))
+codedSymbols rate bytes = streamSymbols (modeOf rate) (flatten (wholeBlocks bytes))
 
 -- no such rate, or less room than a symbol for each bit
 abbrev pub refused : ℕ → List ℕ → List ℕ → Bool
-refused rate bytes room = pick (ltb rate 5) (ltb (length room / 8) (length bytes)) true
+refused rate bytes room = pick (ltb rate 6) (ltb (length room / 8) (length bytes)) true
 
 -- how many symbols are written, and the room then
 abbrev pub codeCount : ℕ → List ℕ → List ℕ → ℕ

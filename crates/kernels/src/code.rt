@@ -8,7 +8,7 @@ use inner_code::InnerCoder;
 
 // Gives the number of symbols.
 pub fn code_blocks(rate: u8, blocks: &[u8], room: &mut [u8]) -> usize
-    requires { ⌜ (rate < 5) × (8 * length (now blocks) ≤ length (now room)) ⌝ }
+    requires { ⌜ (rate < 6) × (8 * length (now blocks) ≤ length (now room)) ⌝ }
     ensures { λ r. ⌜
         (r ≡ length (codedSymbols rate (now (blocks .entry))))
         × (now (room .exit) ≡ codedSymbols rate (now (blocks .entry)) ++ drop (length (codedSymbols rate (now (blocks .entry)))) (now (room .entry))) ⌝ }

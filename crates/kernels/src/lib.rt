@@ -45,7 +45,7 @@ pub extern "C" fn kernel_inner_code(rate: u8, blocks: &[u8], room: &mut [u8]) ->
         (r ≡ codeCount rate (now (blocks .entry)) (now (room .entry)))
         × (now (room .exit) ≡ codeRoom rate (now (blocks .entry)) (now (room .entry))) ⌝ }
 {
-    if rate >= 5 {
+    if rate >= 6 {
         return 0;
     }
     if room.len() / 8 < blocks.len() {

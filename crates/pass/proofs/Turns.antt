@@ -4,19 +4,16 @@ use mathlib.Core.Path.{_≡_, refl, sym, ap, subst, subst₂, _∙_}
 use mathlib.Core.Bool.{Bool, true, false, true≢false}
 use mathlib.Core.List.{List, [], _++_, flatten}
 use Prim.Native.Nat.{ℕ, _+_, _-_, _*_, _/_, _%_, _≤_, _<_, min}
-use native.Mathlib.Nat.{min-le-left, min-le-right, min-eq-left}
+use native.Mathlib.Nat.{min-le-left, min-le-right}
 use native.Mathlib.Omega.{arith}
 use borrow.Author.Tests.{le-ltb}
-use lib.Dec.{ltb}
-use lib.IntN.{ℤ, pos, negsuc}
-use lib.Signed.{ltZ}
+use lib.IntN.{ℤ, pos}
 use lib.ListN.{length, take, drop, length-append}
 use lib.Seq.{length-take-le}
 use Rattle.common.specs.Choice.{pick}
-use Rattle.io.specs.Counts.{clamped}
-use Rattle.libc.specs.Io.{Moved}
 use Rattle.input_pieces.specs.Read.{Reads}
 use Rattle.input_pieces.specs.declared.Piece.{Piece}
+use Rattle.input_pieces.proofs.Laws.{read-most}
 use Rattle.stream_receiver.specs.Feed.{freshStream, capacityOf, streamInRange, feedNumber, Feeds, refused, fed}
 use Rattle.stream_receiver.specs.History.{Reception, Came}
 use Rattle.stream_receiver.specs.declared.StreamReceiver.{StreamReceiver}
@@ -24,23 +21,6 @@ use Rattle.stream_receiver.proofs.Laws.{reception-none, reception-range, recept
 use Rattle.stream_receiver.proofs.Histories.{reception-number, reception-feeds}
 use Rattle.pass.specs.Turn.{Turns, Passes}
 use Rattle.pass.specs.declared.Turn.{Turn}
-
--- ---- what was read
-
-clamped-most : (z : ℤ) (most : ℕ) → clamped z most ≤ most
-clamped-most (pos k) most = min-le-right k most
-clamped-most (negsuc k) most = omega arith
-
-pub read-most : {most : ℕ} {before buffer : List ℕ} {r : Piece} → Reads most before buffer r → r .length ≤ most
-read-most {most} {r = r} h = subst (λ (n : ℕ). n ≤ most) (sym (h .length-is)) (clamped-most (r .got) most)
-
-none-moved : (z : ℤ) (most : ℕ) → Moved most z → ltZ z (pos 0) ≡ false → clamped z most ≡ 0 → z ≡ pos 0
-none-moved (pos k) most m w h = ap pos (sym (min-eq-left m) ∙ h)
-none-moved (negsuc k) most m w h = absurd (true≢false w)
-
--- a read that did not fail and brought nothing answered 0
-pub nothing-read : {most : ℕ} {before buffer : List ℕ} {r : Piece} → Reads most before buffer r → ltZ (r .got) (pos 0) ≡ false → r .length ≡ 0 → r .got ≡ pos 0
-nothing-read {most} {r = r} d w h = none-moved (r .got) most (d .moved) w (sym (d .length-is) ∙ h)
 
 -- ---- a turn
 

@@ -7,7 +7,6 @@ ghost use lib.ListN.{length};
 ghost use Rattle.pass.specs.Turn.{Turns, Passes};
 ghost use Rattle.stream_receiver.specs.History.{Came};
 use input_pieces::Piece;
-use libc::STDERR_FILENO;
 use libc::STDOUT_FILENO;
 use stream_receiver::StreamReceiver;
 
@@ -120,29 +119,15 @@ pub fn receive_file(fd: i32, wanted: bool) -> Pass
     receive_all(fd, wanted, &mut buffer, &mut packets)
 }
 
-// Writes a text with a single write. Where the write does not take all of it, that is said: what was written then lacks its last line feed.
-fn write_whole(fd: i32, text: &[u8]) {
-    let got = libc::write(fd, text);
-    if got < 0 {
-        os::fail(b"report");
-        return;
-    }
-    if io::count(got, text) < text.len() {
-        io::write_all(STDERR_FILENO, b"report: not written whole\n");
-    }
-}
-
-// Writes the report of a pass, or says that there is none: a report of a part would look like that of a whole.
+// Writes the report of a pass, or says that there is none: a report of a part would look like that of a whole. The text is longer than any report.
 pub fn write_report(fd: i32, pass: Pass) {
     if pass.failed {
         os::fail(b"pass");
         return;
     }
     let stream = pass.stream;
-    let mut text = [0u8; 256];
+    let mut text = [0u8; 320];
     let written = stream.report(&mut text);
     let n = written.length;
-    if n <= 256 {
-        write_whole(fd, &text[..n]);
-    }
+    text_output::write_whole(fd, b"report", &text[..n]);
 }

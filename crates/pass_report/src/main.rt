@@ -1,5 +1,5 @@
 // pass_report < blocks
-// Prints the pass report of the received bytes on standard input: document 01, form 1.
+// Prints the pass report of the received bytes on standard input, in form 2.
 use libc::STDERR_FILENO;
 use libc::STDIN_FILENO;
 use libc::STDOUT_FILENO;

@@ -1,5 +1,6 @@
 pub mod Places
 pub mod BlockCounts
+pub mod WellFormed
 pub mod Steps
 pub mod Run
 pub mod Patterns

@@ -11,9 +11,9 @@ use Rattle.common.proofs.Computed as computed
 use Rattle.convolutional_code.specs.Bits.{Bits}
 use Rattle.convolutional_code.proofs.Bits.{bits-at}
 use Rattle.puncturing.specs.Mode.{modeOf, completed}
-use Rattle.puncturing.specs.Step.{patternLength, nextPlace, heldCount, listOf, punctured, heldAfter, symbolsIn}
+use Rattle.puncturing.specs.Step.{patternLength, nextPlace, heldCount, listOf, punctured, heldAfter, symbolsIn, puncturedBy, heldBy, heldCountBy, countBy}
 use Rattle.puncturing.specs.Run.{sentSymbols, placeAfter, heldBehind, patternSymbols, patternsSymbols, iBits, qBits}
-use Rattle.puncturing.proofs.Places.{tested-at, agreed-at, end, _&_, Below, below}
+use Rattle.puncturing.proofs.Places.{tested-at, agreed-at, up, end, _&_, Below, below}
 use Rattle.puncturing.proofs.Steps.{some-bits, next-lt, held-in-range}
 use Rattle.puncturing.proofs.Patterns.{length-pattern}
 use Rattle.puncturing.proofs.Rates.{table}
@@ -58,12 +58,12 @@ unfolding placeAfter heldBehind
 held-behind r p h l n zero hr hp hh t = hh
 held-behind r p h l n (suc k) hr hp hh t =
     held-behind r (nextPlace r p) (heldAfter r p (getD l n 0) (getD l (1632 + n) 0) h) l (suc n) k hr (next-lt r p hp)
-    (held-in-range r p (getD l n 0) (getD l (1632 + n) 0) h hr hp (bits-at t (1632 + n))) t
+    (held-in-range r p (getD l n 0) (getD l (1632 + n) 0) h (up r hr) hp (bits-at t (1632 + n))) t
 
 -- ---- how many symbols
 
 pub symbols-in-append : (r p j k : ℕ) → symbolsIn r p (j + k) ≡ symbolsIn r p j + symbolsIn r (placeAfter r p j) k
-unfolding symbolsIn placeAfter
+unfolding countBy placeAfter
 symbols-in-append r p zero k = ap (symbolsIn r p) (zero-add k) ∙ sym (zero-add _)
 symbols-in-append r p (suc j) k =
     ap (symbolsIn r p) (suc-add j k)
@@ -80,15 +80,15 @@ place-after r p (suc k) h =
 
 -- a whole pattern has as many symbols as its mode, and what is shorter has fewer
 pattern-count : (r : ℕ) → r < 5 → symbolsIn r 0 (patternLength r) ≡ length (modeOf r .symbols)
-unfolding symbolsIn patternLength modeOf
+unfolding countBy modeOf
 pattern-count r h = computed.agree-at (λ r. symbolsIn r 0 (patternLength r)) (λ r. length (modeOf r .symbols)) 5 tt r h
 
 pub part-count : (r k : ℕ) → r < 5 → k < patternLength r → symbolsIn r 0 k < length (modeOf r .symbols)
-unfolding symbolsIn patternLength modeOf
+unfolding countBy modeOf
 part-count r k h l = ltb→lt _ _ (tested-at (λ r k. ltb (symbolsIn r 0 k) (length (modeOf r .symbols))) tt r k h l)
 
 pub whole-count : (r q : ℕ) → r < 5 → symbolsIn r 0 (patternLength r * q) ≡ length (modeOf r .symbols) * q
-unfolding symbolsIn
+unfolding countBy
 whole-count r zero h = rw (mul-zero, mul-zero)
 whole-count r (suc q) h =
     let n = patternLength r in
@@ -101,15 +101,15 @@ whole-count r (suc q) h =
 -- ---- where a pattern begins
 
 pub none-held : (r : ℕ) → r < 5 → heldCount r 0 ≡ 0
-unfolding heldCount modeOf
+unfolding heldCountBy modeOf
 none-held r h = computed.agree-at (λ r. heldCount r 0) (λ r. 0) 5 tt r h
 
 pub to-start : (r p : ℕ) → r < 5 → p < patternLength r → placeAfter r p ((patternLength r - p) % patternLength r) ≡ 0
-unfolding placeAfter patternLength modeOf
+unfolding placeAfter modeOf
 to-start r p h k = agreed-at (λ r p. placeAfter r p ((patternLength r - p) % patternLength r)) (λ r p. 0) tt r p h k
 
 around : (r : ℕ) → r < 5 → placeAfter r 0 (patternLength r) ≡ 0
-unfolding placeAfter patternLength modeOf
+unfolding placeAfter modeOf
 around r h = computed.agree-at (λ r. placeAfter r 0 (patternLength r)) (λ r. 0) 5 tt r h
 
 -- at the start of a pattern nothing is held
@@ -146,7 +146,7 @@ abbrev Whole : ℕ → Type 0
 Whole r = (l : List ℕ) (n : ℕ) → patternSymbols (iBits r) (qBits r) l n ≡ sentNear r 0 0 l n 0 (patternLength r)
 
 wholes : Below Whole 5
-unfolding patternSymbols iBits qBits punctured heldAfter patternLength modeOf
+unfolding patternSymbols iBits qBits puncturedBy heldBy modeOf
 wholes = (λ l n. refl) & (λ l n. refl) & (λ l n. refl) & (λ l n. refl) & (λ l n. refl) & end
 
 pattern-sent : (r : ℕ) (l : List ℕ) (n : ℕ) → r < 5 → patternSymbols (iBits r) (qBits r) l n ≡ sentSymbols r 0 0 l n (patternLength r)

@@ -1,33 +1,70 @@
--- Facts at each place of each rate's pattern, by computation.
+-- Facts at each place of each mode's pattern, by computation.
 -- Assumes nothing.
-use mathlib.Core.Path.{_≡_, subst, sym}
-use mathlib.Core.Bool.{Bool}
+use mathlib.Core.Path.{_≡_, refl, subst, sym}
+use mathlib.Core.Bool.{Bool, true, false}
 use mathlib.Core.Logic.{⊎-elim}
 use Prim.Native.Nat.{ℕ, zero, suc, _≤_, _<_}
+use native.Mathlib.Omega.{arith}
 use native.Mathlib.Nat.{le-of-suc-le-suc, not-suc-le-zero, eq-or-lt-of-le}
-use lib.Dec.{T, leb, eqb, eqb→eq, leb→le}
+use borrow.Author.Tests.{ltb-true, ltb-false}
+use lib.Dec.{T, ltb, leb, eqb, eqb→eq, leb→le}
 use Rattle.common.proofs.Computed as computed
 use Rattle.puncturing.specs.Mode.{modeOf}
 use Rattle.puncturing.specs.Step.{patternLength}
 
--- a test that passes at each place
-abbrev pub tested : (ℕ → ℕ → Bool) → Bool
-tested f = computed.below (λ r. computed.below (f r) (patternLength r)) 5
+-- a test that passes at each place of the first n modes
+abbrev pub testedOf : ℕ → (ℕ → ℕ → Bool) → Bool
+testedOf n f = computed.below (λ r. computed.below (f r) (patternLength r)) n
 
-pub tested-at : (f : ℕ → ℕ → Bool) → T (tested f) → (r p : ℕ) → r < 5 → p < patternLength r → T (f r p)
-tested-at f t r p h k =
-    computed.below-at (f r) (patternLength r) (computed.below-at (λ r. computed.below (f r) (patternLength r)) 5 t r h) p k
+pub tested-of : (n : ℕ) (f : ℕ → ℕ → Bool) → T (testedOf n f) → (r p : ℕ) → r < n → p < patternLength r → T (f r p)
+tested-of n f t r p h k =
+    computed.below-at (f r) (patternLength r) (computed.below-at (λ r. computed.below (f r) (patternLength r)) n t r h) p k
 
 -- two numbers that are equal at each place
+abbrev pub agreedOf : ℕ → (ℕ → ℕ → ℕ) → (ℕ → ℕ → ℕ) → Bool
+agreedOf n f g = testedOf n (λ r p. eqb (f r p) (g r p))
+
+pub agreed-of : (n : ℕ) (f g : ℕ → ℕ → ℕ) → T (agreedOf n f g) → (r p : ℕ) → r < n → p < patternLength r → f r p ≡ g r p
+agreed-of n f g t r p h k = eqb→eq (f r p) (g r p) (tested-of n (λ r p. eqb (f r p) (g r p)) t r p h k)
+
+pub length-le : (r : ℕ) → r < 6 → patternLength r ≤ 7
+unfolding modeOf
+length-le r h = leb→le _ _ (computed.below-at (λ r. leb (patternLength r) 7) 6 tt r h)
+
+-- of the five QPSK rates
+abbrev pub tested : (ℕ → ℕ → Bool) → Bool
+tested = testedOf 5
+
+pub tested-at : (f : ℕ → ℕ → Bool) → T (tested f) → (r p : ℕ) → r < 5 → p < patternLength r → T (f r p)
+tested-at = tested-of 5
+
 abbrev pub agreed : (ℕ → ℕ → ℕ) → (ℕ → ℕ → ℕ) → Bool
-agreed f g = tested (λ r p. eqb (f r p) (g r p))
+agreed = agreedOf 5
 
 pub agreed-at : (f g : ℕ → ℕ → ℕ) → T (agreed f g) → (r p : ℕ) → r < 5 → p < patternLength r → f r p ≡ g r p
-agreed-at f g t r p h k = eqb→eq (f r p) (g r p) (tested-at (λ r p. eqb (f r p) (g r p)) t r p h k)
+agreed-at = agreed-of 5
 
-pub length-le : (r : ℕ) → r < 5 → patternLength r ≤ 7
-unfolding patternLength modeOf
-length-le r h = leb→le _ _ (computed.below-at (λ r. leb (patternLength r) 7) 5 tt r h)
+-- a QPSK rate is one of the modes
+pub up : (r : ℕ) → r < 5 → r < 6
+up r h = omega arith
+
+-- a number that is no mode has no places
+pub outside : (r : ℕ) → 6 ≤ r → patternLength r ≡ 0
+unfolding modeOf
+outside zero h = absurd (omega arith)
+outside (suc zero) h = absurd (omega arith)
+outside (suc (suc zero)) h = absurd (omega arith)
+outside (suc (suc (suc zero))) h = absurd (omega arith)
+outside (suc (suc (suc (suc zero)))) h = absurd (omega arith)
+outside (suc (suc (suc (suc (suc zero))))) h = absurd (omega arith)
+outside (suc (suc (suc (suc (suc (suc r)))))) h = refl
+
+pub known : (r p : ℕ) → p < patternLength r → r < 6
+known r p h = by (ltb r 6) refl
+  where
+    by : (t : Bool) → ltb r 6 ≡ t → r < 6
+    by true e = ltb-true r 6 e
+    by false e = let z = outside r (ltb-false r 6 e) in absurd (omega arith)
 
 -- a fact that no test decides, at each number below n, the greatest first
 infixr 5 _&_
@@ -39,9 +76,15 @@ pub below : (P : ℕ → Type 0) (n : ℕ) → Below P n → (k : ℕ) → k < n
 below P zero end k h = absurd (not-suc-le-zero h)
 below P (suc n) (t & ts) k h = ⊎-elim (λ e. subst P (sym e) t) (λ l. below P n ts k l) (eq-or-lt-of-le (le-of-suc-le-suc h))
 
--- the same at each place of each rate's pattern
+-- the same at each place of the first n modes
+abbrev pub EverywhereOf : ℕ → (ℕ → ℕ → Type 0) → Type 0
+EverywhereOf n P = Below (λ r. Below (P r) (patternLength r)) n
+
+pub everywhere-of : (n : ℕ) (P : ℕ → ℕ → Type 0) → EverywhereOf n P → (r p : ℕ) → r < n → p < patternLength r → P r p
+everywhere-of n P t r p h k = below (P r) (patternLength r) (below (λ r. Below (P r) (patternLength r)) n t r h) p k
+
 abbrev pub Everywhere : (ℕ → ℕ → Type 0) → Type 0
-Everywhere P = Below (λ r. Below (P r) (patternLength r)) 5
+Everywhere = EverywhereOf 5
 
 pub everywhere : (P : ℕ → ℕ → Type 0) → Everywhere P → (r p : ℕ) → r < 5 → p < patternLength r → P r p
-everywhere P t r p h k = below (P r) (patternLength r) (below (λ r. Below (P r) (patternLength r)) 5 t r h) p k
+everywhere = everywhere-of 5

@@ -33,7 +33,7 @@ pub record Table (r : ℕ) (is qs : List ℕ) (len : ℕ) : Type 0 where
   pub q-under : (j : ℕ) → getD qs j 0 < 1632 + len
 
 pub table : (r : ℕ) → r < 5 → Table r (iBits r) (qBits r) (patternLength r)
-unfolding iBits qBits patternLength modeOf
+unfolding iBits qBits modeOf
 table r h = record {
   few = leb→le _ _ (computed.below-at (λ r. leb (length (iBits r)) 4) 5 tt r h);
   same = computed.agree-at (λ r. length (iBits r)) (λ r. length (qBits r)) 5 tt r h;

@@ -17,6 +17,7 @@ use Rattle.puncturing.specs.Run.{sentSymbols, placeAfter, heldBehind, pr
 use Rattle.puncturing.specs.declared.Symbol.{Symbol}
 use Rattle.puncturing.specs.declared.Symbol.the-variants.{None, One}
 use Rattle.puncturing.specs.declared.Progress.{Progress}
+use Rattle.puncturing.proofs.Places.{up}
 use Rattle.puncturing.proofs.Steps.{next-lt, held-in-range}
 
 -- before bit n of the bits from .. to: the puncturing is at place p with the held bit h, and the room is written up to count
@@ -82,7 +83,7 @@ module _ {r p₀ h₀ : ℕ} {l : List ℕ} {from to : ℕ} {room₀ : List ℕ}
   stepped done′ ep eh ec w s = rw (ep, eh) record {
     rate = g .rate;
     place = next-lt r p (g .place);
-    held = held-in-range r p x y h (g .rate) (g .place) (bits-at bits (1632 + n));
+    held = held-in-range r p x y h (up r (g .rate)) (g .place) (bits-at bits (1632 + n));
     within = omega arith;
     done = done′;
     counted = ec;

@@ -2,35 +2,33 @@
 -- Assumes nothing.
 use mathlib.Core.Path.{_≡_, refl, _∙_}
 use Prim.Native.Nat.{ℕ, zero, suc, _+_, _*_, _≤_, _<_}
-use native.Mathlib.Nat.{mod-lt}
 use native.Mathlib.Omega.{arith}
-use lib.Dec.{leb, eqb, leb→le}
+use lib.Dec.{eqb}
 use lib.ListN.{length}
 use Rattle.common.specs.Choice.{pick}
-use Rattle.common.proofs.Computed as computed
 use Rattle.puncturing.specs.Mode.{modeOf, completed}
-use Rattle.puncturing.specs.Step.{patternLength, nextPlace, heldCount, listOf, punctured, heldAfter}
-use Rattle.puncturing.proofs.Places.{tested-at, end, _&_, Everywhere, everywhere}
+use Rattle.puncturing.specs.Step.{patternLength, nextPlace, heldCount, listOf, punctured, heldAfter, heldBy, heldCountBy}
+use Rattle.puncturing.proofs.Places.{up, end, _&_, EverywhereOf, everywhere-of}
+use Rattle.puncturing.proofs.WellFormed.{well-formed, next-by-lt, held-by-le, symbol-count-by}
 
 pub some-bits : (r : ℕ) → r < 5 → 0 < patternLength r
-unfolding patternLength modeOf
-some-bits r h = leb→le _ _ (computed.below-at (λ r. leb 1 (patternLength r)) 5 tt r h)
+some-bits r h = well-formed r (up r h) .some-bits
 
 pub next-lt : (r p : ℕ) → p < patternLength r → nextPlace r p < patternLength r
-next-lt r p h = mod-lt (p + 1) (omega arith)
+next-lt r p h = next-by-lt (modeOf r) (omega arith) p
 
-pub held-le : (r p : ℕ) → r < 5 → p < patternLength r → heldCount r p ≤ 1
-unfolding heldCount patternLength modeOf
-held-le r p h k = leb→le _ _ (tested-at (λ r p. leb (heldCount r p) 1) tt r p h k)
+pub held-le : (r p : ℕ) → r < 6 → p < patternLength r → heldCount r p ≤ 1
+held-le r p h k = held-by-le (well-formed r h) p k
 
 -- what is held is Y of the last bit
 abbrev Holds : ℕ → ℕ → Type 0
 Holds r p = (x y h : ℕ) → heldAfter r p x y h ≡ pick (eqb (heldCount r (nextPlace r p)) 1) y 0
 
-holds : Everywhere Holds
-unfolding heldAfter heldCount patternLength modeOf
+holds : EverywhereOf 6 Holds
+unfolding heldBy heldCountBy modeOf
 holds =
-    ((λ x y h. refl) & (λ x y h. refl) & (λ x y h. refl) & (λ x y h. refl) & (λ x y h. refl) & (λ x y h. refl) & (λ x y h. refl) & end)
+    ((λ x y h. refl) & end)
+    & ((λ x y h. refl) & (λ x y h. refl) & (λ x y h. refl) & (λ x y h. refl) & (λ x y h. refl) & (λ x y h. refl) & (λ x y h. refl) & end)
     & ((λ x y h. refl) & (λ x y h. refl) & (λ x y h. refl) & (λ x y h. refl) & (λ x y h. refl) & end)
     & ((λ x y h. refl) & (λ x y h. refl) & (λ x y h. refl) & end)
     & ((λ x y h. refl) & (λ x y h. refl) & (λ x y h. refl) & (λ x y h. refl) & end)
@@ -47,26 +45,13 @@ times-le zero y h k = omega arith
 times-le (suc zero) y h k = omega arith
 times-le (suc (suc n)) y h k = absurd (omega arith)
 
-module _ (r p x y h : ℕ) (hr : r < 5) (hp : p < patternLength r) where
+module _ (r p x y h : ℕ) (hr : r < 6) (hp : p < patternLength r) where
   pub held-is : heldAfter r p x y h ≡ y * heldCount r (nextPlace r p)
-  held-is = everywhere Holds holds r p hr hp x y h ∙ times (heldCount r (nextPlace r p)) y (held-le r (nextPlace r p) hr (next-lt r p hp))
+  held-is = everywhere-of 6 Holds holds r p hr hp x y h ∙ times (heldCount r (nextPlace r p)) y (held-le r (nextPlace r p) hr (next-lt r p hp))
 
   pub held-in-range : y < 2 → heldAfter r p x y h ≤ heldCount r (nextPlace r p)
   held-in-range k = rw held-is (times-le (heldCount r (nextPlace r p)) y (held-le r (nextPlace r p) hr (next-lt r p hp)) k)
 
 -- a bit completes one symbol or none
-abbrev Single : ℕ → ℕ → Type 0
-Single r p = (x y h : ℕ) → length (listOf (punctured r p x y h)) ≡ length (completed (modeOf r) (p + 1))
-
-single : Everywhere Single
-unfolding punctured patternLength modeOf
-single =
-    ((λ x y h. refl) & (λ x y h. refl) & (λ x y h. refl) & (λ x y h. refl) & (λ x y h. refl) & (λ x y h. refl) & (λ x y h. refl) & end)
-    & ((λ x y h. refl) & (λ x y h. refl) & (λ x y h. refl) & (λ x y h. refl) & (λ x y h. refl) & end)
-    & ((λ x y h. refl) & (λ x y h. refl) & (λ x y h. refl) & end)
-    & ((λ x y h. refl) & (λ x y h. refl) & (λ x y h. refl) & (λ x y h. refl) & end)
-    & ((λ x y h. refl) & end)
-    & end
-
-pub symbol-count : (r p x y h : ℕ) → r < 5 → p < patternLength r → length (listOf (punctured r p x y h)) ≡ length (completed (modeOf r) (p + 1))
-symbol-count r p x y h hr hp = everywhere Single single r p hr hp x y h
+pub symbol-count : (r p x y h : ℕ) → r < 6 → p < patternLength r → length (listOf (punctured r p x y h)) ≡ length (completed (modeOf r) (p + 1))
+symbol-count r p x y h hr hp = symbol-count-by (well-formed r hr) p hp x y h

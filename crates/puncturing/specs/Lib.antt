@@ -1,3 +1,4 @@
 pub mod Mode
+pub mod WellFormed
 pub mod Step
 pub mod Run

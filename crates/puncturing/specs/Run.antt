@@ -10,12 +10,13 @@ use Rattle.puncturing.specs.declared.Symbol.the-variants.{None, One}
 use Rattle.puncturing.specs.declared.Punctured.{Punctured}
 use Rattle.puncturing.specs.declared.Progress.{Progress}
 
--- the symbol that a bit completes: 0 none, 1 (X,Y), 2 the held I with X, 3 the held I with Y
+-- the symbol that a bit completes: 0 none, 1 (X,Y), 2 the held I with X, 3 the held I with Y, 4 (Y,X)
 abbrev pub byKind : ℕ → ℕ → ℕ → ℕ → Symbol
 byKind zero x y held = None
 byKind (suc zero) x y held = One (2 * x + y)
 byKind (suc (suc zero)) x y held = One (2 * held + x)
-byKind (suc (suc (suc k))) x y held = One (2 * held + y)
+byKind (suc (suc (suc zero))) x y held = One (2 * held + y)
+byKind (suc (suc (suc (suc k)))) x y held = One (2 * y + x)
 
 abbrev pub punctureStep : ℕ → ℕ → ℕ → ℕ → ℕ → Punctured
 punctureStep rate place held x y = record {

@@ -5,6 +5,7 @@ ghost use Prim.Native.Nat.{ℕ, _+_, _-_, _*_, _<_, _≤_};
 ghost use lib.ListN.{length};
 ghost use Rattle.common.specs.Lists.{placed};
 ghost use Rattle.convolutional_code.specs.Bits.{Bits};
+ghost use Rattle.puncturing.specs.Mode.{blockBits};
 ghost use Rattle.puncturing.specs.Step.{patternLength, nextPlace, heldCount, punctured, symbolsIn};
 ghost use Rattle.puncturing.specs.Run.{byKind, punctureStep, sentSymbols, placeAfter, progress};
 
@@ -17,7 +18,7 @@ use tables::HELD;
 use whole::whole_patterns;
 
 // The bits of each rate's pattern.
-pub const PATTERN_LENGTHS: [u8; 5] = [1, 4, 3, 5, 7];
+pub const PATTERN_LENGTHS: [u8; 6] = [1, 4, 3, 5, 7, 1];
 
 // What a bit completes: no symbol yet, or one with this number.
 pub enum Symbol {
@@ -26,7 +27,7 @@ pub enum Symbol {
 }
 
 pub fn pattern_length(rate: u8) -> u8
-    requires { ⌜ rate < 5 ⌝ }
+    requires { ⌜ rate < 6 ⌝ }
     ensures { λ r. ⌜ r ≡ patternLength rate ⌝ }
 {
     PATTERN_LENGTHS[rate as usize]
@@ -34,35 +35,35 @@ pub fn pattern_length(rate: u8) -> u8
 
 // The entry of a table for a place of a rate's pattern.
 fn cell(rate: u8, place: u8) -> usize
-    requires { ⌜ (rate < 5) × (place < patternLength rate) ⌝ }
-    ensures { λ r. ⌜ (r ≡ rate * 7 + place) × (r < 35) ⌝ }
+    requires { ⌜ (rate < 6) × (place < patternLength rate) ⌝ }
+    ensures { λ r. ⌜ (r ≡ rate * 7 + place) × (r < 42) ⌝ }
 {
     rate as usize * 7 + place as usize
 }
 
 pub fn held_count(rate: u8, place: u8) -> u8
-    requires { ⌜ (rate < 5) × (place < patternLength rate) ⌝ }
+    requires { ⌜ (rate < 6) × (place < patternLength rate) ⌝ }
     ensures { λ r. ⌜ r ≡ heldCount rate place ⌝ }
 {
     HELD[cell(rate, place)]
 }
 
 pub fn block_count(rate: u8, place: u8) -> u16
-    requires { ⌜ (rate < 5) × (place < patternLength rate) ⌝ }
-    ensures { λ r. ⌜ r ≡ symbolsIn rate place 1632 ⌝ }
+    requires { ⌜ (rate < 6) × (place < patternLength rate) ⌝ }
+    ensures { λ r. ⌜ r ≡ symbolsIn rate place (blockBits rate) ⌝ }
 {
     COUNTS[cell(rate, place)]
 }
 
 fn completed_at(rate: u8, place: u8) -> u8
-    requires { ⌜ (rate < 5) × (place < patternLength rate) ⌝ }
+    requires { ⌜ (rate < 6) × (place < patternLength rate) ⌝ }
     ensures { λ r. ⌜ ((x y held : ℕ) → punctured rate place x y held ≡ byKind r x y held) ⌝ }
 {
     COMPLETED[cell(rate, place)]
 }
 
 fn next_place(rate: u8, place: u8) -> u8
-    requires { ⌜ (rate < 5) × (place < patternLength rate) ⌝ }
+    requires { ⌜ (rate < 6) × (place < patternLength rate) ⌝ }
     ensures { λ r. ⌜ r ≡ nextPlace rate place ⌝ }
 {
     (place + 1) % pattern_length(rate)
@@ -76,7 +77,7 @@ pub struct Punctured {
 
 // X and Y of one bit.
 pub fn puncture(rate: u8, place: u8, held: u8, x: u8, y: u8) -> Punctured
-    requires { ⌜ (rate < 5) × (place < patternLength rate) × (held < 2) × (x < 2) × (y < 2) ⌝ }
+    requires { ⌜ (rate < 6) × (place < patternLength rate) × (held < 2) × (x < 2) × (y < 2) ⌝ }
     ensures { λ r. ⌜ r ≡ punctureStep rate place held x y ⌝ }
 {
     let next = next_place(rate, place);
@@ -103,10 +104,17 @@ pub fn puncture(rate: u8, place: u8, held: u8, x: u8, y: u8) -> Punctured
             symbol: Symbol::One(2 * held + x),
         };
     }
+    if kind == 3 {
+        return Punctured {
+            place: next,
+            held: kept,
+            symbol: Symbol::One(2 * held + y),
+        };
+    }
     Punctured {
         place: next,
         held: kept,
-        symbol: Symbol::One(2 * held + y),
+        symbol: Symbol::One(2 * y + x),
     }
 }
 

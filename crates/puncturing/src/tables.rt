@@ -1,7 +1,7 @@
 // Constant tables of the puncturing: for each rate, what each bit of its pattern completes.
 
-// The symbol that each bit of a rate's pattern completes: 0 none, 1 (X,Y), 2 the held I with X, 3 the held I with Y. Seven entries for each rate.
-pub const COMPLETED: [u8; 35] = [
+// The symbol that each bit of a rate's pattern completes: 0 none, 1 (X,Y), 2 the held I with X, 3 the held I with Y, 4 (Y,X). Seven entries for each rate.
+pub const COMPLETED: [u8; 42] = [
     1,
     0,
     0,
@@ -37,10 +37,17 @@ pub const COMPLETED: [u8; 35] = [
     2,
     0,
     2,
+    4,
+    0,
+    0,
+    0,
+    0,
+    0,
+    0,
 ];
 
 // 1 where an I is held before the bit. Seven entries for each rate.
-pub const HELD: [u8; 35] = [
+pub const HELD: [u8; 42] = [
     0,
     0,
     0,
@@ -76,10 +83,17 @@ pub const HELD: [u8; 35] = [
     1,
     0,
     1,
+    0,
+    0,
+    0,
+    0,
+    0,
+    0,
+    0,
 ];
 
 // How many symbols a block gives that begins at a place of the pattern. Seven entries for each rate.
-pub const COUNTS: [u16; 35] = [
+pub const COUNTS: [u16; 42] = [
     1632,
     0,
     0,
@@ -115,4 +129,11 @@ pub const COUNTS: [u16; 35] = [
     933,
     932,
     933,
+    544,
+    0,
+    0,
+    0,
+    0,
+    0,
+    0,
 ];

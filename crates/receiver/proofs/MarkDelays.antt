@@ -15,11 +15,12 @@ use Rattle.reed_solomon.specs.Marks.{Marks, largest, areMarks, noMarks, Decodes
 use Rattle.reed_solomon.specs.declared.Decoded.{Decoded}
 use Rattle.reed_solomon.proofs.Marks.{largest-least, largest-most, marks-of}
 use Rattle.reed_solomon.proofs.MarkedDistance.{without-marks}
+use Rattle.delay_branches.specs.Branch.{laid}
 use Rattle.delay_branches.specs.Block.{blockOut, after}
 use Rattle.delay_branches.specs.declared.Branches.{Branches}
 use Rattle.delay_branches.specs.declared.Side.the-variants.{Receiving}
 use Rattle.delay_branches.proofs.Blocks.{Good, good-after, length-out, entries-out, entries-after}
-use Rattle.receiver.specs.Receive.{marksIn, markBranches, Unmarked, delayedMarks}
+use Rattle.receiver.specs.Receive.{marksIn, Unmarked, delayedMarks}
 use Rattle.receiver.specs.declared.Receiver.{Receiver}
 
 -- ---- none
@@ -30,7 +31,7 @@ zeros-only n l e z = ext-getD 0 l (replicate n 0) (e ∙ sym (length-replicate n
 
 module _ (positions : List ℕ) where
   abbrev none : Branches
-  none = markBranches (replicate 1122 0) positions
+  none = laid (replicate 1122 0) positions
 
   pub none-leaves : blockOut Receiving none noMarks ≡ noMarks
   none-leaves = zeros-only 204 (blockOut Receiving none noMarks) (length-out Receiving none noMarks) (entries-out (λ x. x ≡ 0) refl Receiving none noMarks (zeros-at 1122) (zeros-at 204))
@@ -43,7 +44,7 @@ pub none-decodes : (s : Receiver) (came left : List ℕ) (decoded : Decoded) →
 none-decodes s came left decoded u d =
     without-marks came left decoded
     (subst (λ (m : List ℕ). DecodesMarked m came left decoded)
-    (ap (λ (c : List ℕ). blockOut Receiving (markBranches c (s .deinterleaver .branches .positions)) noMarks) u ∙ none-leaves (s .deinterleaver .branches .positions)) d)
+    (ap (λ (c : List ℕ). blockOut Receiving (laid c (s .deinterleaver .branches .positions)) noMarks) u ∙ none-leaves (s .deinterleaver .branches .positions)) d)
 
 -- ---- marks
 

@@ -17,6 +17,7 @@ use Rattle.reed_solomon.specs.Marks.{areMarks}
 use Rattle.reed_solomon.proofs.Marks.{are-marks-none}
 use Rattle.randomizer.specs.Packet.{randomized, derandomized}
 use Rattle.randomizer.proofs.Laws.{length-randomized}
+use Rattle.delay_branches.specs.Branch.{laid}
 use Rattle.delay_branches.specs.Block as block
 use Rattle.delay_branches.specs.declared.Side.the-variants.{Receiving}
 use Rattle.delay_branches.proofs.Blocks.{length-out}
@@ -28,7 +29,7 @@ use Rattle.group_sync.specs.declared.GroupSync.{GroupSync}
 use Rattle.group_sync.specs.declared.GroupStep.{GroupStep}
 use Rattle.group_sync.proofs.Synchronization.{outcome-place}
 use Rattle.reception_counts.specs.Counts.{outcomeNumber}
-use Rattle.receiver.specs.Receive.{markBranches, Unmarked, delayedBlock, delayedMarks, repairOf, stepOf, stateAfter, roomAfter, Ready}
+use Rattle.receiver.specs.Receive.{Unmarked, delayedBlock, delayedMarks, repairOf, stepOf, stateAfter, roomAfter, Ready}
 use Rattle.receiver.specs.Run.{Call, answerOf, after, roomOf, Calls, packetsGiven, blocksOf, Plain, Roomy}
 use Rattle.receiver.specs.Begun.{repairs, packetOf, ComeTo, filledFirst}
 use Rattle.receiver.specs.declared.Receiver.{Receiver}
@@ -72,7 +73,7 @@ module _ (s : Receiver) (c : Call) (cs : List Call) (u : Unrefused s (c ∷ cs))
   unmarked-after z p =
       let positions = s .deinterleaver .branches .positions in
       ap (λ (r : Receiver). r .marks) state-is
-      ∙ ap₂ (λ (k m : List ℕ). block.after Receiving (markBranches k positions) m .cells) z p
+      ∙ ap₂ (λ (k m : List ℕ). block.after Receiving (laid k positions) m .cells) z p
       ∙ none-stays positions (record { cells = length-replicate {A = ℕ} 1122 0; positions = u .sound .branches .positions; range = u .sound .branches .range })
 
   -- and the others

@@ -38,11 +38,8 @@ freshReceiver = record {
 }
 
 -- the marks in the delays lie as the bytes do: they have cells of their own, and share the positions
-abbrev pub markBranches : List ℕ → List ℕ → Branches
-markBranches cells positions = record { cells = cells; positions = positions }
-
 abbrev pub marksIn : Receiver → Branches
-marksIn s = markBranches (s .marks) (s .deinterleaver .branches .positions)
+marksIn s = branch.laid (s .marks) (s .deinterleaver .branches .positions)
 
 -- no mark is in the delays
 abbrev pub Unmarked : Receiver → Type 0

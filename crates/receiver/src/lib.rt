@@ -11,11 +11,11 @@ ghost use Rattle.reception_counts.specs.Counts.{countsInRange, outcomeNumber};
 ghost use Rattle.reed_solomon.specs.Marks.{noMarks, DecodesMarked};
 ghost use Rattle.delay_branches.specs.Branch as branch;
 ghost use Rattle.delay_branches.specs.Block.{blockOut, after};
-ghost use Rattle.receiver.specs.Receive.{freshReceiver, inRange, markBranches, Unmarked, repairOf, roomAfter, Ready, ReceivesMarked, Receives};
+ghost use Rattle.receiver.specs.Receive.{freshReceiver, inRange, Unmarked, repairOf, roomAfter, Ready, ReceivesMarked, Receives};
 use answer::Answer;
 use delay_branches::Branches;
 use delay_branches::Side;
-use delay_branches::pass_block;
+use delay_branches::pass_cells;
 use delay_branches::positions_within;
 use group_sync::GroupSync;
 use group_sync::Outcome;
@@ -35,8 +35,8 @@ pub struct Receiver {
 
 // An answer, and the receiver after it.
 pub struct Received {
-    pub answer: Answer,
     pub receiver: Receiver,
+    pub answer: Answer,
 }
 
 // What decoding means for the group: a codeword by its first byte, or none.
@@ -72,28 +72,21 @@ fn deliver(outcome: Outcome, left: &[u8], room: &mut [u8]) -> Answer
 
 // The marks of a block through the delay branches, as its bytes go: by the same positions, in cells of their own.
 // Where no mark comes and none is in the cells, none leaves, and the cells stay.
-fn delay_marks(
-    cells: [u8; 1122],
-    positions: [u8; 12],
-    marks: &[u8],
-    none: bool,
-    room: &mut [u8],
-) -> [u8; 1122]
+fn delay_marks(cells: &mut [u8], positions: [u8; 12], marks: &[u8], none: bool, room: &mut [u8])
     requires { ⌜
-        (branch.inRange Side.Receiving (markBranches cells positions) ≡ true)
+        (branch.within Side.Receiving positions 12 ≡ true)
+        × (length (now cells) ≡ 1122)
         × (length (now marks) ≡ 204)
         × (now room ≡ noMarks)
-        × (none ≡ true → (cells ≡ replicate 1122 0) × (now marks ≡ noMarks)) ⌝ }
-    ensures { λ r. ⌜
-        (r ≡ after Side.Receiving (markBranches cells positions) (now (marks .entry)) .cells)
-        × (now (room .exit) ≡ blockOut Side.Receiving (markBranches cells positions) (now (marks .entry))) ⌝ }
+        × (none ≡ true → (now cells ≡ replicate 1122 0) × (now marks ≡ noMarks)) ⌝ }
+    ensures { λ _. ⌜
+        (now (cells .exit) ≡ after Side.Receiving (branch.laid (now (cells .entry)) positions) (now (marks .entry)) .cells)
+        × (now (room .exit) ≡ blockOut Side.Receiving (branch.laid (now (cells .entry)) positions) (now (marks .entry))) ⌝ }
 {
     if none {
-        return cells;
+        return;
     }
-    let held = Branches { cells, positions };
-    let next = pass_block(Side::Receiving, held, marks, room);
-    next.cells
+    pass_cells(Side::Receiving, cells, positions, marks, room);
 }
 
 // Decodes a block with its marks. Without any it costs what decoding without marks does.
@@ -123,15 +116,20 @@ fn take_block(
     let before = receiver.deinterleaver;
     let branches = before.branches;
     let positions = branches.positions;
-    let cells = receiver.marks;
+    let mut cells = branches.cells;
+    let mut held = receiver.marks;
     let sync = receiver.sync;
     let counts = receiver.counts;
     let taken = counts.taken;
     let mut delayed = [0u8; Receiver::BLOCK_LENGTH];
-    let passed = pass_block(Side::Receiving, branches, block, &mut delayed);
-    let deinterleaver = Deinterleaver { branches: passed };
+    let moved = pass_cells(Side::Receiving, &mut cells, positions, block, &mut delayed);
     let mut erased = [0u8; Receiver::BLOCK_LENGTH];
-    let held = delay_marks(cells, positions, marks, none, &mut erased);
+    delay_marks(&mut held, positions, marks, none, &mut erased);
+    let passed = Branches {
+        cells,
+        positions: moved,
+    };
+    let deinterleaver = Deinterleaver { branches: passed };
     if taken < 11 {
         let counts = count(counts, Outcome::Filling, 0, 0);
         return Received {

@@ -1,1 +1,4 @@
 pub mod Text
+pub mod Read
+pub mod Move
+pub mod Steps

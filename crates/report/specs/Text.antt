@@ -1,75 +1,94 @@
--- The text of a pass report, form 1: document 01, "Receiver".
+-- The text of a pass report in both forms, and what the writer gives: document 01, "Receiver", and document 02, P7.
 -- Assumes nothing.
 use mathlib.Core.List.{List, [], _∷_, _++_}
-use Prim.Native.Nat.{ℕ}
-use lib.Dec.{ltb}
-use lib.ListN.{length, drop}
+use Prim.Native.Nat.{ℕ, zero, suc, _+_, min}
+use mathlib.Core.Bool.{Bool, true, false}
+use lib.Dec.{leb, ltb, eqb}
+use lib.ListN.{length, getD}
 use Rattle.common.specs.Choice.{pick}
-use Rattle.reception_counts.specs.declared.Counts.{Counts}
+use Rattle.common.specs.Lists.{placed}
 use Rattle.report_lines.specs.Line.{lineText}
+use Rattle.report.specs.declared.Bits.{Bits}
+use Rattle.report.specs.declared.Bits.the-variants.{Absent, Dash, Number}
+use Rattle.report.specs.declared.Report.{Report}
 
--- a key and its number
-pub record Line : Type 0 where
+-- a row of the table: a key with its equals sign, in ASCII, and the largest number that its line may have
+pub record Row : Type 0 where
   pub key : List ℕ
-  pub value : ℕ
+  pub limit : ℕ
 
--- the lines, one after the other
-abbrev pub textOf : List Line → List ℕ
-textOf [] = []
-textOf (l ∷ ls) = lineText (l .key) (l .value) ++ textOf ls
-
--- the keys, in ASCII
-abbrev pub formKey : List ℕ
-formKey = 0x66 ∷ 0x6F ∷ 0x72 ∷ 0x6D ∷ []
-
-abbrev pub takenKey : List ℕ
-takenKey = 0x74 ∷ 0x61 ∷ 0x6B ∷ 0x65 ∷ 0x6E ∷ []
-
-abbrev pub fillingKey : List ℕ
-fillingKey = 0x66 ∷ 0x69 ∷ 0x6C ∷ 0x6C ∷ 0x69 ∷ 0x6E ∷ 0x67 ∷ []
-
-abbrev pub deliveredKey : List ℕ
-deliveredKey = 0x64 ∷ 0x65 ∷ 0x6C ∷ 0x69 ∷ 0x76 ∷ 0x65 ∷ 0x72 ∷ 0x65 ∷ 0x64 ∷ []
-
-abbrev pub lostKey : List ℕ
-lostKey = 0x6C ∷ 0x6F ∷ 0x73 ∷ 0x74 ∷ []
-
-abbrev pub waitingKey : List ℕ
-waitingKey = 0x77 ∷ 0x61 ∷ 0x69 ∷ 0x74 ∷ 0x69 ∷ 0x6E ∷ 0x67 ∷ []
-
-abbrev pub outofstepKey : List ℕ
-outofstepKey = 0x6F ∷ 0x75 ∷ 0x74 ∷ 0x6F ∷ 0x66 ∷ 0x73 ∷ 0x74 ∷ 0x65 ∷ 0x70 ∷ []
-
-abbrev pub changedKey : List ℕ
-changedKey = 0x63 ∷ 0x68 ∷ 0x61 ∷ 0x6E ∷ 0x67 ∷ 0x65 ∷ 0x64 ∷ []
-
-abbrev pub restKey : List ℕ
-restKey = 0x72 ∷ 0x65 ∷ 0x73 ∷ 0x74 ∷ []
-
--- the lines of form 1; rest counts the bytes after the last whole block
-abbrev pub reportLines : Counts → ℕ → List Line
-reportLines n rest =
-    record { key = formKey; value = 1 }
-    ∷ record { key = takenKey; value = n .taken }
-    ∷ record { key = fillingKey; value = n .filling }
-    ∷ record { key = deliveredKey; value = n .delivered }
-    ∷ record { key = lostKey; value = n .lost }
-    ∷ record { key = waitingKey; value = n .waiting }
-    ∷ record { key = outofstepKey; value = n .outofstep }
-    ∷ record { key = changedKey; value = n .changed }
-    ∷ record { key = restKey; value = rest }
+-- form= taken= filling= delivered= lost= waiting= outofstep= changed= bits= rest=
+abbrev pub rows : List Row
+rows =
+    record { key = 0x66 ∷ 0x6F ∷ 0x72 ∷ 0x6D ∷ 0x3D ∷ []; limit = 2 }
+    ∷ record { key = 0x74 ∷ 0x61 ∷ 0x6B ∷ 0x65 ∷ 0x6E ∷ 0x3D ∷ []; limit = 4294967295 }
+    ∷ record { key = 0x66 ∷ 0x69 ∷ 0x6C ∷ 0x6C ∷ 0x69 ∷ 0x6E ∷ 0x67 ∷ 0x3D ∷ []; limit = 4294967295 }
+    ∷ record { key = 0x64 ∷ 0x65 ∷ 0x6C ∷ 0x69 ∷ 0x76 ∷ 0x65 ∷ 0x72 ∷ 0x65 ∷ 0x64 ∷ 0x3D ∷ []; limit = 4294967295 }
+    ∷ record { key = 0x6C ∷ 0x6F ∷ 0x73 ∷ 0x74 ∷ 0x3D ∷ []; limit = 4294967295 }
+    ∷ record { key = 0x77 ∷ 0x61 ∷ 0x69 ∷ 0x74 ∷ 0x69 ∷ 0x6E ∷ 0x67 ∷ 0x3D ∷ []; limit = 4294967295 }
+    ∷ record { key = 0x6F ∷ 0x75 ∷ 0x74 ∷ 0x6F ∷ 0x66 ∷ 0x73 ∷ 0x74 ∷ 0x65 ∷ 0x70 ∷ 0x3D ∷ []; limit = 4294967295 }
+    ∷ record { key = 0x63 ∷ 0x68 ∷ 0x61 ∷ 0x6E ∷ 0x67 ∷ 0x65 ∷ 0x64 ∷ 0x3D ∷ []; limit = 68719476720 }
+    ∷ record { key = 0x62 ∷ 0x69 ∷ 0x74 ∷ 0x73 ∷ 0x3D ∷ []; limit = 549755813760 }
+    ∷ record { key = 0x72 ∷ 0x65 ∷ 0x73 ∷ 0x74 ∷ 0x3D ∷ []; limit = 203 }
     ∷ []
 
-unfoldable pub reportText : Counts → ℕ → List ℕ
-reportText n rest = textOf (reportLines n rest)
+unfoldable pub row : ℕ → Row
+row i = getD rows i (record { key = []; limit = 0 })
 
--- what writing the report into a room answers, and the room after it
-abbrev pub reportNumber : Counts → ℕ → List ℕ → ℕ
-reportNumber n rest room = pick (ltb (length room) (length (reportText n rest))) 4 0
+-- the lines of the first n rows, with these numbers
+unfoldable pub linesText : ℕ → List ℕ → List ℕ
+linesText zero vs = []
+linesText (suc n) vs = linesText n vs ++ lineText (row n .key) (getD vs n 0)
 
-abbrev pub reportLength : Counts → ℕ → List ℕ → ℕ
-reportLength n rest room = pick (ltb (length room) (length (reportText n rest))) 0 (length (reportText n rest))
+-- a report whose bits are absent is in form 1
+abbrev pub formOf : Bits → ℕ
+formOf Absent = 1
+formOf Dash = 2
+formOf (Number n) = 2
 
-abbrev pub reportRoom : Counts → ℕ → List ℕ → List ℕ
-reportRoom n rest room =
-    pick (ltb (length room) (length (reportText n rest))) room (reportText n rest ++ drop (length (reportText n rest)) room)
+-- the numbers of the first eight rows, which both forms have
+abbrev pub fields : Report → List ℕ
+fields r =
+    formOf (r .bits) ∷ r .taken ∷ r .filling ∷ r .delivered ∷ r .lost ∷ r .waiting ∷ r .outofstep ∷ r .changed ∷ []
+
+-- the line of the bits, which form 2 alone has: a number, or a dash
+abbrev pub bitsText : Bits → List ℕ
+bitsText Absent = []
+bitsText Dash = row 8 .key ++ 0x2D ∷ 0x0A ∷ []
+bitsText (Number n) = lineText (row 8 .key) n
+
+unfoldable pub reportText : Report → List ℕ
+reportText r = linesText 8 (fields r) ++ bitsText (r .bits) ++ lineText (row 9 .key) (r .rest)
+
+-- ---- what a report may hold
+
+-- the first n numbers are within the limits of their rows
+unfoldable pub within : ℕ → List ℕ → Bool
+within zero vs = true
+within (suc n) vs = pick (within n vs) (leb (getD vs n 0) (row n .limit)) false
+
+abbrev pub bitsWithin : Bits → Bool
+bitsWithin Absent = true
+bitsWithin Dash = true
+bitsWithin (Number n) = leb n (row 8 .limit)
+
+-- every number is within the limit of its row
+unfoldable pub fits : Report → Bool
+fits r = pick (within 8 (fields r)) (pick (bitsWithin (r .bits)) (leb (r .rest) (row 9 .limit)) false) false
+
+-- the middle five add up to taken, and filling is the smaller of taken and 11
+unfoldable pub sums : Report → Bool
+sums r =
+    pick (eqb (r .filling + r .delivered + r .lost + r .waiting + r .outofstep) (r .taken)) (eqb (r .filling) (min (r .taken) 11)) false
+
+-- ---- writing
+
+-- What writing a report into a room answers, in the order 17, 18, 4; how many bytes it writes; and the room after it.
+abbrev pub writeNumber : Report → List ℕ → ℕ
+writeNumber r room = pick (fits r) (pick (sums r) (pick (ltb (length room) (length (reportText r))) 4 0) 18) 17
+
+abbrev pub writeLength : Report → List ℕ → ℕ
+writeLength r room = pick (eqb (writeNumber r room) 0) (length (reportText r)) 0
+
+abbrev pub writeRoom : Report → List ℕ → List ℕ
+writeRoom r room = pick (eqb (writeNumber r room) 0) (placed room 0 (reportText r)) room

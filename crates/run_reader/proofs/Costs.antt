@@ -1,20 +1,21 @@
 -- The cost of a run of symbols is the sum of the costs of the steps.
 -- Assumes nothing.
 use mathlib.Core.Path.{_≡_, refl, sym, _∙_, ap, ap₂, subst}
-use mathlib.Core.List.{List, [], _∷_, _++_, append-nil}
+use mathlib.Core.List.{List, [], _∷_, _++_, map, append-nil}
 use Prim.Native.Nat.{ℕ, zero, suc, _+_, _*_, _/_, _%_, _<_}
 use native.Mathlib.Omega.{arith}
 use native.Mathlib.Nat.{mod-add-mod, zero-mod}
 use native.Mathlib.Numerals.{add-one}
-use lib.ListN.{length, getD}
+use lib.ListN.{length, getD, length-map}
+use Rattle.common.proofs.Lists.{length-listOf, getD-listOf}
 use Rattle.convolutional_code.specs.Bits.{Bits}
 use Rattle.convolutional_code.specs.Code.{tapsX, tapsY, nextMemory, coded}
 use Rattle.trellis.specs.Metric.{costFrom}
 use Rattle.puncturing.specs.Step.{patternLength, nextPlace}
 use Rattle.inner_code.specs.Step.{symbolsOf, coderAfter}
 use Rattle.inner_code.specs.declared.InnerCoder.{InnerCoder}
-use Rattle.depuncturing.specs.Steps.{width, kindCost, kindAt, first, punctured}
-use Rattle.run_reader.specs.Cost.{coderAt, totalCost, runCost}
+use Rattle.depuncturing.specs.Steps.{width, kindCost, kindAt, first, punctured, pairCost}
+use Rattle.run_reader.specs.Cost.{coderAt, totalCost, runCost, symbolCost, costsOf, Costed}
 use Rattle.trellis.proofs.Order.{bits-head}
 use Rattle.convolutional_code.proofs.Bits.{bits-tail}
 use Rattle.puncturing.proofs.Parts.{none-held}
@@ -35,7 +36,7 @@ whole-stream rate m {bits} hr hm w e =
     let q : holding rate (coderAfter c bits .place) (coderAfter c bits .held) ≡ [] =
     ap (λ (d : InnerCoder). holding rate (d .place) (d .held)) (coder-whole rate m hr hm w e) ∙ none-holding rate 0 hr in
     sym (ap (λ (l : List ℕ). l ++ stream rate 0 m bits) (none-holding rate 0 hr))
-    ∙ (stream-symbols c (at-start rate m hr hm) w ∙ (ap (λ (l : List ℕ). flat (symbolsOf c bits) ++ l) q ∙ append-nil (flat (symbolsOf c bits))))
+    ∙ (stream-symbols c (at-start rate m hr hm) hr w ∙ (ap (λ (l : List ℕ). flat (symbolsOf c bits) ++ l) q ∙ append-nil (flat (symbolsOf c bits))))
 
 -- so each of its symbols is one of four
 pub whole-bits : (rate m : ℕ) {bits : List ℕ} → rate < 5 → m < 64 → Bits bits → length bits % patternLength rate ≡ 0
@@ -103,3 +104,34 @@ run-is costs c h rate m {bits} hr hm w e l =
     total-symbols costs c 0 (symbolsOf (coderAt rate m) bits) h (whole-bits rate m hr hm w e) l
     ∙ (ap (total c 0) (sym (whole-stream rate m hr hm w e))
     ∙ (ap (λ (p : ℕ). total c 0 (stream rate p m bits)) (sym (zero-mod (patternLength rate))) ∙ bridge rate c 0 m bits))
+
+-- ---- four costs for each symbol
+
+pub own-splits : (l : List ℕ) → Splits (costsOf l) (pairCost l) 0
+unfolding costsOf
+own-splits l = record {
+  at = λ i s h four.
+      let k : i < length l / 4 = rw (length-listOf (length l / 4) (symbolCost l)) at h in
+      let a : 4 * i + s / 2 ≡ 2 * (0 + 2 * i) + s / 2 = omega arith in
+      let b : 4 * i + 2 + s % 2 ≡ 2 * (0 + 2 * i + 1) + s % 2 = omega arith in
+      ap (λ (f : ℕ → ℕ). f s) (getD-listOf (length l / 4) (symbolCost l) (λ s. 0) i k) ∙ ap₂ (λ (x y : ℕ). getD l x 0 + getD l y 0) a b;
+}
+
+costed-splits : {R : Type 0} {cost : R → ℕ → ℕ} {rs : List R} {l : List ℕ} → Costed cost rs l → Splits (map cost rs) (pairCost l) 0
+costed-splits {rs = rs} {l} c = record {
+  at = λ i s h four.
+      let a : 4 * i + s / 2 ≡ 2 * (0 + 2 * i) + s / 2 = omega arith in
+      let b : 4 * i + 2 + s % 2 ≡ 2 * (0 + 2 * i + 1) + s % 2 = omega arith in
+      c .each i s (rw length-map at h) four ∙ ap₂ (λ (x y : ℕ). getD l x 0 + getD l y 0) a b;
+}
+
+-- what the list makes a sequence cost is what the symbols do
+pub costs-same : {R : Type 0} (cost : R → ℕ → ℕ) (rs : List R) (l : List ℕ) → Costed cost rs l → (rate m : ℕ) → rate < 5 → m < 64 → (bits : List ℕ) → Bits bits
+    → length bits % patternLength rate ≡ 0 → length (symbolsOf (coderAt rate m) bits) ≡ length rs → runCost (costsOf l) rate m bits ≡ runCost (map cost rs) rate m bits
+unfolding costsOf
+costs-same cost rs l c rate m hr hm bits w e n =
+    run-is (costsOf l) (pairCost l) (own-splits l) rate m hr hm w e (n ∙ sym (length-listOf (length l / 4) (symbolCost l) ∙ quarter (c .size)))
+    ∙ sym (run-is (map cost rs) (pairCost l) (costed-splits c) rate m hr hm w e (n ∙ sym (length-map rs cost)))
+  where
+    quarter : {a b : ℕ} → a ≡ 4 * b → a / 4 ≡ b
+    quarter e = omega arith

@@ -2,20 +2,18 @@
 -- Assumes nothing.
 use mathlib.Core.Path.{_≡_, refl, sym, _∙_, ap₂}
 use mathlib.Core.Bool.{Bool, true, false}
-use mathlib.Core.List.{List, map}
+use mathlib.Core.List.{List}
 use Prim.Native.Nat.{ℕ, zero, suc, _+_, _-_, _*_, _/_, _%_, _≤_, _<_}
-use native.Mathlib.Decide.{decLt}
 use native.Mathlib.Omega.{arith}
 use lib.Dec.{eqb}
-use lib.ListN.{length, getD, set, replicate, getD-replicate, List·getD-eq-default, length-replicate, length-map}
+use lib.ListN.{length, getD, set, take, length-take, length-map}
+use lib.Seq.{getD-take, length-take-le}
 use Rattle.common.specs.Choice.{pick}
 use Rattle.common.specs.Lists.{All}
 use Rattle.common.proofs.Each.{Updated, updated-none, updated-more}
-use Rattle.common.proofs.Lists.{All-at}
-use Rattle.depuncturing.specs.Steps.{pairCost}
-use Rattle.run_reader.specs.Cost.{differ, differing}
+use Rattle.common.proofs.Lists.{All-at, All-of}
+use Rattle.run_reader.specs.Cost.{differ, differing, Costed}
 use Rattle.run_reader.specs.Decisions.{component, decisionCost}
-use Rattle.run_reader.proofs.Costs.{Splits}
 use Rattle.run_reader.proofs.Unharmed.{differing-at}
 
 -- a bit differs from 0 where it is 1, and from 1 where it is 0
@@ -78,41 +76,41 @@ deciding-more {ss} {room₀} {room} {i} {at} w fits g h =
 abbrev pub Written : List ℕ → List ℕ → Type 0
 Written ss l = (t : ℕ) → t < 4 * length ss → getD l t 0 ≡ decisionCost ss t
 
-pub written-splits : (ss l : List ℕ) → Written ss l → Splits (map differing ss) (pairCost l) 0
-written-splits ss l w = record {
-  at = λ i s h four.
-      let b : i < length ss = rw length-map at h in
-      let hi : s / 2 < 2 = omega arith in
-      let hq : s % 2 < 2 = omega arith in
-      differing-at ss i s h
-      ∙ ap₂ (λ (x y : ℕ). x + y) (sym (one (2 * (0 + 2 * i) + s / 2) i (s / 2) (omega arith) hi b)) (sym (two (2 * (0 + 2 * i + 1) + s % 2) i (s % 2) (omega arith) hq b));
-}
-  where
-    one : (t i v : ℕ) → t ≡ 4 * i + v → v < 2 → i < length ss → getD l t 0 ≡ differ (getD ss i 0 / 2) v
-    one t i v e h b =
-        let d : v / 2 ≡ 0 = omega arith in
-        let m : v % 2 ≡ v = omega arith in
-        w t (omega arith) ∙ (decision-at ss t i v e (omega arith) ∙ ap₂ (λ (x y : ℕ). differ (component x (getD ss i 0)) y) d m)
+module _ (ss l : List ℕ) (w : Written ss l) (long : 4 * length ss ≤ length l) where
+  abbrev taken : List ℕ
+  taken = take (4 * length ss) l
 
-    two : (t i v : ℕ) → t ≡ 4 * i + (2 + v) → v < 2 → i < length ss → getD l t 0 ≡ differ (getD ss i 0 % 2) v
-    two t i v e h b =
-        let d : (2 + v) / 2 ≡ 1 = omega arith in
-        let m : (2 + v) % 2 ≡ v = omega arith in
-        w t (omega arith) ∙ (decision-at ss t i (2 + v) e (omega arith) ∙ ap₂ (λ (x y : ℕ). differ (component x (getD ss i 0)) y) d m)
+  pub written-costed : Costed differing ss taken
+  written-costed = record {
+    size = length-take-le (4 * length ss) l long;
+    each = λ i s h four.
+        let hi : s / 2 < 2 = omega arith in
+        let hq : s % 2 < 2 = omega arith in
+        differing-at ss i s (rw length-map h) ∙ ap₂ (λ (x y : ℕ). x + y) (sym (one (4 * i + s / 2) i (s / 2) refl hi h)) (sym (two (4 * i + 2 + s % 2) i (s % 2) (omega arith) hq h));
+  }
+    where
+      one : (t i v : ℕ) → t ≡ 4 * i + v → v < 2 → i < length ss → getD taken t 0 ≡ differ (getD ss i 0 / 2) v
+      one t i v e h b =
+          let d : v / 2 ≡ 0 = omega arith in
+          let m : v % 2 ≡ v = omega arith in
+          getD-take (4 * length ss) l t 0 (omega arith)
+          ∙ (w t (omega arith) ∙ (decision-at ss t i v e (omega arith) ∙ ap₂ (λ (x y : ℕ). differ (component x (getD ss i 0)) y) d m))
 
--- every cost is at most 1
-pub written-small : (ss l : List ℕ) → Written ss l → ((t : ℕ) → 4 * length ss ≤ t → getD l t 0 ≡ getD (replicate 6528 0) t 0) → (t : ℕ) → getD l t 0 ≤ 7
-unfolding decisionCost
-written-small ss l w z t = by (decLt t (4 * length ss))
-  where
-    small : (u : Bool) → pick {A = ℕ} u 0 1 ≤ 7
-    small true = omega arith
-    small false = omega arith
+      two : (t i v : ℕ) → t ≡ 4 * i + (2 + v) → v < 2 → i < length ss → getD taken t 0 ≡ differ (getD ss i 0 % 2) v
+      two t i v e h b =
+          let d : (2 + v) / 2 ≡ 1 = omega arith in
+          let m : (2 + v) % 2 ≡ v = omega arith in
+          getD-take (4 * length ss) l t 0 (omega arith)
+          ∙ (w t (omega arith) ∙ (decision-at ss t i (2 + v) e (omega arith) ∙ ap₂ (λ (x y : ℕ). differ (component x (getD ss i 0)) y) d m))
 
-    zeros : Dec (t < 6528) → _≡_ {A = ℕ} (getD (replicate 6528 0) t 0) 0
-    zeros (yes h) = getD-replicate 6528 t 0 0 h
-    zeros (no h) = List·getD-eq-default (replicate 6528 0) 0 {n = t} (rw (length-replicate {A = ℕ} 6528 0) (omega arith))
-
-    by : Dec (t < 4 * length ss) → getD l t 0 ≤ 7
-    by (yes h) = rw (w t h) (small (eqb (component (t / 2 % 2) (getD ss (t / 4) 0)) (t % 2)))
-    by (no h) = rw (z t (omega arith), zeros (decLt t 6528)) (omega arith)
+  -- every cost is at most 1
+  pub written-small : All (λ c. c ≤ 7) taken
+  unfolding decisionCost
+  written-small =
+      All-of (λ c. c ≤ 7) taken 0
+      (λ t h. let b : t < 4 * length ss = omega (arith, length-take (4 * length ss) l) in
+      rw (getD-take (4 * length ss) l t 0 b, w t b) (small (eqb (component (t / 2 % 2) (getD ss (t / 4) 0)) (t % 2))))
+    where
+      small : (u : Bool) → pick {A = ℕ} u 0 1 ≤ 7
+      small true = omega arith
+      small false = omega arith

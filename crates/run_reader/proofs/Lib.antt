@@ -1,10 +1,14 @@
 pub mod Serial
 pub mod Patterns
 pub mod Costs
+pub mod Existence
 pub mod Unharmed
 pub mod Whole
 pub mod Decisions
+pub mod SoftDecisions
 pub mod Outcome
 pub mod Reading
+pub mod Calls
 pub mod Laws
+pub mod SoftLaws
 pub mod Streams

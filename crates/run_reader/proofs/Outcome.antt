@@ -5,9 +5,9 @@ use mathlib.Core.Bool.{Bool, true, false, not}
 use mathlib.Core.List.{List, [], _∷_}
 use Prim.Native.Nat.{ℕ, zero, suc, _+_, _*_, _/_, _%_, _≤_, _<_}
 use native.Mathlib.Decide.{decLt}
-use native.Mathlib.Nat.{mul-suc, mul-comm, div-lt-iff-lt-mul, le-div-iff-mul-le}
+use native.Mathlib.Nat.{mul-comm, div-lt-iff-lt-mul, le-div-iff-mul-le}
 use native.Mathlib.Omega.{arith}
-use borrow.Author.Tests.{ltb-true, lt-ltb, le-ltb, eq-eqb, ne-eqb}
+use borrow.Author.Tests.{ltb-true, ltb-false, lt-ltb, le-ltb, eqb-true, eq-eqb, ne-eqb}
 use lib.Dec.{ltb, eqb}
 use lib.ListN.{length, getD, take, drop, length-take, List·getD-eq-default}
 use lib.Seq.{getD-take, drop-cons, drop-length}
@@ -16,26 +16,14 @@ use Rattle.answer.specs.declared.Answer.{Answer}
 use Rattle.common.specs.Choice.{pick}
 use Rattle.common.specs.Lists.{All}
 use Rattle.common.proofs.Choice.{both-true, flag-false, flag-true}
-use Rattle.depuncturing.specs.Steps.{width, kindAt, first, value, stepValue}
-use Rattle.run_reader.specs.Read.{symbolsPerPattern, runLength, valid, readNumber, Readable, Reads, refused}
+use Rattle.depuncturing.specs.Steps.{kindAt, first, value, stepValue}
+use Rattle.run_reader.specs.Read.{symbolsPerPattern, runBits, below, answerNumber, Readable, Answers, refused}
 use Rattle.run_reader.specs.declared.Read.{Read}
-use Rattle.run_reader.proofs.Patterns.{some-symbols}
+use Rattle.run_reader.proofs.Patterns.{some-symbols, symbols-few}
 use Rattle.puncturing.specs.Step.{patternLength}
 use Rattle.puncturing.proofs.Steps.{some-bits}
 
 -- ---- the steps
-
-width-le : (q : ℕ) → width q ≤ 2
-width-le zero = omega arith
-width-le (suc zero) = omega arith
-width-le (suc (suc zero)) = omega arith
-width-le (suc (suc (suc q))) = omega arith
-
--- at most two coded bits for each bit
-pub first-few : (rate k : ℕ) → first rate k ≤ 2 * k
-unfolding first
-first-few rate zero = omega arith
-first-few rate (suc k) = omega (arith, mul-suc 2 k, first-few rate k, width-le (kindAt rate k))
 
 value-le : (l : List ℕ) → ((t : ℕ) → getD l t 0 ≤ 7) → (q j i : ℕ) → value l q j i ≤ 7
 value-le l h zero j i = omega arith
@@ -58,45 +46,66 @@ steps-small l steps rate k h e t = by (decLt t k) (decLt t (length (take k steps
     by (no a) (yes b) = absurd (omega (arith, length-take k steps))
     by a (no b) = rw (List·getD-eq-default (take k steps) 0 {n = t} (omega arith)) (omega arith)
 
--- ---- the test of the symbols
+-- ---- the test of a list
 
-pub not-true : {t : Bool} → not t ≡ true → t ≡ false
-not-true {t} e = flag-false (λ (b : Bool). t ≡ b) t e refl
+pub below-all : (limit : ℕ) (xs : List ℕ) → below limit xs ≡ true → All (λ x. x < limit) xs
+unfolding below
+below-all limit [] e = tt
+below-all limit (x ∷ xs) e = let a = both-true (ltb x limit) (below limit xs) e in (ltb-true x limit (a .0), below-all limit xs (a .1))
 
-pub not-false : {t : Bool} → not t ≡ false → t ≡ true
-not-false {t} e = flag-true (λ (b : Bool). t ≡ b) t e refl
+-- the numbers are below the limit where the largest so far is, and those that are left
+pub record Testing (limit : ℕ) (xs : List ℕ) (largest i : ℕ) : Type 0 where
+  pub most : i ≤ length xs
+  pub same : pick (ltb largest limit) (below limit (drop i xs)) false ≡ below limit xs
 
-pub valid-all : (ss : List ℕ) → valid ss ≡ true → All (λ s. s < 4) ss
-unfolding valid
-valid-all [] e = tt
-valid-all (s ∷ ss) e = let a = both-true (ltb s 4) (valid ss) e in (ltb-true s 4 (a .0), valid-all ss (a .1))
+pub testing-none : (limit : ℕ) (xs : List ℕ) → 0 < limit → Testing limit xs 0 0
+testing-none limit xs h = record { most = omega arith; same = rw (lt-ltb 0 limit h) refl }
 
-pub record Testing (ss : List ℕ) (i : ℕ) : Type 0 where
-  pub most : i ≤ length ss
-  pub same : valid ss ≡ valid (drop i ss)
+both-below : (limit a b : ℕ) (rest : Bool) → pick (ltb (pick (ltb a b) b a) limit) rest false ≡ pick (ltb a limit) (pick (ltb b limit) rest false) false
+both-below limit a b rest = by (decLt a b) (decLt a limit) (decLt b limit)
+  where
+    by : Dec (a < b) → Dec (a < limit) → Dec (b < limit) → pick (ltb (pick (ltb a b) b a) limit) rest false ≡ pick (ltb a limit) (pick (ltb b limit) rest false) false
+    by (yes l) (yes p) (yes q) = rw (lt-ltb a b l, lt-ltb a limit p, lt-ltb b limit q) refl
+    by (yes l) (yes p) (no q) = rw (lt-ltb a b l, lt-ltb a limit p, le-ltb b limit (omega arith)) refl
+    by (yes l) (no p) (yes q) = absurd (omega arith)
+    by (yes l) (no p) (no q) = rw (lt-ltb a b l, le-ltb a limit (omega arith), le-ltb b limit (omega arith)) refl
+    by (no l) (yes p) (yes q) = rw (le-ltb a b (omega arith), lt-ltb a limit p, lt-ltb b limit q) refl
+    by (no l) (yes p) (no q) = absurd (omega arith)
+    by (no l) (no p) q = rw (le-ltb a b (omega arith), le-ltb a limit (omega arith)) refl
 
-pub testing-none : (ss : List ℕ) → Testing ss 0
-testing-none ss = record { most = omega arith; same = refl }
+pub testing-more : {limit : ℕ} {xs : List ℕ} {largest i : ℕ} → Testing limit xs largest i → i < length xs → (next : ℕ) → next ≡ pick (ltb largest (getD xs i 0)) (getD xs i 0) largest
+    → Testing limit xs next (i + 1)
+unfolding below
+testing-more {limit} {xs} {largest} {i} t h next e =
+    let n : i + 1 ≡ suc i = omega arith in
+    let s : below limit (drop i xs) ≡ pick (ltb (getD xs i 0) limit) (below limit (drop (i + 1) xs)) false = rw (drop-cons xs i 0 h, n) in
+    record {
+      most = omega arith;
+      same =
+          ap (λ (k : ℕ). pick (ltb k limit) (below limit (drop (i + 1) xs)) false) e
+          ∙ (both-below limit largest (getD xs i 0) (below limit (drop (i + 1) xs)) ∙ (ap (λ (r : Bool). pick (ltb largest limit) r false) (sym s) ∙ t .same));
+    }
 
-step : (ss : List ℕ) (i : ℕ) → i < length ss → valid (drop i ss) ≡ pick (ltb (getD ss i 0) 4) (valid (drop (i + 1) ss)) false
-unfolding valid
-step ss i h = let e : i + 1 ≡ suc i = omega arith in rw (drop-cons ss i 0 h, e)
-
-pub testing-more : {ss : List ℕ} {i : ℕ} → Testing ss i → i < length ss → getD ss i 0 < 4 → Testing ss (i + 1)
-testing-more {ss} {i} t h l = record { most = omega arith; same = t .same ∙ (step ss i h ∙ rw (lt-ltb _ _ l)) }
-
-pub testing-bad : {ss : List ℕ} {i : ℕ} → Testing ss i → i < length ss → 4 ≤ getD ss i 0 → false ≡ valid ss
-testing-bad {ss} {i} t h l = sym (t .same ∙ (step ss i h ∙ rw (le-ltb _ _ l)))
-
-pub testing-all : {ss : List ℕ} {i : ℕ} → Testing ss i → length ss ≤ i → true ≡ valid ss
-unfolding valid
-testing-all {ss} {i} t h =
-    let e : i ≡ length ss = omega (arith, t .most) in
-    sym (t .same ∙ rw (e, drop-length))
+pub testing-all : {limit : ℕ} {xs : List ℕ} {largest i : ℕ} → Testing limit xs largest i → length xs ≤ i → ltb largest limit ≡ below limit xs
+unfolding below
+testing-all {limit} {xs} {largest} {i} t h =
+    let e : i ≡ length xs = omega (arith, t .most) in
+    whole (ltb largest limit) ∙ (sym (ap (λ (r : Bool). pick (ltb largest limit) r false) (ap (below limit) (ap (λ (k : ℕ). drop k xs) e ∙ drop-length xs))) ∙ t .same)
+  where
+    whole : (b : Bool) → b ≡ pick b true false
+    whole true = refl
+    whole false = refl
 
 -- ---- the tests of a call
 
-module _ (rate memory : ℕ) (symbols room : List ℕ) (hr : rate < 5) (hm : memory < 64) (bits pattern : ℕ) (eb : bits ≡ patternLength rate)
+pub not-true : (t : Bool) → not t ≡ true → t ≡ false
+not-true t e = flag-false (λ (b : Bool). t ≡ b) t e refl
+
+pub not-false : (t : Bool) → not t ≡ false → t ≡ true
+not-false t e = flag-true (λ (b : Bool). t ≡ b) t e refl
+
+-- where both numbers of the rate and the memory are in range, and the lists have passed
+module _ (rate memory n : ℕ) (valid : Bool) (room : ℕ) (hr : rate < 5) (hm : memory < 64) (bits pattern : ℕ) (eb : bits ≡ patternLength rate)
     (ep : pattern ≡ symbolsPerPattern rate) where
   pub bits-some : 0 < bits
   bits-some = rw eb (some-bits rate hr)
@@ -104,60 +113,111 @@ module _ (rate memory : ℕ) (symbols room : List ℕ) (hr : rate < 5) (hm : mem
   pub pattern-some : 0 < pattern
   pattern-some = rw ep (some-symbols rate hr)
 
-  pub broken : ¬ (length symbols % pattern ≡ 0) → readNumber rate memory symbols room ≡ 12
-  broken h = simp (lt-ltb rate 5 hr, lt-ltb memory 64 hm, ne-eqb (length symbols % symbolsPerPattern rate) 0 (rw ep at h))
+  pub broken : ¬ (n % pattern ≡ 0) → 12 ≡ answerNumber rate memory true n valid room
+  broken h = simp (lt-ltb rate 5 hr, lt-ltb memory 64 hm, ne-eqb (n % symbolsPerPattern rate) 0 (rw ep at h))
 
-  module _ (whole : length symbols % pattern ≡ 0) where
+  module _ (whole : n % pattern ≡ 0) where
     abbrev q : ℕ
-    q = length symbols / pattern
+    q = n / pattern
 
-    whole-test : eqb (length symbols % symbolsPerPattern rate) 0 ≡ true
+    whole-test : eqb (n % symbolsPerPattern rate) 0 ≡ true
     whole-test = eq-eqb _ _ (rw ep at whole)
 
-    size : bits * q ≡ runLength rate symbols
+    size : bits * q ≡ runBits rate n
     size = rw (eb, ep)
 
     times : bits * q ≡ q * bits
     times = mul-comm bits q
 
-    pub long : 1632 / bits < q → readNumber rate memory symbols room ≡ 13
+    pub long : 1632 / bits < q → 13 ≡ answerNumber rate memory true n valid room
     long h =
         let l : 1632 < q * bits = div-lt-iff-lt-mul bits-some .0 h in
-        let g : 1632 < runLength rate symbols = rw (sym size) (omega arith) in
-        simp (lt-ltb rate 5 hr, lt-ltb memory 64 hm, whole-test, lt-ltb 1632 (runLength rate symbols) g)
+        let g : 1632 < runBits rate n = rw (sym size) (omega arith) in
+        simp (lt-ltb rate 5 hr, lt-ltb memory 64 hm, whole-test, lt-ltb 1632 (runBits rate n) g)
 
     module _ (short : q ≤ 1632 / bits) where
       pub count-le : bits * q ≤ 1632
       count-le = let l : q * bits ≤ 1632 = le-div-iff-mul-le bits-some .0 short in omega (arith, times)
 
-      short-test : ltb 1632 (runLength rate symbols) ≡ false
-      short-test = le-ltb 1632 (runLength rate symbols) (rw (sym size) count-le)
+      short-test : ltb 1632 (runBits rate n) ≡ false
+      short-test = le-ltb 1632 (runBits rate n) (rw (sym size) count-le)
 
-      pub bad-symbol : valid symbols ≡ false → readNumber rate memory symbols room ≡ 14
+      pub bad-symbol : valid ≡ false → 14 ≡ answerNumber rate memory true n valid room
       bad-symbol v = simp (lt-ltb rate 5 hr, lt-ltb memory 64 hm, whole-test, short-test, v)
 
-      module _ (v : valid symbols ≡ true) where
-        pub no-room : length room < bits * q → readNumber rate memory symbols room ≡ 4
-        no-room h = simp (lt-ltb rate 5 hr, lt-ltb memory 64 hm, whole-test, short-test, v, lt-ltb (length room) (runLength rate symbols) (rw (sym size) h))
+      pub no-room : valid ≡ true → room < bits * q → 4 ≡ answerNumber rate memory true n valid room
+      no-room v h = simp (lt-ltb rate 5 hr, lt-ltb memory 64 hm, whole-test, short-test, v, lt-ltb room (runBits rate n) (rw (sym size) h))
 
-        pub room-enough : bits * q ≤ length room → readNumber rate memory symbols room ≡ 0
-        room-enough h = simp (lt-ltb rate 5 hr, lt-ltb memory 64 hm, whole-test, short-test, v, le-ltb (length room) (runLength rate symbols) (rw (sym size) h))
+      pub room-enough : valid ≡ true → bits * q ≤ room → 0 ≡ answerNumber rate memory true n valid room
+      room-enough v h = simp (lt-ltb rate 5 hr, lt-ltb memory 64 hm, whole-test, short-test, v, le-ltb room (runBits rate n) (rw (sym size) h))
 
-        pub readable : bits * q ≤ length room → Readable rate memory symbols (bits * q) room
-        readable h = record {
-          known = hr;
-          in-range = hm;
-          whole = rw ep at whole;
-          size = size;
-          most = count-le;
-          symbols-valid = valid-all symbols v;
-          fits = h;
-        }
+-- ---- what the answer tells
+
+no-else : (t : Bool) (x k : ℕ) → 0 < k → pick t x k ≡ 0 → (t ≡ true) × (x ≡ 0)
+no-else true x k h e = (refl, e)
+no-else false x k h e = absurd (omega arith)
+
+no-then : (t : Bool) (x k : ℕ) → 0 < k → pick t k x ≡ 0 → (t ≡ false) × (x ≡ 0)
+no-then true x k h e = absurd (omega arith)
+no-then false x k h e = (refl, e)
+
+-- a run that is answered 0 has passed every test
+pub record Passed (rate memory : ℕ) (lists : Bool) (n : ℕ) (valid : Bool) (room : ℕ) : Type 0 where
+  pub known : rate < 5
+  pub in-range : memory < 64
+  pub lists-pass : lists ≡ true
+  pub whole : n % symbolsPerPattern rate ≡ 0
+  pub most : runBits rate n ≤ 1632
+  pub symbols-pass : valid ≡ true
+  pub fits : runBits rate n ≤ room
+
+pub passed : (rate memory : ℕ) (lists : Bool) (n : ℕ) (valid : Bool) (room : ℕ) → answerNumber rate memory lists n valid room ≡ 0 → Passed rate memory lists n valid room
+passed rate memory lists n valid room e =
+    let a = no-else (ltb rate 5) _ 6 (omega arith) e in
+    let b = no-else (ltb memory 64) _ 5 (omega arith) (a .1) in
+    let l = no-else lists _ 24 (omega arith) (b .1) in
+    let c = no-else (eqb (n % symbolsPerPattern rate) 0) _ 12 (omega arith) (l .1) in
+    let d = no-then (ltb 1632 (runBits rate n)) _ 13 (omega arith) (c .1) in
+    let f = no-else valid _ 14 (omega arith) (d .1) in
+    let g = no-then (ltb room (runBits rate n)) 0 4 (omega arith) (f .1) in
+    record {
+      known = ltb-true _ _ (a .0);
+      in-range = ltb-true _ _ (b .0);
+      lists-pass = l .0;
+      whole = eqb-true _ _ (c .0);
+      most = ltb-false _ _ (d .0);
+      symbols-pass = f .0;
+      fits = ltb-false _ _ (g .0);
+    }
+
+-- and is so answered
+pub passes : {rate memory : ℕ} {lists : Bool} {n : ℕ} {valid : Bool} {room : ℕ} → Passed rate memory lists n valid room → answerNumber rate memory lists n valid room ≡ 0
+passes {rate} {memory} {lists} {n} {valid} {room} p =
+    simp (lt-ltb rate 5 (p .known), lt-ltb memory 64 (p .in-range), p .lists-pass, eq-eqb _ _ (p .whole), le-ltb 1632 (runBits rate n) (p .most), p .symbols-pass, le-ltb room (runBits rate n) (p .fits))
+
+-- the costs of such a run can be read
+pub readable : {rate memory : ℕ} {lists : Bool} {n : ℕ} {valid : Bool} {room : List ℕ} → Passed rate memory lists n valid (length room)
+    → (costs : List ℕ) → length costs ≡ 4 * n → All (λ c. c ≤ 7) costs → Readable rate memory costs room
+readable {rate} {memory} {n = n} p costs size small =
+    let q : length costs / 4 ≡ n = omega arith in
+    record {
+      known = p .known;
+      in-range = p .in-range;
+      fours = omega arith;
+      whole = rw q (p .whole);
+      most = rw q (p .most);
+      small = small;
+      fits = rw q (p .fits);
+    }
+
+-- a run has no more symbols than bits, so that their costs have room
+pub few : {rate memory : ℕ} {lists : Bool} {n : ℕ} {valid : Bool} {room : ℕ} → Passed rate memory lists n valid room → 4 * n ≤ 6528
+few {rate} {n = n} p = omega (arith, symbols-few rate (p .known) n (p .whole), p .most)
 
 -- what a refusal hands back
-pub refusal : (rate memory : ℕ) (symbols room : List ℕ) {k : ℕ} (answer : Answer) {r : Read} → readNumber rate memory symbols room ≡ k → numberOf answer ≡ k → 0 < k
+pub refusal : {due : ℕ} {cost : List ℕ → ℕ} {n memory : ℕ} {room : List ℕ} (answer : Answer) (r : Read) → numberOf answer ≡ due → ¬ (numberOf answer ≡ 0)
     → (r .answer ≡ answer) × (r .memory ≡ memory) × (r .cost ≡ 0) × (r .count ≡ 0)
-    → Reads rate memory symbols room (numberOf (r .answer)) (r .memory) (r .cost) (r .count) room
-refusal rate memory symbols room answer e n h f =
-    let a = ap numberOf (f .0) ∙ n in
-    refused (a ∙ sym e) (rw a h) (f .1) (f .2) (f .3) refl
+    → Answers due cost n memory room (numberOf (r .answer)) (r .memory) (r .cost) (r .count) room
+refusal answer r e h f =
+    let a = ap numberOf (f .0) in
+    refused (a ∙ e) (rw a (omega arith)) (f .1) (f .2) (f .3) refl

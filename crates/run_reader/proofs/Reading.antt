@@ -2,41 +2,55 @@
 -- Assumes nothing.
 use mathlib.Core.Path.{_≡_, sym, _∙_, ap, subst, subst₂}
 use mathlib.Core.List.{List, _++_, map}
-use Prim.Native.Nat.{ℕ, _-_, _*_, _<_, _≤_}
+use Prim.Native.Nat.{ℕ, _-_, _*_, _/_, _%_, _<_, _≤_}
+use native.Mathlib.Decide.{decLt}
 use native.Mathlib.Omega.{arith}
-use lib.ListN.{length, getD, take, drop, length-take, length-map}
+use lib.ListN.{length, getD, take, drop, length-take, List·getD-eq-default}
 use lib.Seq.{getD-take}
+use Rattle.common.specs.Lists.{All}
+use Rattle.common.proofs.Lists.{All-at, length-listOf}
 use Rattle.trellis.specs.Metric.{costFrom}
 use Rattle.trellis.specs.Best.{Decoded}
+use Rattle.trellis.proofs.Laws.{decoded-same}
 use Rattle.viterbi_decoder.specs.Step.{stepCosts}
-use Rattle.depuncturing.specs.Steps.{stepValue}
-use Rattle.run_reader.specs.Cost.{differing, hardCost}
-use Rattle.run_reader.specs.Read.{Readable, ReadOut}
-use Rattle.run_reader.proofs.Patterns.{run-whole, run-symbols, symbols-few, memory-in-range}
+use Rattle.puncturing.specs.Step.{patternLength}
+use Rattle.depuncturing.specs.Steps.{first, stepValue}
+use Rattle.run_reader.specs.Cost.{runCost, symbolCost, costsOf, Costed}
+use Rattle.run_reader.specs.Read.{symbolsPerPattern, runBits, Readable, BestRead}
+use Rattle.run_reader.proofs.Patterns.{run-whole, run-symbols, coded-bits, memory-in-range}
+use Rattle.run_reader.proofs.Costs.{own-splits, costs-same}
 use Rattle.run_reader.proofs.Whole as steps-of
-use Rattle.run_reader.proofs.Decisions.{Written, written-splits}
 
-module _ {rate m n : ℕ} {symbols room : List ℕ} (g : Readable rate m symbols n room) where
-  -- the decisions have room
-  pub few : 4 * length symbols ≤ 6528
-  few = omega (arith, symbols-few rate (g .known) symbols (g .whole), g .size, g .most)
+-- each cost is at most 7, and so is what is read past the end
+pub all-small : (l : List ℕ) → All (λ c. c ≤ 7) l → (t : ℕ) → getD l t 0 ≤ 7
+all-small l h t = by (decLt t (length l))
+  where
+    by : Dec (t < length l) → getD l t 0 ≤ 7
+    by (yes b) = All-at (λ c. c ≤ 7) l 0 t h b
+    by (no b) = rw (List·getD-eq-default l 0 {n = t} (omega arith)) (omega arith)
 
-  module _ (l steps : List ℕ) (w : Written symbols l) (long : 4 * n ≤ length steps) (spread : (t : ℕ) → t < 4 * n → getD steps t 0 ≡ stepValue l rate t) where
+module _ {rate m : ℕ} {l room : List ℕ} (g : Readable rate m l room) (n : ℕ) (size : n ≡ runBits rate (length l / 4)) where
+  -- the costs of the coded bits of n bits are there
+  pub enough : 2 * first rate n ≤ length l
+  enough = let e : first rate n ≡ 2 * (length l / 4) = ap (first rate) size ∙ coded-bits rate (g .known) (length l / 4) (g .whole) in omega (arith, g .fours)
+
+  module _ (steps : List ℕ) (long : 4 * n ≤ length steps) (spread : (t : ℕ) → t < 4 * n → getD steps t 0 ≡ stepValue l rate t) where
     used : (t : ℕ) → t < 4 * n → getD (take (4 * n) steps) t 0 ≡ stepValue l rate t
     used t h = getD-take (4 * n) steps t 0 (omega (arith, length-take (4 * n) steps)) ∙ spread t h
 
     -- what is decoded is read
     decoded : {bits : List ℕ} {total after : ℕ} → Decoded (costFrom (stepCosts (take (4 * n) steps)) 0 m) n m bits total after
-        → Decoded (hardCost symbols rate m) n m bits total after
+        → Decoded (runCost (costsOf l) rate m) n m bits total after
+    unfolding costsOf
     decoded d =
-        steps-of.read (map differing symbols) l (take (4 * n) steps) rate m n (written-splits symbols l w) (g .known) (g .in-range)
-        (rw (g .size) (run-whole rate (g .known) symbols))
-        (λ ys v e. run-symbols rate (g .known) symbols (g .whole) m (g .in-range) ys v (e ∙ g .size) ∙ sym (length-map symbols differing))
+        steps-of.read (costsOf l) l (take (4 * n) steps) rate m n (own-splits l) (g .known) (g .in-range)
+        (rw size (run-whole rate (g .known) (length l / 4)))
+        (λ ys v e. run-symbols rate (g .known) (length l / 4) (g .whole) m (g .in-range) ys v (e ∙ size) ∙ sym (length-listOf (length l / 4) (symbolCost l)))
         used d
 
     pub read-out : (bits : List ℕ) {total after : ℕ} → Decoded (costFrom (stepCosts (take (4 * n - 0) steps)) 0 m) (length (take (n - 0) room)) m bits total after
         → (k : ℕ) → k ≡ n
-        → (ReadOut rate m symbols room after total n (bits ++ drop k room)) × (after < 64)
+        → (BestRead (runCost (costsOf l) rate m) (runBits rate (length l / 4)) m room after total n (bits ++ drop k room)) × (after < 64)
     read-out bits {total} {after} d k e =
         let a : 4 * n - 0 ≡ 4 * n = omega arith in
         let b : length (take (n - 0) room) ≡ n = omega (arith, length-take (n - 0) room, g .fits) in
@@ -44,9 +58,39 @@ module _ {rate m n : ℕ} {symbols room : List ℕ} (g : Readable rate m symbols
         subst₂ (λ (i j : ℕ). Decoded (costFrom (stepCosts (take i steps)) 0 m) j m bits total after) a b d in (
           record {
             bits = bits;
-            decoded = subst (λ (j : ℕ). Decoded (hardCost symbols rate m) j m bits total after) (g .size) (decoded d′);
-            counted = g .size;
-            written = ap (λ (j : ℕ). bits ++ drop j room) (e ∙ g .size);
+            decoded = subst (λ (j : ℕ). Decoded (runCost (costsOf l) rate m) j m bits total after) size (decoded d′);
+            counted = size;
+            written = ap (λ (j : ℕ). bits ++ drop j room) (e ∙ size);
           },
           rw (d′ .ends) (memory-in-range rate m (g .known) (g .in-range) (d′ .best .binary)),
         )
+
+-- ---- what the costs are those of
+
+quarter : {a b : ℕ} → a ≡ 4 * b → a / 4 ≡ b
+quarter e = omega arith
+
+-- what is decoded of the costs of symbols is decoded of the symbols, and so is what is read
+module _ {R : Type 0} (cost : R → ℕ → ℕ) (rs : List R) (l : List ℕ) (c : Costed cost rs l) (rate m : ℕ) (hr : rate < 5) (hm : m < 64)
+    (whole : length rs % symbolsPerPattern rate ≡ 0) where
+  abbrev k : ℕ
+  k = length rs
+
+  same : runBits rate (length l / 4) ≡ runBits rate k
+  same = ap (runBits rate) (quarter (c .size))
+
+  pub decoded-as : {bits : List ℕ} {total after : ℕ} → Decoded (runCost (costsOf l) rate m) (runBits rate (length l / 4)) m bits total after
+      → Decoded (runCost (map cost rs) rate m) (runBits rate k) m bits total after
+  decoded-as {bits} {total} {after} d =
+      decoded-same (runBits rate k) m
+      (λ ys v z. costs-same cost rs l c rate m hr hm ys v (ap (λ (j : ℕ). j % patternLength rate) z ∙ run-whole rate hr k) (run-symbols rate hr k whole m hm ys v z))
+      (subst (λ (j : ℕ). Decoded (runCost (costsOf l) rate m) j m bits total after) same d)
+
+  pub read-as : {room : List ℕ} {after total count : ℕ} {left : List ℕ} → BestRead (runCost (costsOf l) rate m) (runBits rate (length l / 4)) m room after total count left
+      → BestRead (runCost (map cost rs) rate m) (runBits rate k) m room after total count left
+  read-as {room} o = record {
+    bits = o .bits;
+    decoded = decoded-as (o .decoded);
+    counted = o .counted ∙ same;
+    written = o .written ∙ ap (λ (j : ℕ). o .bits ++ drop j room) same;
+  }

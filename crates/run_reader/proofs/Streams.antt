@@ -93,7 +93,7 @@ module _ (rate : ℕ) (hr : rate < 5) where
     front-length = length-take-le n bits fits
 
     front-whole : length (take n bits) % p ≡ 0
-    front-whole = ap (λ (k : ℕ). k % p) front-length ∙ run-whole rate hr ss
+    front-whole = ap (λ (k : ℕ). k % p) front-length ∙ run-whole rate hr (length ss)
 
     cut : symbolsOf (coderAt rate m) (take n bits) ++ symbolsOf (coderAt rate (memoryAfter m (take n bits))) (drop n bits) ≡ ss ++ more′
     cut =

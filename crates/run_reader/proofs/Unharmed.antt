@@ -13,10 +13,10 @@ use Rattle.common.specs.Choice.{pick}
 use Rattle.common.proofs.Lists.{getD-map-in}
 use Rattle.convolutional_code.specs.Bits.{Bits}
 use Rattle.convolutional_code.specs.Code.{tapsX, tapsY, coded, memoryAfter}
-use Rattle.trellis.specs.Metric.{Costs, costFrom}
+use Rattle.trellis.specs.Metric.{costFrom}
 use Rattle.trellis.specs.Best.{Best, Decoded}
-use Rattle.trellis.proofs.Ends.{SomeDecoded, some-decoded}
-use Rattle.trellis.proofs.Laws.{Apart, free, best-same, decoded-same}
+use Rattle.trellis.proofs.Ends.{SomeDecoded}
+use Rattle.trellis.proofs.Laws.{Apart, free, best-same}
 use Rattle.puncturing.specs.Mode.{modeOf}
 use Rattle.puncturing.specs.Step.{patternLength}
 use Rattle.puncturing.proofs.Places.{tested-at}
@@ -26,8 +26,9 @@ use Rattle.inner_code.specs.Step.{symbolsOf}
 use Rattle.run_reader.specs.Cost.{coderAt, differ, differing, totalCost, hardCost}
 use Rattle.run_reader.proofs.Serial.{flat}
 use Rattle.run_reader.specs.Read.{symbolsPerPattern, runLength}
-use Rattle.run_reader.proofs.Patterns.{run-whole, run-symbols, sent-whole}
-use Rattle.run_reader.proofs.Costs.{Splits, run-is}
+use Rattle.run_reader.proofs.Patterns.{sent-whole}
+use Rattle.run_reader.proofs.Costs.{Splits}
+use Rattle.run_reader.proofs.Existence.{steps-cost, some-best}
 
 -- ---- hard costs
 
@@ -88,7 +89,7 @@ kind-apart ss (suc (suc (suc t))) j m b c h hb hc p q =
     x-apart m b c (getD (flat ss) j 0) hb hc u v
 
 sends : (rate k : ℕ) → rate < 5 → 0 < kindAt rate k
-unfolding kind patternLength modeOf flatten
+unfolding kind modeOf flatten
 sends rate k h = ltb→lt 0 (kindAt rate k) (tested-at (λ r p. ltb 0 (kind r p)) tt rate (k % patternLength rate) h (mod-lt k (some-bits rate h)))
 
 apart : (ss : List ℕ) (rate : ℕ) → rate < 5 → Apart (punctured rate (hard ss))
@@ -97,42 +98,29 @@ apart ss rate h k s b c hb hc p q = kind-apart ss (kindAt rate k) (first rate k)
 
 -- ---- a run, whatever was received
 
-differ-le : (a b : ℕ) → differ a b ≤ 1
+differ-le : (a b : ℕ) → differ a b ≤ 7
 differ-le a b = go (eqb a b)
   where
-    go : (t : Bool) → pick {A = ℕ} t 0 1 ≤ 1
+    go : (t : Bool) → pick {A = ℕ} t 0 1 ≤ 7
     go true = omega arith
     go false = omega arith
-
-kind-le : (ss : List ℕ) (q j x y : ℕ) → kindCost (hard ss) q j x y ≤ 14
-kind-le ss zero j x y = omega arith
-kind-le ss (suc zero) j x y = omega (arith, differ-le (getD (flat ss) j 0) y)
-kind-le ss (suc (suc zero)) j x y = omega (arith, differ-le (getD (flat ss) j 0) x)
-kind-le ss (suc (suc (suc q))) j x y = omega (arith, differ-le (getD (flat ss) j 0) x, differ-le (getD (flat ss) (j + 1) 0) y)
 
 module _ (rate m : ℕ) (hr : rate < 5) (hm : m < 64) (ss : List ℕ) (whole : length ss % symbolsPerPattern rate ≡ 0) where
   abbrev n : ℕ
   n = runLength rate ss
 
-  abbrev F : Costs
-  F = punctured rate (hard ss)
-
-  steps : (ys : List ℕ) → Bits ys → length ys ≡ n → costFrom F 0 m ys ≡ hardCost ss rate m ys
-  steps ys v l =
-      sym (run-is (map differing ss) (hard ss) (hard-splits ss) rate m hr hm v (ap (λ (k : ℕ). k % patternLength rate) l ∙ run-whole rate hr ss)
-      (run-symbols rate hr ss whole m hm ys v l ∙ sym (length-map ss differing)))
+  steps : (ys : List ℕ) → Bits ys → length ys ≡ n → costFrom (punctured rate (hard ss)) 0 m ys ≡ hardCost ss rate m ys
+  steps = steps-cost (map differing ss) (hard ss) (hard-splits ss) rate m hr hm (length ss) (sym (length-map ss differing)) whole
 
   -- there is a best sequence
   pub hard-decoded : SomeDecoded (hardCost ss rate m) n m
-  unfolding punctured
   hard-decoded =
-      let d = some-decoded F (λ k s b. kind-le ss (kindAt rate k) (first rate k) (coded tapsX s b) (coded tapsY s b)) m n hm in
-      record { bits = d .bits; total = d .total; after = d .after; decoded = decoded-same n m steps (d .decoded) }
+      some-best (map differing ss) (hard ss) (hard-splits ss) rate m hr hm (length ss) (sym (length-map ss differing)) whole (λ j v. differ-le (getD (flat ss) j 0) v)
 
   -- bits that differ nowhere are the best
   pub free-best : (bits best : List ℕ) → Bits bits → length bits ≡ n → hardCost ss rate m bits ≡ 0 → Best (hardCost ss rate m) n best → best ≡ bits
   free-best bits best w l z b =
-      free F (apart ss rate hr) n m bits best (best-same n (λ ys v e. sym (steps ys v e)) b) w l (steps bits w l ∙ z)
+      free (punctured rate (hard ss)) (apart ss rate hr) n m bits best (best-same n (λ ys v e. sym (steps ys v e)) b) w l (steps bits w l ∙ z)
 
 -- ---- an unharmed run
 

@@ -1,11 +1,16 @@
 -- What a run of received symbols costs a sequence of bits, by the inner coder's own definition.
 -- Assumes nothing.
+use mathlib.Core.Path.{_≡_}
 use mathlib.Core.List.{List, [], _∷_, map}
-use Prim.Native.Nat.{ℕ, _+_, _/_, _%_}
+use Prim.Native.Nat.{ℕ, _+_, _*_, _/_, _%_, _<_}
 use lib.Dec.{eqb}
+use lib.ListN.{length, getD}
 use Rattle.common.specs.Choice.{pick}
+use Rattle.common.specs.Lists.{listOf}
 use Rattle.inner_code.specs.Step.{symbolsOf}
 use Rattle.inner_code.specs.declared.InnerCoder.{InnerCoder}
+use Rattle.soft_decision.specs.Cost.{softly}
+use Rattle.soft_decision.specs.declared.Received.{Received}
 
 -- the coder at the start of a pattern, with the memory of the bits before
 abbrev pub coderAt : ℕ → ℕ → InnerCoder
@@ -32,3 +37,19 @@ runCost costs rate memory bits = totalCost costs (symbolsOf (coderAt rate memory
 -- hard decisions: the number of I and Q bits in which the coding of the bits differs from what was received
 abbrev pub hardCost : List ℕ → ℕ → ℕ → List ℕ → ℕ
 hardCost received = runCost (map differing received)
+
+-- soft decisions: the sum of what the decisions on I and Q cost
+abbrev pub softCost : List Received → ℕ → ℕ → List ℕ → ℕ
+softCost received = runCost (map softly received)
+
+-- what each symbol costs by a list that has four numbers for it: deciding its I as 0, I as 1, Q as 0 and Q as 1
+abbrev pub symbolCost : List ℕ → ℕ → ℕ → ℕ
+symbolCost l i sent = getD l (4 * i + sent / 2) 0 + getD l (4 * i + 2 + sent % 2) 0
+
+unfoldable pub costsOf : List ℕ → List (ℕ → ℕ)
+costsOf l = listOf (length l / 4) (symbolCost l)
+
+-- a list that has so the costs of received symbols, where `cost r` says what each sent symbol would cost
+pub record Costed {R : Type 0} (cost : R → ℕ → ℕ) (rs : List R) (l : List ℕ) : Type 0 where
+  pub size : length l ≡ 4 * length rs
+  pub each : (i sent : ℕ) → i < length rs → sent < 4 → getD (map cost rs) i (λ s. 0) sent ≡ symbolCost l i sent

@@ -1,63 +1,100 @@
 -- What a call of the reader gives: its answer, by its tests in the order of document 02, and where it is 0 the best sequence of bits.
+-- Hard and soft decisions differ in the tests and in what a received symbol costs, and in nothing else.
 -- Assumes nothing.
 use mathlib.Core.Path.{_≡_}
 use mathlib.Core.Bool.{Bool, true, false}
 use mathlib.Core.List.{List, [], _∷_, _++_}
 use Prim.Native.Nat.{ℕ, _*_, _/_, _%_, _<_, _≤_}
 use lib.Dec.{ltb, eqb}
+use lib.Ieee.{Float}
 use lib.ListN.{length, drop}
 use Rattle.common.specs.Choice.{pick}
 use Rattle.common.specs.Lists.{All}
 use Rattle.trellis.specs.Best.{Decoded}
 use Rattle.puncturing.specs.Mode.{modeOf}
 use Rattle.puncturing.specs.Step.{patternLength}
-use Rattle.run_reader.specs.Cost.{hardCost}
+use Rattle.soft_decision.specs.Cost.{receivedOf}
+use Rattle.run_reader.specs.Cost.{hardCost, softCost}
 
 -- how many symbols a rate's pattern has
 unfoldable pub symbolsPerPattern : ℕ → ℕ
 symbolsPerPattern rate = length (modeOf rate .symbols)
 
--- the bits of a run: those of as many patterns as its symbols make
+-- the bits of a run of n symbols: those of as many patterns as they make
+abbrev pub runBits : ℕ → ℕ → ℕ
+runBits rate n = patternLength rate * (n / symbolsPerPattern rate)
+
 abbrev pub runLength : ℕ → List ℕ → ℕ
-runLength rate symbols = patternLength rate * (length symbols / symbolsPerPattern rate)
+runLength rate symbols = runBits rate (length symbols)
+
+-- ---- the tests
+
+-- every number of a list is below a limit
+unfoldable pub below : ℕ → List ℕ → Bool
+below limit [] = true
+below limit (x ∷ xs) = pick (ltb x limit) (below limit xs) false
 
 -- every symbol is one of the four
-unfoldable pub valid : List ℕ → Bool
-valid [] = true
-valid (s ∷ ss) = pick (ltb s 4) (valid ss) false
+abbrev pub valid : List ℕ → Bool
+valid symbols = below 4 symbols
 
--- the number of the answer: 6 for another rate, 5 for a memory out of range, 12 where the symbols make no whole patterns, 13 where the run has more
--- than 1,632 bits, 14 for a symbol above 3, 4 for short room
-abbrev pub readNumber : ℕ → ℕ → List ℕ → List ℕ → ℕ
-readNumber rate memory symbols room =
+-- three lists of one length, with marks of 0 and 1
+abbrev pub sound : List Float → List Float → List ℕ → Bool
+sound is qs lost = pick (eqb (length qs) (length is)) (pick (eqb (length lost) (length is)) (below 2 lost) false) false
+
+-- The number of the answer to n symbols: 6 for another rate, 5 for a memory out of range, 24 where the lists do not pass, 12 where the symbols make no
+-- whole patterns, 13 where the run has more than 1,632 bits, 14 where the symbols do not pass, 4 for short room.
+abbrev pub answerNumber : ℕ → ℕ → Bool → ℕ → Bool → ℕ → ℕ
+answerNumber rate memory lists n symbols room =
     pick (ltb rate 5)
     (pick (ltb memory 64)
-    (pick (eqb (length symbols % symbolsPerPattern rate) 0)
-    (pick (ltb 1632 (runLength rate symbols)) 13 (pick (valid symbols) (pick (ltb (length room) (runLength rate symbols)) 4 0) 14))
+    (pick lists
+    (pick (eqb (n % symbolsPerPattern rate) 0)
+    (pick (ltb 1632 (runBits rate n)) 13 (pick symbols (pick (ltb room (runBits rate n)) 4 0) 14))
     12)
+    24)
     5)
     6
 
--- what the tests tell: the run can be read
-pub record Readable (rate memory : ℕ) (symbols : List ℕ) (n : ℕ) (room : List ℕ) : Type 0 where
+-- of hard decisions, which come as one list of symbols
+abbrev pub readNumber : ℕ → ℕ → List ℕ → List ℕ → ℕ
+readNumber rate memory symbols room = answerNumber rate memory true (length symbols) (valid symbols) (length room)
+
+-- of soft decisions, where a symbol can be anything
+abbrev pub softNumber : ℕ → ℕ → List Float → List Float → List ℕ → List ℕ → ℕ
+softNumber rate memory is qs lost room = answerNumber rate memory (sound is qs lost) (length is) true (length room)
+
+-- ---- what is read
+
+-- the best sequence of n bits, its cost and the memory after it, with its bits at the front of the room
+pub record BestRead (cost : List ℕ → ℕ) (n memory : ℕ) (room : List ℕ) (after total count : ℕ) (left : List ℕ) : Type 0 where
+  pub bits : List ℕ
+  pub decoded : Decoded cost n memory bits total after
+  pub counted : count ≡ n
+  pub written : left ≡ bits ++ drop n room
+
+-- what a call promises, where `due` is the number of its answer: a refusal has its number, and leaves room and memory as they were; else the run is read
+pub data Answers (due : ℕ) (cost : List ℕ → ℕ) (n memory : ℕ) (room : List ℕ) (number after total count : ℕ) (left : List ℕ) : Type 0 where
+  refused : number ≡ due → 0 < number → after ≡ memory → total ≡ 0 → count ≡ 0 → left ≡ room → Answers due cost n memory room number after total count left
+  read : number ≡ 0 → due ≡ 0 → BestRead cost n memory room after total count left → Answers due cost n memory room number after total count left
+
+-- reading by hard decisions: total is the number of I and Q bits that differ
+abbrev pub Reads : ℕ → ℕ → List ℕ → List ℕ → ℕ → ℕ → ℕ → ℕ → List ℕ → Type 0
+Reads rate memory symbols room = Answers (readNumber rate memory symbols room) (hardCost symbols rate memory) (runLength rate symbols) memory room
+
+-- reading by soft decisions: of each symbol the two numbers of its point, and its mark
+abbrev pub ReadsSoft : ℕ → ℕ → List Float → List Float → List ℕ → List ℕ → ℕ → ℕ → ℕ → ℕ → List ℕ → Type 0
+ReadsSoft rate memory is qs lost room =
+    Answers (softNumber rate memory is qs lost room) (softCost (receivedOf is qs lost) rate memory) (runBits rate (length is)) memory room
+
+-- ---- the core of both
+
+-- costs, four for each symbol, that can be read: whole patterns, no more than a run has, and room for their bits
+pub record Readable (rate memory : ℕ) (costs room : List ℕ) : Type 0 where
   pub known : rate < 5
   pub in-range : memory < 64
-  pub whole : length symbols % symbolsPerPattern rate ≡ 0
-  pub size : n ≡ runLength rate symbols
-  pub most : n ≤ 1632
-  pub symbols-valid : All (λ s. s < 4) symbols
-  pub fits : n ≤ length room
-
--- the best sequence by hard decisions, its cost and the memory after it, with its bits at the front of the room
-pub record ReadOut (rate memory : ℕ) (symbols room : List ℕ) (after cost count : ℕ) (left : List ℕ) : Type 0 where
-  pub bits : List ℕ
-  pub decoded : Decoded (hardCost symbols rate memory) (runLength rate symbols) memory bits cost after
-  pub counted : count ≡ runLength rate symbols
-  pub written : left ≡ bits ++ drop (runLength rate symbols) room
-
--- what a call promises: a refusal has its number, and leaves room and memory as they were; else the run is read
-pub data Reads (rate memory : ℕ) (symbols room : List ℕ) (number after cost count : ℕ) (left : List ℕ) : Type 0 where
-  refused : number ≡ readNumber rate memory symbols room → 0 < number → after ≡ memory → cost ≡ 0 → count ≡ 0 → left ≡ room
-      → Reads rate memory symbols room number after cost count left
-  read : number ≡ 0 → readNumber rate memory symbols room ≡ 0 → ReadOut rate memory symbols room after cost count left
-      → Reads rate memory symbols room number after cost count left
+  pub fours : length costs % 4 ≡ 0
+  pub whole : length costs / 4 % symbolsPerPattern rate ≡ 0
+  pub most : runBits rate (length costs / 4) ≤ 1632
+  pub small : All (λ c. c ≤ 7) costs
+  pub fits : runBits rate (length costs / 4) ≤ length room

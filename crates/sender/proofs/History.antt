@@ -1,10 +1,10 @@
--- Every history of calls that keep the promise of `send`, from a fresh sender, is what EN 300 421 says.
+-- Every history of calls that keep the promise of `send`, from a fresh sender, is what the standard says, in any mode that is well formed.
 -- Assumes nothing.
 use mathlib.Core.Path.{_≡_, refl, ap, ap₂, sym, subst, _∙_}
 use mathlib.Core.Bool.{true}
 use mathlib.Core.Logic.{inr}
 use mathlib.Core.List.{List, [], _∷_, _++_, flatten, append-assoc}
-use Prim.Native.Nat.{ℕ, _≤_, _<_}
+use Prim.Native.Nat.{ℕ, _≤_}
 use native.Mathlib.Nat.{le-refl}
 use borrow.Author.Tests.{le-ltb}
 use lib.ListN.{length, take, drop, replicate, length-replicate}
@@ -12,11 +12,11 @@ use lib.Seq.{take-at}
 use Rattle.common.specs.Lists.{All, Length}
 use Rattle.common.proofs.Lists.{All-map}
 use Rattle.randomizer.specs.Stream.{Packet}
-use Rattle.puncturing.specs.Mode.{modeOf}
-use Rattle.inner_code.specs.Encode.{symbolCount}
+use Rattle.puncturing.specs.Mode.{Mode}
+use Rattle.puncturing.specs.WellFormed.{WellFormed}
 use Rattle.sender.specs.Standard.{onAir}
 use Rattle.sender.specs.Input.{Input, isInput, packetFor, packetsFor, sentNumber}
-use Rattle.sender.specs.Send.{freshSender, sentSymbols, senderAfter, refusal, sendNumber, sendCount, sendSender, sendRoom, Sends}
+use Rattle.sender.specs.Send.{freshSender, sentSymbols, sentCount, senderAfter, refusal, sendNumber, sendCount, sendSender, sendRoom, Sends}
 use Rattle.sender.specs.Calls.{callsSymbols, callsSender, senderOf, Calls, none, call}
 use Rattle.sender.specs.declared.Sender.{Sender}
 use Rattle.sender.proofs.Inputs.{input-test, packets-kept, packet-size, packet-lengths}
@@ -25,50 +25,50 @@ use Rattle.sender.proofs.Ready.{Ready, ready-range, ready-fresh, ready-
 use Rattle.sender.proofs.Stream.{calls-on-air, calls-sender}
 
 -- a call with a sender that is ready, an input and room enough sends the packet for it
-pub record Answered (s : Sender) (input room : List ℕ) : Type 0 where
-  pub number : sendNumber s input room ≡ sentNumber input
-  pub count : sendCount s input room ≡ symbolCount (s .coder)
-  pub sender : sendSender s input room ≡ senderAfter s (packetFor input)
-  pub written : sendRoom s input room ≡ sentSymbols s (packetFor input) ++ drop (symbolCount (s .coder)) room
+pub record Answered (t : ℕ → Mode) (s : Sender) (input room : List ℕ) : Type 0 where
+  pub number : sendNumber t s input room ≡ sentNumber input
+  pub count : sendCount t s input room ≡ sentCount t s
+  pub sender : sendSender t s input room ≡ senderAfter t s (packetFor input)
+  pub written : sendRoom t s input room ≡ sentSymbols t s (packetFor input) ++ drop (sentCount t s) room
 
-pub input-sent : (s : Sender) (input room : List ℕ) → Ready s → isInput input ≡ true → symbolCount (s .coder) ≤ length room
-    → Answered s input room
-input-sent s input room g p h =
-    let r = range-test s (ready-range s g) in
-    let n : refusal s input room ≡ 0 = simp (r, p, le-ltb _ _ h) in
+pub input-sent : {t : ℕ → Mode} (s : Sender) (input room : List ℕ) → Ready t s → isInput input ≡ true → sentCount t s ≤ length room
+    → Answered t s input room
+input-sent {t} s input room g p h =
+    let r = range-test t s (ready-range s g) in
+    let n : refusal t s input room ≡ 0 = simp (r, p, le-ltb _ _ h) in
     record { number = simp n; count = simp n; sender = simp n; written = simp n }
 
 -- what the calls of a history wrote, and the sender that they left
-pub record Told (s : Sender) (packets : List (List ℕ)) (sent : List ℕ) (last : Sender) : Type 0 where
-  pub symbols : sent ≡ flatten (callsSymbols s packets)
-  pub sender : last ≡ callsSender s packets
+record Told (t : ℕ → Mode) (s : Sender) (packets : List (List ℕ)) (sent : List ℕ) (last : Sender) : Type 0 where
+  symbols : sent ≡ flatten (callsSymbols t s packets)
+  sender : last ≡ callsSender t s packets
 
-told : {s last : Sender} {inputs : List (List ℕ)} {symbols : List ℕ} → Ready s → All Input inputs → Calls s inputs symbols last
-    → Told s (packetsFor inputs) symbols last
+told : {t : ℕ → Mode} {s last : Sender} {inputs : List (List ℕ)} {symbols : List ℕ} → Ready t s → All Input inputs → Calls t s inputs symbols last
+    → Told t s (packetsFor inputs) symbols last
 unfolding callsSymbols callsSender flatten
 told g ps none = record { symbols = refl; sender = refl }
-told {s} {last} g ps (call {next = next} {input = x} {inputs = rest} {symbols = t} room left number count h m c) =
+told {t} {s} {last} g ps (call {next = next} {input = x} {inputs = rest} room left number count h m c) =
     let p = packetFor x in
     let i = input-test x (ps .0) in
     let a = input-sent s x room g i h in
-    let e : next ≡ senderAfter s p = m .sender ∙ a .sender in
-    let r = told (subst Ready (sym e) (ready-after s p g)) (ps .1) c in
-    let k : count ≡ symbolCount (s .coder) = m .counted ∙ a .count in
+    let e : next ≡ senderAfter t s p = m .sender ∙ a .sender in
+    let r = told (subst (Ready t) (sym e) (ready-after s p g)) (ps .1) c in
+    let k : count ≡ sentCount t s = m .counted ∙ a .count in
     record {
       symbols =
           ap₂ (λ (a b : List ℕ). a ++ b)
           (ap₂ take k (m .written ∙ a .written)
-          ∙ take-at (sentSymbols s p) (drop (symbolCount (s .coder)) room) (symbolCount (s .coder)) (symbol-count s p (ready-range s g) (packet-size x i)))
-          (r .symbols ∙ ap (λ (x : Sender). flatten (callsSymbols x (packetsFor rest))) e);
-      sender = r .sender ∙ ap (λ (x : Sender). callsSender x (packetsFor rest)) e;
+          ∙ take-at (sentSymbols t s p) (drop (sentCount t s) room) (sentCount t s) (symbol-count s p (ready-range s g) (packet-size x i) (g .formed)))
+          (r .symbols ∙ ap (λ (x : Sender). flatten (callsSymbols t x (packetsFor rest))) e);
+      sender = r .sender ∙ ap (λ (x : Sender). callsSender t x (packetsFor rest)) e;
     }
 
 -- there is such a history for every list of inputs
-pub history : (s : Sender) (inputs : List (List ℕ)) → Ready s → All Input inputs
-    → Calls s inputs (flatten (callsSymbols s (packetsFor inputs))) (callsSender s (packetsFor inputs))
+pub history : {t : ℕ → Mode} (s : Sender) (inputs : List (List ℕ)) → Ready t s → All Input inputs
+    → Calls t s inputs (flatten (callsSymbols t s (packetsFor inputs))) (callsSender t s (packetsFor inputs))
 unfolding callsSymbols callsSender flatten
-history s [] g ps = none
-history s (x ∷ rest) g ps = go (history (senderAfter s (packetFor x)) rest (ready-after s (packetFor x) g) (ps .1))
+history {t} s [] g ps = none
+history {t} s (x ∷ rest) g ps = go (history (senderAfter t s (packetFor x)) rest (ready-after s (packetFor x) g) (ps .1))
   where
     p : List ℕ
     p = packetFor x
@@ -77,7 +77,7 @@ history s (x ∷ rest) g ps = go (history (senderAfter s (packetFor x)) rest (re
     i = input-test x (ps .0)
 
     n : ℕ
-    n = symbolCount (s .coder)
+    n = sentCount t s
 
     room : List ℕ
     room = replicate n 0
@@ -85,23 +85,23 @@ history s (x ∷ rest) g ps = go (history (senderAfter s (packetFor x)) rest (re
     long : n ≤ length room
     long = rw (length-replicate {A = ℕ} n 0) (le-refl n)
 
-    a : Answered s x room
+    a : Answered t s x room
     a = input-sent s x room g i long
 
-    sent : Sends s x room (sentNumber x) n (senderAfter s p) (sentSymbols s p ++ drop n room)
+    sent : Sends t s x room (sentNumber x) n (senderAfter t s p) (sentSymbols t s p ++ drop n room)
     sent = record { answered = sym (a .number); counted = sym (a .count); sender = sym (a .sender); written = sym (a .written) }
 
     later : List ℕ
-    later = flatten (callsSymbols (senderAfter s p) (packetsFor rest))
+    later = flatten (callsSymbols t (senderAfter t s p) (packetsFor rest))
 
     last : Sender
-    last = callsSender (senderAfter s p) (packetsFor rest)
+    last = callsSender t (senderAfter t s p) (packetsFor rest)
 
-    go : Calls (senderAfter s p) rest later last → Calls s (x ∷ rest) (sentSymbols s p ++ later) last
+    go : Calls t (senderAfter t s p) rest later last → Calls t s (x ∷ rest) (sentSymbols t s p ++ later) last
     go c =
-        subst (λ (l : List ℕ). Calls s (x ∷ rest) (l ++ later) last)
-        (take-at (sentSymbols s p) (drop n room) n (symbol-count s p (ready-range s g) (packet-size x i)))
-        (call room (sentSymbols s p ++ drop n room) (sentNumber x) n long sent c)
+        subst (λ (l : List ℕ). Calls t s (x ∷ rest) (l ++ later) last)
+        (take-at (sentSymbols t s p) (drop n room) n (symbol-count s p (ready-range s g) (packet-size x i) (g .formed)))
+        (call room (sentSymbols t s p ++ drop n room) (sentNumber x) n long sent c)
 
 -- ---- one list of packets after another
 
@@ -109,58 +109,61 @@ all-append : {A : Type 0} (P : A → Type 0) (xs ys : List A) → All P xs → A
 all-append P [] ys g h = h
 all-append P (x ∷ xs) ys g h = (g .0, all-append P xs ys (g .1) h)
 
-symbols-append : (s : Sender) (ps qs : List (List ℕ))
-    → flatten (callsSymbols s (ps ++ qs)) ≡ flatten (callsSymbols s ps) ++ flatten (callsSymbols (callsSender s ps) qs)
-unfolding callsSymbols callsSender flatten
-symbols-append s [] qs = refl
-symbols-append s (p ∷ ps) qs =
-    ap (λ (l : List ℕ). sentSymbols s p ++ l) (symbols-append (senderAfter s p) ps qs) ∙ sym (append-assoc (sentSymbols s p) _ _)
+module _ (t : ℕ → Mode) where
+  symbols-append : (s : Sender) (ps qs : List (List ℕ))
+      → flatten (callsSymbols t s (ps ++ qs)) ≡ flatten (callsSymbols t s ps) ++ flatten (callsSymbols t (callsSender t s ps) qs)
+  unfolding callsSymbols callsSender flatten
+  symbols-append s [] qs = refl
+  symbols-append s (p ∷ ps) qs =
+      ap (λ (l : List ℕ). sentSymbols t s p ++ l) (symbols-append (senderAfter t s p) ps qs) ∙ sym (append-assoc (sentSymbols t s p) _ _)
 
-sender-append : (s : Sender) (ps qs : List (List ℕ)) → callsSender s (ps ++ qs) ≡ callsSender (callsSender s ps) qs
-unfolding callsSender
-sender-append s [] qs = refl
-sender-append s (p ∷ ps) qs = sender-append (senderAfter s p) ps qs
+  sender-append : (s : Sender) (ps qs : List (List ℕ)) → callsSender t s (ps ++ qs) ≡ callsSender t (callsSender t s ps) qs
+  unfolding callsSender
+  sender-append s [] qs = refl
+  sender-append s (p ∷ ps) qs = sender-append (senderAfter t s p) ps qs
 
-pub ready-calls : (s : Sender) (packets : List (List ℕ)) → Ready s → Ready (callsSender s packets)
+pub ready-calls : {t : ℕ → Mode} (s : Sender) (packets : List (List ℕ)) → Ready t s → Ready t (callsSender t s packets)
 unfolding callsSender
 ready-calls s [] g = g
-ready-calls s (p ∷ ps) g = ready-calls (senderAfter s p) ps (ready-after s p g)
+ready-calls {t} s (p ∷ ps) g = ready-calls (senderAfter t s p) ps (ready-after s p g)
 
 -- ---- demand 2, of the sending side
 
--- Whatever inputs a fresh sender is given, call after call, the symbols are the standard's for the list with null packets put in,
--- and the sender left is the one that has sent it.
-pub sent-on-air : (rate : ℕ) → rate < 5 → {inputs : List (List ℕ)} {symbols : List ℕ} {last : Sender} → All Input inputs
-    → Calls (freshSender rate) inputs symbols last → (symbols ≡ onAir (modeOf rate) (packetsFor inputs)) × (last ≡ senderOf rate (packetsFor inputs))
-sent-on-air rate h {inputs} g c =
-    let t = told (ready-fresh rate h) g c in
-    let l = packet-lengths inputs g in
-    (t .symbols ∙ calls-on-air rate h (packetsFor inputs) l, t .sender ∙ calls-sender rate h (packetsFor inputs) l)
+-- In any mode that is well formed, at whatever number of whatever table of modes: whatever inputs a fresh sender is given, call after call, the
+-- symbols are the standard's for the list with null packets put in, and the sender left is the one that has sent it.
+pub sent-on-air : (m : Mode) → WellFormed m → (t : ℕ → Mode) (rate : ℕ) → t rate ≡ m
+    → {inputs : List (List ℕ)} {symbols : List ℕ} {last : Sender} → All Input inputs → Calls t (freshSender rate) inputs symbols last
+    → (symbols ≡ onAir m (packetsFor inputs)) × (last ≡ senderOf t rate (packetsFor inputs))
+sent-on-air m w t rate e {inputs} g c =
+    let f : WellFormed (t rate) = subst WellFormed (sym e) w in
+    let told-all = told (ready-fresh rate f) g c in
+    let l = packet-lengths inputs g in (
+      told-all .symbols ∙ calls-on-air (packetsFor inputs) l t rate f ∙ ap (λ (x : Mode). onAir x (packetsFor inputs)) e,
+      told-all .sender ∙ calls-sender (packetsFor inputs) l t rate f,
+    )
 
 -- where all of them are packets, none is put in
-pub packets-on-air : (rate : ℕ) → rate < 5 → {packets : List (List ℕ)} {symbols : List ℕ} {last : Sender} → All Packet packets
-    → Calls (freshSender rate) packets symbols last → (symbols ≡ onAir (modeOf rate) packets) × (last ≡ senderOf rate packets)
-packets-on-air rate h {packets} g c =
-    rw (packets-kept packets g) at (sent-on-air rate h (All-map Packet Input (λ p a. inr (a .size)) packets g) c)
+pub packets-on-air : (m : Mode) → WellFormed m → (t : ℕ → Mode) (rate : ℕ) → t rate ≡ m
+    → {packets : List (List ℕ)} {symbols : List ℕ} {last : Sender} → All Packet packets → Calls t (freshSender rate) packets symbols last
+    → (symbols ≡ onAir m packets) × (last ≡ senderOf t rate packets)
+packets-on-air m w t rate e {packets} g c =
+    rw (packets-kept packets g) at (sent-on-air m w t rate e (All-map Packet Input (λ p a. inr (a .size)) packets g) c)
 
 -- a sender that has sent packets since it was fresh is ready for more, and goes on where they end
-pub ready-sent : (rate : ℕ) → rate < 5 → (sent : List (List ℕ)) → All (Length 188) sent → Ready (senderOf rate sent)
-ready-sent rate h sent f = subst Ready (calls-sender rate h sent f) (ready-calls (freshSender rate) sent (ready-fresh rate h))
+module _ {t : ℕ → Mode} (rate : ℕ) (w : WellFormed (t rate)) (sent : List (List ℕ)) (f : All (Length 188) sent) where
+  pub ready-sent : Ready t (senderOf t rate sent)
+  ready-sent = subst (Ready t) (calls-sender sent f t rate w) (ready-calls (freshSender rate) sent (ready-fresh rate w))
 
-pub sent-further : (rate : ℕ) → rate < 5 → (sent : List (List ℕ)) {inputs : List (List ℕ)} {symbols : List ℕ} {last : Sender}
-    → All (Length 188) sent → All Input inputs → Calls (senderOf rate sent) inputs symbols last
-    → (onAir (modeOf rate) sent ++ symbols ≡ onAir (modeOf rate) (sent ++ packetsFor inputs)) × (last ≡ senderOf rate (sent ++ packetsFor inputs))
-sent-further rate h sent {inputs} f g c =
-    let packets = packetsFor inputs in
-    let e = calls-sender rate h sent f in
-    let t = told (ready-sent rate h sent f) g c in
-    let l = all-append (Length 188) sent packets f (packet-lengths inputs g) in (
-      ap₂ (λ (a b : List ℕ). a ++ b) (sym (calls-on-air rate h sent f))
-          (t .symbols ∙ ap (λ (s : Sender). flatten (callsSymbols s packets)) (sym e))
-          ∙ sym (symbols-append (freshSender rate) sent packets)
-          ∙ calls-on-air rate h (sent ++ packets) l,
-      t .sender
-          ∙ ap (λ (s : Sender). callsSender s packets) (sym e)
-          ∙ sym (sender-append (freshSender rate) sent packets)
-          ∙ calls-sender rate h (sent ++ packets) l,
-    )
+  pub sent-further : {inputs : List (List ℕ)} {symbols : List ℕ} {last : Sender} → All Input inputs → Calls t (senderOf t rate sent) inputs symbols last
+      → (onAir (t rate) sent ++ symbols ≡ onAir (t rate) (sent ++ packetsFor inputs)) × (last ≡ senderOf t rate (sent ++ packetsFor inputs))
+  sent-further {inputs} g c =
+      let packets = packetsFor inputs in
+      let e = calls-sender sent f t rate w in
+      let told-all = told ready-sent g c in
+      let l = all-append (Length 188) sent packets f (packet-lengths inputs g) in (
+        ap₂ (λ (a b : List ℕ). a ++ b) (sym (calls-on-air sent f t rate w))
+            (told-all .symbols ∙ ap (λ (s : Sender). flatten (callsSymbols t s packets)) (sym e))
+            ∙ sym (symbols-append t (freshSender rate) sent packets)
+            ∙ calls-on-air (sent ++ packets) l t rate w,
+        told-all .sender ∙ ap (λ (s : Sender). callsSender t s packets) (sym e) ∙ sym (sender-append t (freshSender rate) sent packets) ∙ calls-sender (sent ++ packets) l t rate w,
+      )

@@ -1,34 +1,47 @@
 -- A sender whose arrays are whole and whose numbers are in range: a fresh one is, and it stays so.
 -- Assumes nothing.
+use mathlib.Core.Path.{_≡_, sym, subst}
 use mathlib.Core.List.{List}
-use Prim.Native.Nat.{ℕ, _<_, _≤_}
+use Prim.Native.Nat.{ℕ, _≤_}
 use native.Mathlib.Omega.{arith}
 use Rattle.delay_branches.specs.declared.Side.the-variants.{Sending}
 use Rattle.delay_branches.proofs.Blocks.{Good, good-after}
 use Rattle.interleaver.proofs.Whole.{good-fresh}
-use Rattle.convolutional_code.proofs.Bits.{bits-bits}
-use Rattle.inner_code.specs.Step as step
+use Rattle.puncturing.specs.Mode.{Mode}
+use Rattle.puncturing.specs.WellFormed.{WellFormed}
+use Rattle.inner_code.specs.Converter.{encodedBits}
+use Rattle.inner_code.specs.Step.{InRangeBy}
+use Rattle.inner_code.proofs.Converter.{encoded-bits}
 use Rattle.inner_code.proofs.Coder as range
 use Rattle.sender.specs.Send.{freshSender, codedPacket, sentBlock, senderAfter}
 use Rattle.sender.specs.declared.Sender.{Sender}
 use Rattle.sender.proofs.Stages.{InRange}
 
-pub record Ready (s : Sender) : Type 0 where
+pub record Ready (t : ℕ → Mode) (s : Sender) : Type 0 where
   pub place : s .place ≤ 7
   pub branches : Good Sending (s .interleaver .branches)
-  pub coder : step.InRange (s .coder)
+  pub formed : WellFormed (t (s .coder .rate))
+  pub coder : InRangeBy (t (s .coder .rate)) (s .coder)
 
-pub ready-range : (s : Sender) → Ready s → InRange s
-ready-range s g = record { place = g .place; branches = g .branches .range; coder = range.range-test (s .coder) (g .coder) }
+pub ready-range : {t : ℕ → Mode} (s : Sender) → Ready t s → InRange t s
+ready-range {t} s g = record { place = g .place; branches = g .branches .range; coder = range.range-test-by (t (s .coder .rate)) (s .coder) (g .coder) }
 
-pub ready-fresh : (rate : ℕ) → rate < 5 → Ready (freshSender rate)
+pub ready-fresh : {t : ℕ → Mode} (rate : ℕ) → WellFormed (t rate) → Ready t (freshSender rate)
 unfolding freshSender
-ready-fresh rate h = record { place = omega arith; branches = good-fresh Sending; coder = range.fresh-in-range rate h }
+ready-fresh rate w = record { place = omega arith; branches = good-fresh Sending; formed = w; coder = range.fresh-in-range-by w rate }
 
-pub ready-after : (s : Sender) (packet : List ℕ) → Ready s → Ready (senderAfter s packet)
+pub rate-after : (t : ℕ → Mode) (s : Sender) (packet : List ℕ) → senderAfter t s packet .coder .rate ≡ s .coder .rate
 unfolding senderAfter
-ready-after s packet g = record {
-  place = omega arith;
-  branches = good-after Sending (s .interleaver .branches) (codedPacket s packet) (g .branches);
-  coder = range.coder-in-range (s .coder) (g .coder) (bits-bits (sentBlock s packet));
-}
+rate-after t s packet = let m = t (s .coder .rate) in range.coder-rate-by m (s .coder) (encodedBits m (sentBlock s packet))
+
+pub ready-after : {t : ℕ → Mode} (s : Sender) (packet : List ℕ) → Ready t s → Ready t (senderAfter t s packet)
+unfolding senderAfter
+ready-after {t} s packet g =
+    let e = sym (rate-after t s packet) in
+    let m = t (s .coder .rate) in
+    record {
+      place = omega arith;
+      branches = good-after Sending (s .interleaver .branches) (codedPacket s packet) (g .branches);
+      formed = subst (λ (r : ℕ). WellFormed (t r)) e (g .formed);
+      coder = subst (λ (r : ℕ). InRangeBy (t r) (senderAfter t s packet .coder)) e (range.coder-in-range-by (g .formed) (s .coder) (g .coder) (encoded-bits m (sentBlock s packet)));
+    }

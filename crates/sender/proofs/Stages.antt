@@ -20,50 +20,52 @@ use Rattle.delay_branches.specs.declared.Side.the-variants.{Sending}
 use Rattle.delay_branches.specs.declared.Branches.{Branches}
 use Rattle.delay_branches.proofs.Blocks.{length-out}
 use Rattle.interleaver.specs.Call.{passBranches, passRoom}
-use Rattle.puncturing.specs.Step.{symbolsIn}
+use Rattle.puncturing.specs.Mode.{Mode, modeOf}
+use Rattle.puncturing.specs.WellFormed.{WellFormed}
 use Rattle.inner_code.specs.Step as coder
 use Rattle.inner_code.specs.Encode as inner
 use Rattle.inner_code.specs.declared.InnerCoder.{InnerCoder}
 use Rattle.inner_code.proofs.Coder as range
 use Rattle.sender.specs.Input.{isInput, packetFor, sentNumber}
-use Rattle.sender.specs.Send.{inRange, codedPacket, sentBlock, sentSymbols, senderAfter, refusal, Sends}
+use Rattle.sender.specs.Send.{inRange, codedPacket, sentBlock, sentSymbols, sentCount, senderAfter, refusal, Sends}
 use Rattle.sender.specs.declared.Sender.{Sender}
 
 -- what the test of the ranges tells
-pub record InRange (s : Sender) : Type 0 where
+pub record InRange (t : ℕ → Mode) (s : Sender) : Type 0 where
   pub place : s .place ≤ 7
   pub branches : branch.inRange Sending (s .interleaver .branches) ≡ true
-  pub coder : coder.inRange (s .coder) ≡ true
+  pub coder : coder.inRangeBy (t (s .coder .rate)) (s .coder) ≡ true
 
-pub in-range : (s : Sender) → inRange s ≡ true → InRange s
-in-range s e = by (ltb 7 (s .place)) refl e
-  where
-    by : (t : Bool) → ltb 7 (s .place) ≡ t
-        → pick t false (pick (branch.inRange Sending (s .interleaver .branches)) (coder.inRange (s .coder)) false) ≡ true → InRange s
-    by true f e = false-true e
-    by false f e = let b = both-true _ _ e in record { place = ltb-false _ _ f; branches = b .0; coder = b .1 }
+module _ (t : ℕ → Mode) (s : Sender) where
+  pub in-range : inRange t s ≡ true → InRange t s
+  in-range e = by (ltb 7 (s .place)) refl e
+    where
+      by : (b : Bool) → ltb 7 (s .place) ≡ b
+          → pick b false (pick (branch.inRange Sending (s .interleaver .branches)) (coder.inRangeBy (t (s .coder .rate)) (s .coder)) false) ≡ true → InRange t s
+      by true f e = false-true e
+      by false f e = let b = both-true _ _ e in record { place = ltb-false _ _ f; branches = b .0; coder = b .1 }
 
-pub range-test : (s : Sender) → InRange s → inRange s ≡ true
-range-test s g = simp (le-ltb _ _ (g .place), g .branches, g .coder)
+  pub range-test : InRange t s → inRange t s ≡ true
+  range-test g = simp (le-ltb _ _ (g .place), g .branches, g .coder)
 
 -- ---- what a call promises, by the number of its answer
 
-module _ (s : Sender) (input room : List ℕ) where
-  pub refused : (n : ℕ) → refusal s input room ≡ n → eqb n 0 ≡ false → Sends s input room n 0 s room
+module _ (t : ℕ → Mode) (s : Sender) (input room : List ℕ) where
+  pub refused : (n : ℕ) → refusal t s input room ≡ n → eqb n 0 ≡ false → Sends t s input room n 0 s room
   refused n e f =
-      let t : eqb (refusal s input room) 0 ≡ false = ap (λ (k : ℕ). eqb k 0) e ∙ f in
-      record { answered = simp t (sym e); counted = simp t; sender = simp t; written = simp t }
+      let z : eqb (refusal t s input room) 0 ≡ false = ap (λ (k : ℕ). eqb k 0) e ∙ f in
+      record { answered = simp z (sym e); counted = simp z; sender = simp z; written = simp z }
 
-  pub answered : refusal s input room ≡ 0 → {packet : List ℕ} → packet ≡ packetFor input → {number count : ℕ} {next : Sender} {left : List ℕ}
-      → number ≡ sentNumber input → count ≡ inner.symbolCount (s .coder) → next ≡ senderAfter s packet
-      → left ≡ sentSymbols s packet ++ drop (inner.symbolCount (s .coder)) room → Sends s input room number count next left
-  answered e p n k t l = record {
+  pub answered : refusal t s input room ≡ 0 → {packet : List ℕ} → packet ≡ packetFor input → {number count : ℕ} {next : Sender} {left : List ℕ}
+      → number ≡ sentNumber input → count ≡ sentCount t s → next ≡ senderAfter t s packet
+      → left ≡ sentSymbols t s packet ++ drop (sentCount t s) room → Sends t s input room number count next left
+  answered e p n k a l = record {
     answered = n ∙ ap (λ (k : ℕ). pick (eqb k 0) (sentNumber input) k) (sym e);
-    counted = k ∙ ap (λ (k : ℕ). pick (eqb k 0) (inner.symbolCount (s .coder)) 0) (sym e);
-    sender = t ∙ ap (senderAfter s) p ∙ ap (λ (k : ℕ). pick (eqb k 0) (senderAfter s (packetFor input)) s) (sym e);
+    counted = k ∙ ap (λ (k : ℕ). pick (eqb k 0) (sentCount t s) 0) (sym e);
+    sender = a ∙ ap (senderAfter t s) p ∙ ap (λ (k : ℕ). pick (eqb k 0) (senderAfter t s (packetFor input)) s) (sym e);
     written =
-        l ∙ ap (λ (x : List ℕ). sentSymbols s x ++ drop (inner.symbolCount (s .coder)) room) p
-        ∙ ap (λ (k : ℕ). pick (eqb k 0) (sentSymbols s (packetFor input) ++ drop (inner.symbolCount (s .coder)) room) room) (sym e);
+        l ∙ ap (λ (x : List ℕ). sentSymbols t s x ++ drop (sentCount t s) room) p
+        ∙ ap (λ (k : ℕ). pick (eqb k 0) (sentSymbols t s (packetFor input) ++ drop (sentCount t s) room) room) (sym e);
   }
 
 -- a call writes no more than the room
@@ -73,11 +75,10 @@ fits true false c count n k e f = omega arith
 fits true true true count n k e f = omega arith
 fits true true false count n k e f = let l = f refl in omega arith
 
-pub count-fits : {s : Sender} {input room : List ℕ} {number count : ℕ} {next : Sender} {left : List ℕ} → Sends s input room number count next left
-    → count ≤ length room
-count-fits {s} {input} {room} {number} {count} m =
-    fits (inRange s) (isInput input) (ltb (length room) (inner.symbolCount (s .coder))) count
-    (inner.symbolCount (s .coder)) (length room) (m .counted) (λ t. ltb-false _ _ t)
+pub count-fits : {t : ℕ → Mode} {s : Sender} {input room : List ℕ} {number count : ℕ} {next : Sender} {left : List ℕ}
+    → Sends t s input room number count next left → count ≤ length room
+count-fits {t} {s} {input} {room} {number} {count} m =
+    fits (inRange t s) (isInput input) (ltb (length room) (sentCount t s)) count (sentCount t s) (length room) (m .counted) (λ z. ltb-false _ _ z)
 
 -- ---- the stages
 
@@ -85,7 +86,7 @@ count-fits {s} {input} {room} {number} {count} m =
 filled : (a d : List ℕ) (n : ℕ) → length d ≡ n → a ++ drop n d ≡ a
 filled a d n e = ap (λ (l : List ℕ). a ++ l) (drop-of-length-le d {i = n} (omega arith)) ∙ append-nil a
 
-module _ (s : Sender) (packet : List ℕ) (g : InRange s) (p : length packet ≡ 188) where
+module _ {t : ℕ → Mode} (s : Sender) (packet : List ℕ) (g : InRange t s) (p : length packet ≡ 188) where
   length-coded : length (codedPacket s packet) ≡ 204
   length-coded =
       let m = randomized (s .place) packet in
@@ -115,27 +116,33 @@ module _ (s : Sender) (packet : List ℕ) (g : InRange s) (p : length packet ≡
   unfolding sentBlock
   length-block = length-out Sending (s .interleaver .branches) (codedPacket s packet)
 
-  size : length (sentSymbols s packet) ≡ symbolsIn (s .coder .rate) (s .coder .place) 1632
+  pub symbol-count : WellFormed (t (s .coder .rate)) → length (sentSymbols t s packet) ≡ sentCount t s
   unfolding sentSymbols
-  size = range.length-block (s .coder) (sentBlock s packet) (range.in-range (s .coder) (g .coder)) length-block
+  symbol-count w =
+      let m = t (s .coder .rate) in
+      range.length-block-by w (s .coder) (sentBlock s packet) (range.in-range-by m (s .coder) (g .coder)) length-block ∙ sym (simp (g .coder))
 
-  pub symbol-count : length (sentSymbols s packet) ≡ inner.symbolCount (s .coder)
-  symbol-count = size ∙ sym (simp (g .coder))
-
-  pub modulating : (room r m : List ℕ) (number count : ℕ) (c : InnerCoder) → inner.symbolCount (s .coder) ≤ length room → m ≡ sentBlock s packet
+-- the last stage, in the modes of the product
+module _ (s : Sender) (packet : List ℕ) (g : InRange modeOf s) (p : length packet ≡ 188) where
+  pub modulating : (room r m : List ℕ) (number count : ℕ) (c : InnerCoder) → sentCount modeOf s ≤ length room → m ≡ sentBlock s packet
       → number ≡ inner.encodeNumber (s .coder) m room → count ≡ inner.encodeCount (s .coder) m room
       → c ≡ inner.encodeCoder (s .coder) m room → r ≡ inner.encodeRoom (s .coder) m room
-      → (number ≡ 0) × (count ≡ inner.symbolCount (s .coder)) × (c ≡ inner.blockCoder (s .coder) (sentBlock s packet))
-      × (r ≡ sentSymbols s packet ++ drop (inner.symbolCount (s .coder)) room)
+      → (number ≡ 0) × (count ≡ sentCount modeOf s) × (c ≡ inner.blockCoder (s .coder) (sentBlock s packet))
+      × (r ≡ sentSymbols modeOf s packet ++ drop (sentCount modeOf s) room)
   unfolding sentSymbols
   modulating room r m number count c h f en ec es er =
-      let k : length (inner.blockSymbols (s .coder) (sentBlock s packet)) ≤ length room = rw symbol-count h in
-      let done : inner.encodeNumber (s .coder) (sentBlock s packet) room ≡ 0 = simp (g .coder, eq-eqb _ _ length-block, le-ltb _ _ k) in (
+      let n : length (inner.blockSymbols (s .coder) (sentBlock s packet)) ≡ sentCount modeOf s
+      = symbol-count s packet g p (range.formed (s .coder) (range.in-range (s .coder) (g .coder))) in
+      let k : length (inner.blockSymbols (s .coder) (sentBlock s packet)) ≤ length room = rw n h in
+      let b = length-block s packet g p in
+      let done : inner.encodeNumber (s .coder) (sentBlock s packet) room ≡ 0 = simp (g .coder, eq-eqb _ _ b, le-ltb _ _ k) in (
         en ∙ ap (λ (l : List ℕ). inner.encodeNumber (s .coder) l room) f ∙ done,
         ec ∙ ap (λ (l : List ℕ). inner.encodeCount (s .coder) l room) f
-            ∙ simp (g .coder, eq-eqb _ _ length-block, le-ltb _ _ k) size,
-        es ∙ ap (λ (l : List ℕ). inner.encodeCoder (s .coder) l room) f ∙ simp (g .coder, eq-eqb _ _ length-block, le-ltb _ _ k),
+            ∙ ap (λ (j : ℕ). pick (eqb j 0) (length (inner.blockSymbols (s .coder) (sentBlock s packet))) 0) done
+            ∙ n,
+        es ∙ ap (λ (l : List ℕ). inner.encodeCoder (s .coder) l room) f
+            ∙ ap (λ (j : ℕ). pick (eqb j 0) (inner.blockCoder (s .coder) (sentBlock s packet)) (s .coder)) done,
         er ∙ ap (λ (l : List ℕ). inner.encodeRoom (s .coder) l room) f
-            ∙ simp (g .coder, eq-eqb _ _ length-block, le-ltb _ _ k)
-            (ap (λ (n : ℕ). sentSymbols s packet ++ drop n room) size),
+            ∙ ap (λ (j : ℕ). pick (eqb j 0) (inner.blockSymbols (s .coder) (sentBlock s packet) ++ drop (length (inner.blockSymbols (s .coder) (sentBlock s packet))) room) room) done
+            ∙ ap (λ (j : ℕ). inner.blockSymbols (s .coder) (sentBlock s packet) ++ drop j room) n,
       )

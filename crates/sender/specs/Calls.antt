@@ -8,41 +8,42 @@ use Rattle.randomizer.specs.Stream.{randomizedStream}
 use Rattle.delay_branches.specs.Block.{fresh}
 use Rattle.delay_branches.specs.declared.Side.the-variants.{Sending}
 use Rattle.interleaver.specs.Stream.{runAfter}
-use Rattle.inner_code.specs.Encode.{freshCoder, blockCoder, symbolCount}
+use Rattle.puncturing.specs.Mode.{Mode}
+use Rattle.inner_code.specs.Encode.{freshCoder, blockCoderBy}
 use Rattle.sender.specs.Standard.{interleavedBlocks}
-use Rattle.sender.specs.Send.{sentSymbols, senderAfter, Sends}
+use Rattle.sender.specs.Send.{sentSymbols, sentCount, senderAfter, Sends}
 use Rattle.sender.specs.declared.Sender.{Sender}
 
 -- the symbols of each call
-unfoldable pub callsSymbols : Sender → List (List ℕ) → List (List ℕ)
-callsSymbols s [] = []
-callsSymbols s (p ∷ ps) = sentSymbols s p ∷ callsSymbols (senderAfter s p) ps
+unfoldable pub callsSymbols : (ℕ → Mode) → Sender → List (List ℕ) → List (List ℕ)
+callsSymbols t s [] = []
+callsSymbols t s (p ∷ ps) = sentSymbols t s p ∷ callsSymbols t (senderAfter t s p) ps
 
 -- the sender after them
-unfoldable pub callsSender : Sender → List (List ℕ) → Sender
-callsSender s [] = s
-callsSender s (p ∷ ps) = callsSender (senderAfter s p) ps
+unfoldable pub callsSender : (ℕ → Mode) → Sender → List (List ℕ) → Sender
+callsSender t s [] = s
+callsSender t s (p ∷ ps) = callsSender t (senderAfter t s p) ps
 
 -- The sender that has sent these packets since it was fresh, each stage by itself: how many packets of a group are behind, what the branches
 -- hold of the coded blocks, and the inner coder after all the bytes of the interleaved blocks.
-unfoldable pub senderOf : ℕ → List (List ℕ) → Sender
-senderOf rate packets = record {
+unfoldable pub senderOf : (ℕ → Mode) → ℕ → List (List ℕ) → Sender
+senderOf t rate packets = record {
   place = length packets % 8;
   interleaver = record { branches = runAfter Sending fresh (map encoded (randomizedStream packets)) };
-  coder = blockCoder (freshCoder rate) (flatten (interleavedBlocks packets));
+  coder = blockCoderBy (t rate) (freshCoder rate) (flatten (interleavedBlocks packets));
 }
 
--- document 01, "Inner code": how many symbols a call sends at each rate, at least and at most
+-- document 01, "Inner code": how many symbols a call sends in each mode, at least and at most
 abbrev pub fewest : List ℕ
-fewest = 1632 ∷ 1224 ∷ 1088 ∷ 979 ∷ 932 ∷ []
+fewest = 1632 ∷ 1224 ∷ 1088 ∷ 979 ∷ 932 ∷ 544 ∷ []
 
 abbrev pub most : List ℕ
-most = 1632 ∷ 1224 ∷ 1088 ∷ 980 ∷ 933 ∷ []
+most = 1632 ∷ 1224 ∷ 1088 ∷ 980 ∷ 933 ∷ 544 ∷ []
 
 -- a history: each input is given to a call that keeps its promise and is lent room enough, with the sender that the call before handed back;
 -- the symbols are those that the calls wrote
-pub data Calls : Sender → List (List ℕ) → List ℕ → Sender → Type 0 where
-  none : {s : Sender} → Calls s [] [] s
+pub data Calls (t : ℕ → Mode) : Sender → List (List ℕ) → List ℕ → Sender → Type 0 where
+  none : {s : Sender} → Calls t s [] [] s
   call : {s next last : Sender} {input : List ℕ} {inputs : List (List ℕ)} {symbols : List ℕ} (room left : List ℕ) (number count : ℕ)
-      → symbolCount (s .coder) ≤ length room → Sends s input room number count next left → Calls next inputs symbols last
-      → Calls s (input ∷ inputs) (take count left ++ symbols) last
+      → sentCount t s ≤ length room → Sends t s input room number count next left → Calls t next inputs symbols last
+      → Calls t s (input ∷ inputs) (take count left ++ symbols) last

@@ -12,8 +12,9 @@ use Rattle.randomizer.specs.Packet.{randomized}
 use Rattle.delay_branches.specs.Branch as branch
 use Rattle.delay_branches.specs.Block.{fresh, blockOut, after}
 use Rattle.delay_branches.specs.declared.Side.the-variants.{Sending}
-use Rattle.inner_code.specs.Step as coder
-use Rattle.inner_code.specs.Encode.{freshCoder, blockSymbols, blockCoder, symbolCount}
+use Rattle.puncturing.specs.Mode.{Mode}
+use Rattle.inner_code.specs.Step.{inRangeBy}
+use Rattle.inner_code.specs.Encode.{freshCoder, blockSymbolsBy, blockCoderBy, symbolCountBy}
 use Rattle.sender.specs.Input.{isInput, packetFor, sentNumber}
 use Rattle.sender.specs.declared.Sender.{Sender}
 
@@ -22,11 +23,13 @@ unfoldable pub freshSender : ℕ → Sender
 freshSender rate = record { place = 0; interleaver = record { branches = fresh }; coder = freshCoder rate }
 
 abbrev pub newNumber : ℕ → ℕ
-newNumber rate = pick (ltb rate 5) 0 6
+newNumber rate = pick (ltb rate 6) 0 6
+
+-- ---- A sender knows its mode by the number that its inner coder holds. Each definition takes the table of modes: `modeOf` in the product.
 
 -- document 01, "State ranges": the group place 0 to 7, the delay positions and the numbers of the inner coder
-abbrev pub inRange : Sender → Bool
-inRange s = pick (ltb 7 (s .place)) false (pick (branch.inRange Sending (s .interleaver .branches)) (coder.inRange (s .coder)) false)
+abbrev pub inRange : (ℕ → Mode) → Sender → Bool
+inRange t s = pick (ltb 7 (s .place)) false (pick (branch.inRange Sending (s .interleaver .branches)) (inRangeBy (t (s .coder .rate)) (s .coder)) false)
 
 -- the packet through the first three stages: randomized at its place of the group, coded, interleaved
 abbrev pub codedPacket : Sender → List ℕ → List ℕ
@@ -35,40 +38,43 @@ codedPacket s packet = encoded (randomized (s .place) packet)
 unfoldable pub sentBlock : Sender → List ℕ → List ℕ
 sentBlock s packet = blockOut Sending (s .interleaver .branches) (codedPacket s packet)
 
--- its symbols
-unfoldable pub sentSymbols : Sender → List ℕ → List ℕ
-sentSymbols s packet = blockSymbols (s .coder) (sentBlock s packet)
+-- its symbols, and how many they are
+unfoldable pub sentSymbols : (ℕ → Mode) → Sender → List ℕ → List ℕ
+sentSymbols t s packet = blockSymbolsBy (t (s .coder .rate)) (s .coder) (sentBlock s packet)
+
+abbrev pub sentCount : (ℕ → Mode) → Sender → ℕ
+sentCount t s = symbolCountBy (t (s .coder .rate)) (s .coder)
 
 -- the sender after it: the place goes on by one, from 7 to 0
-unfoldable pub senderAfter : Sender → List ℕ → Sender
-senderAfter s packet = record {
+unfoldable pub senderAfter : (ℕ → Mode) → Sender → List ℕ → Sender
+senderAfter t s packet = record {
   place = (s .place + 1) % 8;
   interleaver = record { branches = after Sending (s .interleaver .branches) (codedPacket s packet) };
-  coder = blockCoder (s .coder) (sentBlock s packet);
+  coder = blockCoderBy (t (s .coder .rate)) (s .coder) (sentBlock s packet);
 }
 
 -- What is refused: 5 for a state out of range, 1 for an input that is neither no bytes nor 188, 4 for short room; 0 where nothing is.
-abbrev pub refusal : Sender → List ℕ → List ℕ → ℕ
-refusal s input room = pick (inRange s) (pick (isInput input) (pick (ltb (length room) (symbolCount (s .coder))) 4 0) 1) 5
+abbrev pub refusal : (ℕ → Mode) → Sender → List ℕ → List ℕ → ℕ
+refusal t s input room = pick (inRange t s) (pick (isInput input) (pick (ltb (length room) (sentCount t s)) 4 0) 1) 5
 
 -- the number of the answer: the refusal, or else which packet was sent
-abbrev pub sendNumber : Sender → List ℕ → List ℕ → ℕ
-sendNumber s input room = pick (eqb (refusal s input room) 0) (sentNumber input) (refusal s input room)
+abbrev pub sendNumber : (ℕ → Mode) → Sender → List ℕ → List ℕ → ℕ
+sendNumber t s input room = pick (eqb (refusal t s input room) 0) (sentNumber input) (refusal t s input room)
 
 -- how many symbols the call sends, the sender and the room after it; on refusal none, and both as before
-abbrev pub sendCount : Sender → List ℕ → List ℕ → ℕ
-sendCount s input room = pick (eqb (refusal s input room) 0) (symbolCount (s .coder)) 0
+abbrev pub sendCount : (ℕ → Mode) → Sender → List ℕ → List ℕ → ℕ
+sendCount t s input room = pick (eqb (refusal t s input room) 0) (sentCount t s) 0
 
-abbrev pub sendSender : Sender → List ℕ → List ℕ → Sender
-sendSender s input room = pick (eqb (refusal s input room) 0) (senderAfter s (packetFor input)) s
+abbrev pub sendSender : (ℕ → Mode) → Sender → List ℕ → List ℕ → Sender
+sendSender t s input room = pick (eqb (refusal t s input room) 0) (senderAfter t s (packetFor input)) s
 
-abbrev pub sendRoom : Sender → List ℕ → List ℕ → List ℕ
-sendRoom s input room =
-    pick (eqb (refusal s input room) 0) (sentSymbols s (packetFor input) ++ drop (symbolCount (s .coder)) room) room
+abbrev pub sendRoom : (ℕ → Mode) → Sender → List ℕ → List ℕ → List ℕ
+sendRoom t s input room =
+    pick (eqb (refusal t s input room) 0) (sentSymbols t s (packetFor input) ++ drop (sentCount t s) room) room
 
 -- what a call promises
-pub record Sends (s : Sender) (input room : List ℕ) (number count : ℕ) (next : Sender) (left : List ℕ) : Type 0 where
-  pub answered : number ≡ sendNumber s input room
-  pub counted : count ≡ sendCount s input room
-  pub sender : next ≡ sendSender s input room
-  pub written : left ≡ sendRoom s input room
+pub record Sends (t : ℕ → Mode) (s : Sender) (input room : List ℕ) (number count : ℕ) (next : Sender) (left : List ℕ) : Type 0 where
+  pub answered : number ≡ sendNumber t s input room
+  pub counted : count ≡ sendCount t s input room
+  pub sender : next ≡ sendSender t s input room
+  pub written : left ≡ sendRoom t s input room

@@ -1,13 +1,13 @@
-// The sending chain: randomizing, outer code, interleaving and inner code, packet by packet. EN 300 421, 4.4 and 4.5.
+// The sending chain: randomizing, outer code, interleaving and inner code, packet by packet. EN 300 421, 4.4 and 4.5, and for 16QAM EN 301 210, 4.6.
 ghost use mathlib.Core.Path.{_≡_};
 ghost use mathlib.Core.Bool.{true};
 ghost use mathlib.Core.List.{_++_};
 ghost use Prim.Native.Nat.{_+_, _%_, _<_, _≤_};
 ghost use lib.ListN.{length, getD, drop};
 ghost use Rattle.answer.specs.Number.{numberOf};
-ghost use Rattle.inner_code.specs.Encode.{symbolCount};
+ghost use Rattle.puncturing.specs.Mode.{modeOf};
 ghost use Rattle.sender.specs.Input.{isInput, isSynced, nullPacket};
-ghost use Rattle.sender.specs.Send.{freshSender, newNumber, inRange, sentSymbols, senderAfter, Sends};
+ghost use Rattle.sender.specs.Send.{freshSender, newNumber, inRange, sentSymbols, sentCount, senderAfter, Sends};
 use answer::Answer;
 use inner_code::InnerCoder;
 use interleaver::Interleaver;
@@ -63,7 +63,7 @@ impl Sender {
 
     // Whether each number is in its range.
     pub fn in_range(self) -> bool
-        ensures { λ r. ⌜ r ≡ inRange self ⌝ }
+        ensures { λ r. ⌜ r ≡ inRange modeOf self ⌝ }
     {
         let place = self.place;
         if place > 7 {
@@ -79,7 +79,7 @@ impl Sender {
 
     // Sends a packet: writes its symbols. For no bytes, and for 188 that do not begin with the sync byte, a null packet is sent.
     pub fn send(self, input: &[u8], room: &mut [u8]) -> Sent
-        ensures { λ r. ⌜ Sends self (now (input .entry)) (now (room .entry)) (numberOf (r .answer)) (r .count) (r .sender) (now (room .exit)) ⌝ }
+        ensures { λ r. ⌜ Sends modeOf self (now (input .entry)) (now (room .entry)) (numberOf (r .answer)) (r .count) (r .sender) (now (room .exit)) ⌝ }
     {
         if !self.in_range() {
             return Sent {
@@ -151,12 +151,12 @@ fn null_packet() -> [u8; Sender::PACKET_LENGTH]
 
 // Sends a packet with a sender that is in range and room enough.
 fn transmit(sender: Sender, packet: &[u8], room: &mut [u8]) -> Sent
-    requires { ⌜ (inRange sender ≡ true) × (length (now packet) ≡ 188) × (getD (now packet) 0 0 ≡ 0x47) × (symbolCount (sender .coder) ≤ length (now room)) ⌝ }
+    requires { ⌜ (inRange modeOf sender ≡ true) × (length (now packet) ≡ 188) × (getD (now packet) 0 0 ≡ 0x47) × (sentCount modeOf sender ≤ length (now room)) ⌝ }
     ensures { λ r. ⌜
         (numberOf (r .answer) ≡ 0)
-        × (r .count ≡ symbolCount (sender .coder))
-        × (r .sender ≡ senderAfter sender (now (packet .entry)))
-        × (now (room .exit) ≡ sentSymbols sender (now (packet .entry)) ++ drop (symbolCount (sender .coder)) (now (room .entry))) ⌝ }
+        × (r .count ≡ sentCount modeOf sender)
+        × (r .sender ≡ senderAfter modeOf sender (now (packet .entry)))
+        × (now (room .exit) ≡ sentSymbols modeOf sender (now (packet .entry)) ++ drop (sentCount modeOf sender) (now (room .entry))) ⌝ }
 {
     let place = sender.place;
     let interleaver = sender.interleaver;

@@ -150,13 +150,18 @@ fn main() {
     send_part(b"one byte: ", 0, &packets, 1, 1632);
     packets[0] = 0x47;
     answer_new(b"fresh sender at rate 4: ", 4);
-    answer_new(b"fresh sender at rate 5: ", 5);
-    send_part(b"sender of rate 5: ", 5, &packets, 188, 1632);
+    answer_new(b"fresh sender of mode 5: ", 5);
+    answer_new(b"fresh sender of mode 6: ", 6);
+    send_part(b"sender of mode 6: ", 6, &packets, 188, 1632);
+    send_part(b"mode 5, room of 543: ", 5, &packets, 188, 543);
+    send_part(b"mode 5, room of 544: ", 5, &packets, 188, 544);
     send_part(b"packet of 187 bytes: ", 0, &packets, 187, 1632);
     send_part(b"packet of 188 bytes: ", 0, &packets, 188, 1632);
     send_part(b"packet of 189 bytes: ", 0, &packets, 189, 1632);
     send_part(b"rate 0, room of 1631: ", 0, &packets, 188, 1631);
-    run_part(b"run at rate 5: ", 5, &packets, 376, 3264);
+    run_part(b"run in mode 5, room of 1087: ", 5, &packets, 376, 1087);
+    run_part(b"run in mode 5, room of 1088: ", 5, &packets, 376, 1088);
+    run_part(b"run in mode 6: ", 6, &packets, 376, 3264);
     run_part(b"run of 375 bytes: ", 0, &packets, 375, 3264);
     run_part(
         b"run whose second packet begins 00: ",

@@ -13,6 +13,8 @@ use lib.Seq.{take-at, take-append-seam}
 use Rattle.common.specs.Choice.{pick}
 use Rattle.common.specs.Lists.{All, Length}
 use Rattle.puncturing.specs.Mode.{modeOf}
+use Rattle.puncturing.specs.WellFormed.{WellFormed}
+use Rattle.puncturing.proofs.WellFormed.{well-formed}
 use Rattle.sender.specs.Standard.{onAir}
 use Rattle.sender.specs.Input.{packetFor, packetsFor, sentNumber}
 use Rattle.sender.specs.Send.{newNumber}
@@ -42,7 +44,10 @@ count-packets bytes = length-packets (length bytes / 188) bytes
 pub held-are : (s : Sender) (bytes : List ℕ) → heldBytes (holding s bytes) ≡ bytes
 held-are s bytes = take-append-seam bytes _
 
-module _ (rate : ℕ) (h : rate < 5) where
+module _ (rate : ℕ) (h : rate < 6) where
+  formed : WellFormed (modeOf rate)
+  formed = well-formed rate h
+
   sizes : (bytes : List ℕ) → All (Length 188) (packetsFor (packetsOf bytes))
   sizes bytes = packet-lengths (packetsOf bytes) (packets-inputs bytes)
 
@@ -51,14 +56,14 @@ module _ (rate : ℕ) (h : rate < 5) where
   transmitted-none =
       let e = sym (packets-none [] refl) in
       record {
-        on-air = calls-on-air rate h [] tt ∙ ap (λ (l : List (List ℕ)). onAir (modeOf rate) (packetsFor l)) e;
+        on-air = calls-on-air [] tt modeOf rate formed ∙ ap (λ (l : List (List ℕ)). onAir (modeOf rate) (packetsFor l)) e;
         answered = ap (map sentNumber) e;
-        state = ap (λ (s : Sender). holding s []) (calls-sender rate h [] tt ∙ ap (λ (l : List (List ℕ)). senderOf rate (packetsFor l)) e);
+        state = ap (λ (s : Sender). holding s []) (calls-sender [] tt modeOf rate formed ∙ ap (λ (l : List (List ℕ)). senderOf modeOf rate (packetsFor l)) e);
       }
 
   -- a piece more
   module _ (bytes piece room answers : List ℕ) {number count packets : ℕ} {next : Sending} {left told : List ℕ}
-      (f : FeedsAll (holding (senderOf rate (packetsFor (packetsOf bytes))) (restOf bytes)) piece room answers number count packets next left told) where
+      (f : FeedsAll (holding (senderOf modeOf rate (packetsFor (packetsOf bytes))) (restOf bytes)) piece room answers number count packets next left told) where
     before : List (List ℕ)
     before = packetsFor (packetsOf bytes)
 
@@ -66,11 +71,11 @@ module _ (rate : ℕ) (h : rate < 5) where
     came = restOf bytes ++ piece
 
     w : Sending
-    w = holding (senderOf rate (packetsFor (packetsOf bytes))) (restOf bytes)
+    w = holding (senderOf modeOf rate (packetsFor (packetsOf bytes))) (restOf bytes)
 
     held : heldBytes w ≡ restOf bytes
     unfolding w
-    held = held-are (senderOf rate (packetsFor (packetsOf bytes))) (restOf bytes)
+    held = held-are (senderOf modeOf rate (packetsFor (packetsOf bytes))) (restOf bytes)
 
     packets-are : packetsOf (heldBytes w ++ piece) ≡ packetsOf came
     unfolding came
@@ -81,20 +86,20 @@ module _ (rate : ℕ) (h : rate < 5) where
     all-packets = ap packetsFor (cut bytes piece .packets) ∙ map-append packetFor (packetsOf bytes) (packetsOf (restOf bytes ++ piece))
 
     -- what the sender sends after the packets before
-    further : (onAir (modeOf rate) before ++ flatten (callsSymbols (senderOf rate before) (packetsFor (packetsOf came)))
+    further : (onAir (modeOf rate) before ++ flatten (callsSymbols modeOf (senderOf modeOf rate before) (packetsFor (packetsOf came)))
         ≡ onAir (modeOf rate) (before ++ packetsFor (packetsOf came)))
-        × (callsSender (senderOf rate before) (packetsFor (packetsOf came)) ≡ senderOf rate (before ++ packetsFor (packetsOf came)))
+        × (callsSender modeOf (senderOf modeOf rate before) (packetsFor (packetsOf came)) ≡ senderOf modeOf rate (before ++ packetsFor (packetsOf came)))
     unfolding before
     further =
-        sent-further rate h before (sizes bytes) (packets-inputs came)
-        (history (senderOf rate before) (packetsOf came) (ready-sent rate h before (sizes bytes)) (packets-inputs came))
+        sent-further rate formed before (sizes bytes) (packets-inputs came)
+        (history (senderOf modeOf rate before) (packetsOf came) (ready-sent rate formed before (sizes bytes)) (packets-inputs came))
 
-    sent : take count left ≡ flatten (callsSymbols (senderOf rate before) (packetsFor (packetsOf came)))
+    sent : take count left ≡ flatten (callsSymbols modeOf (senderOf modeOf rate before) (packetsFor (packetsOf came)))
     unfolding before w
     sent =
         ap (take count) (f .written)
         ∙ take-at (fedSymbols w piece) (drop count room) count (sym (f .counted))
-        ∙ ap (λ (l : List (List ℕ)). flatten (callsSymbols (senderOf rate before) (packetsFor l))) packets-are
+        ∙ ap (λ (l : List (List ℕ)). flatten (callsSymbols modeOf (senderOf modeOf rate before) (packetsFor l))) packets-are
 
     answers-count : length (fedAnswers w piece) ≡ packets
     unfolding w
@@ -122,8 +127,8 @@ module _ (rate : ℕ) (h : rate < 5) where
           ∙ ap (map sentNumber) (sym (cut bytes piece .packets));
       state =
           f .sending
-          ∙ ap (λ (x : List ℕ). holding (callsSender (senderOf rate before) (packetsFor (packetsOf (x ++ piece)))) (restOf (x ++ piece))) held
-          ∙ ap₂ holding (further .1 ∙ ap (senderOf rate) (sym all-packets)) (sym (cut bytes piece .rest));
+          ∙ ap (λ (x : List ℕ). holding (callsSender modeOf (senderOf modeOf rate before) (packetsFor (packetsOf (x ++ piece)))) (restOf (x ++ piece))) held
+          ∙ ap₂ holding (further .1 ∙ ap (senderOf modeOf rate) (sym all-packets)) (sym (cut bytes piece .rest));
     }
 
   transmitted-feeds : {bytes symbols numbers : List ℕ} {w : Sending} → Transmitted rate bytes symbols numbers w
@@ -134,7 +139,7 @@ module _ (rate : ℕ) (h : rate < 5) where
       record {
         on-air = append-nil symbols ∙ t .on-air ∙ ap (λ (l : List ℕ). onAir (modeOf rate) (packetsFor (packetsOf l))) (sym b);
         answered = append-nil numbers ∙ t .answered ∙ ap (λ (l : List ℕ). map sentNumber (packetsOf l)) (sym b);
-        state = t .state ∙ ap (λ (l : List ℕ). holding (senderOf rate (packetsFor (packetsOf l))) (restOf l)) (sym b);
+        state = t .state ∙ ap (λ (l : List ℕ). holding (senderOf modeOf rate (packetsFor (packetsOf l))) (restOf l)) (sym b);
       }
   transmitted-feeds {bytes} {symbols} {numbers} {w} t piece room answers (fed {number = n} {count = c} {packets = k} {next = next} {left = left} {told = told} z f) =
       subst (λ (x : Bool). Transmitted rate (bytes ++ pick x piece []) (symbols ++ take c left) (numbers ++ take k told) next) (sym (eq-eqb n 0 (f .done)))
@@ -145,7 +150,7 @@ module _ (rate : ℕ) (h : rate < 5) where
   transmitted-feedings {bytes} {symbols} {numbers} t none = record {
     on-air = append-nil symbols ∙ t .on-air ∙ ap (λ (l : List ℕ). onAir (modeOf rate) (packetsFor (packetsOf l))) (sym (append-nil bytes));
     answered = append-nil numbers ∙ t .answered ∙ ap (λ (l : List ℕ). map sentNumber (packetsOf l)) (sym (append-nil bytes));
-    state = t .state ∙ ap (λ (l : List ℕ). holding (senderOf rate (packetsFor (packetsOf l))) (restOf l)) (sym (append-nil bytes));
+    state = t .state ∙ ap (λ (l : List ℕ). holding (senderOf modeOf rate (packetsFor (packetsOf l))) (restOf l)) (sym (append-nil bytes));
   }
   transmitted-feedings {bytes} {symbols} {numbers} t (feeding {bytes = b} {symbols = s} {numbers = n} piece room answers left told number count packets f g) =
       let r = transmitted-feedings (transmitted-feeds t piece room answers f) g in
@@ -174,7 +179,7 @@ module _ (rate : ℕ) (h : rate < 5) where
   module _ {bytes symbols numbers : List ℕ} {w : Sending} (t : Transmitted rate bytes symbols numbers w) where
     -- the last bytes, exactly, and so many
     pub held-bytes : heldBytes w ≡ restOf bytes
-    held-bytes = ap heldBytes (t .state) ∙ held-are (senderOf rate (packetsFor (packetsOf bytes))) (restOf bytes)
+    held-bytes = ap heldBytes (t .state) ∙ held-are (senderOf modeOf rate (packetsFor (packetsOf bytes))) (restOf bytes)
 
     pub held-count : w .held ≡ length bytes % 188
     held-count = ap (λ (x : Sending). x .held) (t .state) ∙ length-rest bytes
@@ -183,12 +188,12 @@ module _ (rate : ℕ) (h : rate < 5) where
     pub transmitted-range : sendingInRange w ≡ true
     transmitted-range =
         let packets = packetsFor (packetsOf bytes) in
-        ap sendingInRange (t .state) ∙ holding-range (senderOf rate packets) bytes (ready-sent rate h packets (sizes bytes))
+        ap sendingInRange (t .state) ∙ holding-range (senderOf modeOf rate packets) bytes (ready-sent rate formed packets (sizes bytes))
 
 -- a fresh one that was not refused is in range
 pub fresh-range : (rate : ℕ) → newNumber rate ≡ 0 → sendingInRange (freshSending rate) ≡ true
-fresh-range rate e = let h = known (ltb rate 5) refl e in transmitted-range rate h (every-history rate h none)
+fresh-range rate e = let h = known (ltb rate 6) refl e in transmitted-range rate h (every-history rate h none)
   where
-    known : (t : Bool) → ltb rate 5 ≡ t → _≡_ {A = ℕ} (pick t 0 6) 0 → rate < 5
-    known true f e = ltb-true rate 5 f
+    known : (t : Bool) → ltb rate 6 ≡ t → _≡_ {A = ℕ} (pick t 0 6) 0 → rate < 6
+    known true f e = ltb-true rate 6 f
     known false f e = absurd (omega arith)

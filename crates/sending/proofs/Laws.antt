@@ -7,6 +7,7 @@ use Prim.Native.Nat.{ℕ}
 use native.Mathlib.Omega.{arith}
 use borrow.Author.Tests.{lt-ltb, le-ltb}
 use lib.ListN.{length}
+use Rattle.puncturing.specs.Mode.{modeOf}
 use Rattle.sender.specs.Input.{packetsFor}
 use Rattle.sender.specs.Calls.{callsSender}
 use Rattle.sender.specs.declared.Sender.{Sender}
@@ -18,9 +19,9 @@ use Rattle.sending.specs.declared.Sending.{Sending}
 use Rattle.sending.proofs.Pieces.{length-rest, sending-range}
 use Rattle.sending.proofs.Progress.{ready-of}
 
-pub holding-range : (s : Sender) (bytes : List ℕ) → Ready s → sendingInRange (holding s (restOf bytes)) ≡ true
+pub holding-range : (s : Sender) (bytes : List ℕ) → Ready modeOf s → sendingInRange (holding s (restOf bytes)) ≡ true
 holding-range s bytes g =
-    simp (range-test s (ready-range s g), lt-ltb (length (restOf bytes)) 188 (omega (arith, length-rest bytes)))
+    simp (range-test modeOf s (ready-range s g), lt-ltb (length (restOf bytes)) 188 (omega (arith, length-rest bytes)))
 
 module _ {w : Sending} {piece room answers : List ℕ} {number count packets : ℕ} {next : Sending} {left told : List ℕ}
     (f : Feeds w piece room answers number count packets next left told) where
@@ -48,4 +49,4 @@ pub fed-range : {w : Sending} {piece room answers : List ℕ} {number count pack
 fed-range {w} {piece} n m e f =
     let g = ready-of (w .sender) n m (sending-range w e .0) in
     let packets = packetsFor (wholePackets w piece) in
-    ap sendingInRange (f .sending) ∙ holding-range (callsSender (w .sender) packets) (heldBytes w ++ piece) (ready-calls (w .sender) packets g)
+    ap sendingInRange (f .sending) ∙ holding-range (callsSender modeOf (w .sender) packets) (heldBytes w ++ piece) (ready-calls (w .sender) packets g)

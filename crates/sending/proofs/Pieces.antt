@@ -13,6 +13,7 @@ use lib.Seq.{drop-at, take-append-le, drop-append-le, drop-drop}
 use Rattle.common.proofs.Choice.{both-true}
 use Rattle.common.proofs.Lists.{put-after}
 use Rattle.randomizer.specs.Stream.{inPackets}
+use Rattle.puncturing.specs.Mode.{modeOf}
 use Rattle.sender.specs.Send.{inRange}
 use Rattle.transmission.specs.Run.{packetsOf}
 use Rattle.transmission.proofs.Buffers.{packets-more}
@@ -106,7 +107,7 @@ padded-full bytes e = let z : 188 - length bytes ≡ 0 = omega arith in ap (λ (
 
 -- ---- a sending in range
 
-pub sending-range : (w : Sending) → sendingInRange w ≡ true → (inRange (w .sender) ≡ true) × (w .held < 188)
+pub sending-range : (w : Sending) → sendingInRange w ≡ true → (inRange modeOf (w .sender) ≡ true) × (w .held < 188)
 sending-range w e =
-    let p = both-true (inRange (w .sender)) (ltb (w .held) 188) e in
+    let p = both-true (inRange modeOf (w .sender)) (ltb (w .held) 188) e in
     (p .0, ltb-true (w .held) 188 (p .1))

@@ -10,10 +10,10 @@ use native.Mathlib.Numerals.{add-one}
 use borrow.Rule.Slice.PartMut.{putMid, midOf}
 use lib.ListN.{length, getD, take, drop, set, length-append, length-drop, drop-of-length-le}
 use lib.Seq.{take-all, take-at, drop-at, drop-drop, drop-cons, set-at, take-append-add, drop-append-add, length-take-le}
-use Rattle.inner_code.specs.Encode.{symbolCount}
+use Rattle.puncturing.specs.Mode.{modeOf}
 use Rattle.inner_code.proofs.Coder as range
 use Rattle.sender.specs.Input.{isInput, packetFor, packetsFor, sentNumber}
-use Rattle.sender.specs.Send.{inRange, sentSymbols, senderAfter, Sends}
+use Rattle.sender.specs.Send.{inRange, sentSymbols, sentCount, senderAfter, Sends}
 use Rattle.sender.specs.Calls.{callsSymbols, callsSender}
 use Rattle.sender.specs.declared.Sender.{Sender}
 use Rattle.sender.proofs.Inputs.{input-test, packet-size}
@@ -28,13 +28,15 @@ use Rattle.sending.specs.declared.Sending.{Sending}
 use Rattle.sending.proofs.Pieces.{rest-few, rest-more, packets-few}
 
 -- a sender in range whose arrays are whole
-pub ready-of : (s : Sender) → length (s .interleaver .branches .cells) ≡ 1122 → length (s .interleaver .branches .positions) ≡ 12 → inRange s ≡ true → Ready s
+pub ready-of : (s : Sender) → length (s .interleaver .branches .cells) ≡ 1122 → length (s .interleaver .branches .positions) ≡ 12 → inRange modeOf s ≡ true → Ready modeOf s
 ready-of s n m e =
-    let g = in-range s e in
+    let g = in-range modeOf s e in
+    let c = range.in-range (s .coder) (g .coder) in
     record {
       place = g .place;
       branches = record { cells = n; positions = m; range = g .branches };
-      coder = range.in-range (s .coder) (g .coder);
+      formed = range.formed (s .coder) c;
+      coder = c;
     }
 
 -- what is left: the bytes held, and those of the piece from at on
@@ -43,7 +45,7 @@ leftOf w piece held at = take held (w .pending) ++ drop at piece
 
 -- The symbols and the answers in front are written, those of what is left are still to come, and together they are those of the piece.
 pub record Progress (w : Sending) (piece room₀ answers₀ room answers : List ℕ) (s : Sender) (held at count packets : ℕ) : Type 0 where
-  pub ready : Ready s
+  pub ready : Ready modeOf s
   pub short : held < 188
   pub within : at ≤ length piece
   pub front : List ℕ
@@ -52,14 +54,14 @@ pub record Progress (w : Sending) (piece room₀ answers₀ room answers : List 
   pub numbered : length told ≡ packets
   pub written : room ≡ front ++ drop count room₀
   pub answered : answers ≡ told ++ drop packets answers₀
-  pub symbols : front ++ flatten (callsSymbols s (packetsFor (packetsOf (leftOf w piece held at)))) ≡ fedSymbols w piece
+  pub symbols : front ++ flatten (callsSymbols modeOf s (packetsFor (packetsOf (leftOf w piece held at)))) ≡ fedSymbols w piece
   pub numbers : told ++ map sentNumber (packetsOf (leftOf w piece held at)) ≡ fedAnswers w piece
-  pub sender : callsSender s (packetsFor (packetsOf (leftOf w piece held at))) ≡ callsSender (w .sender) (packetsFor (wholePackets w piece))
+  pub sender : callsSender modeOf s (packetsFor (packetsOf (leftOf w piece held at))) ≡ callsSender modeOf (w .sender) (packetsFor (wholePackets w piece))
   pub rest : restOf (leftOf w piece held at) ≡ restOf (heldBytes w ++ piece)
   pub total : packets + (held + (length piece - at)) / 188 ≡ wholeCount w piece
   pub few : count ≤ 1632 * packets
 
-pub progress-start : (w : Sending) (piece room answers : List ℕ) → Ready (w .sender) → w .held < 188
+pub progress-start : (w : Sending) (piece room answers : List ℕ) → Ready modeOf (w .sender) → w .held < 188
     → Progress w piece room answers room answers (w .sender) (w .held) 0 0 0
 progress-start w piece room answers g h = record {
   ready = g;
@@ -114,15 +116,15 @@ module _ {w : Sending} {piece room₀ answers₀ room answers : List ℕ} {s : S
     unfolding callsSymbols flatten
     all-symbols =
         sym (append-nil (p .front))
-        ∙ ap (λ (l : List (List ℕ)). p .front ++ flatten (callsSymbols s (packetsFor l))) (sym none-left)
+        ∙ ap (λ (l : List (List ℕ)). p .front ++ flatten (callsSymbols modeOf s (packetsFor l))) (sym none-left)
         ∙ p .symbols
 
     all-told : p .told ≡ fedAnswers w piece
     all-told = sym (append-nil (p .told)) ∙ ap (λ (l : List (List ℕ)). p .told ++ map sentNumber l) (sym none-left) ∙ p .numbers
 
-    last-sender : s ≡ callsSender (w .sender) (packetsFor (wholePackets w piece))
+    last-sender : s ≡ callsSender modeOf (w .sender) (packetsFor (wholePackets w piece))
     unfolding callsSender
-    last-sender = ap (λ (l : List (List ℕ)). callsSender s (packetsFor l)) (sym none-left) ∙ p .sender
+    last-sender = ap (λ (l : List (List ℕ)). callsSender modeOf s (packetsFor l)) (sym none-left) ∙ p .sender
 
     last-rest : leftOf w piece held at ≡ restOf (heldBytes w ++ piece)
     last-rest = sym (rest-few (leftOf w piece held at) few-left) ∙ p .rest
@@ -186,10 +188,10 @@ module _ {w : Sending} {piece room₀ answers₀ room answers : List ℕ} {s : S
     unfolding packet
     packet-sized = packet-size input is-input
 
-    count-is : length (sentSymbols s packet) ≡ symbolCount (s .coder)
-    count-is = symbol-count s packet (ready-range s (p .ready)) packet-sized
+    count-is : length (sentSymbols modeOf s packet) ≡ sentCount modeOf s
+    count-is = symbol-count s packet (ready-range s (p .ready)) packet-sized (p .ready .formed)
 
-    few-symbols : symbolCount (s .coder) ≤ 1632
+    few-symbols : sentCount modeOf s ≤ 1632
     few-symbols = most-symbols (s .coder) (p .ready .coder)
 
     one-more : packets + 1 ≤ wholeCount w piece
@@ -201,7 +203,7 @@ module _ {w : Sending} {piece room₀ answers₀ room answers : List ℕ} {s : S
     room-enough : count + 1632 ≤ length room
     room-enough = omega (arith, one-more, room-length, roomy .symbols, p .few)
 
-    answered-call : Answered s input (drop count room)
+    answered-call : Answered modeOf s input (drop count room)
     answered-call = input-sent s input (drop count room) (p .ready) is-input (omega (arith, length-drop count room, room-enough, few-symbols))
 
     front-room : take count room ≡ p .front
@@ -221,15 +223,15 @@ module _ {w : Sending} {piece room₀ answers₀ room answers : List ℕ} {s : S
 
     -- a call on this packet and the rest of the room
     module _ {number n : ℕ} {next : Sender} {left : List ℕ}
-        (m : Sends s (take held (w .pending) ++ take (at + (188 - held) - at) (drop at piece)) (midOf count (length room - count) room) number n next left) where
-      kept : Sends s input (drop count room) number n next left
+        (m : Sends modeOf s (take held (w .pending) ++ take (at + (188 - held) - at) (drop at piece)) (midOf count (length room - count) room) number n next left) where
+      kept : Sends modeOf s input (drop count room) number n next left
       unfolding input
       kept =
           let k : at + (188 - held) - at ≡ 188 - held = omega arith in
-          subst₂ (λ (a b : List ℕ). Sends s a b number n next left) (ap (λ (j : ℕ). take held (w .pending) ++ take j (drop at piece)) k)
+          subst₂ (λ (a b : List ℕ). Sends modeOf s a b number n next left) (ap (λ (j : ℕ). take held (w .pending) ++ take j (drop at piece)) k)
           (take-all (length room - count) (drop count room) (omega (arith, length-drop count room))) m
 
-      sent-count : n ≡ symbolCount (s .coder)
+      sent-count : n ≡ sentCount modeOf s
       sent-count = kept .counted ∙ answered-call .count
 
       pub progress-total : count + n ≤ length room₀
@@ -239,16 +241,16 @@ module _ {w : Sending} {piece room₀ answers₀ room answers : List ℕ} {s : S
           → Progress w piece room₀ answers₀ (putMid count (length room - count) room left) (set answers packets said) next 0 (at + (188 - held)) (count + n) (packets + 1)
       unfolding packet callsSymbols callsSender flatten
       progress-more {said} y =
-          let e : next ≡ senderAfter s packet = kept .sender ∙ answered-call .sender in
-          let k : length (sentSymbols s packet) ≡ n = count-is ∙ sym sent-count in
+          let e : next ≡ senderAfter modeOf s packet = kept .sender ∙ answered-call .sender in
+          let k : length (sentSymbols modeOf s packet) ≡ n = count-is ∙ sym sent-count in
           let a : said ≡ sentNumber input = y ∙ kept .answered ∙ answered-call .number in
           record {
-            ready = subst Ready (sym e) (ready-after s packet (p .ready));
+            ready = subst (Ready modeOf) (sym e) (ready-after s packet (p .ready));
             short = omega arith;
             within = end-within;
-            front = p .front ++ sentSymbols s packet;
+            front = p .front ++ sentSymbols modeOf s packet;
             told = p .told ++ said ∷ [];
-            counted = length-append (p .front) (sentSymbols s packet) ∙ ap₂ (λ (a b : ℕ). a + b) (p .counted) k;
+            counted = length-append (p .front) (sentSymbols modeOf s packet) ∙ ap₂ (λ (a b : ℕ). a + b) (p .counted) k;
             numbered = length-append (p .told) (said ∷ []) ∙ ap (λ (j : ℕ). j + 1) (p .numbered);
             written =
                 ap₂ (λ (a b : List ℕ). a ++ b) front-room
@@ -256,14 +258,14 @@ module _ {w : Sending} {piece room₀ answers₀ room answers : List ℕ} {s : S
                 ∙ append-nil left
                 ∙ kept .written
                 ∙ answered-call .written
-                ∙ ap₂ (λ (j : ℕ) (l : List ℕ). sentSymbols s packet ++ drop j l) (sym sent-count) back-room
-                ∙ ap (λ (l : List ℕ). sentSymbols s packet ++ l) (drop-drop n count room₀))
-                ∙ sym (append-assoc (p .front) (sentSymbols s packet) (drop (count + n) room₀));
+                ∙ ap₂ (λ (j : ℕ) (l : List ℕ). sentSymbols modeOf s packet ++ drop j l) (sym sent-count) back-room
+                ∙ ap (λ (l : List ℕ). sentSymbols modeOf s packet ++ l) (drop-drop n count room₀))
+                ∙ sym (append-assoc (p .front) (sentSymbols modeOf s packet) (drop (count + n) room₀));
             answered = next-answers said;
             symbols =
-                ap (λ (x : Sender). (p .front ++ sentSymbols s packet) ++ flatten (callsSymbols x (packetsFor (packetsOf (leftOf w piece 0 (at + (188 - held))))))) e
-                ∙ append-assoc (p .front) (sentSymbols s packet) _
-                ∙ ap (λ (l : List (List ℕ)). p .front ++ flatten (callsSymbols s (packetsFor l))) (sym cut-packet)
+                ap (λ (x : Sender). (p .front ++ sentSymbols modeOf s packet) ++ flatten (callsSymbols modeOf x (packetsFor (packetsOf (leftOf w piece 0 (at + (188 - held))))))) e
+                ∙ append-assoc (p .front) (sentSymbols modeOf s packet) _
+                ∙ ap (λ (l : List (List ℕ)). p .front ++ flatten (callsSymbols modeOf s (packetsFor l))) (sym cut-packet)
                 ∙ p .symbols;
             numbers =
                 append-assoc (p .told) (said ∷ []) _
@@ -271,8 +273,8 @@ module _ {w : Sending} {piece room₀ answers₀ room answers : List ℕ} {s : S
                 ∙ ap (λ (l : List (List ℕ)). p .told ++ map sentNumber l) (sym cut-packet)
                 ∙ p .numbers;
             sender =
-                ap (λ (x : Sender). callsSender x (packetsFor (packetsOf (leftOf w piece 0 (at + (188 - held)))))) e
-                ∙ ap (λ (l : List (List ℕ)). callsSender s (packetsFor l)) (sym cut-packet)
+                ap (λ (x : Sender). callsSender modeOf x (packetsFor (packetsOf (leftOf w piece 0 (at + (188 - held)))))) e
+                ∙ ap (λ (l : List (List ℕ)). callsSender modeOf s (packetsFor l)) (sym cut-packet)
                 ∙ p .sender;
             rest = ap restOf (sym later) ∙ sym (rest-more (leftOf w piece held at) enough) ∙ p .rest;
             total = omega (arith, p .total, p .short, h);

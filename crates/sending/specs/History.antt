@@ -22,9 +22,9 @@ pub data Feedings : Sending → List ℕ → List ℕ → List ℕ → Sending �
       → Feeds w piece room answers number count packets next left told → Feedings next bytes symbols numbers last
       → Feedings w (pick (eqb number 0) piece [] ++ bytes) (take count left ++ symbols) (take packets told ++ numbers) last
 
--- What bytes come to, from a fresh sending: the symbols of EN 300 421 for their whole packets, with null packets put in; for each packet the
+-- What bytes come to, from a fresh sending: the symbols of the standard for their whole packets, with null packets put in; for each packet the
 -- number that says whether it was replaced; the sender that has sent them; and the bytes after the last whole packet, held.
 pub record Transmitted (rate : ℕ) (bytes symbols numbers : List ℕ) (w : Sending) : Type 0 where
   pub on-air : symbols ≡ onAir (modeOf rate) (packetsFor (packetsOf bytes))
   pub answered : numbers ≡ map sentNumber (packetsOf bytes)
-  pub state : w ≡ holding (senderOf rate (packetsFor (packetsOf bytes))) (restOf bytes)
+  pub state : w ≡ holding (senderOf modeOf rate (packetsFor (packetsOf bytes))) (restOf bytes)

@@ -7,6 +7,7 @@ use Prim.Native.Nat.{ℕ, _+_, _-_, _/_, _%_, _≤_}
 use lib.Dec.{ltb}
 use lib.ListN.{length, take, drop, replicate}
 use Rattle.common.specs.Choice.{pick}
+use Rattle.puncturing.specs.Mode.{modeOf}
 use Rattle.sender.specs.Input.{packetsFor, sentNumber}
 use Rattle.sender.specs.Send.{freshSender, inRange}
 use Rattle.sender.specs.Calls.{callsSymbols, callsSender}
@@ -31,7 +32,7 @@ freshSending rate = record { sender = freshSender rate; pending = replicate 188 
 
 -- fewer bytes than a packet has are held
 abbrev pub sendingInRange : Sending → Bool
-sendingInRange w = pick (inRange (w .sender)) (ltb (w .held) 188) false
+sendingInRange w = pick (inRange modeOf (w .sender)) (ltb (w .held) 188) false
 
 -- the bytes after the last whole packet
 unfoldable pub restOf : List ℕ → List ℕ
@@ -46,13 +47,13 @@ wholeCount w piece = (w .held + length piece) / 188
 
 -- what is sent for them, with null packets put in: the symbols, the number of the answer for each, and the sending after it
 abbrev pub fedSymbols : Sending → List ℕ → List ℕ
-fedSymbols w piece = flatten (callsSymbols (w .sender) (packetsFor (wholePackets w piece)))
+fedSymbols w piece = flatten (callsSymbols modeOf (w .sender) (packetsFor (wholePackets w piece)))
 
 abbrev pub fedAnswers : Sending → List ℕ → List ℕ
 fedAnswers w piece = map sentNumber (wholePackets w piece)
 
 abbrev pub fedSending : Sending → List ℕ → Sending
-fedSending w piece = holding (callsSender (w .sender) (packetsFor (wholePackets w piece))) (restOf (heldBytes w ++ piece))
+fedSending w piece = holding (callsSender modeOf (w .sender) (packetsFor (wholePackets w piece))) (restOf (heldBytes w ++ piece))
 
 -- 5 for a state out of range, 4 where there is not room for 1,632 symbols, the most that a packet gives, or not a byte for the answer, for each
 -- packet that is whole; 0 where nothing is refused

@@ -4,6 +4,7 @@ ghost use mathlib.Core.List.{_++_};
 ghost use Prim.Native.Nat.{_+_, _/_, _<_, _≤_};
 ghost use lib.ListN.{length, take};
 ghost use Rattle.answer.specs.Number.{numberOf};
+ghost use Rattle.puncturing.specs.Mode.{modeOf};
 ghost use Rattle.sender.specs.Send.{newNumber, Sends};
 ghost use Rattle.sending.specs.Sending.{padded, freshSending, sendingInRange, Roomy, FeedsAll, Feeds};
 use answer::Answer;
@@ -132,7 +133,7 @@ fn send_joined(
 ) -> sender::Sent
     requires { ⌜ held + length (now more) ≡ 188 ⌝ }
     ensures { λ r. ⌜
-        Sends sender (take held pending ++ now (more .entry)) (now (room .entry)) (numberOf (r .answer)) (r .count) (r .sender) (now (room .exit)) ⌝ }
+        Sends modeOf sender (take held pending ++ now (more .entry)) (now (room .entry)) (numberOf (r .answer)) (r .count) (r .sender) (now (room .exit)) ⌝ }
 {
     let packet = joined(pending, held, more);
     sender.send(&packet, room)

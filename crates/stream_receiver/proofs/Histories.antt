@@ -4,19 +4,18 @@
 use mathlib.Core.Path.{_≡_, refl, sym, ap, ap₂, subst, subst₂, _∙_}
 use mathlib.Core.Bool.{Bool, true, false}
 use mathlib.Core.List.{List, [], _∷_, _++_, append-assoc, append-nil, flatten}
-use Prim.Native.Nat.{ℕ, _+_, _-_, _*_, _/_, _%_, _≤_, _<_}
+use Prim.Native.Nat.{ℕ, _+_, _-_, _*_, _/_, _%_, _≤_}
 use native.Mathlib.Omega.{arith}
-use borrow.Author.Tests.{lt-ltb, le-ltb, eq-eqb, ne-eqb, ltb-false}
+use borrow.Author.Tests.{eq-eqb, ne-eqb, ltb-false}
 use lib.Dec.{ltb, eqb}
-use lib.ListN.{length, take, drop, length-append}
+use lib.ListN.{length, take}
 use Rattle.common.specs.Choice.{pick}
 use Rattle.receiver.specs.Receive.{freshReceiver}
 use Rattle.receiver.specs.declared.Receiver.{Receiver}
-use Rattle.recording.specs.Recording.{restOf, Recording}
+use Rattle.recording.specs.Recording.{restOf}
 use Rattle.recording.proofs.Decided.{recording-unique, recording-total}
-use Rattle.report.specs.Text.{reportText, reportNumber, reportLength, reportRoom}
-use Rattle.stream_receiver.specs.Feed.{holding, freshStream, streamInRange, capacityOf, feedNumber, streamReportNumber, streamReportLength, streamReportRoom, Feeds, refused, fed}
-use Rattle.stream_receiver.specs.History.{Feeding, Feedings, afterFeedings, bytesIn, bytesOut, Reception, PassReport, textNumber, textLength, textRoom, Reports}
+use Rattle.stream_receiver.specs.Feed.{holding, freshStream, capacityOf, feedNumber, Feeds, refused, fed}
+use Rattle.stream_receiver.specs.History.{Feeding, Feedings, afterFeedings, bytesIn, bytesOut, Reception}
 use Rattle.stream_receiver.specs.declared.StreamReceiver.{StreamReceiver}
 use Rattle.stream_receiver.proofs.Laws.{reception-none, reception-held, reception-range, reception-capacity, reception-taken-piece}
 
@@ -101,34 +100,3 @@ reception-total bytes h =
       stream = holding (r .last) (restOf bytes);
       reception = record { packets = r .packets; recording = r .recording; given = refl; kept = refl; few = h };
     }
-
--- ---- the report
-
--- the text of the report on all that came
-report-text : {bytes written text : List ℕ} {i : StreamReceiver} → Reception bytes written i → PassReport bytes text → reportText (i .receiver .counts) (i .held) ≡ text
-report-text {bytes} r p =
-    let e = recording-unique (r .recording) (p .recording) in
-    ap₂ (λ (s : Receiver) (n : ℕ). reportText (s .counts) n) (e .state) (reception-held r) ∙ sym (p .text-is)
-
-pub report-total : (bytes written : List ℕ) (i : StreamReceiver) → Reception bytes written i → PassReport bytes (reportText (i .receiver .counts) (i .held))
-report-total bytes written i r = record {
-  packets = r .packets;
-  last = i .receiver;
-  recording = r .recording;
-  text-is = ap (reportText (i .receiver .counts)) (reception-held r);
-}
-
-pub reports : (i : StreamReceiver) (room : List ℕ) (number count : ℕ) (exit : List ℕ)
-    → number ≡ streamReportNumber i room → count ≡ streamReportLength i room → exit ≡ streamReportRoom i room → Reports i room number count exit
-reports i room number count exit n c w = record {
-  number-is = n;
-  count-is = c;
-  exit-is = w;
-  whole = λ bytes written text r p.
-      let e = report-text r p in
-      let g = reception-range r in (
-        n ∙ ap (λ (t : Bool). pick t (reportNumber (i .receiver .counts) (i .held) room) 5) g ∙ ap (λ (x : List ℕ). textNumber x room) e,
-        c ∙ ap (λ (t : Bool). pick t (reportLength (i .receiver .counts) (i .held) room) 0) g ∙ ap (λ (x : List ℕ). textLength x room) e,
-        w ∙ ap (λ (t : Bool). pick t (reportRoom (i .receiver .counts) (i .held) room) room) g ∙ ap (λ (x : List ℕ). textRoom x room) e,
-      );
-}

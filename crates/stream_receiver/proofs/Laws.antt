@@ -1,25 +1,22 @@
 -- Laws of what bytes come to: none, one piece after another, and that it is decided.
 -- Assumes nothing.
-use mathlib.Core.Path.{_≡_, refl, sym, ap, ap₂, subst, subst₂, _∙_}
-use mathlib.Core.Bool.{Bool, true, false}
-use mathlib.Core.List.{List, [], _∷_, _++_, append-assoc, append-nil, flatten}
+use mathlib.Core.Path.{_≡_, refl, sym, ap, ap₂, subst, _∙_}
+use mathlib.Core.Bool.{true}
+use mathlib.Core.List.{List, [], _++_, append-assoc, flatten}
 use Prim.Native.Nat.{ℕ, zero, _+_, _-_, _*_, _/_, _%_, _≤_, _<_}
 use native.Mathlib.Omega.{arith}
-use borrow.Author.Tests.{lt-ltb, le-ltb, eq-eqb, ne-eqb, ltb-false}
-use lib.Dec.{ltb, eqb}
+use borrow.Author.Tests.{lt-ltb}
 use lib.ListN.{length, take, drop, replicate, length-append, length-drop, take-append-drop}
 use lib.Seq.{take-at, length-take-le, drop-append-add}
-use Rattle.common.specs.Choice.{pick}
 use Rattle.interleaver.proofs.Blocks.{flatten-join}
-use Rattle.receiver.specs.Receive.{freshReceiver, inRange}
+use Rattle.receiver.specs.Receive.{freshReceiver}
 use Rattle.receiver.specs.declared.Receiver.{Receiver}
 use Rattle.receiver.proofs.Reached.{Sound, sound-range, sound-fresh}
 use Rattle.recording.specs.Recording.{restOf, Recording, Takes}
 use Rattle.recording.proofs.Joins.{recording-join, recording-few}
-use Rattle.recording.proofs.Decided.{recording-unique, recording-total, recording-taken}
-use Rattle.report.specs.Text.{reportText}
-use Rattle.stream_receiver.specs.Feed.{padded, holding, heldBytes, freshStream, streamInRange, capacityOf, feedNumber, TakesPiece, Feeds, refused, fed}
-use Rattle.stream_receiver.specs.History.{Reception, PassReport}
+use Rattle.recording.proofs.Decided.{recording-taken}
+use Rattle.stream_receiver.specs.Feed.{holding, heldBytes, freshStream, streamInRange, capacityOf, TakesPiece}
+use Rattle.stream_receiver.specs.History.{Reception}
 use Rattle.stream_receiver.specs.declared.StreamReceiver.{StreamReceiver}
 
 -- ---- the bytes held

@@ -1,3 +1,4 @@
 pub mod Pieces
 pub mod Laws
 pub mod Histories
+pub mod Reporting

@@ -10,7 +10,6 @@ use Rattle.common.specs.Choice.{pick}
 use Rattle.receiver.specs.Receive.{freshReceiver, inRange}
 use Rattle.receiver.specs.declared.Receiver.{Receiver}
 use Rattle.recording.specs.Recording.{restOf, Takes}
-use Rattle.report.specs.Text.{reportNumber, reportLength, reportRoom}
 use Rattle.stream_receiver.specs.declared.StreamReceiver.{StreamReceiver}
 
 -- bytes at the front of an array of 204, and 0 after them
@@ -53,13 +52,3 @@ feedNumber i piece room =
 pub data Feeds (i : StreamReceiver) (piece room : List ℕ) (number count : ℕ) (next : StreamReceiver) (exit : List ℕ) : Type 0 where
   refused : number ≡ feedNumber i piece room → 0 < number → count ≡ 0 → next ≡ i → exit ≡ room → Feeds i piece room number count next exit
   fed : feedNumber i piece room ≡ 0 → number ≡ 0 → TakesPiece i piece room count next exit → Feeds i piece room number count next exit
-
--- what writing the report of all that came answers, and the room after it: 5 for a state out of range, and else what the report crate says of the counts and the bytes held
-abbrev pub streamReportNumber : StreamReceiver → List ℕ → ℕ
-streamReportNumber i room = pick (streamInRange i) (reportNumber (i .receiver .counts) (i .held) room) 5
-
-abbrev pub streamReportLength : StreamReceiver → List ℕ → ℕ
-streamReportLength i room = pick (streamInRange i) (reportLength (i .receiver .counts) (i .held) room) 0
-
-abbrev pub streamReportRoom : StreamReceiver → List ℕ → List ℕ
-streamReportRoom i room = pick (streamInRange i) (reportRoom (i .receiver .counts) (i .held) room) room

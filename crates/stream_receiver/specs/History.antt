@@ -2,16 +2,14 @@
 -- Assumes nothing.
 use mathlib.Core.Path.{_≡_}
 use mathlib.Core.List.{List, [], _∷_, _++_, flatten}
-use Prim.Native.Nat.{ℕ, _*_, _%_, _≤_}
+use Prim.Native.Nat.{ℕ, _*_, _≤_}
 use Prim.{Unit}
-use lib.Dec.{eqb, ltb}
-use lib.ListN.{length, take, drop}
+use lib.Dec.{eqb}
+use lib.ListN.{length, take}
 use Rattle.common.specs.Choice.{pick}
 use Rattle.receiver.specs.Receive.{freshReceiver}
-use Rattle.receiver.specs.declared.Receiver.{Receiver}
 use Rattle.recording.specs.Recording.{restOf, Recording}
-use Rattle.report.specs.Text.{reportText}
-use Rattle.stream_receiver.specs.Feed.{holding, Feeds, streamReportNumber, streamReportLength, streamReportRoom}
+use Rattle.stream_receiver.specs.Feed.{holding, Feeds}
 use Rattle.stream_receiver.specs.declared.StreamReceiver.{StreamReceiver}
 
 -- a call: the piece and the room lent, the number of the answer, how many bytes were written, the stream receiver and the room after it
@@ -50,32 +48,6 @@ pub record Reception (bytes written : List ℕ) (i : StreamReceiver) : Type 0 wh
   pub given : written ≡ flatten packets
   pub kept : i ≡ holding (i .receiver) (restOf bytes)
   pub few : length bytes ≤ 204 * 4294967295
-
--- the text of the report on bytes as one recording
-pub record PassReport (bytes text : List ℕ) : Type 0 where
-  pub packets : List (List ℕ)
-  pub last : Receiver
-  pub recording : Recording freshReceiver bytes [] packets last
-  pub text-is : text ≡ reportText (last .counts) (length bytes % 204)
-
--- the answer, the length and the room after a text is written into a room
-abbrev pub textNumber : List ℕ → List ℕ → ℕ
-textNumber text room = pick (ltb (length room) (length text)) 4 0
-
-abbrev pub textLength : List ℕ → List ℕ → ℕ
-textLength text room = pick (ltb (length room) (length text)) 0 (length text)
-
-abbrev pub textRoom : List ℕ → List ℕ → List ℕ
-textRoom text room = pick (ltb (length room) (length text)) room (text ++ drop (length text) room)
-
--- What writing the report promises: of every stream receiver what the definitions give of its counts and the bytes held, and of one that bytes
--- came to the report on those bytes as one recording.
-pub record Reports (i : StreamReceiver) (room : List ℕ) (number count : ℕ) (exit : List ℕ) : Type 0 where
-  pub number-is : number ≡ streamReportNumber i room
-  pub count-is : count ≡ streamReportLength i room
-  pub exit-is : exit ≡ streamReportRoom i room
-  pub whole : (bytes written text : List ℕ) → Reception bytes written i → PassReport bytes text
-      → (number ≡ textNumber text room) × (count ≡ textLength text room) × (exit ≡ textRoom text room)
 
 -- some bytes came to it
 pub record Came (i : StreamReceiver) : Type 0 where

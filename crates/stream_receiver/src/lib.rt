@@ -7,11 +7,13 @@ ghost use Rattle.answer.specs.Number.{numberOf};
 ghost use Rattle.common.specs.Choice.{pick};
 ghost use Rattle.recording.specs.Recording.{Takes};
 ghost use Rattle.stream_receiver.specs.Feed.{freshStream, streamInRange, capacityOf, padded, heldBytes, TakesPiece, Feeds};
-ghost use Rattle.stream_receiver.specs.History.{Reports};
+ghost use Rattle.stream_receiver.specs.Reporting.{reportOf, Reports};
 use answer::Answer;
 use receiver::Receiver;
 use reception_counts::Counts;
 use recording::Batch;
+use report::Bits;
+use report::Report;
 use report::Written;
 
 // A receiver, and the bytes after the last whole block: how many, and the front of an array that has them.
@@ -138,6 +140,23 @@ fn take_piece(stream: StreamReceiver, piece: &[u8], room: &mut [u8]) -> Taken
     take_blocks(stream, piece, room)
 }
 
+// The report on these counts, in form 2, with so many bytes after the last whole block.
+fn report_of(counts: Counts, rest: u64) -> Report
+    ensures { λ r. ⌜ r ≡ reportOf counts rest ⌝ }
+{
+    Report {
+        taken: counts.taken,
+        filling: counts.filling,
+        delivered: counts.delivered,
+        lost: counts.lost,
+        waiting: counts.waiting,
+        outofstep: counts.outofstep,
+        changed: counts.changed,
+        bits: Bits::Number(counts.bits),
+        rest,
+    }
+}
+
 impl StreamReceiver {
     // A fresh receiver, and no byte.
     pub fn new() -> StreamReceiver
@@ -238,6 +257,6 @@ impl StreamReceiver {
                 length: 0,
             };
         }
-        report::write_report(counts, held as u64, room)
+        report::write_report(report_of(counts, held as u64), room)
     }
 }

@@ -1,2 +1,4 @@
+pub mod Costs
 pub mod Streams
+pub mod Histories
 pub mod Unharmed

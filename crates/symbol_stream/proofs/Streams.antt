@@ -1,27 +1,25 @@
--- A stream read in runs that overlap: that pieces do not matter, and that an unharmed stream is given back.
+-- The numbers of a rate; a longest run; feeding a piece, and the end of a stream, in costs.
 -- Assumes nothing.
 use Rattle.symbol_stream.specs.declared.SymbolStream.{SymbolStream}
 use Rattle.run_reader.proofs.Streams.{take-bits}
 use Rattle.run_reader.proofs.Patterns.{some-symbols, memory-in-range}
 use Rattle.common.specs.Lists.{All}
-use borrow.Author.Tests.{lt-ltb, le-ltb, eq-eqb}
-use mathlib.Core.Bool.{true}
 use mathlib.Core.Path.{_≡_, refl, sym, _∙_, ap, subst}
-use mathlib.Core.List.{List, [], _∷_, _++_, append-assoc}
+use mathlib.Core.List.{List, [], _∷_, _++_}
 use Prim.Native.Nat.{ℕ, zero, suc, _+_, _-_, _*_, _%_, _<_, _≤_, _/_}
 use native.Mathlib.Nat.{mul-mod-right, mul-div-right, div-le-of-le-mul, mul-le-mul-left, mul-div-le, zero-add, suc-add, mod-add-div, mod-lt}
 use native.Mathlib.Omega.{arith}
 use lib.Dec.{leb, leb→le}
 use lib.ListN.{length, getD, take, drop, length-append, length-drop, length-take}
-use lib.Seq.{take-append-le, drop-append-le, take-suc, take-length, take-take, length-take-le, take-nil, take-at}
+use lib.Seq.{take-append-le, take-suc, take-length, take-take, length-take-le, take-nil, take-at}
 use Rattle.common.proofs.Computed as computed
-use Rattle.convolutional_code.specs.Bits.{Bits, more}
+use Rattle.convolutional_code.specs.Bits.{Bits}
 use Rattle.convolutional_code.specs.Code.{nextMemory, memoryAfter}
 use Rattle.puncturing.specs.Mode.{modeOf}
 use Rattle.puncturing.specs.Step.{patternLength}
-use Rattle.run_reader.specs.Read.{symbolsPerPattern, runLength, valid, readNumber, ReadOut, Reads}
-use Rattle.run_reader.specs.Read as calls
-use Rattle.symbol_stream.specs.Stream.{runPatterns, keptPatterns, fullSymbols, keptSymbols, keptBits, Decided, few, run, heldOf, FullRead, Ready, Feeds, gathered, read, Closes}
+use Rattle.run_reader.specs.Cost.{runCost, costsOf}
+use Rattle.run_reader.specs.Read.{symbolsPerPattern, runBits, Readable, BestRead}
+use Rattle.symbol_stream.specs.Stream.{runPatterns, keptPatterns, fullSymbols, keptSymbols, keptBits, fullCosts, keptCosts, heldOf, FullRead, Ready, Feeds, gathered, read, Closes}
 
 -- ---- the memory after bits, one after the other
 
@@ -62,42 +60,39 @@ pub record Numbers (rate : ℕ) : Type 0 where
   pub bits-fewer : keptBits rate ≤ 1632
   pub full-most : fullSymbols rate ≤ 1632
   pub full-whole : fullSymbols rate % symbolsPerPattern rate ≡ 0
+  pub full-costs : fullCosts rate ≡ 4 * fullSymbols rate
+  pub kept-costs : keptCosts rate ≡ 4 * keptSymbols rate
+  pub costs-fewer : keptCosts rate ≤ fullCosts rate
+  pub costs-some : 0 < keptCosts rate
+  pub costs-most : fullCosts rate ≤ 6528
 
 pub numbers : (rate : ℕ) → rate < 5 → Numbers rate
-unfolding fullSymbols keptSymbols keptBits runPatterns keptPatterns symbolsPerPattern patternLength modeOf
+unfolding fullCosts keptCosts fullSymbols keptSymbols keptBits runPatterns keptPatterns symbolsPerPattern modeOf
 numbers rate h = record {
   kept-fewer = leb→le _ _ (computed.below-at (λ r. leb (keptSymbols r) (fullSymbols r)) 5 tt rate h);
   kept-some = leb→le _ _ (computed.below-at (λ r. leb 1 (keptSymbols r)) 5 tt rate h);
   bits-fewer = leb→le _ _ (computed.below-at (λ r. leb (keptBits r) 1632) 5 tt rate h);
   full-most = leb→le _ _ (computed.below-at (λ r. leb (fullSymbols r) 1632) 5 tt rate h);
   full-whole = computed.agree-at (λ r. fullSymbols r % symbolsPerPattern r) (λ r. 0) 5 tt rate h;
+  full-costs = refl;
+  kept-costs = refl;
+  costs-fewer = leb→le _ _ (computed.below-at (λ r. leb (keptCosts r) (fullCosts r)) 5 tt rate h);
+  costs-some = leb→le _ _ (computed.below-at (λ r. leb 1 (keptCosts r)) 5 tt rate h);
+  costs-most = leb→le _ _ (computed.below-at (λ r. leb (fullCosts r) 6528) 5 tt rate h);
 }
 
--- ---- pieces
+-- ---- lists of costs
 
--- what is decided of some symbols, and then of those held with more of them, is what is decided of all
-pub joined : {rate : ℕ} → rate < 5 → {m k last : ℕ} {a out h : List ℕ} → Decided rate m a out k h → (b : List ℕ) {out′ h′ : List ℕ}
-    → Decided rate k (h ++ b) out′ last h′ → Decided rate m (a ++ b) (out ++ out′) last h′
-joined hr (few l) b d = d
-joined {rate} hr {m} {k} {last} (run {ss = ss} {out = out} bits cost after full e r) b {out′} {h′} d =
-    let n = numbers rate hr in
-    let f : fullSymbols rate ≤ length (ss ++ b) = omega (arith, length-append ss b) in
-    subst (λ (l : List ℕ). Decided rate m (ss ++ b) l last h′) (sym (append-assoc (take (keptBits rate) bits) out out′))
-    (run bits cost after f (rw (take-append-le (fullSymbols rate) ss b full) e)
-    (rw (drop-append-le (keptSymbols rate) ss b (omega (arith, n .kept-fewer))) (joined hr r b d)))
-
--- ---- lists of symbols
-
-all-append : (xs ys : List ℕ) → All (λ x. x < 4) xs → All (λ x. x < 4) ys → All (λ x. x < 4) (xs ++ ys)
+all-append : (xs ys : List ℕ) → All (λ x. x ≤ 7) xs → All (λ x. x ≤ 7) ys → All (λ x. x ≤ 7) (xs ++ ys)
 all-append [] ys h l = l
 all-append (x ∷ xs) ys h l = (h .0, all-append xs ys (h .1) l)
 
-pub all-take : (n : ℕ) (xs : List ℕ) → All (λ x. x < 4) xs → All (λ x. x < 4) (take n xs)
+pub all-take : (n : ℕ) (xs : List ℕ) → All (λ x. x ≤ 7) xs → All (λ x. x ≤ 7) (take n xs)
 all-take zero xs h = tt
 all-take (suc n) [] h = tt
 all-take (suc n) (x ∷ xs) h = (h .0, all-take n xs (h .1))
 
-pub all-drop : (n : ℕ) (xs : List ℕ) → All (λ x. x < 4) xs → All (λ x. x < 4) (drop n xs)
+pub all-drop : (n : ℕ) (xs : List ℕ) → All (λ x. x ≤ 7) xs → All (λ x. x ≤ 7) (drop n xs)
 all-drop zero xs h = h
 all-drop (suc n) [] h = tt
 all-drop (suc n) (x ∷ xs) h = all-drop n xs (h .1)
@@ -107,78 +102,64 @@ drop-take zero k l = ap (λ (j : ℕ). take j l) (zero-add k)
 drop-take (suc n) k [] = ap (drop (suc n)) (take-nil (suc n + k)) ∙ sym (take-nil k)
 drop-take (suc n) k (x ∷ l) = ap (λ (j : ℕ). drop (suc n) (take j (x ∷ l))) (suc-add n k) ∙ drop-take n k l
 
--- ---- a run that can be read is read
-
-all-valid : (ss : List ℕ) → All (λ x. x < 4) ss → valid ss ≡ true
-unfolding valid
-all-valid [] h = refl
-all-valid (s ∷ ss) h = rw (lt-ltb s 4 (h .0)) (all-valid ss (h .1))
+-- ---- runs
 
 -- what is no longer than a longest run has no more bits than the longest
-pub short-run : (rate : ℕ) (ss : List ℕ) → length ss ≤ fullSymbols rate → runLength rate ss ≤ 1632
+pub short-run : (rate n : ℕ) → n ≤ fullSymbols rate → runBits rate n ≤ 1632
 unfolding fullSymbols runPatterns
-short-run rate ss most =
-    let d : length ss / symbolsPerPattern rate ≤ 1632 / patternLength rate = div-le-of-le-mul (symbolsPerPattern rate) most in
+short-run rate n most =
+    let d : n / symbolsPerPattern rate ≤ 1632 / patternLength rate = div-le-of-le-mul (symbolsPerPattern rate) most in
     omega (arith, mul-le-mul-left (patternLength rate) d, mul-div-le 1632 (patternLength rate))
 
-pub reads-out : (rate m : ℕ) → rate < 5 → m < 64 → (ss room : List ℕ) → length ss % symbolsPerPattern rate ≡ 0 → length ss ≤ fullSymbols rate
-    → All (λ x. x < 4) ss → 1632 ≤ length room → {number after cost count : ℕ} {exit : List ℕ} → Reads rate m ss room number after cost count exit
-    → ReadOut rate m ss room after cost count exit
-reads-out rate m hr hm ss room whole most v long r = by r
-  where
-    zero-number : readNumber rate m ss room ≡ 0
-    zero-number =
-        simp (lt-ltb rate 5 hr, lt-ltb m 64 hm, eq-eqb _ _ whole, le-ltb 1632 (runLength rate ss) (short-run rate ss most), all-valid ss v, le-ltb (length room) (runLength rate ss) (omega (arith, short-run rate ss most)))
+-- the costs of k symbols that make whole patterns, no more than a longest run, can be read
+pub short-readable : (rate m : ℕ) → rate < 5 → m < 64 → (l : List ℕ) (k : ℕ) → length l ≡ 4 * k → k % symbolsPerPattern rate ≡ 0 → k ≤ fullSymbols rate
+    → All (λ x. x ≤ 7) l → (room : List ℕ) → 1632 ≤ length room → Readable rate m l room
+short-readable rate m hr hm l k size whole most small room long =
+    let q : length l / 4 ≡ k = omega arith in
+    let b : runBits rate (length l / 4) ≤ 1632 = rw q (short-run rate k most) in
+    record { known = hr; in-range = hm; fours = omega arith; whole = rw q whole; most = b; small = small; fits = omega (arith, b) }
 
-    by : {number after cost count : ℕ} {exit : List ℕ} → Reads rate m ss room number after cost count exit → ReadOut rate m ss room after cost count exit
-    by (calls.refused e h a c k l) = absurd (omega (arith, e, h, zero-number))
-    by (calls.read n e o) = o
+-- the bits of a longest run
+pub kept-le : (rate : ℕ) → rate < 5 → keptBits rate ≤ runBits rate (fullSymbols rate)
+unfolding keptBits keptPatterns fullSymbols runPatterns
+kept-le rate hr = rw (mul-div-right (1632 / patternLength rate) (some-symbols rate hr)) (mul-le-mul-left (patternLength rate) less)
+  where
+    less : 1632 / patternLength rate - (100 / patternLength rate + 1) ≤ 1632 / patternLength rate
+    less = omega arith
 
 -- a longest run: the bits that are kept stand at the front of the room
-module _ (rate m : ℕ) (hr : rate < 5) (hm : m < 64) (ss room : List ℕ) (size : length ss ≡ fullSymbols rate) where
-  run-is : runLength rate ss ≡ patternLength rate * runPatterns rate
-  unfolding fullSymbols
-  run-is = ap (λ (k : ℕ). patternLength rate * k) (ap (λ (k : ℕ). k / symbolsPerPattern rate) size ∙ mul-div-right (runPatterns rate) (some-symbols rate hr))
+module _ (rate m : ℕ) (hr : rate < 5) (hm : m < 64) (l room : List ℕ) (size : length l ≡ fullCosts rate) where
+  pub full-quarter : length l / 4 ≡ fullSymbols rate
+  full-quarter = omega (arith, numbers rate hr .full-costs)
 
-  pub kept-le : keptBits rate ≤ runLength rate ss
-  unfolding keptBits keptPatterns runPatterns
-  kept-le = rw run-is (mul-le-mul-left (patternLength rate) less)
-    where
-      less : 1632 / patternLength rate - (100 / patternLength rate + 1) ≤ 1632 / patternLength rate
-      less = omega arith
+  pub full-readable : All (λ x. x ≤ 7) l → 1632 ≤ length room → Readable rate m l room
+  full-readable small long =
+      let n = numbers rate hr in
+      short-readable rate m hr hm l (fullSymbols rate) (size ∙ n .full-costs) (n .full-whole) (omega arith) small room long
 
-  pub front : {after cost count : ℕ} {exit : List ℕ} → (o : ReadOut rate m ss room after cost count exit)
-      → (take (keptBits rate) exit ≡ take (keptBits rate) (o .bits)) × Bits (take (keptBits rate) (o .bits)) × (keptBits rate ≤ length exit)
-  front {exit = exit} o =
-      let l : keptBits rate ≤ length (o .bits) = omega (arith, kept-le, o .decoded .best .size) in
-      let b = o .written in (
-        ap (take (keptBits rate)) b ∙ take-append-le (keptBits rate) (o .bits) (drop (runLength rate ss) room) l,
-        take-bits (keptBits rate) (o .decoded .best .binary),
-        omega (arith, ap length b, length-append (o .bits) (drop (runLength rate ss) room)),
+  pub front : {after total count : ℕ} {exit : List ℕ} → (o : BestRead (runCost (costsOf l) rate m) (runBits rate (length l / 4)) m room after total count exit)
+      → (k : ℕ) → k ≡ keptBits rate
+      → (take (k - 0) exit ≡ take (keptBits rate) (o .bits)) × Bits (take (k - 0) exit) × (k ≤ length exit)
+  front {exit = exit} o k e =
+      let z : k - 0 ≡ keptBits rate = omega arith in
+      let n : runBits rate (length l / 4) ≡ runBits rate (fullSymbols rate) = ap (runBits rate) full-quarter in
+      let f : keptBits rate ≤ length (o .bits) = omega (arith, kept-le rate hr, o .decoded .best .size, n) in
+      let b = o .written in
+      let t : take (k - 0) exit ≡ take (keptBits rate) (o .bits) =
+      ap (λ (j : ℕ). take j exit) z ∙ (ap (take (keptBits rate)) b ∙ take-append-le (keptBits rate) (o .bits) (drop (runBits rate (length l / 4)) room) f) in (
+        t,
+        subst Bits (sym t) (take-bits (keptBits rate) (o .decoded .best .binary)),
+        omega (arith, ap length b, length-append (o .bits) (drop (runBits rate (length l / 4)) room)),
       )
-
-  -- and where the run could be read, they are bits
-  module _ (v : All (λ x. x < 4) ss) (long : 1632 ≤ length room) where
-    pub full-out : {number after cost count : ℕ} {exit : List ℕ} → Reads rate m ss room number after cost count exit → ReadOut rate m ss room after cost count exit
-    full-out r =
-        reads-out rate m hr hm ss room (ap (λ (k : ℕ). k % symbolsPerPattern rate) size ∙ numbers rate hr .full-whole) (omega arith) v long r
-
-    pub kept-front : {number after cost count : ℕ} {exit : List ℕ} → (r : Reads rate m ss room number after cost count exit) → (k : ℕ) → k ≡ keptBits rate
-        → (take (k - 0) exit ≡ take (keptBits rate) (full-out r .bits)) × Bits (take (k - 0) exit) × (k ≤ length exit)
-    kept-front {exit = exit} r k e =
-        let f = front (full-out r) in
-        let z : k - 0 ≡ keptBits rate = omega arith in
-        let t : take (k - 0) exit ≡ take (keptBits rate) (full-out r .bits) = ap (λ (j : ℕ). take j exit) z ∙ f .0 in
-        (t, subst Bits (sym t) (f .1), rw e (f .2))
 
 -- ---- feeding a piece
 
-module _ (s : SymbolStream) (g : Ready s) (piece : List ℕ) (w : All (λ x. x < 4) piece) where
+module _ (s : SymbolStream) (g : Ready s) (piece : List ℕ) (w : All (λ x. x ≤ 7) piece) (fours : length piece % 4 ≡ 0) where
   abbrev h : List ℕ
   h = heldOf s
 
   held-length : length h ≡ s .count
-  held-length = length-take-le (s .count) (s .held) (omega (arith, g .size, g .below, numbers (s .rate) (g .known) .full-most))
+  held-length = length-take-le (s .count) (s .held) (omega (arith, g .size, g .below, numbers (s .rate) (g .known) .costs-most))
 
   -- the piece behind what is held
   module _ (p H : List ℕ) (n : ℕ) (en : n ≡ s .count + length p) (eH : H ≡ h ++ p ++ drop (s .count + length p) (s .held)) where
@@ -186,12 +167,12 @@ module _ (s : SymbolStream) (g : Ready s) (piece : List ℕ) (w : All (λ x. x <
     behind =
         ap (take n) eH ∙ take-at (h ++ p) (drop (s .count + length p) (s .held)) n (length-append h p ∙ (ap (λ (k : ℕ). k + length p) held-length ∙ sym en))
 
-    pub behind-length : s .count + length p ≤ 1632 → length H ≡ 1632
+    pub behind-length : s .count + length p ≤ 6528 → length H ≡ 6528
     behind-length l =
         ap length eH
         ∙ omega (arith, length-append (h ++ p) (drop (s .count + length p) (s .held)), length-append h p, held-length, length-drop (s .count + length p) (s .held), g .size)
 
-  pub gathers : (room H : List ℕ) → length piece < fullSymbols (s .rate) - s .count → H ≡ h ++ piece ++ drop (s .count + length piece) (s .held)
+  pub gathers : (room H : List ℕ) → length piece < fullCosts (s .rate) - s .count → H ≡ h ++ piece ++ drop (s .count + length piece) (s .held)
       → let next : SymbolStream = record { rate = s .rate; memory = s .memory; held = H; count = s .count + length piece } in
       (Feeds s piece room next (length piece) 0 room) × (Ready next)
   gathers room H l eH =
@@ -201,14 +182,15 @@ module _ (s : SymbolStream) (g : Ready s) (piece : List ℕ) (w : All (λ x. x <
         record {
           known = g .known;
           in-range = g .in-range;
-          size = behind-length piece H (s .count + length piece) refl eH (omega (arith, n .full-most));
+          size = behind-length piece H (s .count + length piece) refl eH (omega (arith, n .costs-most));
           below = omega arith;
-          symbols = subst (All (λ x. x < 4)) (sym b) (all-append h piece (g .symbols) w);
+          fours = omega (arith, g .fours);
+          small = subst (All (λ x. x ≤ 7)) (sym b) (all-append h piece (g .small) w);
         },
       )
 
   -- where there are symbols enough for a run
-  module _ (full : ℕ) (ef : full ≡ fullSymbols (s .rate)) (enough : full - s .count ≤ length piece) (H : List ℕ)
+  module _ (full : ℕ) (ef : full ≡ fullCosts (s .rate)) (enough : full - s .count ≤ length piece) (H : List ℕ)
       (eH : H ≡ h ++ take (full - s .count - 0) piece ++ drop (s .count + length (take (full - s .count - 0) piece)) (s .held)) where
     abbrev p : List ℕ
     p = take (full - s .count - 0) piece
@@ -220,24 +202,24 @@ module _ (s : SymbolStream) (g : Ready s) (piece : List ℕ) (w : All (λ x. x <
     all-of = omega (arith, piece-length, g .below)
 
     pub fits : s .count + length p ≤ length (s .held)
-    fits = omega (arith, all-of, g .size, numbers (s .rate) (g .known) .full-most)
+    fits = omega (arith, all-of, g .size, numbers (s .rate) (g .known) .costs-most)
 
-    pub H-length : length H ≡ 1632
+    pub H-length : length H ≡ 6528
     H-length = behind-length p H full all-of eH (omega (arith, fits, g .size))
 
     pub run-of : take (full - 0) H ≡ h ++ p
     run-of = let z : full - 0 ≡ full = omega arith in ap (λ (k : ℕ). take k H) z ∙ behind p H full all-of eH
 
-    pub run-length : length (take (full - 0) H) ≡ fullSymbols (s .rate)
+    pub run-length : length (take (full - 0) H) ≡ fullCosts (s .rate)
     run-length = ap length run-of ∙ (length-append h p ∙ omega (arith, held-length, all-of))
 
-    pub run-symbols : All (λ x. x < 4) (take (full - 0) H)
-    run-symbols = subst (All (λ x. x < 4)) (sym run-of) (all-append h p (g .symbols) (all-take (full - s .count - 0) piece w))
+    pub run-small : All (λ x. x ≤ 7) (take (full - 0) H)
+    run-small = subst (All (λ x. x ≤ 7)) (sym run-of) (all-append h p (g .small) (all-take (full - s .count - 0) piece w))
 
-    module _ (from : ℕ) (er : from ≡ keptSymbols (s .rate)) (N zeros : List ℕ) (ez : length zeros ≡ 1632)
+    module _ (from : ℕ) (er : from ≡ keptCosts (s .rate)) (N zeros : List ℕ) (ez : length zeros ≡ 6528)
         (eN : N ≡ take (full - from) (drop from H) ++ drop (0 + length (take (full - from) (drop from H))) zeros) where
       pub from-le : from ≤ full
-      from-le = omega (arith, numbers (s .rate) (g .known) .kept-fewer)
+      from-le = omega (arith, numbers (s .rate) (g .known) .costs-fewer)
 
       tail-length : length (take (full - from) (drop from H)) ≡ full - from
       tail-length = length-take-le (full - from) (drop from H) (omega (arith, length-drop from H, H-length, all-of, fits, g .size))
@@ -267,26 +249,27 @@ module _ (s : SymbolStream) (g : Ready s) (piece : List ℕ) (w : All (λ x. x <
                     length-append (take (full - from) (drop from H)) (drop (0 + length (take (full - from) (drop from H))) zeros),
                     length-drop (0 + length (take (full - from) (drop from H))) zeros,
                     tail-length,
-                    n .full-most,
+                    n .costs-most,
                   );
-              below = omega (arith, n .kept-some, n .kept-fewer);
-              symbols = subst (All (λ x. x < 4)) (sym tail-is) (all-drop from (take (full - 0) H) run-symbols);
+              below = omega (arith, n .costs-some, n .costs-fewer);
+              fours = omega (arith, n .full-costs, n .kept-costs);
+              small = subst (All (λ x. x ≤ 7)) (sym tail-is) (all-drop from (take (full - 0) H) run-small);
             },
           )
 
 -- the room for what is put
-pub placed-fits : (s : SymbolStream) → Ready s → (piece : List ℕ) → All (λ x. x < 4) piece → (full : ℕ) → full ≡ fullSymbols (s .rate) → full - s .count ≤ length piece
+pub placed-fits : (s : SymbolStream) → Ready s → (piece : List ℕ) → (full : ℕ) → full ≡ fullCosts (s .rate) → full - s .count ≤ length piece
     → s .count + length (take (full - s .count - 0) piece) ≤ length (s .held)
-placed-fits s g piece w full e enough =
+placed-fits s g piece full e enough =
     omega (
       arith,
       length-take-le (full - s .count - 0) piece (omega arith),
       g .size,
       g .below,
-      numbers (s .rate) (g .known) .full-most,
+      numbers (s .rate) (g .known) .costs-most,
     )
 
-pub tail-fits : (full from : ℕ) (l : List ℕ) → full ≤ 1632 → 0 + length (take (full - from) l) ≤ 1632
+pub tail-fits : (full from : ℕ) (l : List ℕ) → full ≤ 6528 → 0 + length (take (full - from) l) ≤ 6528
 tail-fits full from l h = omega (arith, length-take (full - from) l)
 
 -- ---- the end
@@ -294,28 +277,55 @@ tail-fits full from l h = omega (arith, length-take (full - from) l)
 pub mod-le : (n k : ℕ) → n % k ≤ n
 mod-le n k = omega (arith, mod-add-div n k)
 
-pub closes : (s : SymbolStream) → Ready s → (room : List ℕ) → 1632 ≤ length room → (k : ℕ) → k ≡ symbolsPerPattern (s .rate)
-    → {number after cost count : ℕ} {exit : List ℕ} → Reads (s .rate) (s .memory) (take (s .count - s .count % k - 0) (s .held)) room number after cost count exit
-    → Closes s room count (s .count % k) exit
-closes s g room long k e {number} {after} {cost} {count} {exit} r =
-    let p = symbolsPerPattern (s .rate) in
-    let q = s .count / p in
-    let n = numbers (s .rate) (g .known) in
-    let w : s .count - s .count % k - 0 ≡ p * q = rw e (whole-part (s .count) p) in
-    let t : take (p * q) (s .held) ≡ take (p * q) (heldOf s) = sym (take-take (p * q) (s .count) (s .held) (omega (arith, mul-div-le (s .count) p))) in
-    let l : length (take (p * q) (heldOf s)) ≡ p * q =
-    ap length (sym t) ∙ length-take-le (p * q) (s .held) (omega (arith, mul-div-le (s .count) p, g .size, g .below, n .full-most)) in
-    let o = reads-out (s .rate) (s .memory) (g .known) (g .in-range) (take (p * q) (heldOf s)) room (ap (λ (j : ℕ). j % p) l ∙ mul-mod-right p q)
-    (omega (arith, l, mul-div-le (s .count) p, g .below)) (all-take (p * q) (heldOf s) (g .symbols)) long
-    (subst (λ (x : List ℕ). Reads (s .rate) (s .memory) x room number after cost count exit) (ap (λ (j : ℕ). take j (s .held)) w ∙ t) r) in
-    record {
-      whole = q;
-      split = rw e (mod-add-div (s .count) p);
-      few = rw e (mod-lt (s .count) (some-symbols (s .rate) (g .known)));
-      cost = cost;
-      after = after;
-      bits = o;
-    }
-  where
-    whole-part : (n p : ℕ) → n - n % p - 0 ≡ p * (n / p)
-    whole-part n p = omega (arith, mod-add-div n p)
+-- of so many symbols as are held those that make whole patterns
+module _ (s : SymbolStream) (g : Ready s) (k : ℕ) (e : k ≡ symbolsPerPattern (s .rate)) where
+  abbrev n : ℕ
+  n = s .count / 4
+
+  abbrev end : ℕ
+  end = 4 * (n - n % k) - 0
+
+  abbrev whole : ℕ
+  whole = symbolsPerPattern (s .rate) * (n / symbolsPerPattern (s .rate))
+
+  end-is : end ≡ 4 * whole
+  end-is = rw e (part n (symbolsPerPattern (s .rate)))
+    where
+      part : (n p : ℕ) → 4 * (n - n % p) - 0 ≡ 4 * (p * (n / p))
+      part n p = omega (arith, mod-add-div n p)
+
+  whole-le : 4 * whole ≤ s .count
+  whole-le = omega (arith, mul-div-le n (symbolsPerPattern (s .rate)))
+
+  pub end-le : end ≤ 6528
+  end-le = omega (arith, end-is, whole-le, g .below, numbers (s .rate) (g .known) .costs-most)
+
+  taken-is : take end (s .held) ≡ take (4 * whole) (heldOf s)
+  taken-is = ap (λ (j : ℕ). take j (s .held)) end-is ∙ sym (take-take (4 * whole) (s .count) (s .held) whole-le)
+
+  taken-length : length (take end (s .held)) ≡ 4 * whole
+  taken-length = length-take-le end (s .held) (omega (arith, end-le, g .size)) ∙ end-is
+
+  pub end-readable : (room : List ℕ) → 1632 ≤ length room → Readable (s .rate) (s .memory) (take end (s .held)) room
+  end-readable room long =
+      short-readable (s .rate) (s .memory) (g .known) (g .in-range) (take end (s .held)) whole taken-length
+      (mul-mod-right (symbolsPerPattern (s .rate)) (n / symbolsPerPattern (s .rate)))
+      (omega (arith, whole-le, g .below, numbers (s .rate) (g .known) .full-costs))
+      (subst (All (λ x. x ≤ 7)) (sym taken-is) (all-take (4 * whole) (heldOf s) (g .small))) room long
+
+  pub closes : (room : List ℕ) {after total count : ℕ} {exit : List ℕ}
+      → BestRead (runCost (costsOf (take end (s .held))) (s .rate) (s .memory)) (runBits (s .rate) (length (take end (s .held)) / 4)) (s .memory) room after total count exit
+      → Closes s room count (n % k) exit
+  closes room {after} {total} {count} {exit} o =
+      let p = symbolsPerPattern (s .rate) in
+      let q : length (take end (s .held)) / 4 ≡ whole = omega (arith, taken-length) in
+      record {
+        whole = n / p;
+        split = rw e (omega (arith, mod-add-div n p, g .fours));
+        few = rw e (mod-lt n (some-symbols (s .rate) (g .known)));
+        total = total;
+        after = after;
+        bits =
+            subst (λ (l : List ℕ). BestRead (runCost (costsOf l) (s .rate) (s .memory)) (runBits (s .rate) whole) (s .memory) room after total count exit) taken-is
+            (subst (λ (j : ℕ). BestRead (runCost (costsOf (take end (s .held))) (s .rate) (s .memory)) (runBits (s .rate) j) (s .memory) room after total count exit) q o);
+      }

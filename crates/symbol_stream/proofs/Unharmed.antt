@@ -1,50 +1,24 @@
--- What is fed is decided as the whole stream is, whatever the pieces; and an unharmed stream gives its bits back.
+-- An unharmed stream gives its bits back, by hard decisions.
 -- Assumes nothing.
-use mathlib.Core.Path.{_≡_, refl, sym, _∙_, ap, ap₂}
-use mathlib.Core.List.{List, [], _++_, append-nil, append-assoc}
+use mathlib.Core.Path.{_≡_, refl, sym, _∙_, ap, ap₂, subst}
+use mathlib.Core.List.{List, _++_, map, append-assoc}
 use Prim.Native.Nat.{ℕ, _+_, _*_, _/_, _%_, _<_, _≤_}
 use native.Mathlib.Nat.{mul-mod-right, mul-div-right}
 use native.Mathlib.Omega.{arith}
-use lib.ListN.{length, take, drop, length-append, length-drop, take-append-drop}
-use lib.Seq.{take-length, take-take, take-add, length-take-le, drop-drop, take-append-le}
+use lib.ListN.{length, take, drop, length-append, take-append-drop}
+use lib.Seq.{take-take, take-add, length-take-le, drop-drop}
 use Rattle.convolutional_code.specs.Bits.{Bits}
 use Rattle.convolutional_code.specs.Code.{memoryAfter}
 use Rattle.puncturing.specs.Step.{patternLength}
 use Rattle.inner_code.specs.Step.{symbolsOf}
-use Rattle.run_reader.specs.Cost.{coderAt}
-use Rattle.run_reader.specs.Read.{symbolsPerPattern, runLength}
+use Rattle.trellis.specs.Best.{Decoded}
+use Rattle.run_reader.specs.Cost.{coderAt, differing, runCost}
+use Rattle.run_reader.specs.Read.{symbolsPerPattern, runBits, runLength}
 use Rattle.run_reader.proofs.Patterns.{some-symbols, memory-in-range, run-whole}
 use Rattle.run_reader.proofs.Unharmed.{own-best}
 use Rattle.run_reader.proofs.Streams.{take-bits, drop-bits, fits, front-is, back-is, memory-append}
-use Rattle.symbol_stream.specs.Stream.{keptPatterns, fullSymbols, keptSymbols, keptBits, Decided, few, run, heldOf, Ready, Feeds, gathered, read}
-use Rattle.symbol_stream.specs.declared.SymbolStream.{SymbolStream}
+use Rattle.symbol_stream.specs.Stream.{keptPatterns, fullSymbols, keptSymbols, keptBits, Decided, few, run}
 use Rattle.symbol_stream.proofs.Streams.{numbers, kept-le}
-
--- ---- one piece
-
-pub feeds-decided : (s : SymbolStream) → Ready s → (piece room : List ℕ) → 1632 ≤ length room → {next : SymbolStream} {taken count : ℕ} {exit : List ℕ}
-    → Feeds s piece room next taken count exit
-    → Decided (s .rate) (s .memory) (heldOf s ++ take taken piece) (take count exit) (next .memory) (heldOf next)
-feeds-decided s g piece room long {next} {taken} {count} {exit} (gathered l et ec ex h) =
-    let a : take taken piece ≡ piece = ap (λ (k : ℕ). take k piece) et ∙ take-length piece in
-    let b : heldOf s ++ take taken piece ≡ heldOf next = ap (λ (x : List ℕ). heldOf s ++ x) a ∙ sym (h .held-is) in
-    let d : Decided (s .rate) (next .memory) (heldOf next) [] (next .memory) (heldOf next) = few {ss = heldOf next} (rw (h .held-is) l) in
-    let o : take count exit ≡ [] = ap (λ (k : ℕ). take k exit) ec in
-    rw (sym (h .memory-is), b, o) d
-feeds-decided s g piece room long {next} {taken} {count} {exit} (read ss es le size ec after f h) =
-    let rate = s .rate in
-    let n = numbers rate (g .known) in
-    let bits = f .out .bits in
-    let all : take (fullSymbols rate) ss ≡ ss = ap (λ (k : ℕ). take k ss) (sym size) ∙ take-length ss in
-    let t : take count exit ≡ take (keptBits rate) bits ++ [] =
-    ap₂ take ec (f .out .written)
-    ∙ (take-append-le (keptBits rate) bits (drop (runLength rate ss) room) (omega (arith, kept-le rate (s .memory) (g .known) (g .in-range) ss room size, f .out .decoded .best .size))
-    ∙ sym (append-nil (take (keptBits rate) bits))) in
-    let d : Decided rate (s .memory) ss (take (keptBits rate) bits ++ []) (memoryAfter (s .memory) (take (keptBits rate) bits)) (drop (keptSymbols rate) ss) =
-    run {m = s .memory} {ss = ss} bits (f .cost) (f .last) (omega arith) (rw all (f .out .decoded)) (few {ss = drop (keptSymbols rate) ss} (omega (arith, length-drop (keptSymbols rate) ss, n .kept-some))) in
-    rw (sym es, t, h .memory-is, f .leaves, h .held-is) d
-
--- ---- an unharmed stream
 
 -- the kept symbols are whole patterns, and their bits the kept ones
 kept-mod : (rate : ℕ) → keptSymbols rate % symbolsPerPattern rate ≡ 0
@@ -64,10 +38,10 @@ pub record GivenBack (rate m : ℕ) (bits rest out : List ℕ) (last : ℕ) (lef
   pub others : left ++ rest ≡ symbolsOf (coderAt rate last) (drop (length out) bits)
 
 pub stream-given-back : (rate : ℕ) → rate < 5 → (m : ℕ) → m < 64 → (bits : List ℕ) → Bits bits → {ss out left : List ℕ} {last : ℕ} (rest : List ℕ)
-    → ss ++ rest ≡ symbolsOf (coderAt rate m) bits → Decided rate m ss out last left → GivenBack rate m bits rest out last left
+    → ss ++ rest ≡ symbolsOf (coderAt rate m) bits → Decided differing rate m ss out last left → GivenBack rate m bits rest out last left
 unfolding memoryAfter
 stream-given-back rate hr m hm bits w rest e (few l) = record { given = refl; memory = refl; others = e }
-stream-given-back rate hr m hm bits w {last = last} rest e (run {ss = ss} {out = out} {left = left} best cost after full d r) =
+stream-given-back rate hr m hm bits w {last = last} rest e (run {rs = ss} {left} {out} best total after full d r) =
     let n = numbers rate hr in
     let F = fullSymbols rate in
     let K = keptSymbols rate in
@@ -78,9 +52,11 @@ stream-given-back rate hr m hm bits w {last = last} rest e (run {ss = ss} {out =
     let wf : length fs % symbolsPerPattern rate ≡ 0 = ap (λ (k : ℕ). k % symbolsPerPattern rate) lf ∙ n .full-whole in
     let ef : fs ++ (drop F ss ++ rest) ≡ symbolsOf (coderAt rate m) bits = sym (append-assoc fs (drop F ss) rest) ∙ (ap (λ (x : List ℕ). x ++ rest) (take-append-drop F ss) ∙ e) in
     let N = runLength rate fs in
+    let kept-fits : B ≤ N = rw (ap (runBits rate) lf) (kept-le rate hr) in
     let nf : N ≤ length bits = fits rate hr m hm bits w fs (drop F ss ++ rest) wf ef in
-    let ob = own-best rate m hr hm (take-bits N w) (ap (λ (k : ℕ). k % patternLength rate) (length-take-le N bits nf) ∙ run-whole rate hr fs) fs
-    (front-is rate hr m hm bits w fs (drop F ss ++ rest) wf ef) d in
+    let ob = own-best rate m hr hm (take-bits N w) (ap (λ (k : ℕ). k % patternLength rate) (length-take-le N bits nf) ∙ run-whole rate hr (length fs)) fs
+    (front-is rate hr m hm bits w fs (drop F ss ++ rest) wf ef)
+    (subst (λ (k : ℕ). Decoded (runCost (map differing fs) rate m) (runBits rate k) m best total after) (sym lf) d) in
     -- so are the kept symbols
     let ks : List ℕ = take K ss in
     let lk : length ks ≡ K = length-take-le K ss (omega (arith, n .kept-fewer)) in
@@ -88,14 +64,14 @@ stream-given-back rate hr m hm bits w {last = last} rest e (run {ss = ss} {out =
     let ek : ks ++ (drop K ss ++ rest) ≡ symbolsOf (coderAt rate m) bits = sym (append-assoc ks (drop K ss) rest) ∙ (ap (λ (x : List ℕ). x ++ rest) (take-append-drop K ss) ∙ e) in
     let rk : runLength rate ks ≡ B = kept-length rate hr ks lk in
     let t : take B best ≡ take B bits =
-    ap (take B) (ob .0) ∙ take-take B N bits (kept-le rate m hr hm fs [] lf) in
+    ap (take B) (ob .0) ∙ take-take B N bits kept-fits in
     let b0 = back-is rate hr m hm bits w ks (drop K ss ++ rest) wk ek in
     let m′ : memoryAfter m (take B best) ≡ memoryAfter m (take B bits) = ap (memoryAfter m) t in
     let back : drop K ss ++ rest ≡ symbolsOf (coderAt rate (memoryAfter m (take B best))) (drop B bits) =
     b0 ∙ (λ i. symbolsOf (coderAt rate (ap (λ (k : ℕ). memoryAfter m (take k bits)) rk i)) (drop (rk i) bits)) ∙ ap (λ (x : ℕ). symbolsOf (coderAt rate x) (drop B bits)) (sym m′) in
     let hm′ : memoryAfter m (take B best) < 64 = rw m′ (memory-in-range rate m hr hm (take-bits B w)) in
     let ih = stream-given-back rate hr (memoryAfter m (take B best)) hm′ (drop B bits) (drop-bits B w) rest back r in
-    let lb : length (take B best) ≡ B = ap length t ∙ length-take-le B bits (omega (arith, nf, kept-le rate m hr hm fs [] lf)) in
+    let lb : length (take B best) ≡ B = ap length t ∙ length-take-le B bits (omega (arith, nf, kept-fits)) in
     let lo : length (take B best ++ out) ≡ B + length out = length-append (take B best) out ∙ ap (λ (k : ℕ). k + length out) lb in
     let j : take (length (take B best ++ out)) bits ≡ take B bits ++ take (length out) (drop B bits) = ap (λ (k : ℕ). take k bits) lo ∙ take-add B (length out) bits in
     record {

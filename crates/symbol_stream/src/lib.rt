@@ -1,27 +1,29 @@
 // A stream of received symbols, read as they come: runs that overlap, so that no decision is kept that few symbols stand behind.
+// A symbol comes as four costs, those of deciding its I as 0 and as 1 and then its Q, whether they are from hard or from soft decisions.
 // Inner: its functions may require what the crates above have tested. docs/ARCHITECTURE.md names the public surface.
 ghost use mathlib.Core.Path.{_≡_};
 ghost use mathlib.Core.List.{[]};
-ghost use Prim.Native.Nat.{_<_, _≤_};
+ghost use Prim.Native.Nat.{_%_, _<_, _≤_};
 ghost use lib.ListN.{length};
 ghost use Rattle.common.specs.Lists.{All};
 ghost use Rattle.convolutional_code.specs.Code.{memoryAfter};
 ghost use Rattle.convolutional_code.specs.Bits.{Bits};
-ghost use Rattle.symbol_stream.specs.Stream.{fullSymbols, keptSymbols, keptBits, FullRead, Ready, Holds, Feeds, Closes};
+ghost use Rattle.symbol_stream.specs.Stream.{fullCosts, keptCosts, keptBits, FullRead, Ready, Holds, Feeds, Closes};
 use common::put;
 use convolutional_code::next_memory;
-use run_reader::read_run;
+use run_reader::read_costs;
 use run_reader::symbol_count;
 
-// A stream in progress: the rate, the coder's memory before the first symbol that is held, and the symbols that are held.
+// A stream in progress: the rate, the coder's memory before the first symbol that is held, the costs of the symbols that are held, and how many
+// costs these are.
 pub struct SymbolStream {
     pub rate: u8,
     pub memory: u8,
-    pub held: [u8; 1632],
+    pub held: [u8; 6528],
     pub count: usize,
 }
 
-// The stream after a piece, how many symbols of the piece were taken, and how many bits are decided.
+// The stream after a piece, how many costs of the piece were taken, and how many bits are decided.
 pub struct Fed {
     pub stream: SymbolStream,
     pub taken: usize,
@@ -34,26 +36,26 @@ pub struct Closed {
     pub rest: usize,
 }
 
-// The symbols of each rate's longest run.
-const FULL_SYMBOLS: [usize; 5] = [1632, 1224, 1088, 978, 932];
+// The costs of each rate's longest run.
+const FULL_COSTS: [usize; 5] = [6528, 4896, 4352, 3912, 3728];
 
-// The symbols of such a run whose bits are kept, and the bits.
-const KEPT_SYMBOLS: [usize; 5] = [1531, 1146, 1020, 915, 872];
+// The costs of such a run whose bits are kept, and the bits.
+const KEPT_COSTS: [usize; 5] = [6124, 4584, 4080, 3660, 3488];
 
 const KEPT_BITS: [usize; 5] = [1531, 1528, 1530, 1525, 1526];
 
-fn full_symbols(rate: u8) -> usize
+fn full_costs(rate: u8) -> usize
     requires { ⌜ rate < 5 ⌝ }
-    ensures { λ r. ⌜ r ≡ fullSymbols rate ⌝ }
+    ensures { λ r. ⌜ r ≡ fullCosts rate ⌝ }
 {
-    FULL_SYMBOLS[rate as usize]
+    FULL_COSTS[rate as usize]
 }
 
-fn kept_symbols(rate: u8) -> usize
+fn kept_costs(rate: u8) -> usize
     requires { ⌜ rate < 5 ⌝ }
-    ensures { λ r. ⌜ r ≡ keptSymbols rate ⌝ }
+    ensures { λ r. ⌜ r ≡ keptCosts rate ⌝ }
 {
-    KEPT_SYMBOLS[rate as usize]
+    KEPT_COSTS[rate as usize]
 }
 
 fn kept_bits(rate: u8) -> usize
@@ -78,11 +80,11 @@ fn memory_after(memory: u8, bits: &[u8]) -> u8
 }
 
 // Reads a longest run into the room: the memory after the bits of it that are kept.
-fn read_full(rate: u8, memory: u8, symbols: &[u8], room: &mut [u8]) -> u8
-    requires { ⌜ (rate < 5) × (memory < 64) × (length (now symbols) ≡ fullSymbols rate) × (All (λ s. s < 4) (now symbols)) × (1632 ≤ length (now room)) ⌝ }
-    ensures { λ r. ⌜ FullRead rate memory (now (symbols .entry)) (now (room .entry)) r (now (room .exit)) ⌝ }
+fn read_full(rate: u8, memory: u8, costs: &[u8], room: &mut [u8]) -> u8
+    requires { ⌜ (rate < 5) × (memory < 64) × (length (now costs) ≡ fullCosts rate) × (All (λ c. c ≤ 7) (now costs)) × (1632 ≤ length (now room)) ⌝ }
+    ensures { λ r. ⌜ FullRead rate memory (now (costs .entry)) (now (room .entry)) r (now (room .exit)) ⌝ }
 {
-    read_run(rate, memory, symbols, room);
+    read_costs(rate, memory, costs, room);
     let kept = kept_bits(rate);
     memory_after(memory, &room[0..kept])
 }
@@ -95,22 +97,22 @@ pub fn open(rate: u8) -> SymbolStream
     SymbolStream {
         rate,
         memory: 0,
-        held: [0; 1632],
+        held: [0; 6528],
         count: 0,
     }
 }
 
-// Takes symbols of a piece: as many as make a longest run with those that are held, or all. Where they make one, it is read into the room,
-// and the bits that are decided stand at its front.
+// Takes the costs of symbols of a piece: as many as make a longest run with those that are held, or all. Where they make one, it is read into the
+// room, and the bits that are decided stand at its front.
 pub fn feed(stream: SymbolStream, piece: &[u8], room: &mut [u8]) -> Fed
-    requires { ⌜ (Ready stream) × (All (λ s. s < 4) (now piece)) × (1632 ≤ length (now room)) ⌝ }
+    requires { ⌜ (Ready stream) × (All (λ c. c ≤ 7) (now piece)) × (length (now piece) % 4 ≡ 0) × (1632 ≤ length (now room)) ⌝ }
     ensures { λ r. ⌜ (Feeds stream (now (piece .entry)) (now (room .entry)) (r .stream) (r .taken) (r .count) (now (room .exit))) × (Ready (r .stream)) ⌝ }
 {
     let rate = stream.rate;
     let memory = stream.memory;
     let count = stream.count;
     let mut held = stream.held;
-    let full = full_symbols(rate);
+    let full = full_costs(rate);
     let space = full - count;
     if piece.len() < space {
         put(piece, count, &mut held);
@@ -127,8 +129,8 @@ pub fn feed(stream: SymbolStream, piece: &[u8], room: &mut [u8]) -> Fed
     }
     put(&piece[0..space], count, &mut held);
     let after = read_full(rate, memory, &held[0..full], room);
-    let from = kept_symbols(rate);
-    let mut next = [0u8; 1632];
+    let from = kept_costs(rate);
+    let mut next = [0u8; 6528];
     put(&held[from..full], 0, &mut next);
     Fed {
         stream: SymbolStream {
@@ -151,9 +153,10 @@ pub fn close(stream: SymbolStream, room: &mut [u8]) -> Closed
     let memory = stream.memory;
     let count = stream.count;
     let held = stream.held;
-    let rest = count % symbol_count(rate) as usize;
-    let whole = count - rest;
-    let read = read_run(rate, memory, &held[0..whole], room);
+    let symbols = count / 4;
+    let rest = symbols % symbol_count(rate) as usize;
+    let end = 4 * (symbols - rest);
+    let read = read_costs(rate, memory, &held[0..end], room);
     Closed {
         count: read.count,
         rest,

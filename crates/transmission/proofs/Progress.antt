@@ -9,9 +9,10 @@ use native.Mathlib.Omega.{arith}
 use borrow.Rule.Slice.PartMut.{putMid, midOf}
 use lib.ListN.{length, take, drop, length-append, length-drop, drop-of-length-le}
 use lib.Seq.{take-all, take-at, drop-at, drop-drop}
-use Rattle.inner_code.specs.Encode.{symbolCount}
+use Rattle.puncturing.specs.Mode.{modeOf}
+use Rattle.puncturing.proofs.WellFormed.{well-formed}
 use Rattle.sender.specs.Input.{isInput, packetFor, packetsFor}
-use Rattle.sender.specs.Send.{freshSender, sentSymbols, senderAfter, Sends}
+use Rattle.sender.specs.Send.{freshSender, sentSymbols, sentCount, senderAfter, Sends}
 use Rattle.sender.specs.Calls.{callsSymbols}
 use Rattle.sender.specs.declared.Sender.{Sender}
 use Rattle.sender.proofs.Inputs.{input-test, packet-size, packet-lengths}
@@ -24,24 +25,24 @@ use Rattle.transmission.proofs.Buffers.{packets-inputs, Scanning, scann
 
 -- the symbols in front are in the room, those of the packets from at on are still to be sent, and together they are those of the run
 pub record Progress (rate : ℕ) (bytes room₀ room : List ℕ) (s : Sender) (at count : ℕ) : Type 0 where
-  pub ready : Ready s
+  pub ready : Ready modeOf s
   pub scanning : Scanning bytes at
   pub front : List ℕ
   pub counted : length front ≡ count
   pub written : room ≡ front ++ drop count room₀
-  pub symbols : front ++ flatten (callsSymbols s (packetsFor (packetsOf (drop at bytes)))) ≡ runSymbols rate bytes
+  pub symbols : front ++ flatten (callsSymbols modeOf s (packetsFor (packetsOf (drop at bytes)))) ≡ runSymbols rate bytes
 
-pub progress-start : (rate : ℕ) (bytes room : List ℕ) (s : Sender) → rate < 5 → length bytes % 188 ≡ 0 → s ≡ freshSender rate
+pub progress-start : (rate : ℕ) (bytes room : List ℕ) (s : Sender) → rate < 6 → length bytes % 188 ≡ 0 → s ≡ freshSender rate
     → Progress rate bytes room room s 0 0
 progress-start rate bytes room s h w e = record {
-  ready = subst Ready (sym e) (ready-fresh rate h);
+  ready = subst (Ready modeOf) (sym e) (ready-fresh rate (well-formed rate h));
   scanning = scanning-start bytes w;
   front = [];
   counted = refl;
   written = refl;
   symbols =
-      ap (λ (x : Sender). flatten (callsSymbols x (packetsFor (packetsOf bytes)))) e
-      ∙ calls-on-air rate h (packetsFor (packetsOf bytes)) (packet-lengths (packetsOf bytes) (packets-inputs bytes));
+      ap (λ (x : Sender). flatten (callsSymbols modeOf x (packetsFor (packetsOf bytes)))) e
+      ∙ calls-on-air (packetsFor (packetsOf bytes)) (packet-lengths (packetsOf bytes) (packets-inputs bytes)) modeOf rate (well-formed rate h);
 }
 
 module _ {rate : ℕ} {bytes room₀ room : List ℕ} {s : Sender} {at count : ℕ} (g : Sendable rate bytes room₀) (p : Progress rate bytes room₀ room s at count) where
@@ -50,14 +51,14 @@ module _ {rate : ℕ} {bytes room₀ room : List ℕ} {s : Sender} {at count : �
   progress-end h =
       let e : p .front ≡ runSymbols rate bytes =
       sym (append-nil (p .front))
-      ∙ ap (λ (l : List (List ℕ)). p .front ++ flatten (callsSymbols s (packetsFor l))) (sym (scanning-end (p .scanning) h))
+      ∙ ap (λ (l : List (List ℕ)). p .front ++ flatten (callsSymbols modeOf s (packetsFor l))) (sym (scanning-end (p .scanning) h))
       ∙ p .symbols in
       let n : count ≡ length (runSymbols rate bytes) = sym (p .counted) ∙ ap length e in
       (n, p .written ∙ ap₂ (λ (a : List ℕ) (k : ℕ). a ++ drop k room₀) e n)
 
   pub progress-length : length room ≡ length room₀
   progress-length =
-      let rest = flatten (callsSymbols s (packetsFor (packetsOf (drop at bytes)))) in
+      let rest = flatten (callsSymbols modeOf s (packetsFor (packetsOf (drop at bytes)))) in
       omega (arith, ap length (p .written), length-append (p .front) (drop count room₀), length-drop count room₀, ap length (p .symbols), length-append (p .front) rest, p .counted, g .fits)
 
   pub progress-room : count ≤ length room
@@ -77,10 +78,10 @@ module _ {rate : ℕ} {bytes room₀ room : List ℕ} {s : Sender} {at count : �
     packet = packetFor input
 
     -- the symbols of this packet, and those of the packets after it
-    next-symbols : p .front ++ (sentSymbols s packet ++ flatten (callsSymbols (senderAfter s packet) (packetsFor (packetsOf (drop (at + 188) bytes))))) ≡ runSymbols rate bytes
+    next-symbols : p .front ++ (sentSymbols modeOf s packet ++ flatten (callsSymbols modeOf (senderAfter modeOf s packet) (packetsFor (packetsOf (drop (at + 188) bytes))))) ≡ runSymbols rate bytes
     unfolding input packet callsSymbols flatten
     next-symbols =
-        ap (λ (l : List (List ℕ)). p .front ++ flatten (callsSymbols s (packetsFor l))) (sym (scanning-packet (p .scanning) h)) ∙ p .symbols
+        ap (λ (l : List (List ℕ)). p .front ++ flatten (callsSymbols modeOf s (packetsFor l))) (sym (scanning-packet (p .scanning) h)) ∙ p .symbols
 
     is-input : isInput input ≡ true
     unfolding input
@@ -90,29 +91,29 @@ module _ {rate : ℕ} {bytes room₀ room : List ℕ} {s : Sender} {at count : �
     unfolding packet
     packet-sized = packet-size input is-input
 
-    count-is : length (sentSymbols s packet) ≡ symbolCount (s .coder)
-    count-is = symbol-count s packet (ready-range s (p .ready)) packet-sized
+    count-is : length (sentSymbols modeOf s packet) ≡ sentCount modeOf s
+    count-is = symbol-count s packet (ready-range s (p .ready)) packet-sized (p .ready .formed)
 
-    fits-next : count + symbolCount (s .coder) ≤ length room₀
+    fits-next : count + sentCount modeOf s ≤ length room₀
     fits-next =
-        let rest = flatten (callsSymbols (senderAfter s packet) (packetsFor (packetsOf (drop (at + 188) bytes)))) in
-        omega (arith, ap length next-symbols, length-append (p .front) (sentSymbols s packet ++ rest), length-append (sentSymbols s packet) rest, count-is, p .counted, g .fits)
+        let rest = flatten (callsSymbols modeOf (senderAfter modeOf s packet) (packetsFor (packetsOf (drop (at + 188) bytes)))) in
+        omega (arith, ap length next-symbols, length-append (p .front) (sentSymbols modeOf s packet ++ rest), length-append (sentSymbols modeOf s packet) rest, count-is, p .counted, g .fits)
 
-    answered : Answered s input (drop count room)
+    answered : Answered modeOf s input (drop count room)
     answered =
         input-sent s input (drop count room) (p .ready) is-input
         (omega (arith, ap length back-room, length-drop count room₀, fits-next))
 
     -- a call on this packet and the rest of the room
-    module _ {number n : ℕ} {next : Sender} {left : List ℕ} (m : Sends s (take (at + 188 - at) (drop at bytes)) (midOf count (length room - count) room) number n next left) where
-      kept : Sends s input (drop count room) number n next left
+    module _ {number n : ℕ} {next : Sender} {left : List ℕ} (m : Sends modeOf s (take (at + 188 - at) (drop at bytes)) (midOf count (length room - count) room) number n next left) where
+      kept : Sends modeOf s input (drop count room) number n next left
       unfolding input
       kept =
           let k : at + 188 - at ≡ 188 = omega arith in
-          subst₂ (λ (a b : List ℕ). Sends s a b number n next left) (ap (λ (j : ℕ). take j (drop at bytes)) k)
+          subst₂ (λ (a b : List ℕ). Sends modeOf s a b number n next left) (ap (λ (j : ℕ). take j (drop at bytes)) k)
           (take-all (length room - count) (drop count room) (omega (arith, length-drop count room))) m
 
-      pub progress-count : n ≡ symbolCount (s .coder)
+      pub progress-count : n ≡ sentCount modeOf s
       progress-count = kept .counted ∙ answered .count
 
       pub progress-total : count + n ≤ length room₀
@@ -121,22 +122,22 @@ module _ {rate : ℕ} {bytes room₀ room : List ℕ} {s : Sender} {at count : �
       pub progress-more : Progress rate bytes room₀ (putMid count (length room - count) room left) next (at + 188) (count + n)
       unfolding packet
       progress-more =
-          let e : next ≡ senderAfter s packet = kept .sender ∙ answered .sender in
-          let k : length (sentSymbols s packet) ≡ n = count-is ∙ sym progress-count in
+          let e : next ≡ senderAfter modeOf s packet = kept .sender ∙ answered .sender in
+          let k : length (sentSymbols modeOf s packet) ≡ n = count-is ∙ sym progress-count in
           record {
-            ready = subst Ready (sym e) (ready-after s packet (p .ready));
+            ready = subst (Ready modeOf) (sym e) (ready-after s packet (p .ready));
             scanning = scanning-more (p .scanning) h;
-            front = p .front ++ sentSymbols s packet;
-            counted = length-append (p .front) (sentSymbols s packet) ∙ ap₂ (λ (a b : ℕ). a + b) (p .counted) k;
+            front = p .front ++ sentSymbols modeOf s packet;
+            counted = length-append (p .front) (sentSymbols modeOf s packet) ∙ ap₂ (λ (a b : ℕ). a + b) (p .counted) k;
             written =
                 ap₂ (λ (a b : List ℕ). a ++ b) front-room
                 (ap (λ (l : List ℕ). left ++ l) (drop-of-length-le (drop count room) {i = length room - count} (omega (arith, length-drop count room))) ∙ append-nil left
                 ∙ kept .written ∙ answered .written
-                ∙ ap₂ (λ (j : ℕ) (l : List ℕ). sentSymbols s packet ++ drop j l) (sym progress-count) back-room
-                ∙ ap (λ (l : List ℕ). sentSymbols s packet ++ l) (drop-drop n count room₀))
-                ∙ sym (append-assoc (p .front) (sentSymbols s packet) (drop (count + n) room₀));
+                ∙ ap₂ (λ (j : ℕ) (l : List ℕ). sentSymbols modeOf s packet ++ drop j l) (sym progress-count) back-room
+                ∙ ap (λ (l : List ℕ). sentSymbols modeOf s packet ++ l) (drop-drop n count room₀))
+                ∙ sym (append-assoc (p .front) (sentSymbols modeOf s packet) (drop (count + n) room₀));
             symbols =
-                ap (λ (x : Sender). (p .front ++ sentSymbols s packet) ++ flatten (callsSymbols x (packetsFor (packetsOf (drop (at + 188) bytes))))) e
-                ∙ append-assoc (p .front) (sentSymbols s packet) _
+                ap (λ (x : Sender). (p .front ++ sentSymbols modeOf s packet) ++ flatten (callsSymbols modeOf x (packetsFor (packetsOf (drop (at + 188) bytes))))) e
+                ∙ append-assoc (p .front) (sentSymbols modeOf s packet) _
                 ∙ next-symbols;
           }

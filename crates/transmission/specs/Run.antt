@@ -27,15 +27,15 @@ runSymbols rate bytes = onAir (modeOf rate) (packetsFor (packetsOf bytes))
 
 -- what the tests tell: all of them can be sent
 pub record Sendable (rate : ℕ) (bytes room : List ℕ) : Type 0 where
-  pub known : rate < 5
+  pub known : rate < 6
   pub whole : length bytes % 188 ≡ 0
   pub fits : length (runSymbols rate bytes) ≤ length room
 
--- What is refused. A constructor's answer comes first: 6 for another rate. Then, as for one packet, 1 where the bytes make no whole packets,
+-- What is refused. A constructor's answer comes first: 6 for another mode. Then, as for one packet, 1 where the bytes make no whole packets,
 -- 4 where the room is too short for all the symbols; 0 where nothing is.
 abbrev pub runRefusal : ℕ → List ℕ → List ℕ → ℕ
 runRefusal rate bytes room =
-    pick (ltb rate 5) (pick (eqb (length bytes % 188) 0) (pick (ltb (length room) (length (runSymbols rate bytes))) 4 0) 1) 6
+    pick (ltb rate 6) (pick (eqb (length bytes % 188) 0) (pick (ltb (length room) (length (runSymbols rate bytes))) 4 0) 1) 6
 
 -- the number of the answer: the refusal, or else 15 where a null packet was put in
 abbrev pub runNumber : ℕ → List ℕ → List ℕ → ℕ

@@ -5,13 +5,14 @@ ghost use Prim.Native.Nat.{_*_, _%_, _<_};
 ghost use lib.Dec.{ltb};
 ghost use lib.ListN.{length, drop};
 ghost use Rattle.answer.specs.Number.{numberOf};
+ghost use Rattle.puncturing.specs.Mode.{blockBits};
 ghost use Rattle.puncturing.specs.Step.{symbolsIn};
 ghost use Rattle.transmission.specs.Run.{packetsOf, synced, runSymbols, Sendable, Runs};
 use answer::Answer;
 use inner_code::InnerCoder;
 use sender::Sender;
 
-// The bits of a coded block.
+// The bits of a coded block. At 16QAM a third of them is coded, and the place in the pattern is 0 all the same.
 const BLOCK_BITS: u16 = 1632;
 
 // An answer, and how many symbols were written.
@@ -37,8 +38,8 @@ fn is_synced(packets: &[u8]) -> bool
 
 // Whether a room is too short for the symbols of so many packets.
 fn is_short(rate: u8, packets: usize, room: usize) -> bool
-    requires { ⌜ rate < 5 ⌝ }
-    ensures { λ r. ⌜ r ≡ ltb room (symbolsIn rate 0 (1632 * packets)) ⌝ }
+    requires { ⌜ rate < 6 ⌝ }
+    ensures { λ r. ⌜ r ≡ ltb room (symbolsIn rate 0 (blockBits rate * packets)) ⌝ }
 {
     let lengths = InnerCoder::PATTERN_LENGTHS;
     let length = lengths[rate as usize] as u16;
@@ -89,7 +90,7 @@ fn send_packets(rate: u8, packets: &[u8], room: &mut [u8]) -> usize
 pub fn send_run(rate: u8, packets: &[u8], room: &mut [u8]) -> Run
     ensures { λ r. ⌜ Runs rate (now (packets .entry)) (now (room .entry)) (numberOf (r .answer)) (r .count) (now (room .exit)) ⌝ }
 {
-    if rate >= 5 {
+    if rate >= 6 {
         return Run {
             answer: Answer::UnknownRate,
             count: 0,

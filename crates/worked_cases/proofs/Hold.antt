@@ -1,7 +1,7 @@
 -- Every row of the table holds: the equalities by computation, and one block is no codeword.
 -- Assumes nothing.
 use mathlib.Core.Path.{_≡_, refl, ap, _∙_}
-use mathlib.Core.List.{List, _++_, zipWith}
+use mathlib.Core.List.{List, _++_, flatten, zipWith}
 use Prim.Native.Nat.{ℕ}
 use Prim.{tt}
 use native.Mathlib.Omega.{arith}
@@ -20,9 +20,10 @@ use Rattle.delay_branches.specs.Column.{column}
 use Rattle.delay_branches.specs.Block.{fresh, leaving, blockOut}
 use Rattle.convolutional_code.specs.Bits.{bitsOf}
 use Rattle.puncturing.specs.Mode.{modes, modeOf}
-use Rattle.puncturing.specs.Step.{patternLength, punctured, heldAfter}
-use Rattle.inner_code.specs.Stream.{symbolsAfter, symbols}
-use Rattle.inner_code.specs.Step.{symbolsOf, coderAfter}
+use Rattle.puncturing.specs.Step.{puncturedBy, heldBy}
+use Rattle.inner_code.specs.Converter.{groups, encodedBits, uncodedNumbers, sequenced}
+use Rattle.inner_code.specs.Stream.{symbolsAfter, symbols, streamSymbols}
+use Rattle.inner_code.specs.Step.{coderBy}
 use Rattle.worked_cases.specs.Table.{Holds, unit, coefficients, damaged, cases}
 
 -- the check bytes of the message 1
@@ -39,5 +40,5 @@ damaged-no-codeword c =
 
 -- every row of the table holds
 pub cases-hold : All Holds cases
-unfolding listOf power plus scale product timesX rounds mul loaded output stepped steps bits sequence generator enabled masks randomized zipWith code.factors code.generator generatorTail divided remainderFrom checkBytes baseOf queue column fresh leaving blockOut modes modeOf bitsOf symbolsAfter symbols patternLength punctured heldAfter symbolsOf coderAfter
-cases-hold = (refl, (refl, (refl, (refl, (refl, (unit-coded, (damaged-no-codeword, (refl, (refl, (refl, (refl, (refl, (refl, (refl, tt))))))))))))))
+unfolding listOf power plus scale product timesX rounds mul loaded output stepped steps bits sequence generator enabled masks randomized zipWith code.factors code.generator generatorTail divided remainderFrom checkBytes baseOf queue column fresh leaving blockOut modes modeOf bitsOf symbolsAfter symbols puncturedBy heldBy coderBy flatten groups encodedBits uncodedNumbers sequenced streamSymbols
+cases-hold = (refl, (refl, (refl, (refl, (refl, (unit-coded, (damaged-no-codeword, (refl, (refl, (refl, (refl, (refl, (refl, (refl, (refl, (refl, tt))))))))))))))))

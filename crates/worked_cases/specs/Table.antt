@@ -1,4 +1,5 @@
--- The cases that document 01, "Both sides of each line", marks (p): one table of rows, and what it is for a row to hold.
+-- The cases that document 01, "Both sides of each line", marks (p), and two for the 16QAM of document 02, P10: one table of rows, and what it is for a
+-- row to hold.
 -- Assumes nothing.
 use mathlib.Core.Path.{_≡_}
 use mathlib.Core.List.{List, [], _∷_, _++_}
@@ -16,7 +17,7 @@ use Rattle.delay_branches.specs.Block.{fresh, blockOut}
 use Rattle.delay_branches.specs.declared.Side.the-variants.{Sending}
 use Rattle.convolutional_code.specs.Bits.{bitsOf}
 use Rattle.puncturing.specs.Mode.{modeOf}
-use Rattle.inner_code.specs.Stream.{symbols}
+use Rattle.inner_code.specs.Stream.{symbols, streamSymbols}
 use Rattle.inner_code.specs.Encode.{freshCoder, blockCoder}
 
 -- a row: what a definition gives is what is wanted, or a block is no codeword
@@ -73,6 +74,11 @@ cases =
     ∷ gives (blockCoder (freshCoder 2) (0x80 ∷ []) .held ∷ blockCoder (freshCoder 2) (0x80 ∷ []) .place ∷ []) (0 ∷ 2 ∷ [])
     ∷ gives (streamed 3) (3 ∷ 1 ∷ 2 ∷ 1 ∷ 2 ∷ [])
     ∷ gives (streamed 4) (3 ∷ 1 ∷ 2 ∷ 3 ∷ 0 ∷ [])
+    -- 16QAM 3/4, from tables 3 and 4 of EN 301 210 by hand. Bytes 80 C6 39 into fresh memory: Y and X of byte 80, as at rate 1/2, beside the pairs
+    -- 11 00 01 10 of C6 and 00 11 10 01 of 39.
+    ∷ gives (streamSymbols (modeOf 5) (0x80 ∷ 0xC6 ∷ 0x39 ∷ [])) (15 ∷ 1 ∷ 7 ∷ 11 ∷ 0 ∷ 14 ∷ 11 ∷ 4 ∷ [])
+    -- 01 and five zeros: the last bit of 01 runs on in the memory into the next three bytes
+    ∷ gives (streamSymbols (modeOf 5) (0x01 ∷ replicate 5 0)) (replicate 7 0 ++ 3 ∷ 1 ∷ 3 ∷ 3 ∷ 0 ∷ 2 ∷ 3 ∷ 0 ∷ 0 ∷ [])
     -- the first block from fresh branches keeps 17 bytes, places 0, 12 .. 192, and zeros elsewhere
     ∷ gives (blockOut Sending fresh numbered) (listOf 204 (λ n. pick (eqb (n % 12) 0) (n + 1) 0))
     ∷ []

@@ -257,7 +257,57 @@ fn read_run(s: &mut Score, rate: u8, memory: u8, symbols: &[u8], room: Vec<u8>, 
     (m[0], a, m[1], u32::from_le_bytes(m[2..RESULT_LENGTH].try_into().unwrap()))
 }
 
+/// A run as the demodulator hands it over: I, Q, and 1 where it was lost.
+#[derive(Default)]
+struct Received {
+    i: Vec<f32>,
+    q: Vec<f32>,
+    lost: Vec<u8>,
+}
+
+/// The answer, the bits that the reference read, the memory after them and what
+/// they cost.
+fn read_soft_run(s: &mut Score, rate: u8, memory: u8, run: &Received, room: Vec<u8>, result: Vec<u8>) -> (u8, Vec<u8>, u8, u32) {
+    let (mut a, mut b) = (room.clone(), room);
+    let (mut m, mut n) = (result.clone(), result);
+    let want = expected::read_soft_run(rate, memory, &run.i, &run.q, &run.lost, &mut a, &mut m);
+    let got = library::read_soft_run(rate, memory, &run.i, &run.q, &run.lost, &mut b, &mut n);
+    let inputs = format!(
+        "rate {rate}, memory {memory}, lists of {}, {} and {}, room of {}, result of {}",
+        run.i.len(),
+        run.q.len(),
+        run.lost.len(),
+        a.len(),
+        m.len()
+    );
+    s.same(
+        &inputs,
+        &[("bits", &want.to_le_bytes()), ("result", &m), ("room", &a)],
+        &[("bits", &got.to_le_bytes()), ("result", &n), ("room", &b)],
+    );
+    a.truncate(want as usize);
+    if m.len() < RESULT_LENGTH {
+        return (0, a, memory, 0);
+    }
+    (m[0], a, m[1], u32::from_le_bytes(m[2..RESULT_LENGTH].try_into().unwrap()))
+}
+
 // Inputs.
+
+/// Numbers at which a level changes, each with its neighbours, and those that
+/// are often forgotten: both zeros, subnormal ones, infinities, NaNs of both
+/// signs with any digits.
+fn edges() -> Vec<f32> {
+    let mut bits: Vec<u32> = vec![0, 0x8000_0000, 0x007F_FFFF, 0x807F_FFFF, 0x0080_0000, 0x8080_0000];
+    bits.extend([0x7F80_0000, 0xFF80_0000, 0x7F7F_FFFF, 0xFF7F_FFFF, 0x3F80_0000, 0xBF80_0000]);
+    bits.extend([0x7F80_0001, 0x7FC0_0000, 0x7FFF_FFFF, 0xFF80_0001, 0xFFC0_0000, 0xFFFF_FFFF]);
+    for threshold in [-0.75f32, -0.5, -0.25, 0.25, 0.5, 0.75] {
+        bits.extend((0..5).map(|k| threshold.to_bits() - 2 + k));
+    }
+    // The neighbours of 0 are the smallest numbers.
+    bits.extend([1, 2, 0x8000_0001, 0x8000_0002]);
+    bits.into_iter().map(f32::from_bits).collect()
+}
 
 fn packets(r: &mut Xorshift, count: usize) -> Vec<u8> {
     let mut p = r.bytes(PACKET_LENGTH * count);
@@ -708,8 +758,8 @@ fn symbols_of(rate: u8, count: usize) -> usize {
 }
 
 fn send_kinds(s: &mut Score) {
-    for rate in 0..5u8 {
-        let kind = ["send_run at 1/2", "send_run at 2/3", "send_run at 3/4", "send_run at 5/6", "send_run at 7/8"][rate as usize];
+    let kinds = ["send_run at 1/2", "send_run at 2/3", "send_run at 3/4", "send_run at 5/6", "send_run at 7/8", "send_run at 16QAM 3/4"];
+    for (rate, kind) in (0u8..).zip(kinds) {
         let mut sent = 0;
         s.kind(kind, 60, |s, r, case| {
             // 0 to 49 packets one by one, then longer lists.
@@ -736,7 +786,7 @@ fn send_kinds(s: &mut Score) {
         for n in (0..count).filter(|&n| bad[n]) {
             list[188 * n] = r.not_sync();
         }
-        for rate in 0..5 {
+        for rate in 0..6 {
             let need = symbols_of(rate, count);
             let room = room_of(r, need);
             let (answer, symbols) = send_run(s, rate, &list, room, vec![0xA5]);
@@ -745,10 +795,10 @@ fn send_kinds(s: &mut Score) {
         }
     });
     s.kind("send_run: refusals", 256, |s, r, case| {
-        // Every rate with each of the other refusals, alone and together.
+        // Every mode with each of the other refusals, alone and together.
         let count = 1 + case as usize % 10;
-        for rate in [case as u8, case as u8 % 5] {
-            let need = symbols_of(rate % 5, count);
+        for rate in [case as u8, case as u8 % 6] {
+            let need = symbols_of(rate % 6, count);
             let good = packets(r, count);
             let mut wrong = good.clone();
             wrong[188 * r.below(count)] = r.not_sync();
@@ -905,6 +955,171 @@ fn read_kinds(s: &mut Score) {
                         for room in rooms {
                             for result in [0, 5, 6, 7] {
                                 read_run(s, rate, memory, &symbols, r.bytes(room), vec![0xA5; result]);
+                            }
+                        }
+                    }
+                }
+            }
+        }
+    });
+}
+
+fn read_soft_kinds(s: &mut Score) {
+    let random = |r: &mut Xorshift, count: usize| (0..count).map(|_| r.byte() & 3).collect::<Vec<u8>>();
+    let symbols_in = |rate: u8, count: usize| InnerCoder::after(rate, 0).symbols_due(count);
+    let edges = edges();
+    // 1.0 is sent for 0, and -1.0 for 1.
+    let signal = |bit: u8| 1.0 - 2.0 * bit as f32;
+    // One number alone says its level: the other is NaN, so that the cheaper bit and what it costs are told.
+    s.kind("read_soft_run: every edge with every other", edges.len() as u64, |s, _, case| {
+        let i = edges[case as usize];
+        for &q in &edges {
+            for lost in [0, 1] {
+                for memory in [0, 1, 33, 63] {
+                    let run = Received { i: vec![i], q: vec![q], lost: vec![lost] };
+                    read_soft_run(s, 0, memory, &run, vec![0xA5; 2], vec![0xA5; RESULT_LENGTH]);
+                }
+            }
+        }
+    });
+    s.kind("read_soft_run: numbers of any pattern", 200, |s, r, _| {
+        for _ in 0..500 {
+            let mut number = || f32::from_bits(r.next() as u32);
+            let (i, q) = (number(), number());
+            let near = 1.5 * (r.below(1 << 24) as f32 / (1 << 23) as f32 - 1.0);
+            for (i, q) in [(i, f32::NAN), (f32::NAN, q), (near, f32::NAN), (i, near)] {
+                let run = Received { i: vec![i], q: vec![q], lost: vec![0] };
+                read_soft_run(s, 0, r.byte() % 64, &run, vec![0xA5; 1], vec![0xA5; RESULT_LENGTH]);
+            }
+        }
+    });
+    let anything = |r: &mut Xorshift, count: usize| {
+        // One symbol in `one_in` lost; some at an edge.
+        let one_in = [1, 2, 5, 100][r.below(4)];
+        let number = |r: &mut Xorshift| match r.below(4) {
+            0 => edges[r.below(edges.len())],
+            _ => 1.25 * (r.below(1 << 24) as f32 / (1 << 23) as f32 - 1.0),
+        };
+        Received {
+            i: (0..count).map(|_| number(r)).collect(),
+            q: (0..count).map(|_| number(r)).collect(),
+            lost: (0..count).map(|_| (r.below(one_in) == 0) as u8).collect(),
+        }
+    };
+    s.kind("read_soft_run: short runs of anything", 8_000, |s, r, case| {
+        let rate = case as u8 % 5;
+        let length = InnerCoder::pattern_length(rate);
+        let count = length * r.below(12 / length + 1);
+        let run = anything(r, symbols_in(rate, count));
+        let room = room_of(r, count);
+        read_soft_run(s, rate, r.byte() % 64, &run, room, vec![0xA5; RESULT_LENGTH + case as usize % 3]);
+    });
+    s.kind("read_soft_run: anything, where nothing was sent", 200, |s, r, case| {
+        let rate = case as u8 % 5;
+        let length = InnerCoder::pattern_length(rate);
+        let patterns = if case < 10 { LONGEST / length } else { r.below(LONGEST / length + 1) };
+        let run = anything(r, symbols_in(rate, length * patterns));
+        let room = room_of(r, length * patterns);
+        read_soft_run(s, rate, r.byte() % 64, &run, room, vec![0xA5; RESULT_LENGTH]);
+    });
+    s.kind("read_soft_run: every symbol lost", 320, |s, r, case| {
+        let rate = case as u8 % 5;
+        let length = InnerCoder::pattern_length(rate);
+        let count = length * if case < 60 { case as usize / 5 } else { r.below(LONGEST / length + 1) };
+        let mut run = anything(r, symbols_in(rate, count));
+        run.lost.fill(1);
+        let memory = r.byte() % 64;
+        let room = room_of(r, count);
+        let told = read_soft_run(s, rate, memory, &run, room, vec![0xA5; RESULT_LENGTH]);
+        assert_eq!(told, (0, vec![0; count], memory.checked_shr(count as u32).unwrap_or(0), 0));
+    });
+    s.kind("read_soft_run: points of 1.0 and -1.0, and read_run", 600, |s, r, case| {
+        let rate = case as u8 % 5;
+        let length = InnerCoder::pattern_length(rate);
+        let patterns = if case < 5 { LONGEST / length } else { r.below(LONGEST / length / 4 + 1) };
+        let symbols = random(r, symbols_in(rate, length * patterns));
+        let run = Received {
+            i: symbols.iter().map(|s| signal(s >> 1)).collect(),
+            q: symbols.iter().map(|s| signal(s & 1)).collect(),
+            lost: vec![0; symbols.len()],
+        };
+        let memory = r.byte() % 64;
+        let room = room_of(r, length * patterns);
+        // Of the library's two functions one against the other, and then each against the reference.
+        let (mut a, mut b) = (room.clone(), room.clone());
+        let (mut m, mut n) = ([0xA5; RESULT_LENGTH], [0xA5; RESULT_LENGTH]);
+        let hard = library::read_run(rate, memory, &symbols, &mut a, &mut m);
+        let soft = library::read_soft_run(rate, memory, &run.i, &run.q, &run.lost, &mut b, &mut n);
+        let number = |result: &[u8]| u32::from_le_bytes(result[2..RESULT_LENGTH].try_into().unwrap());
+        assert_eq!((hard, &a, &m[..2], 7 * number(&m)), (soft, &b, &n[..2], number(&n)));
+        read_soft_run(s, rate, memory, &run, room, vec![0xA5; RESULT_LENGTH]);
+    });
+    let (mut read, mut whole, mut hard_whole) = (0u64, 0u64, 0u64);
+    s.kind("read_soft_run: sent with noise", 600, |s, r, case| {
+        let rate = case as u8 % 5;
+        let length = InnerCoder::pattern_length(rate);
+        let patterns = if case < 10 { LONGEST / length } else { r.below(LONGEST / length + 1) };
+        let sent: Vec<u8> = (0..length * patterns).map(|_| r.byte() & 1).collect();
+        let memory = r.byte() % 64;
+        let mut coder = InnerCoder::after(rate, memory);
+        let symbols = coder.code_bits(&sent);
+        // A sum of twelve is near enough to a normal distribution.
+        let strength = [0.0, 0.2, 0.4, 0.6, 0.8][r.below(5)];
+        let noise = |r: &mut Xorshift| strength * ((0..12).map(|_| r.below(1 << 20) as f32).sum::<f32>() / (1 << 20) as f32 - 6.0);
+        let one_in = [0, 0, 50, 10][r.below(4)];
+        let run = Received {
+            i: symbols.iter().map(|s| signal(s >> 1) + noise(r)).collect(),
+            q: symbols.iter().map(|s| signal(s & 1) + noise(r)).collect(),
+            lost: symbols.iter().map(|_| (one_in > 0 && r.below(one_in) == 0) as u8).collect(),
+        };
+        let room = room_of(r, sent.len());
+        let (answer, got, after, cost) = read_soft_run(s, rate, memory, &run, room, vec![0xA5; RESULT_LENGTH]);
+        assert_eq!(answer, 0);
+        if strength == 0.0 && one_in == 0 {
+            assert_eq!((&got, after, cost), (&sent, coder.memory(), 0));
+        }
+        // What hard decisions make of the same: with nothing known of a lost symbol, it is taken for 0.
+        let decided: Vec<u8> = (0..symbols.len())
+            .map(|k| if run.lost[k] == 1 { 0 } else { 2 * (run.i[k] < 0.0) as u8 + (run.q[k] < 0.0) as u8 })
+            .collect();
+        let (mut bits, mut result) = (vec![0; sent.len()], [0; RESULT_LENGTH]);
+        library::read_run(rate, memory, &decided, &mut bits, &mut result);
+        read += 1;
+        whole += (got == sent) as u64;
+        hard_whole += (bits == sent) as u64;
+    });
+    if read > 0 {
+        println!("  runs: {read}, read as sent: {whole}, by hard decisions: {hard_whole}");
+    }
+    s.kind("read_soft_run: refusals", 256, |s, r, case| {
+        for rate in [case as u8, case as u8 % 5] {
+            let known = rate % 5;
+            let length = InnerCoder::pattern_length(known);
+            let per_pattern = symbols_in(known, length);
+            let most = LONGEST / length;
+            for memory in [case as u8, case as u8 % 64] {
+                for patterns in [0, 1, most, most + 1] {
+                    for more in [0, 1, per_pattern - 1] {
+                        let mut run = anything(r, per_pattern * patterns + more);
+                        match r.below(8) {
+                            0 => run.i.push(0.0),
+                            1 => run.q.push(0.0),
+                            2 => run.lost.push(0),
+                            3 => drop(run.lost.pop()),
+                            4 if !run.lost.is_empty() => {
+                                let at = r.below(run.lost.len());
+                                run.lost[at] = [2, 255, 2 + r.byte() % 254][r.below(3)];
+                            }
+                            _ => {}
+                        }
+                        let count = length * patterns;
+                        let mut rooms = vec![count.saturating_sub(1), 0];
+                        if patterns < most {
+                            rooms.extend([count, count + 3]);
+                        }
+                        for room in rooms {
+                            for result in [0, 5, 6, 7] {
+                                read_soft_run(s, rate, memory, &run, r.bytes(room), vec![0xA5; result]);
                             }
                         }
                     }
@@ -1282,6 +1497,7 @@ fn main() {
     marked_kinds(&mut s);
     send_kinds(&mut s);
     read_kinds(&mut s);
+    read_soft_kinds(&mut s);
     receive_kinds(&mut s);
     recording_kinds(&mut s);
     println!("comparisons: {} passed, {} failed", s.passed_all, s.failed_all);

@@ -13,7 +13,7 @@ use std::process::{exit, Command, Stdio};
 
 /// Answer, number of symbols and symbols of each input, by the reference.
 fn expected(rate: u8, inputs: &[Vec<u8>]) -> Vec<u8> {
-    let mut sender = Sender::fresh(rate).ok().expect("one of five rates");
+    let mut sender = Sender::fresh(rate).ok().expect("one of six modes");
     let mut out = Vec::new();
     for input in inputs {
         let mut room = [0; 1632];
@@ -62,11 +62,11 @@ fn main() {
     let mut compare = |r: &mut Xorshift, kinds: &[usize]| {
         let list: Vec<Vec<u8>> = kinds.iter().map(|&kind| input(r, kind)).collect();
         kinds.iter().for_each(|&kind| inputs[kind] += 1);
-        for rate in 0..5 {
+        for rate in 0..6 {
             lists += 1;
             if got(&program, rate, &list) != expected(rate, &list) {
                 different += 1;
-                println!("DIFFERENT at rate {rate}: kinds {kinds:?}");
+                println!("DIFFERENT in mode {rate}: kinds {kinds:?}");
             }
         }
     };
@@ -84,6 +84,6 @@ fn main() {
         compare(&mut r, &kinds);
     }
     println!("send, call after call: {lists} lists compared, {different} different");
-    println!("  good, bad, empty inputs and wrong lengths, each at five rates: {inputs:?}");
+    println!("  good, bad, empty inputs and wrong lengths, in each of six modes: {inputs:?}");
     exit((different > 0) as i32);
 }

@@ -1,8 +1,9 @@
-//! The pass report of document 01, by the reference: received bytes on standard
+//! The pass report, by the reference, in form 2: received bytes on standard
 //! input, key=value lines on standard output. To be compared with the
 //! project's own program.
 
 use reference::receiver::Receiver;
+use reference::report::{Bits, Report};
 use reference::{BLOCK_LENGTH, PACKET_LENGTH};
 use std::io::Read;
 
@@ -25,11 +26,8 @@ fn main() -> std::io::Result<()> {
             break;
         }
     }
-    println!("form=1");
-    let names = ["taken", "filling", "delivered", "lost", "waiting", "outofstep", "changed"];
-    for (name, count) in names.iter().zip(receiver.counts().in_order()) {
-        println!("{name}={count}");
-    }
-    println!("rest={rest}");
+    let [counts @ .., bits] = receiver.counts().in_order();
+    let report = Report { counts, bits: Bits::Number(bits), rest: rest as u64 };
+    print!("{}", report.text());
     Ok(())
 }

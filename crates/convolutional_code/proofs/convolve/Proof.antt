@@ -15,10 +15,10 @@ use Rattle.convolutional_code.proofs.convolve.Statement.{statement}
 use Rattle.convolutional_code.proofs.convolve.Tie as tie
 
 abbrev Inv-loop : tie.InvT-loop
-Inv-loop history a b c d e coded₀ at n₀ coded n = (n ≤ 1632) × Written at coded₀ (sweep (a ∷ b ∷ c ∷ d ∷ e ∷ []) history 0 1632) coded n
+Inv-loop history bits a b c d e coded₀ at n₀ coded n = (n ≤ bits) × Written at coded₀ (sweep (a ∷ b ∷ c ∷ d ∷ e ∷ []) history 0 bits) coded n
 
 abbrev μ-loop : tie.MeasureT-loop
-μ-loop history a b c d e coded₀ at n₀ coded n = 1632 - n
+μ-loop history bits a b c d e coded₀ at n₀ coded n = bits - n
 
 abbrev taps : tie.Start Inv-loop μ-loop → List ℕ
 taps a = a .args .a ∷ a .args .b ∷ a .args .c ∷ a .args .d ∷ a .args .e ∷ []
@@ -26,7 +26,7 @@ taps a = a .args .a ∷ a .args .b ∷ a .args .c ∷ a .args .d ∷ a .args .e 
 loop-holds : tie.Need-loop-holds Inv-loop μ-loop
 loop-holds c =
     let a = c .before .before in
-    (omega arith, written-none (rw (length-sweep (taps a) (a .args .history .now) 0 1632) (a .pre .7)))
+    (omega arith, written-none (rw (length-sweep (taps a) (a .args .history .now) 0 (a .args .bits)) (a .pre .8)))
 
 add-parity : tie.Need-add-parity Inv-loop μ-loop
 add-parity c = omega arith
@@ -71,7 +71,7 @@ add-coded c = omega arith
 slice-write-coded : tie.Need-slice-write-coded Inv-loop μ-loop
 slice-write-coded c =
     let a = c .before .before .before .before .before .before .before .before .before .before in
-    omega (arith, written-length (c .before .before .before .before .before .before .before .loop .inv .1), a .pre .7)
+    omega (arith, written-length (c .before .before .before .before .before .before .before .loop .inv .1), a .pre .8)
 
 add-n : tie.Need-add-n Inv-loop μ-loop
 add-n c = omega arith
@@ -84,10 +84,10 @@ loop-again c =
     let a = c .before .before .before .before .before .before .before .before .before .before in
     let l = c .before .before .before .before .before .before .before .loop in
     let h = a .args .history .now in
-    let at : getD (sweep (taps a) h 0 1632) (l .n) 0 ≡ totalAt (taps a) h (l .n) % 2
-    = sweep-at (taps a) h 0 1632 (l .n) (omega arith) ∙ ap (λ (n : ℕ). totalAt (taps a) h n % 2) (zero-add (l .n))
+    let at : getD (sweep (taps a) h 0 (a .args .bits)) (l .n) 0 ≡ totalAt (taps a) h (l .n) % 2
+    = sweep-at (taps a) h 0 (a .args .bits) (l .n) (omega arith) ∙ ap (λ (n : ℕ). totalAt (taps a) h n % 2) (zero-add (l .n))
     in
-    let room : l .n < length (sweep (taps a) h 0 1632) = rw (length-sweep (taps a) h 0 1632) (omega arith) in
+    let room : l .n < length (sweep (taps a) h 0 (a .args .bits)) = rw (length-sweep (taps a) h 0 (a .args .bits)) (omega arith) in
     (omega arith, written-more (l .inv .1) _ _ room refl (c .parity .ensures ∙ sym at))
 
 same-length : tie.Need-same-length Inv-loop μ-loop
@@ -96,8 +96,8 @@ same-length c = written-length (c .before .loop .inv .1)
 returns : tie.Need-returns Inv-loop μ-loop
 returns c =
     let a = c .before .before .before .before in
-    let n : 1632 ≡ c .before .loop .n = omega arith in
-    placed-all (c .before .loop .inv .1) (length-sweep (taps a) (a .args .history .now) 0 1632 ∙ n)
+    let n : a .args .bits ≡ c .before .loop .n = omega arith in
+    placed-all (c .before .loop .inv .1) (length-sweep (taps a) (a .args .history .now) 0 (a .args .bits) ∙ n)
 
 pub convolve-spec : {M : Type 1} → statement M
 convolve-spec =

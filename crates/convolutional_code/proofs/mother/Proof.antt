@@ -25,15 +25,15 @@ same-length c = search needs
 returns : tie.Need-returns
 returns c =
     let a = c .before .before .before .before .before .before .before .before .before .before .args in
-    let x = sweep offsetsX (a .history .now) 0 1632 in
-    let y = sweep offsetsY (a .history .now) 0 1632 in
+    let x = sweep offsetsX (a .history .now) 0 (a .bits) in
+    let y = sweep offsetsY (a .history .now) 0 (a .bits) in
     let room = a .coded .now in
-    let n = length-sweep offsetsX (a .history .now) 0 1632 in
-    let m = length-sweep offsetsY (a .history .now) 0 1632 in
-    let at : 1632 ≡ 0 + length x = omega arith in
+    let n = length-sweep offsetsX (a .history .now) 0 (a .bits) in
+    let m = length-sweep offsetsY (a .history .now) 0 (a .bits) in
+    let at : a .bits ≡ 0 + length x = omega arith in
     let full : length (x ++ y) ≡ length room = length-append x y ∙ (omega arith) in
     c .before .before .convolve2 .ensures
-    ∙ ap (λ (l : List ℕ). placed l 1632 y) (c .before .before .before .before .before .before .convolve .ensures)
+    ∙ ap (λ (l : List ℕ). placed l (a .bits) y) (c .before .before .before .before .before .before .convolve .ensures)
     ∙ ap (λ (k : ℕ). placed (placed room 0 x) k y) at
     ∙ placed-append room 0 x (omega arith) y
     ∙ placed-full room (x ++ y) full

@@ -9,10 +9,10 @@ use Rattle.convolutional_code.proofs.unpack.Statement.{statement}
 use Rattle.convolutional_code.proofs.unpack.Tie as tie
 
 abbrev Inv-loop : tie.InvT-loop
-Inv-loop memory block history₀ i₀ history i = (i ≤ 204) × Unpacked memory block history i
+Inv-loop memory bytes history₀ i₀ history i = (i ≤ length bytes) × Unpacked memory bytes history i
 
 abbrev μ-loop : tie.MeasureT-loop
-μ-loop memory block history₀ i₀ history i = 204 - i
+μ-loop memory bytes history₀ i₀ history i = length bytes - i
 
 unpack-memory-requires : tie.Need-unpack-memory-requires Inv-loop μ-loop
 unpack-memory-requires c κs = omega arith
@@ -21,7 +21,7 @@ loop-holds : tie.Need-loop-holds Inv-loop μ-loop
 loop-holds c =
     let a = c .before .before .before .before .before .before in
     let u = c .before .before .unpack-memory in
-    (omega arith, unpacked-none (a .args .memory) (a .args .block .now) _ _ (u .ensures) (u .kept .1 .0 ∙ a .pre .1))
+    (omega arith, unpacked-none (a .args .memory) (a .args .bytes .now) _ _ (u .ensures) (u .kept .1 .0 ∙ a .pre .1))
 
 mul-n : tie.Need-mul-n Inv-loop μ-loop
 mul-n c = omega arith
@@ -54,13 +54,13 @@ loop-again : tie.Need-loop-again Inv-loop μ-loop
 loop-again c =
     let l = c .before .before .before .before .before .before .loop in
     let u = c .before .before .unpack-byte in
-    (omega arith, unpacked-more (l .inv .1) _ _ (length (l .history) - (8 * l .i + 6)) (omega arith) (omega arith) (u .ensures) (u .kept .1 .0))
+    (omega arith, unpacked-more (l .inv .1) _ _ (length (l .history) - (8 * l .i + 6)) (omega arith) (u .ensures) (u .kept .1 .0))
 
 same-length : tie.Need-same-length Inv-loop μ-loop
 same-length c = c .before .loop .inv .1 .size ∙ sym (c .before .before .before .before .before .before .before .before .pre .1)
 
 returns : tie.Need-returns Inv-loop μ-loop
-returns c = unpacked-all (c .before .loop .inv .1) (omega arith) (c .before .before .before .before .before .before .before .before .pre .0)
+returns c = unpacked-all (c .before .loop .inv .1) (omega (arith, c .before .loop .inv .0))
 
 pub unpack-spec : {M : Type 1} → statement M
 unpack-spec =

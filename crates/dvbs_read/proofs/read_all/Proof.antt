@@ -1,28 +1,30 @@
 -- `dvbs_read::read_all` is safe and ends. The measure is the number of turns that are left.
 -- Assumes nothing.
 use mathlib.Core.Path.{_≡_}
-use Prim.Native.Nat.{ℕ, _<_}
-use native.Mathlib.Omega.{arith}
+use Prim.Native.Nat.{ℕ}
 use lib.ListN.{length, length-replicate}
 use borrow.Author.Needs.{needs}
-use Rattle.symbol_stream.specs.Stream.{Ready}
+use Rattle.symbol_pass.specs.Going.{Going}
 use Rattle.dvbs_read.proofs.read_all.Statement.{statement}
 use Rattle.dvbs_read.proofs.read_all.Tie as tie
 
 abbrev Inv-loop : tie.InvT-loop
-Inv-loop input₀ room₀ reading₀ more₀ turns₀ input room reading more turns = (Ready (reading .stream)) × (reading .writer .bits < 8) × (length input ≡ 65536) × (length room ≡ 1632)
+Inv-loop input₀ costs₀ room₀ reading₀ more₀ turns₀ input costs room reading more turns = (Going reading) × (length input ≡ 16384) × (length costs ≡ 65536) × (length room ≡ 1632)
 
 abbrev μ-loop : tie.MeasureT-loop
-μ-loop input₀ room₀ reading₀ more₀ turns₀ input room reading more turns = turns
+μ-loop input₀ costs₀ room₀ reading₀ more₀ turns₀ input costs room reading more turns = turns
 
 loop-holds : tie.Need-loop-holds Inv-loop μ-loop
-loop-holds c = (c .pre, omega arith, length-replicate {A = ℕ} 65536 0, length-replicate {A = ℕ} 1632 0)
+loop-holds c = (c .pre, length-replicate {A = ℕ} 16384 0, length-replicate {A = ℕ} 65536 0, length-replicate {A = ℕ} 1632 0)
 
 slice-aggregate-read-some : tie.Need-slice-aggregate-read-some Inv-loop μ-loop
 slice-aggregate-read-some c = search needs
 
 slice-aggregate-read-some-2 : tie.Need-slice-aggregate-read-some-2 Inv-loop μ-loop
 slice-aggregate-read-some-2 c = search needs
+
+slice-aggregate-read-some-3 : tie.Need-slice-aggregate-read-some-3 Inv-loop μ-loop
+slice-aggregate-read-some-3 c = search needs
 
 read-some-requires : tie.Need-read-some-requires Inv-loop μ-loop
 read-some-requires c κs = search needs
@@ -54,6 +56,7 @@ read-all-spec =
     loop-holds
     slice-aggregate-read-some
     slice-aggregate-read-some-2
+    slice-aggregate-read-some-3
     read-some-requires
     sub-turns
     loop-less

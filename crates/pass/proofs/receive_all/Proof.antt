@@ -2,7 +2,7 @@
 -- Assumes nothing.
 use mathlib.Core.Path.{_≡_, refl, subst, _∙_}
 use mathlib.Core.Bool.{false}
-use Prim.Native.Nat.{_+_, _≤_, _<_}
+use Prim.Native.Nat.{_+_}
 use native.Mathlib.Omega.{arith}
 use lib.IntN.{ℤ, pos}
 use lib.ListN.{length}
@@ -10,7 +10,8 @@ use lib.Signed.{ltZ}
 use mir.Syntax.{w64}
 use mir.Val.{toZ, ofZ}
 use Rattle.stream_receiver.specs.Feed.{capacityOf}
-use Rattle.pass.proofs.Turns.{Passing, passing-none, passing-came, given-within, passing-more, passing-few, fewer, passes-part, passes-whole, nothing-read}
+use Rattle.input_pieces.proofs.Laws.{nothing-read}
+use Rattle.pass.proofs.Turns.{Passing, passing-none, passing-came, given-within, passing-more, passing-few, fewer, passes-part, passes-whole}
 use borrow.Author.Needs.{needs}
 use Rattle.pass.proofs.receive_all.Statement.{statement}
 use Rattle.pass.proofs.receive_all.Tie as tie

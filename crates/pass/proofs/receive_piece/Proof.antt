@@ -1,12 +1,13 @@
 -- `pass::receive_piece` meets its contract.
 -- Assumes nothing.
-use mathlib.Core.Path.{_≡_, sym, ap, _∙_}
+use mathlib.Core.Path.{sym, ap, _∙_}
 use Prim.Native.Nat.{ℕ, _≤_, min}
 use native.Mathlib.Nat.{min-le-right}
 use native.Mathlib.Omega.{arith}
 use lib.ListN.{length}
 use lib.Seq.{length-take-le}
-use Rattle.pass.proofs.Turns.{read-most, capacity-is, turns}
+use Rattle.input_pieces.proofs.Laws.{read-most}
+use Rattle.pass.proofs.Turns.{capacity-is, turns}
 use borrow.Author.Needs.{needs}
 use Rattle.pass.proofs.receive_piece.Statement.{statement}
 use Rattle.pass.proofs.receive_piece.Tie as tie

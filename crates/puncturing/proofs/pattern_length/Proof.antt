@@ -14,11 +14,11 @@ array-read-result : tie.Need-array-read-result
 array-read-result c = search needs
 
 lengths : List ℕ
-lengths = 1 ∷ 4 ∷ 3 ∷ 5 ∷ 7 ∷ []
+lengths = 1 ∷ 4 ∷ 3 ∷ 5 ∷ 7 ∷ 1 ∷ []
 
 returns : tie.Need-returns
-unfolding lengths patternLength modeOf
-returns c = agree-at (λ r. getD lengths r 0) patternLength 5 tt (c .args .rate) (search needs)
+unfolding lengths modeOf
+returns c = agree-at (λ r. getD lengths r 0) patternLength 6 tt (c .args .rate) (search needs)
 
 pub pattern-length-spec : {M : Type 1} → statement M
 pattern-length-spec = tie.close (tie.spec array-read-result returns)

@@ -58,11 +58,12 @@ made p {s} e =
 of-kind : {k : ℕ} (n x y h : ℕ) → k ≡ n → byKind n x y h ≡ byKind k x y h
 of-kind n x y h e = ap (λ (m : ℕ). byKind m x y h) (sym e)
 
-other : (k x y h : ℕ) → (k ≡ 0 → ⊥) → (k ≡ 1 → ⊥) → (k ≡ 2 → ⊥) → One (2 * h + y) ≡ byKind k x y h
-other zero x y h a b c = absurd (a refl)
-other (suc zero) x y h a b c = absurd (b refl)
-other (suc (suc zero)) x y h a b c = absurd (c refl)
-other (suc (suc (suc k))) x y h a b c = refl
+other : (k x y h : ℕ) → (k ≡ 0 → ⊥) → (k ≡ 1 → ⊥) → (k ≡ 2 → ⊥) → (k ≡ 3 → ⊥) → One (2 * y + x) ≡ byKind k x y h
+other zero x y h a b c d = absurd (a refl)
+other (suc zero) x y h a b c d = absurd (b refl)
+other (suc (suc zero)) x y h a b c d = absurd (c refl)
+other (suc (suc (suc zero))) x y h a b c d = absurd (d refl)
+other (suc (suc (suc (suc k)))) x y h a b c d = refl
 
 returns : tie.Need-returns
 returns c =
@@ -94,17 +95,29 @@ returns-3 c =
     let a = p .before .before .before .args in
     made p (of-kind 2 (a .x) (a .y) (a .held) (c .if3 .taken))
 
-mul-t9 : tie.Need-mul-t9
-mul-t9 c = search needs
+mul-t18 : tie.Need-mul-t18
+mul-t18 c = search needs
 
-add-t18 : tie.Need-add-t18
-add-t18 c = search needs
+add-t19 : tie.Need-add-t19
+add-t19 c = search needs
 
 returns-4 : tie.Need-returns-4
 returns-4 c =
-    let p = c .before .before .before in
+    let p = c .before .before .before .before in
     let a = p .before .before .before .args in
-    made p (other (p .completed-at .result) (a .x) (a .y) (a .held) (c .before .before .if1 .left) (c .before .if2 .left) (c .if3 .left))
+    made p (of-kind 3 (a .x) (a .y) (a .held) (c .if4 .taken))
+
+mul-t9 : tie.Need-mul-t9
+mul-t9 c = search needs
+
+add-t21 : tie.Need-add-t21
+add-t21 c = search needs
+
+returns-5 : tie.Need-returns-5
+returns-5 c =
+    let p = c .before .before .before .before in
+    let a = p .before .before .before .args in
+    made p (other (p .completed-at .result) (a .x) (a .y) (a .held) (c .before .before .before .if1 .left) (c .before .before .if2 .left) (c .before .if3 .left) (c .if4 .left))
 
 pub puncture-spec : {M : Type 1} → statement M
 puncture-spec =
@@ -121,6 +134,9 @@ puncture-spec =
     mul-t15
     add-t16
     returns-3
+    mul-t18
+    add-t19
+    returns-4
     mul-t9
-    add-t18
-    returns-4)
+    add-t21
+    returns-5)

@@ -9,6 +9,7 @@ use lib.ListN.{length}
 use Rattle.common.proofs.Written.{written-length}
 use Rattle.convolutional_code.proofs.Bits.{bits-at}
 use Rattle.puncturing.specs.declared.Punctured.{Punctured}
+use Rattle.puncturing.proofs.Places.{up}
 use Rattle.puncturing.proofs.Steps.{held-le}
 use Rattle.puncturing.proofs.Run.{Going, going-start, going-none, going-one, going-room, going-end}
 use Rattle.puncturing.proofs.puncture_bits.Statement.{statement}
@@ -37,9 +38,9 @@ puncture-requires c κs =
     let a = c .before .before .before .before .before .before in
     let l = c .before .before .before .loop in
     let g = l .inv in (
-      g .rate,
+      up (a .args .rate) (g .rate),
       g .place,
-      omega (arith, g .held, held-le (a .args .rate) (l .p) (g .rate) (g .place)),
+      omega (arith, g .held, held-le (a .args .rate) (l .p) (up (a .args .rate) (g .rate)) (g .place)),
       bits-at (a .pre .3) (l .n),
       bits-at (a .pre .3) (1632 + l .n),
     )

@@ -6,7 +6,7 @@ use native.Mathlib.Nat.{mod-lt, div-add-mod'}
 use native.Mathlib.Omega.{arith}
 use Rattle.puncturing.specs.Step.{patternLength}
 use Rattle.puncturing.specs.Run.{placeAfter}
-use Rattle.puncturing.proofs.Places.{length-le}
+use Rattle.puncturing.proofs.Places.{length-le, up}
 use Rattle.puncturing.proofs.Parts.{to-start}
 use borrow.Author.Needs.{needs}
 use Rattle.puncturing.proofs.puncture_block.Statement.{statement}
@@ -36,7 +36,7 @@ module _ (c : tie.After-pattern-length) where
   short =
       let a = c .before .before .before in
       let h = mod-lt (c .pattern-length .result - a .args .place) some in
-      omega (arith, len, length-le (a .args .rate) (a .pre .0))
+      omega (arith, len, length-le (a .args .rate) (up (a .args .rate) (a .pre .0)))
 
   reach : (1632 - (c .pattern-length .result - c .before .before .before .args .place) % c .pattern-length .result) / c .pattern-length .result * c .pattern-length .result
       ≤ 1632 - (c .pattern-length .result - c .before .before .before .args .place) % c .pattern-length .result

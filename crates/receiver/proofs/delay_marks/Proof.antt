@@ -5,9 +5,9 @@ use mathlib.Core.List.{List}
 use Prim.Native.Nat.{ℕ}
 use native.Mathlib.Omega.{arith}
 use lib.ListN.{length, length-replicate}
+use Rattle.delay_branches.specs.Branch.{laid}
 use Rattle.delay_branches.specs.Block.{blockOut, after}
 use Rattle.delay_branches.specs.declared.Side.the-variants.{Receiving}
-use Rattle.receiver.specs.Receive.{markBranches}
 use Rattle.receiver.proofs.Calls.{room-filled}
 use Rattle.receiver.proofs.MarkDelays.{none-leaves, none-stays}
 use borrow.Author.Needs.{needs}
@@ -16,23 +16,31 @@ use Rattle.receiver.proofs.delay_marks.Tie as tie
 
 returns : tie.Need-returns
 returns c =
-    let s = c .before .before .before in
+    let s = c .before .before .before .before in
     let p = s .args .positions in
-    let z = s .pre .3 (c .if1 .taken) in (
+    let z = s .pre .4 (c .if1 .taken) in (
       z .0
-          ∙ sym (ap₂ (λ (k m : List ℕ). after Receiving (markBranches k p) m .cells) (z .0) (z .1)
-          ∙ none-stays p (record { cells = length-replicate {A = ℕ} 1122 0; positions = s .good .1 .0 .1 .0 .1; range = s .pre .0 })),
-      s .pre .2 ∙ sym (ap₂ (λ (k m : List ℕ). blockOut Receiving (markBranches k p) m) (z .0) (z .1) ∙ none-leaves p),
+          ∙ sym (ap₂ (λ (k m : List ℕ). after Receiving (laid k p) m .cells) (z .0) (z .1)
+          ∙ none-stays p (record { cells = length-replicate {A = ℕ} 1122 0; positions = search needs; range = s .pre .0 })),
+      s .pre .3 ∙ sym (ap₂ (λ (k m : List ℕ). blockOut Receiving (laid k p) m) (z .0) (z .1) ∙ none-leaves p),
     )
 
-pass-block-requires : tie.Need-pass-block-requires
-pass-block-requires c κs = (c .before .before .before .before .pre .0, c .before .before .before .before .pre .1, omega (arith, ap length (c .before .before .before .before .pre .2), length-replicate {A = ℕ} 204 0))
+pass-cells-requires : tie.Need-pass-cells-requires
+pass-cells-requires c κs =
+    let s = c .before .before .before .before .before .before in
+    (s .pre .0, s .pre .1, s .pre .2, omega (arith, ap length (s .pre .3), length-replicate {A = ℕ} 204 0))
 
 same-length : tie.Need-same-length
 same-length c = search needs
 
+same-length-2 : tie.Need-same-length-2
+same-length-2 c = search needs
+
 returns-2 : tie.Need-returns-2
-returns-2 c = (ap (λ b. b .cells) (c .before .before .before .pass-block .ensures .0), room-filled _ (c .before .before .before .before .before .before .before .before .args .room .now) _ (ap length (c .before .before .before .before .before .before .before .before .pre .2) ∙ length-replicate {A = ℕ} 204 0) (c .before .before .before .pass-block .ensures .1))
+returns-2 c =
+    let s = c .before .before .before .before .before .before .before .before .before .before .before in
+    let e = c .before .before .before .before .pass-cells .ensures in
+    (e .1, room-filled _ (s .args .room .now) _ (ap length (s .pre .3) ∙ length-replicate {A = ℕ} 204 0) (e .2))
 
 pub delay-marks-spec : {M : Type 1} → statement M
-delay-marks-spec = tie.close (tie.spec returns pass-block-requires same-length returns-2)
+delay-marks-spec = tie.close (tie.spec returns pass-cells-requires same-length same-length-2 returns-2)

@@ -10,6 +10,7 @@ use Rattle.reed_solomon.specs.Marks.{noMarks, DecodesMarked}
 use Rattle.reed_solomon.specs.declared.Changed.{Changed}
 use Rattle.reed_solomon.proofs.Laws.{tells-changes, FewChanges, few-changes}
 use Rattle.reed_solomon.proofs.Marks.{marks-of}
+use Rattle.delay_branches.specs.Branch.{laid}
 use Rattle.delay_branches.specs.Block.{blockOut}
 use Rattle.delay_branches.specs.declared.Side.the-variants.{Receiving}
 use Rattle.delay_branches.proofs.Blocks.{length-out}
@@ -17,7 +18,7 @@ use Rattle.group_sync.specs.Group.{groupStep, PlaceOf}
 use Rattle.group_sync.specs.declared.GroupStep.{GroupStep}
 use Rattle.group_sync.proofs.Synchronization.{outcome-place}
 use Rattle.reception_counts.specs.Counts.{outcomeNumber, counted}
-use Rattle.receiver.specs.Receive.{markBranches, delayedBlock, delayedMarks}
+use Rattle.receiver.specs.Receive.{delayedBlock, delayedMarks}
 use Rattle.receiver.proofs.Calls.{state-range, filling-call, repairing-call, room-for, room-filled, left-length}
 use Rattle.receiver.proofs.MarkDelays.{none-leaves}
 use borrow.Author.Needs.{needs}
@@ -26,33 +27,47 @@ use Rattle.receiver.proofs.take_block.Tie as tie
 
 -- what the block that the branches give decodes to, with the marks that they give
 decodes : (c : tie.After-decode-block)
-    → DecodesMarked (delayedMarks (c .before .before .before .before .before .before .before .before .before .before .before .before .before .before .before .before .before .before .before .args .receiver) (c .before .before .before .before .before .before .before .before .before .before .before .before .before .before .before .before .before .before .before .args .marks .now)) (delayedBlock (c .before .before .before .before .before .before .before .before .before .before .before .before .before .before .before .before .before .before .before .args .receiver) (c .before .before .before .before .before .before .before .before .before .before .before .before .before .before .before .before .before .before .before .args .block .now)) (c .decode-block .last .0) (c .decode-block .result)
+    → DecodesMarked (delayedMarks (c .before .before .before .before .before .before .before .before .before .before .before .before .before .before .before .before .before .before .before .before .before .before .before .before .args .receiver) (c .before .before .before .before .before .before .before .before .before .before .before .before .before .before .before .before .before .before .before .before .before .before .before .before .args .marks .now)) (delayedBlock (c .before .before .before .before .before .before .before .before .before .before .before .before .before .before .before .before .before .before .before .before .before .before .before .before .args .receiver) (c .before .before .before .before .before .before .before .before .before .before .before .before .before .before .before .before .before .before .before .before .before .before .before .before .args .block .now)) (c .decode-block .last .0) (c .decode-block .result)
 decodes c =
-    let a = c .before .before .before .before .before .before .before .before .before .before .before .before .before .before .before .before .before .before .before .args in
+    let a = c .before .before .before .before .before .before .before .before .before .before .before .before .before .before .before .before .before .before .before .before .before .before .before .before .args in
     subst₂ (λ (m b : List ℕ). DecodesMarked m b (c .decode-block .last .0) (c .decode-block .result))
-    (c .before .before .before .before .before .delay-marks .ensures .1) (room-filled (delayedBlock (a .receiver) (a .block .now)) (replicate 204 0) _ refl (c .before .before .before .before .before .before .before .before .pass-block .ensures .1)) (c .decode-block .ensures)
+    (c .before .before .before .before .before .before .delay-marks .ensures .1) (room-filled (delayedBlock (a .receiver) (a .block .now)) (replicate 204 0) _ refl (c .before .before .before .before .before .before .before .before .before .before .before .pass-cells .ensures .2)) (c .decode-block .ensures)
 
-slice-aggregate-pass-block : tie.Need-slice-aggregate-pass-block
-slice-aggregate-pass-block c = search needs
+slice-aggregate-pass-cells : tie.Need-slice-aggregate-pass-cells
+slice-aggregate-pass-cells c = search needs
 
-pass-block-requires : tie.Need-pass-block-requires
-pass-block-requires c κs = (state-range (c .before .before .before .before .before .before .before .before .before .before .args .receiver) (c .before .before .before .before .before .before .before .before .before .before .pre .0 .range) .branches, c .before .before .before .before .before .before .before .before .before .before .pre .0 .size, omega arith)
+slice-aggregate-pass-cells-2 : tie.Need-slice-aggregate-pass-cells-2
+slice-aggregate-pass-cells-2 c = search needs
+
+pass-cells-requires : tie.Need-pass-cells-requires
+pass-cells-requires c κs =
+    let s = c .before .before .before .before .before .before .before .before .before .before .before .before in
+    (state-range (s .args .receiver) (s .pre .0 .range) .branches, search needs, s .pre .0 .size, omega arith)
 
 slice-aggregate-delay-marks : tie.Need-slice-aggregate-delay-marks
 slice-aggregate-delay-marks c = search needs
 
+slice-aggregate-delay-marks-2 : tie.Need-slice-aggregate-delay-marks-2
+slice-aggregate-delay-marks-2 c = search needs
+
 delay-marks-requires : tie.Need-delay-marks-requires
-delay-marks-requires c κs = (state-range (c .before .before .before .before .before .before .before .before .before .before .before .before .before .args .receiver) (c .before .before .before .before .before .before .before .before .before .before .before .before .before .pre .0 .range) .branches, marks-of (c .before .before .before .before .before .before .before .before .before .before .before .before .before .args .marks .now) (c .before .before .before .before .before .before .before .before .before .before .before .before .before .pre .0 .marked) .size, refl, c .before .before .before .before .before .before .before .before .before .before .before .before .before .pre .1)
+delay-marks-requires c κs =
+    let s = c .before .before .before .before .before .before .before .before .before .before .before .before .before .before .before .before .before in
+    (state-range (s .args .receiver) (s .pre .0 .range) .branches, search needs, marks-of (s .args .marks .now) (s .pre .0 .marked) .size, refl, s .pre .1)
 
 count-requires : tie.Need-count-requires
-count-requires c κs = room-for (c .before .before .before .before .before .before .before .before .before .before .before .before .before .before .before .before .args .receiver) (c .before .before .before .before .before .before .before .before .before .before .before .before .before .before .before .before .args .block .now) (c .before .before .before .before .before .before .before .before .before .before .before .before .before .before .before .before .args .marks .now) (c .before .before .before .before .before .before .before .before .before .before .before .before .before .before .before .before .args .room .now) (c .before .before .before .before .before .before .before .before .before .before .before .before .before .before .before .before .pre .0) noChange (record { few = omega arith; least = omega arith; most = omega arith })
+count-requires c κs =
+    let s = c .before .before .before .before .before .before .before .before .before .before .before .before .before .before .before .before .before .before .before .before .before in
+    let a = s .args in
+    room-for (a .receiver) (a .block .now) (a .marks .now) (a .room .now) (s .pre .0) noChange (record { few = omega arith; least = omega arith; most = omega arith })
 
 returns : tie.Need-returns
 returns c =
-    let s = c .before .before .before .before .before .before .before .before .before .before .before .before .before .before .before .before .before in
+    let s = c .before .before .before .before .before .before .before .before .before .before .before .before .before .before .before .before .before .before .before .before .before .before in
     let a = s .args in
-    filling-call (a .receiver) (a .block .now) (a .marks .now) (a .room .now) (s .pre .0) (c .before .if1 .taken) _ (record { branches = c .before .before .before .before .before .before .pass-block .result }) (c .before .before .before .delay-marks .result) (c .count .result) _
-    refl (c .before .before .before .before .before .before .pass-block .ensures .0) (c .before .before .before .delay-marks .ensures .0) (c .count .ensures) refl
+    let p = c .before .before .before .before .before .before .before .before .before .pass-cells in
+    filling-call (a .receiver) (a .block .now) (a .marks .now) (a .room .now) (s .pre .0) (c .before .if1 .taken) _ (record { branches = laid (p .last .1 .0) (p .result) }) (c .before .before .before .before .delay-marks .last .0) (c .count .result) _
+    refl (λ i. laid (p .ensures .1 i) (p .ensures .0 i)) (c .before .before .before .before .delay-marks .ensures .0) (c .count .ensures) refl
 
 slice-aggregate-decode-block : tie.Need-slice-aggregate-decode-block
 slice-aggregate-decode-block c = search needs
@@ -63,10 +78,10 @@ slice-aggregate-decode-block-2 c = search needs
 decode-block-requires : tie.Need-decode-block-requires
 decode-block-requires c κs =
     λ z.
-    let s = c .before .before .before .before .before .before .before .before .before .before .before .before .before .before .before .before .before .before in
+    let s = c .before .before .before .before .before .before .before .before .before .before .before .before .before .before .before .before .before .before .before .before .before .before .before in
     let e = s .pre .1 z in
-    c .before .before .before .before .delay-marks .ensures .1
-    ∙ ap₂ (λ (k m : List ℕ). blockOut Receiving (markBranches k (s .args .receiver .deinterleaver .branches .positions)) m) (e .0) (e .1)
+    c .before .before .before .before .before .delay-marks .ensures .1
+    ∙ ap₂ (λ (k m : List ℕ). blockOut Receiving (laid k (s .args .receiver .deinterleaver .branches .positions)) m) (e .0) (e .1)
     ∙ none-leaves (s .args .receiver .deinterleaver .branches .positions)
 
 array-read-repair-of : tie.Need-array-read-repair-of
@@ -89,7 +104,7 @@ cast-count-2 c = search needs
 
 count-requires-2 : tie.Need-count-requires-2
 count-requires-2 c κs =
-    let s = c .before .before .before .before .before .before .before .before .before .before .before .before .before .before .before .before .before .before .before .before .before .before .before .before in
+    let s = c .before .before .before .before .before .before .before .before .before .before .before .before .before .before .before .before .before .before .before .before .before .before .before .before .before .before .before .before .before in
     let a = s .args in
     let e = c .before .before .before .before .before in
     room-for (a .receiver) (a .block .now) (a .marks .now) (a .room .now) (s .pre .0) _
@@ -101,7 +116,7 @@ slice-aggregate-deliver c = search needs
 
 deliver-requires : tie.Need-deliver-requires
 deliver-requires c κs =
-    let s = c .before .before .before .before .before .before .before .before .before .before .before .before .before .before .before .before .before .before .before .before .before .before .before .before .before .before .before in
+    let s = c .before .before .before .before .before .before .before .before .before .before .before .before .before .before .before .before .before .before .before .before .before .before .before .before .before .before .before .before .before .before .before .before in
     let a = s .args in
     let e = c .before .before .before .before .before in
     let d = c .before .before .before .before .before .before .before .before in (
@@ -115,23 +130,26 @@ same-length c = search needs
 
 returns-2 : tie.Need-returns-2
 returns-2 c =
-    let s = c .before .before .before .before .before .before .before .before .before .before .before .before .before .before .before .before .before .before .before .before .before .before .before .before .before .before .before .before .before .before in
+    let s = c .before .before .before .before .before .before .before .before .before .before .before .before .before .before .before .before .before .before .before .before .before .before .before .before .before .before .before .before .before .before .before .before .before .before .before in
     let a = s .args in
+    let p = c .before .before .before .before .before .before .before .before .before .before .before .before .before .before .before .before .before .before .before .before .before .before .pass-cells in
     let e = c .before .before .before .before .before .before .before .before .before .before .before in
     let k = c .before .before .before .before .before .before .before .before .step in
     let v = c .before .before .deliver .ensures in
     repairing-call (a .receiver) (a .block .now) (a .marks .now) (a .room .now) (s .pre .0) (c .before .before .before .before .before .before .before .before .before .before .before .before .before .before .if1 .left) (e .decode-block .last .0) (e .decode-block .result) (decodes e)
-    (k .result) (k .ensures ∙ ap (groupStep (a .receiver .sync)) (c .before .before .before .before .before .before .before .before .before .repair-of .ensures)) _ (record { branches = c .before .before .before .before .before .before .before .before .before .before .before .before .before .before .before .before .before .before .before .pass-block .result }) (c .before .before .before .before .before .before .before .before .before .before .before .before .before .before .before .before .delay-marks .result) (c .before .before .before .before .before .count2 .result) _
-    (v .0) (c .before .before .before .before .before .before .before .before .before .before .before .before .before .before .before .before .before .before .before .pass-block .ensures .0) (c .before .before .before .before .before .before .before .before .before .before .before .before .before .before .before .before .delay-marks .ensures .0)
+    (k .result) (k .ensures ∙ ap (groupStep (a .receiver .sync)) (c .before .before .before .before .before .before .before .before .before .repair-of .ensures)) _ (record { branches = laid (p .last .1 .0) (p .result) }) (c .before .before .before .before .before .before .before .before .before .before .before .before .before .before .before .before .before .delay-marks .last .0) (c .before .before .before .before .before .count2 .result) _
+    (v .0) (λ i. laid (p .ensures .1 i) (p .ensures .0 i)) (c .before .before .before .before .before .before .before .before .before .before .before .before .before .before .before .before .before .delay-marks .ensures .0)
     (c .before .before .before .before .before .count2 .ensures ∙ ap (λ (x : Changed). counted (a .receiver .counts) (outcomeNumber (k .result .outcome)) (x .bytes) (x .bits)) (c .before .before .before .before .before .before .changed .ensures)) (v .1)
 
 pub take-block-spec : {M : Type 1} → statement M
 take-block-spec =
     tie.close
     (tie.spec
-    slice-aggregate-pass-block
-    pass-block-requires
+    slice-aggregate-pass-cells
+    slice-aggregate-pass-cells-2
+    pass-cells-requires
     slice-aggregate-delay-marks
+    slice-aggregate-delay-marks-2
     delay-marks-requires
     count-requires
     returns

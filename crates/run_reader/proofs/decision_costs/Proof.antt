@@ -63,7 +63,7 @@ same-length : tie.Need-same-length Inv-loop μ-loop
 same-length c = c .before .loop .inv .written .len
 
 returns : tie.Need-returns Inv-loop μ-loop
-returns c = (λ t h. c .before .loop .inv .written .done t (omega arith), λ t h. c .before .loop .inv .written .todo t (omega arith))
+returns c = λ t h. c .before .loop .inv .written .done t (omega arith)
 
 pub decision-costs-spec : {M : Type 1} → statement M
 decision-costs-spec =

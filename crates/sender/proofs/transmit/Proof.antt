@@ -4,6 +4,7 @@ use mathlib.Core.Path.{refl}
 use Prim.Native.Nat.{_+_, _%_}
 use native.Mathlib.Omega.{arith}
 use lib.ListN.{replicate}
+use Rattle.puncturing.specs.Mode.{modeOf}
 use Rattle.sender.specs.Send.{senderAfter}
 use Rattle.sender.proofs.Stages.{in-range, randomizing, coding, interleaving, modulating}
 use borrow.Author.Needs.{needs}
@@ -44,7 +45,7 @@ add-t31 : tie.Need-add-t31
 add-t31 c =
     let r = c .before .before .before .before .before .before .before .before .before .before .before .before .before .before .before .before in
     let a = r .before .before .before .before .before .before in
-    omega (arith, in-range (a .args .sender) (a .pre .0) .place)
+    omega (arith, in-range modeOf (a .args .sender) (a .pre .0) .place)
 
 same-length : tie.Need-same-length
 same-length c = search needs
@@ -59,7 +60,7 @@ returns c =
     let a = r .before .before .before .before .before .before in
     let s = a .args .sender in
     let packet = a .args .packet .now in
-    let g = in-range s (a .pre .0) in
+    let g = in-range modeOf s (a .pre .0) in
     let m = randomizing s packet g (a .pre .1) (replicate 188 0) (r .randomize .last .1 .1 .0) refl (a .pre .2) (r .randomize .ensures .1) in
     let k = coding s packet g (a .pre .1) (replicate 204 0) (o .encode .last .1 .0) _ refl m (o .encode .ensures .1) in
     let b = interleaving s packet g (a .pre .1) (replicate 204 0) (i .interleave .last .1 .1 .0) _ _ refl k (i .interleave .ensures .1) (i .interleave .ensures .2) in

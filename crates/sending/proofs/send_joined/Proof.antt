@@ -7,6 +7,7 @@ use native.Mathlib.Omega.{arith}
 use lib.ListN.{length, take, length-append}
 use lib.Seq.{length-take-le}
 use Rattle.answer.specs.Number.{numberOf}
+use Rattle.puncturing.specs.Mode.{modeOf}
 use Rattle.sender.specs.Send.{Sends}
 use Rattle.sending.proofs.Pieces.{padded-full}
 use borrow.Author.Needs.{needs}
@@ -37,7 +38,7 @@ returns c =
     let more = s .args .more .now in
     let size = padded-full (front ++ more)
     (length-append front more ∙ omega (arith, s .pre, length-take-le (s .args .held) (s .args .pending) (omega (arith, s .pre, pending-size s)))) in
-    subst (λ (l : List ℕ). Sends (s .args .sender) l (s .args .room .now) (numberOf (r .result .answer)) (r .result .count) (r .result .sender) (r .last .1 .1 .0))
+    subst (λ (l : List ℕ). Sends modeOf (s .args .sender) l (s .args .room .now) (numberOf (r .result .answer)) (r .result .count) (r .result .sender) (r .last .1 .1 .0))
     (c .before .before .before .before .before .joined .ensures ∙ size) (r .ensures)
 
 pub send-joined-spec : {M : Type 1} → statement M

@@ -2,7 +2,7 @@
 -- Assumes nothing.
 use native.Mathlib.Omega.{arith}
 use Rattle.run_reader.proofs.Patterns.{some-symbols}
-use Rattle.symbol_stream.proofs.Streams.{numbers, mod-le, closes}
+use Rattle.symbol_stream.proofs.Streams.{mod-le, end-le, end-readable, closes}
 use borrow.Author.Needs.{needs}
 use Rattle.symbol_stream.proofs.close.Statement.{statement}
 use Rattle.symbol_stream.proofs.close.Tie as tie
@@ -16,28 +16,29 @@ cast-rest c = search needs
 rem-rest : tie.Need-rem-rest
 rem-rest c = rw (c .symbol-count .ensures) (some-symbols _ (c .before .before .before .pre .0 .known))
 
-sub-whole : tie.Need-sub-whole
-sub-whole c = mod-le _ _
+sub-end : tie.Need-sub-end
+sub-end c = mod-le _ _
 
-sub-read-run : tie.Need-sub-read-run
-sub-read-run c = search needs
+mul-end : tie.Need-mul-end
+mul-end c = search needs
 
-part-read-run-start : tie.Need-part-read-run-start
-part-read-run-start c = search needs
+sub-read-costs : tie.Need-sub-read-costs
+sub-read-costs c = search needs
 
-part-read-run-end : tie.Need-part-read-run-end
-part-read-run-end c = let a = c .before .before .before .before in omega (arith, a .pre .0 .size, a .pre .0 .below, numbers (a .args .stream .rate) (a .pre .0 .known) .full-most)
+part-read-costs-start : tie.Need-part-read-costs-start
+part-read-costs-start c = search needs
 
-read-run-requires : tie.Need-read-run-requires
-read-run-requires c κs = search needs
+part-read-costs-end : tie.Need-part-read-costs-end
+part-read-costs-end c = let a = c .before .before .before .before in omega (arith, a .pre .0 .size, end-le (a .args .stream) (a .pre .0) _ (c .before .symbol-count .ensures))
+
+read-costs-requires : tie.Need-read-costs-requires
+read-costs-requires c κs = let a = c .before .before .before .before .before .before in end-readable (a .args .stream) (a .pre .0) _ (c .before .before .before .symbol-count .ensures) (a .args .room .now) (a .pre .1)
 
 same-length : tie.Need-same-length
 same-length c = search needs
 
 returns : tie.Need-returns
-returns c =
-    let a = c .before .before .before .before .before .before .before .before .before in
-    closes (a .args .stream) (a .pre .0) (a .args .room .now) (a .pre .1) _ (c .before .before .before .before .before .before .symbol-count .ensures) (c .before .before .read-run .ensures)
+returns c = let a = c .before .before .before .before .before .before .before .before .before in closes (a .args .stream) (a .pre .0) _ (c .before .before .before .before .before .before .symbol-count .ensures) (a .args .room .now) (c .before .before .read-costs .ensures .1)
 
 pub close-spec : {M : Type 1} → statement M
 close-spec =
@@ -46,10 +47,11 @@ close-spec =
     symbol-count-requires
     cast-rest
     rem-rest
-    sub-whole
-    sub-read-run
-    part-read-run-start
-    part-read-run-end
-    read-run-requires
+    sub-end
+    mul-end
+    sub-read-costs
+    part-read-costs-start
+    part-read-costs-end
+    read-costs-requires
     same-length
     returns)

@@ -5,7 +5,6 @@ use Prim.Native.Nat.{ℕ}
 use lib.ListN.{getD}
 use Rattle.common.proofs.Computed.{agree-at}
 use Rattle.puncturing.specs.Mode.{modeOf}
-use Rattle.puncturing.specs.Step.{patternLength}
 use Rattle.run_reader.specs.Read.{symbolsPerPattern}
 use Rattle.symbol_stream.specs.Stream.{runPatterns, keptPatterns, keptBits}
 use borrow.Author.Needs.{needs}
@@ -22,7 +21,7 @@ numbers : List ℕ
 numbers = 1531 ∷ 1528 ∷ 1530 ∷ 1525 ∷ 1526 ∷ []
 
 returns : tie.Need-returns
-unfolding numbers keptBits runPatterns keptPatterns symbolsPerPattern patternLength modeOf
+unfolding numbers keptBits runPatterns keptPatterns symbolsPerPattern modeOf
 returns c = agree-at (λ r. getD numbers r 0) keptBits 5 tt (c .args .rate) (search needs)
 
 pub kept-bits-spec : {M : Type 1} → statement M

@@ -8,7 +8,7 @@ use borrow.Author.Tests.{lt-ltb, le-ltb}
 use mathlib.Core.List.{List, [], _∷_}
 use lib.ListN.{getD}
 use Rattle.common.proofs.Computed.{agree-at}
-use Rattle.puncturing.specs.Mode.{modeOf}
+use Rattle.puncturing.specs.Mode.{modeOf, blockBits}
 use Rattle.puncturing.specs.Step.{patternLength, symbolsIn}
 use Rattle.puncturing.proofs.Places.{length-le}
 use Rattle.transmission.proofs.Counting.{Counting, counting-start, counting-end, counting-short, counting-more, needed-is}
@@ -24,15 +24,15 @@ abbrev μ-loop : tie.MeasureT-loop
 
 -- the table of the pattern lengths
 lengths : List ℕ
-lengths = 1 ∷ 4 ∷ 3 ∷ 5 ∷ 7 ∷ []
+lengths = 1 ∷ 4 ∷ 3 ∷ 5 ∷ 7 ∷ 1 ∷ []
 
-length-is : (rate : ℕ) → rate < 5 → getD lengths rate 0 ≡ patternLength rate
-unfolding lengths patternLength modeOf
-length-is rate h = agree-at (λ r. getD lengths r 0) patternLength 5 tt rate h
+length-is : (rate : ℕ) → rate < 6 → getD lengths rate 0 ≡ patternLength rate
+unfolding lengths modeOf
+length-is rate h = agree-at (λ r. getD lengths r 0) patternLength 6 tt rate h
 
 -- the need of a packet
 needed : (c : tie.After-symbol-count Inv-loop μ-loop)
-    → c .symbol-count .result ≡ symbolsIn (c .before .before .before .args .rate) (c .before .before .loop .place) 1632
+    → c .symbol-count .result ≡ symbolsIn (c .before .before .before .args .rate) (c .before .before .loop .place) (blockBits (c .before .before .before .args .rate))
 needed c = c .symbol-count .ensures ∙ needed-is _ _ (c .before .before .before .pre) (c .before .before .loop .inv .in-pattern)
 
 array-read-length : tie.Need-array-read-length Inv-loop μ-loop

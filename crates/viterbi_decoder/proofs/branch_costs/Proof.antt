@@ -4,36 +4,42 @@ use mathlib.Core.Path.{_≡_, refl}
 use Prim.Native.Nat.{_+_, _-_}
 use native.Mathlib.Omega.{arith}
 use Rattle.common.proofs.Each.{Each, each-none, each-more, each-all}
-use Rattle.viterbi_decoder.specs.Step.{at, decided}
+use Rattle.viterbi_decoder.specs.Step.{at}
 use Rattle.viterbi_decoder.proofs.branch_costs.Statement.{statement}
 use Rattle.viterbi_decoder.proofs.branch_costs.Tie as tie
 
 abbrev Inv-loop : tie.InvT-loop
-Inv-loop xs ys x0 x1 y0 y1 r₀ i₀ r i = Each (λ k v. v ≡ decided x0 x1 (at xs k) + decided y0 y1 (at ys k)) 32 r i
+Inv-loop x y v w even₀ odd₀ i₀ even odd i = Each (λ k n. n ≡ at x k + at y k) 32 even i × Each (λ k n. n ≡ at v k + at w k) 32 odd i
 
 abbrev μ-loop : tie.MeasureT-loop
-μ-loop xs ys x0 x1 y0 y1 r₀ i₀ r i = 32 - i
+μ-loop x y v w even₀ odd₀ i₀ even odd i = 32 - i
 
 loop-holds : tie.Need-loop-holds Inv-loop μ-loop
-loop-holds c = each-none refl
+loop-holds c = (each-none refl, each-none refl)
 
-element-copy-out-decide : tie.Need-element-copy-out-decide Inv-loop μ-loop
-element-copy-out-decide c = omega arith
+element-copy-out-even : tie.Need-element-copy-out-even Inv-loop μ-loop
+element-copy-out-even c = omega arith
 
-decide-requires : tie.Need-decide-requires Inv-loop μ-loop
-decide-requires c κs = omega arith
+element-copy-out-even-2 : tie.Need-element-copy-out-even-2 Inv-loop μ-loop
+element-copy-out-even-2 c = omega arith
 
-element-copy-out-decide-2 : tie.Need-element-copy-out-decide-2 Inv-loop μ-loop
-element-copy-out-decide-2 c = omega arith
+add-even : tie.Need-add-even Inv-loop μ-loop
+add-even c = omega (arith, c .before .before .before .before .pre (c .before .before .before .loop .i) (omega arith) .0)
 
-decide-requires-2 : tie.Need-decide-requires-2 Inv-loop μ-loop
-decide-requires-2 c κs = omega arith
+array-write-even : tie.Need-array-write-even Inv-loop μ-loop
+array-write-even c = omega arith
 
-add-r : tie.Need-add-r Inv-loop μ-loop
-add-r c = omega arith
+element-copy-out-odd : tie.Need-element-copy-out-odd Inv-loop μ-loop
+element-copy-out-odd c = omega arith
 
-array-write-r : tie.Need-array-write-r Inv-loop μ-loop
-array-write-r c = omega arith
+element-copy-out-odd-2 : tie.Need-element-copy-out-odd-2 Inv-loop μ-loop
+element-copy-out-odd-2 c = omega arith
+
+add-odd : tie.Need-add-odd Inv-loop μ-loop
+add-odd c = omega (arith, c .before .before .before .before .before .before .pre (c .before .before .before .before .before .loop .i) (omega arith) .1)
+
+array-write-odd : tie.Need-array-write-odd Inv-loop μ-loop
+array-write-odd c = omega arith
 
 add-i : tie.Need-add-i Inv-loop μ-loop
 add-i c = omega arith
@@ -42,10 +48,10 @@ loop-less : tie.Need-loop-less Inv-loop μ-loop
 loop-less c = omega arith
 
 loop-again : tie.Need-loop-again Inv-loop μ-loop
-loop-again c = each-more _ (omega arith) (omega (arith, c .before .before .decide .ensures .0, c .decide2 .ensures .0)) (c .before .before .before .before .before .loop .inv)
+loop-again c = let v = c .before .before .before .before .before .loop .inv in (each-more _ (omega arith) refl (v .0), each-more _ (omega arith) refl (v .1))
 
 returns : tie.Need-returns Inv-loop μ-loop
-returns c = each-all (omega arith) (c .before .loop .inv)
+returns c = let v = c .before .loop .inv in (each-all (omega arith) (v .0), each-all (omega arith) (v .1))
 
 pub branch-costs-spec : {M : Type 1} → statement M
 branch-costs-spec =
@@ -54,12 +60,14 @@ branch-costs-spec =
     Inv-loop
     μ-loop
     loop-holds
-    element-copy-out-decide
-    decide-requires
-    element-copy-out-decide-2
-    decide-requires-2
-    add-r
-    array-write-r
+    element-copy-out-even
+    element-copy-out-even-2
+    add-even
+    array-write-even
+    element-copy-out-odd
+    element-copy-out-odd-2
+    add-odd
+    array-write-odd
     add-i
     loop-less
     loop-again

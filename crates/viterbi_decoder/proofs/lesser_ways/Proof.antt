@@ -10,10 +10,10 @@ use Rattle.viterbi_decoder.proofs.lesser_ways.Statement.{statement}
 use Rattle.viterbi_decoder.proofs.lesser_ways.Tie as tie
 
 abbrev Inv-loop : tie.InvT-loop
-Inv-loop metrics costs total r₀ i₀ r i = Each (λ k v. v ≡ lesser (at metrics k + at costs k) (at metrics (k + 32) + (total - at costs k))) 32 r i
+Inv-loop metrics costs others r₀ i₀ r i = Each (λ k v. v ≡ lesser (at metrics k + at costs k) (at metrics (k + 32) + at others k)) 32 r i
 
 abbrev μ-loop : tie.MeasureT-loop
-μ-loop metrics costs total r₀ i₀ r i = 32 - i
+μ-loop metrics costs others r₀ i₀ r i = 32 - i
 
 loop-holds : tie.Need-loop-holds Inv-loop μ-loop
 loop-holds c = each-none refl
@@ -25,7 +25,7 @@ element-copy-out-lesser-2 : tie.Need-element-copy-out-lesser-2 Inv-loop μ-loop
 element-copy-out-lesser-2 c = omega arith
 
 add-lesser : tie.Need-add-lesser Inv-loop μ-loop
-add-lesser c = omega (arith, c .before .before .before .before .pre (c .before .before .before .loop .i) (omega arith) .1)
+add-lesser c = omega (arith, c .before .before .before .before .pre (c .before .before .before .loop .i) (omega arith) .0)
 
 add-lesser-2 : tie.Need-add-lesser-2 Inv-loop μ-loop
 add-lesser-2 c = omega arith
@@ -36,11 +36,8 @@ element-copy-out-lesser-3 c = omega arith
 element-copy-out-lesser-4 : tie.Need-element-copy-out-lesser-4 Inv-loop μ-loop
 element-copy-out-lesser-4 c = omega arith
 
-sub-lesser : tie.Need-sub-lesser Inv-loop μ-loop
-sub-lesser c = omega (arith, c .before .before .before .before .before .before .pre (c .before .before .before .before .before .loop .i) (omega arith) .0)
-
 add-lesser-3 : tie.Need-add-lesser-3 Inv-loop μ-loop
-add-lesser-3 c = omega (arith, c .before .before .before .before .before .before .pre (c .before .before .before .before .before .loop .i) (omega arith) .2)
+add-lesser-3 c = omega (arith, c .before .before .before .before .before .before .pre (c .before .before .before .before .before .loop .i) (omega arith) .1)
 
 lesser-requires : tie.Need-lesser-requires Inv-loop μ-loop
 lesser-requires c κs = omega arith
@@ -73,7 +70,6 @@ lesser-ways-spec =
     add-lesser-2
     element-copy-out-lesser-3
     element-copy-out-lesser-4
-    sub-lesser
     add-lesser-3
     lesser-requires
     array-write-r

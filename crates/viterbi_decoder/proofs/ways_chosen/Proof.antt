@@ -10,10 +10,10 @@ use Rattle.viterbi_decoder.proofs.ways_chosen.Statement.{statement}
 use Rattle.viterbi_decoder.proofs.ways_chosen.Tie as tie
 
 abbrev Inv-loop : tie.InvT-loop
-Inv-loop metrics costs total r₀ i₀ r i = Each (λ k v. v ≡ second (at metrics k + at costs k) (at metrics (k + 32) + (total - at costs k))) 32 r i
+Inv-loop metrics costs others r₀ i₀ r i = Each (λ k v. v ≡ second (at metrics k + at costs k) (at metrics (k + 32) + at others k)) 32 r i
 
 abbrev μ-loop : tie.MeasureT-loop
-μ-loop metrics costs total r₀ i₀ r i = 32 - i
+μ-loop metrics costs others r₀ i₀ r i = 32 - i
 
 loop-holds : tie.Need-loop-holds Inv-loop μ-loop
 loop-holds c = each-none refl
@@ -25,7 +25,7 @@ element-copy-out-second-2 : tie.Need-element-copy-out-second-2 Inv-loop μ-loop
 element-copy-out-second-2 c = omega arith
 
 add-second : tie.Need-add-second Inv-loop μ-loop
-add-second c = omega (arith, c .before .before .before .before .pre (c .before .before .before .loop .i) (omega arith) .1)
+add-second c = omega (arith, c .before .before .before .before .pre (c .before .before .before .loop .i) (omega arith) .0)
 
 add-second-2 : tie.Need-add-second-2 Inv-loop μ-loop
 add-second-2 c = omega arith
@@ -36,11 +36,8 @@ element-copy-out-second-3 c = omega arith
 element-copy-out-second-4 : tie.Need-element-copy-out-second-4 Inv-loop μ-loop
 element-copy-out-second-4 c = omega arith
 
-sub-second : tie.Need-sub-second Inv-loop μ-loop
-sub-second c = omega (arith, c .before .before .before .before .before .before .pre (c .before .before .before .before .before .loop .i) (omega arith) .0)
-
 add-second-3 : tie.Need-add-second-3 Inv-loop μ-loop
-add-second-3 c = omega (arith, c .before .before .before .before .before .before .pre (c .before .before .before .before .before .loop .i) (omega arith) .2)
+add-second-3 c = omega (arith, c .before .before .before .before .before .before .pre (c .before .before .before .before .before .loop .i) (omega arith) .1)
 
 second-requires : tie.Need-second-requires Inv-loop μ-loop
 second-requires c κs = omega arith
@@ -73,7 +70,6 @@ ways-chosen-spec =
     add-second-2
     element-copy-out-second-3
     element-copy-out-second-4
-    sub-second
     add-second-3
     second-requires
     array-write-r

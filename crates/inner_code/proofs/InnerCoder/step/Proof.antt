@@ -10,7 +10,7 @@ use Rattle.puncturing.specs.Run.{punctureStep}
 use Rattle.puncturing.proofs.Steps.{held-le}
 use Rattle.inner_code.specs.Step.{inRange}
 use Rattle.inner_code.specs.Encode.{bitValue}
-use Rattle.inner_code.proofs.Coder.{in-range}
+use Rattle.inner_code.proofs.Coder.{in-range, rate-known}
 use borrow.Author.Needs.{needs}
 use Rattle.inner_code.proofs.InnerCoder.step.Statement.{statement}
 use Rattle.inner_code.proofs.InnerCoder.step.Tie as tie
@@ -48,9 +48,9 @@ puncture-requires : tie.Need-puncture-requires
 puncture-requires c κs =
     let a = c .before .before .before .before .before .before .args .self in
     let g = in-range a (good (c .before .before .before .before)) in (
-      g .rate,
+      rate-known a g,
       g .place,
-      omega (arith, g .held, held-le (a .rate) (a .place) (g .rate) (g .place)),
+      omega (arith, g .held, held-le (a .rate) (a .place) (rate-known a g) (g .place)),
       rw (c .before .x-of .ensures) (omega arith),
       rw (c .y-of .ensures) (omega arith),
     )

@@ -4,7 +4,7 @@ use mathlib.Core.Path.{_≡_, sym, _∙_}
 use mathlib.Core.Bool.{true}
 use borrow.Author.Tests.{not-true, not-false}
 use Rattle.inner_code.specs.Step.{inRange}
-use Rattle.inner_code.proofs.Coder.{in-range}
+use Rattle.inner_code.proofs.Coder.{in-range, rate-known}
 use borrow.Author.Needs.{needs}
 use Rattle.inner_code.proofs.InnerCoder.symbol_count.Statement.{statement}
 use Rattle.inner_code.proofs.InnerCoder.symbol_count.Tie as tie
@@ -20,7 +20,9 @@ good : (c : tie.Else1) → inRange (c .before .before .args .self) ≡ true
 good c = sym (c .before .in-range .ensures) ∙ not-false _ (c .if1 .left)
 
 block-count-requires : tie.Need-block-count-requires
-block-count-requires c κs = let g = in-range (c .before .before .args .self) (good c) in (g .rate, g .place)
+block-count-requires c κs = let a = c .before .before .args .self in
+    let g = in-range a (good c) in
+    (rate-known a g, g .place)
 
 cast-result : tie.Need-cast-result
 cast-result c = search needs

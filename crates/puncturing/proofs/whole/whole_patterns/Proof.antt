@@ -1,7 +1,6 @@
 -- `puncturing::whole::whole_patterns` meets its contract: the arrays are the tables of the modes.
 -- Assumes nothing.
 use Rattle.puncturing.specs.Mode.{modeOf}
-use Rattle.puncturing.specs.Step.{patternLength}
 use Rattle.puncturing.specs.Run.{iBits, qBits}
 use Rattle.puncturing.proofs.Rates.{asked, given, four}
 use borrow.Author.Needs.{needs}
@@ -15,7 +14,7 @@ slice-aggregate-patterns-2 : tie.Need-slice-aggregate-patterns-2
 slice-aggregate-patterns-2 c = search needs
 
 patterns-requires : tie.Need-patterns-requires
-unfolding iBits qBits patternLength modeOf
+unfolding iBits qBits modeOf
 patterns-requires c κs =
     let a = c .before .before .before .before .before .before in
     let g = a .pre in
@@ -27,7 +26,7 @@ same-length : tie.Need-same-length
 same-length c = search needs
 
 returns : tie.Need-returns
-unfolding iBits qBits patternLength modeOf
+unfolding iBits qBits modeOf
 returns c =
     let a = c .before .before .before .before .before .before .before .before .before in
     let g = a .pre in
@@ -42,7 +41,7 @@ slice-aggregate-patterns-4 : tie.Need-slice-aggregate-patterns-4
 slice-aggregate-patterns-4 c = search needs
 
 patterns-requires-2 : tie.Need-patterns-requires-2
-unfolding iBits qBits patternLength modeOf
+unfolding iBits qBits modeOf
 patterns-requires-2 c κs =
     let a = c .before .before .before .before .before .before .before in
     let g = a .pre in
@@ -54,7 +53,7 @@ same-length-2 : tie.Need-same-length-2
 same-length-2 c = search needs
 
 returns-2 : tie.Need-returns-2
-unfolding iBits qBits patternLength modeOf
+unfolding iBits qBits modeOf
 returns-2 c =
     let a = c .before .before .before .before .before .before .before .before .before .before in
     let g = a .pre in
@@ -69,7 +68,7 @@ slice-aggregate-patterns-6 : tie.Need-slice-aggregate-patterns-6
 slice-aggregate-patterns-6 c = search needs
 
 patterns-requires-3 : tie.Need-patterns-requires-3
-unfolding iBits qBits patternLength modeOf
+unfolding iBits qBits modeOf
 patterns-requires-3 c κs =
     let a = c .before .before .before .before .before .before .before .before in
     let g = a .pre in
@@ -81,7 +80,7 @@ same-length-3 : tie.Need-same-length-3
 same-length-3 c = search needs
 
 returns-3 : tie.Need-returns-3
-unfolding iBits qBits patternLength modeOf
+unfolding iBits qBits modeOf
 returns-3 c =
     let a = c .before .before .before .before .before .before .before .before .before .before .before in
     let g = a .pre in
@@ -96,7 +95,7 @@ slice-aggregate-patterns-8 : tie.Need-slice-aggregate-patterns-8
 slice-aggregate-patterns-8 c = search needs
 
 patterns-requires-4 : tie.Need-patterns-requires-4
-unfolding iBits qBits patternLength modeOf
+unfolding iBits qBits modeOf
 patterns-requires-4 c κs =
     let a = c .before .before .before .before .before .before .before .before .before in
     let g = a .pre in
@@ -108,7 +107,7 @@ same-length-4 : tie.Need-same-length-4
 same-length-4 c = search needs
 
 returns-4 : tie.Need-returns-4
-unfolding iBits qBits patternLength modeOf
+unfolding iBits qBits modeOf
 returns-4 c =
     let a = c .before .before .before .before .before .before .before .before .before .before .before .before in
     let g = a .pre in
@@ -123,7 +122,7 @@ slice-aggregate-patterns-10 : tie.Need-slice-aggregate-patterns-10
 slice-aggregate-patterns-10 c = search needs
 
 patterns-requires-5 : tie.Need-patterns-requires-5
-unfolding iBits qBits patternLength modeOf
+unfolding iBits qBits modeOf
 patterns-requires-5 c κs =
     let a = c .before .before .before .before .before .before .before .before .before in
     let g = a .pre in
@@ -135,7 +134,7 @@ same-length-5 : tie.Need-same-length-5
 same-length-5 c = search needs
 
 returns-5 : tie.Need-returns-5
-unfolding iBits qBits patternLength modeOf
+unfolding iBits qBits modeOf
 returns-5 c =
     let a = c .before .before .before .before .before .before .before .before .before .before .before .before in
     let g = a .pre in

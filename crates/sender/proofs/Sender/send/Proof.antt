@@ -5,6 +5,7 @@ use mathlib.Core.Bool.{true, false}
 use Prim.Native.Nat.{_≤_}
 use borrow.Author.Tests.{eqb-true, lt-ltb, le-ltb, not-true, not-false}
 use lib.ListN.{length, getD}
+use Rattle.puncturing.specs.Mode.{modeOf}
 use Rattle.inner_code.specs.Encode.{symbolCount}
 use Rattle.sender.specs.Input.{isInput, isSynced, packetFor}
 use Rattle.sender.specs.Send.{inRange, refusal}
@@ -20,10 +21,10 @@ in-range-requires c κs = search needs
 returns : tie.Need-returns
 returns c =
     let a = c .before .before .before .before in
-    refused (a .args .self) (a .args .input .now) (a .args .room .now) 5 (simp (sym (c .before .in-range .ensures) ∙ not-true _ (c .if1 .taken))) refl
+    refused modeOf (a .args .self) (a .args .input .now) (a .args .room .now) 5 (simp (sym (c .before .in-range .ensures) ∙ not-true _ (c .if1 .taken))) refl
 
 -- past the first test
-good : (c : tie.Else1) → inRange (c .before .before .before .before .args .self) ≡ true
+good : (c : tie.Else1) → inRange modeOf (c .before .before .before .before .args .self) ≡ true
 good c = sym (c .before .in-range .ensures) ∙ not-false _ (c .if1 .left)
 
 is-input-requires : tie.Need-is-input-requires
@@ -32,7 +33,7 @@ is-input-requires c κs = search needs
 returns-2 : tie.Need-returns-2
 returns-2 c =
     let a = c .before .before .before .before .before .before in
-    refused (a .args .self) (a .args .input .now) (a .args .room .now) 1
+    refused modeOf (a .args .self) (a .args .input .now) (a .args .room .now) 1
     (simp (good (c .before .before), sym (c .before .is-input .ensures) ∙ not-true _ (c .if2 .taken))) refl
 
 -- past the second
@@ -46,14 +47,14 @@ returns-3 : tie.Need-returns-3
 returns-3 c =
     let e = c .before .before .before in
     let a = e .before .before .before .before .before .before in
-    refused (a .args .self) (a .args .input .now) (a .args .room .now) 4
+    refused modeOf (a .args .self) (a .args .input .now) (a .args .room .now) 4
     (simp (good (e .before .before), sized e, lt-ltb _ _ (rw (c .before .symbol-count .ensures) at (c .if3 .taken)))) refl
 
 -- past the third: nothing is refused
 long : (c : tie.Else3) → let a = c .before .before .before .before .before .before .before .before .before .args in symbolCount (a .self .coder) ≤ length (a .room .now)
 long c = rw (c .before .symbol-count .ensures) at (c .if3 .left)
 
-taken : (c : tie.Else3) → let a = c .before .before .before .before .before .before .before .before .before .args in refusal (a .self) (a .input .now) (a .room .now) ≡ 0
+taken : (c : tie.Else3) → let a = c .before .before .before .before .before .before .before .before .before .args in refusal modeOf (a .self) (a .input .now) (a .room .now) ≡ 0
 taken c = let e = c .before .before .before in simp (good (e .before .before), sized e, le-ltb _ _ (long c))
 
 is-synced-requires : tie.Need-is-synced-requires
@@ -85,7 +86,7 @@ returns-4 c =
     let n = t .before .before in
     let a = n .before .before .before .before .before .before .before .before .before in
     let p = r .transmit .ensures in
-    answered (a .args .self) (a .args .input .now) (a .args .room .now) (taken n) (sym (packet-kept (a .args .input .now) (eqb-true _ _ (synced t))))
+    answered modeOf (a .args .self) (a .args .input .now) (a .args .room .now) (taken n) (sym (packet-kept (a .args .input .now) (eqb-true _ _ (synced t))))
     (p .0 ∙ sym (simp (synced t))) (p .1) (p .2) (p .3)
 
 null-packet-requires : tie.Need-null-packet-requires
@@ -119,7 +120,7 @@ returns-5 c =
     let n = t .before .before in
     let a = n .before .before .before .before .before .before .before .before .before in
     let q = r .transmit2 .ensures in
-    answered (a .args .self) (a .args .input .now) (a .args .room .now) (taken n) (null p) (sym (simp (replaced t))) (q .1) (q .2) (q .3)
+    answered modeOf (a .args .self) (a .args .input .now) (a .args .room .now) (taken n) (null p) (sym (simp (replaced t))) (q .1) (q .2) (q .3)
 
 pub send-spec : {M : Type 1} → statement M
 send-spec =

@@ -1,8 +1,7 @@
 -- `stream_receiver::StreamReceiver::report` meets its contract.
 -- Assumes nothing.
-use mathlib.Core.Path.{_≡_, refl, sym, _∙_}
-use Rattle.stream_receiver.specs.Feed.{streamInRange}
-use Rattle.stream_receiver.proofs.Histories.{reports}
+use mathlib.Core.Path.{sym, _∙_}
+use Rattle.stream_receiver.proofs.Reporting.{reports}
 use borrow.Author.Tests.{not-true, not-false}
 use borrow.Author.Needs.{needs}
 use Rattle.stream_receiver.proofs.StreamReceiver.report.Statement.{statement}
@@ -17,6 +16,9 @@ returns c =
     let e = sym (c .before .in-range .ensures) ∙ not-true _ (c .if1 .taken) in
     reports (a .self) (a .room .now) _ _ _ (simp e) (simp e) (simp e)
 
+report-of-requires : tie.Need-report-of-requires
+report-of-requires c κs = search needs
+
 write-report-requires : tie.Need-write-report-requires
 write-report-requires c κs = search needs
 
@@ -25,11 +27,19 @@ same-length c = search needs
 
 returns-2 : tie.Need-returns-2
 returns-2 c =
-    let a = c .before .before .before .before .before .before .before .before .before .args in
-    let e = sym (c .before .before .before .before .before .in-range .ensures) ∙ not-false _ (c .before .before .before .before .if1 .left) in
+    let a = c .before .before .before .before .before .before .before .before .before .before .args in
+    let e = sym (c .before .before .before .before .before .before .in-range .ensures) ∙ not-false _ (c .before .before .before .before .before .if1 .left) in
     let w = c .before .before .write-report .ensures in
-    reports (a .self) (a .room .now) _ _ _ (w .0 ∙ simp e) (w .1 ∙ simp e) (w .2 ∙ simp e)
+    let r = c .before .before .before .before .report-of .ensures in
+    reports (a .self) (a .room .now) _ _ _ (w .0 ∙ simp (r, e)) (w .1 ∙ simp (r, e)) (w .2 ∙ simp (r, e))
 
 pub report-spec : {M : Type 1} → statement M
 report-spec =
-    tie.close (tie.spec in-range-requires returns write-report-requires same-length returns-2)
+    tie.close
+    (tie.spec
+    in-range-requires
+    returns
+    report-of-requires
+    write-report-requires
+    same-length
+    returns-2)

@@ -1,0 +1,11 @@
+-- `dvbs_read_soft::is_nan` meets its contract.
+-- Assumes nothing.
+use Rattle.soft_decision.proofs.Numbers.{ne-nan}
+use Rattle.dvbs_read_soft.proofs.is_nan.Statement.{statement}
+use Rattle.dvbs_read_soft.proofs.is_nan.Tie as tie
+
+returns : tie.Need-returns
+returns c = ne-nan (c .args .x)
+
+pub is-nan-spec : {M : Type 1} → statement M
+is-nan-spec = tie.close (tie.spec returns)

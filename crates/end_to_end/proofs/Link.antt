@@ -1,0 +1,143 @@
+-- Demand 2 from end to end, as one statement: packets, symbols, runs, bits, bytes, blocks, packets.
+-- Assumes nothing.
+use mathlib.Core.Path.{_≡_, sym, ap, _∙_, subst}
+use mathlib.Core.List.{List, [], _∷_, _++_, map, flatten}
+use Prim.Native.Nat.{ℕ, zero, suc, _+_, _-_, _*_, _/_, _%_, _≤_, _<_}
+use Prim.{tt}
+use native.Mathlib.Nat.{div-add-mod, mod-lt}
+use native.Mathlib.Omega.{arith}
+use lib.ListN.{length, take, replicate, length-map}
+use lib.Seq.{length-take-le}
+use Rattle.common.specs.Lists.{All, Bytes, Length, ByteEntries}
+use Rattle.common.proofs.Lists.{All-map}
+use Rattle.common.proofs.Entries.{bytes-of, bytes-entries}
+use Rattle.reed_solomon.specs.Encode.{encoded}
+use Rattle.reed_solomon.proofs.LongDivision.{encoded-bytes}
+use Rattle.randomizer.specs.Packet.{randomized}
+use Rattle.randomizer.specs.Stream.{Packet, randomizedFrom, randomizedStream}
+use Rattle.randomizer.proofs.Whole.{packet-lengths, randomized-stream}
+use Rattle.delay_branches.specs.declared.Side.the-variants.{Sending}
+use Rattle.interleaver.proofs.Blocks.{length-flatten}
+use Rattle.interleaver.proofs.Streams.{length-delayed, delayed-lengths, delayed-bytes}
+use Rattle.convolutional_code.proofs.Bits.{length-bits}
+use Rattle.puncturing.specs.Mode.{modeOf}
+use Rattle.puncturing.specs.Step.{patternLength}
+use Rattle.puncturing.proofs.Steps.{some-bits}
+use Rattle.puncturing.proofs.Places.{up, length-le}
+use Rattle.run_reader.specs.Read.{runLength}
+use Rattle.sender.specs.Standard.{interleavedBlocks}
+use Rattle.sender.specs.Input.{Input, packetFor, packetsFor}
+use Rattle.sender.proofs.Inputs.{packets-sent}
+use Rattle.receiver.proofs.Decoding.{sent-length, sent-bytes}
+use Rattle.receiver.proofs.Reception.{blocks-count, coded-size, begun-anywhere}
+use Rattle.receiver.proofs.Promised.{kept-calls}
+use Rattle.end_to_end.specs.Blocks.{sentBits, bytesOf, blocksOf}
+use Rattle.end_to_end.specs.Link.{Link, wholeBlocks, Arrived}
+use Rattle.end_to_end.proofs.Blocks.{bytes-back, blocks-back}
+use Rattle.end_to_end.proofs.Sent.{sent-front, front-within, front-last}
+
+-- ---- the interleaved blocks are of bytes
+
+coded-bytes : (n : ℕ) (ps : List (List ℕ)) → All Packet ps → All ByteEntries (map encoded (randomizedFrom n ps))
+unfolding randomizedFrom
+coded-bytes n [] ws = tt
+coded-bytes n (p ∷ ps) ws = (
+  bytes-entries (encoded (randomized (n % 8) p)) (encoded-bytes (randomized (n % 8) p) (sent-length n p (ws .0)) (sent-bytes n p (ws .0))),
+  coded-bytes (n + 1) ps (ws .1),
+)
+
+flat-bytes : (blocks : List (List ℕ)) → All Bytes blocks → Bytes (flatten blocks)
+unfolding flatten
+flat-bytes [] g = tt
+flat-bytes (b ∷ bs) g = joined b (flatten bs) (g .0) (flat-bytes bs (g .1))
+  where
+    joined : (x y : List ℕ) → Bytes x → Bytes y → Bytes (x ++ y)
+    joined [] y h k = k
+    joined (b ∷ x) y h k = (h .0, joined x y (h .1) k)
+
+module _ (packets : List (List ℕ)) (ws : All Packet packets) where
+  abbrev sent : List (List ℕ)
+  sent = interleavedBlocks packets
+
+  interleaved-bytes : Bytes (flatten sent)
+  unfolding interleavedBlocks
+  interleaved-bytes =
+      flat-bytes sent
+      (All-map ByteEntries Bytes bytes-of sent
+      (delayed-bytes Sending (map encoded (randomizedStream packets))
+      (subst (λ (x : List (List ℕ)). All ByteEntries (map encoded x)) (randomized-stream packets (packet-lengths packets ws)) (coded-bytes 0 packets ws))))
+
+  interleaved-sizes : All (Length 204) sent
+  unfolding interleavedBlocks
+  interleaved-sizes = delayed-lengths Sending (map encoded (randomizedStream packets))
+
+  interleaved-count : length sent ≡ length packets
+  unfolding interleavedBlocks
+  interleaved-count = length-delayed Sending (map encoded (randomizedStream packets)) ∙ coded-size packets ws
+
+  byte-count : length (flatten sent) ≡ 204 * length packets
+  byte-count = length-flatten 204 sent interleaved-sizes ∙ ap (λ (n : ℕ). 204 * n) interleaved-count
+
+  bit-count : length (sentBits packets) ≡ 1632 * length packets
+  unfolding sentBits
+  bit-count = omega (arith, length-bits (flatten sent), byte-count)
+
+  -- the first n bits that are sent make the blocks that are whole in them
+  front-blocks : (n : ℕ) → n ≤ length (sentBits packets) → blocksOf (bytesOf (take n (sentBits packets))) ≡ take (wholeBlocks n) sent
+  unfolding sentBits
+  front-blocks n h =
+      let e : n / 8 / 204 ≡ n / 1632 = omega arith in
+      ap blocksOf (bytes-back (flatten sent) interleaved-bytes n h)
+      ∙ blocks-back sent interleaved-sizes (n / 8) (omega (arith, length-bits (flatten sent)))
+      ∙ ap (λ (k : ℕ). take k sent) e
+
+-- ---- the theorem
+
+pub arrived : (rate : ℕ) → rate < 5 → (inputs : List (List ℕ)) → All Input inputs → All Bytes inputs → length inputs ≤ 4294967295 → (l : Link rate inputs)
+    → Arrived rate inputs l
+unfolding interleavedBlocks
+arrived rate hr inputs g bs limit l =
+    let packets = packetsFor inputs in
+    let ws = packets-sent inputs g bs in
+    let count : length packets ≡ length inputs = length-map inputs packetFor in
+    let far = runLength rate (flatten (l .runs)) in
+    let front = sent-front rate hr g (l .sent) (l .runs) (l .whole) (l .unread) (l .cut) (l .read) in
+    let within = front-within rate hr g (l .sent) (l .runs) (l .whole) (l .unread) (l .cut) in
+    let read : length (l .bits) ≡ far = ap length (front .0) ∙ length-take-le far (sentBits packets) within in
+    let n = wholeBlocks (length (l .bits)) in
+    let blocks : blocksOf (bytesOf (l .bits)) ≡ take n (interleavedBlocks packets) =
+    ap (λ (x : List ℕ). blocksOf (bytesOf x)) (front .0) ∙ front-blocks packets ws far within
+    ∙ ap (λ (k : ℕ). take (wholeBlocks k) (interleavedBlocks packets)) (sym read) in
+    let few : n ≤ length packets = omega (arith, read, within, bit-count packets ws) in
+    let m = kept-calls (l .received) in
+    let calls : length (m .calls) ≡ n =
+    sym (blocks-count (m .calls)) ∙ ap length (m .lent ∙ blocks) ∙ length-take-le n (interleavedBlocks packets) (omega (arith, interleaved-count packets ws)) in
+    let r = begun-anywhere packets ws 0 (m .calls) (omega arith) (omega arith)
+    (m .lent ∙ blocks ∙ ap (λ (k : ℕ). take k (interleavedBlocks packets)) (sym calls)) (m .plain) (m .roomy) (m .decodes) in
+    let e : length (m .calls) - 11 - 0 ≡ n - 11 = omega arith in
+    record {
+      no-cost = front .1;
+      blocks = blocks;
+      within = omega arith;
+      answered = sym (m .answered) ∙ r .answered ∙ ap (λ (k : ℕ). take k (replicate 11 9 ++ replicate k 0)) calls;
+      packets = sym (m .given) ∙ r .given ∙ ap (λ (k : ℕ). take k packets) e;
+      to-the-last = λ short.
+          read ∙ front-last rate hr g (l .sent) (l .runs) (l .whole) (l .unread) (l .cut) short
+          ∙ ap (λ (k : ℕ). patternLength rate * (k / patternLength rate)) (bit-count packets ws ∙ ap (λ (k : ℕ). 1632 * k) count);
+    }
+
+-- ---- how many blocks that is
+
+-- where less than a pattern is left unread, at most one block is not whole
+pub all-but-one : (rate n : ℕ) → rate < 5 → n ≤ wholeBlocks (patternLength rate * (1632 * n / patternLength rate)) + 1
+all-but-one rate n hr =
+    let p = patternLength rate in
+    omega (arith, div-add-mod (1632 * n) p, mod-lt (1632 * n) (some-bits rate hr), length-le rate (up rate hr))
+
+-- and at rates 1/2, 2/3 and 3/4, whose patterns fill a block, every one is
+pub every-block : (rate n : ℕ) → rate < 3 → wholeBlocks (patternLength rate * (1632 * n / patternLength rate)) ≡ n
+unfolding modeOf
+every-block zero n h = omega arith
+every-block (suc zero) n h = omega arith
+every-block (suc (suc zero)) n h = omega arith
+every-block (suc (suc (suc rate))) n h = absurd (omega arith)

@@ -1,0 +1,186 @@
+-- The two branches of a mode: their lengths, one list of bytes after another, and the QPSK rates, which code every bit.
+-- Assumes nothing.
+use mathlib.Core.Path.{_≡_, refl, ap, ap₂, sym, _∙_}
+use mathlib.Core.List.{List, [], _∷_, _++_, map, flatten, append-assoc}
+use Prim.Native.Nat.{ℕ, zero, suc, _+_, _*_, _/_, _%_, _≤_, _<_}
+use native.Mathlib.Nat.{zero-add, suc-add, add-comm, zero-mul, suc-mul, mul-zero, zero-div, div-one, mul-add-div-right, mul-div-cancel}
+use native.Mathlib.Omega.{arith}
+use lib.ListN.{length, getD, take, drop, length-append, length-drop, length-map}
+use lib.Seq.{take-append-le, drop-append-le}
+use Rattle.convolutional_code.specs.Bits.{bitsOf, Bits, none, more}
+use Rattle.convolutional_code.proofs.Bits.{bits-at, bits-append}
+use Rattle.puncturing.specs.Mode.{CodedBit, InputBit, A, B, D, Column, Mode, qpsk, modeOf, blockBits, blockBitsBy}
+use Rattle.puncturing.proofs.Places.{end, _&_, Below, below}
+use Rattle.inner_code.specs.Converter.{bitAt, inputBit, groups, groupsOf, encodedGroup, encodedBits, besideSymbol, uncodedGroup, uncodedNumbers, sequenced}
+
+-- ---- bits
+
+digit : (n : ℕ) → n % 2 < 2
+digit n = omega arith
+
+bit-small : (b i : ℕ) → bitAt b i < 2
+bit-small b i =
+    bits-at
+    (more (digit b) (more (digit (b / 2)) (more (digit (b / 4)) (more (digit (b / 8))
+    (more (digit (b / 16)) (more (digit (b / 32)) (more (digit (b / 64)) (more (digit (b / 128)) none))))))))
+    i
+
+pub input-small : (g : List ℕ) (b : InputBit) → inputBit g b < 2
+input-small g (A i) = bit-small (getD g 0 0) i
+input-small g (B i) = bit-small (getD g 1 0) i
+input-small g (D i) = bit-small (getD g 2 0) i
+
+bits-columns : (g : List ℕ) (cs : List Column) → Bits (map (λ (c : Column). inputBit g (c .e)) cs)
+bits-columns g [] = none
+bits-columns g (c ∷ cs) = more (input-small g (c .e)) (bits-columns g cs)
+
+bits-groups : (m : Mode) (gs : List (List ℕ)) → Bits (flatten (map (encodedGroup m) gs))
+unfolding flatten
+bits-groups m [] = none
+bits-groups m (g ∷ gs) = bits-append (bits-columns g (m .columns)) (bits-groups m gs)
+
+-- the encoded branch has bits alone
+pub encoded-bits : (m : Mode) (bytes : List ℕ) → Bits (encodedBits m bytes)
+unfolding encodedBits
+encoded-bits m bytes = bits-groups m (groupsOf m bytes)
+
+-- ---- how many
+
+length-groups : (size n : ℕ) (bytes : List ℕ) → length (groups size n bytes) ≡ n
+unfolding groups
+length-groups size zero bytes = refl
+length-groups size (suc n) bytes = ap suc (length-groups size n (drop size bytes))
+
+-- lists of one length, one after another
+length-each : {A : Type 0} (f : A → List ℕ) (k : ℕ) → ((x : A) → length (f x) ≡ k) → (xs : List A) → length (flatten (map f xs)) ≡ length xs * k
+unfolding flatten
+length-each f k e [] = sym (zero-mul k)
+length-each f k e (x ∷ xs) =
+    length-append (f x) (flatten (map f xs))
+    ∙ ap₂ (λ (a b : ℕ). a + b) (e x) (length-each f k e xs)
+    ∙ add-comm k (length xs * k)
+    ∙ sym (suc-mul (length xs) k)
+
+pub length-encoded : (m : Mode) (bytes : List ℕ) → length (encodedBits m bytes) ≡ length bytes / m .group * length (m .columns)
+unfolding encodedBits
+length-encoded m bytes =
+    length-each (encodedGroup m) (length (m .columns)) (λ g. length-map (m .columns) (λ (c : Column). inputBit g (c .e))) (groupsOf m bytes)
+    ∙ ap (λ (n : ℕ). n * length (m .columns)) (length-groups (m .group) (length bytes / m .group) bytes)
+
+pub length-uncoded : (m : Mode) (bytes : List ℕ)
+    → length (uncodedNumbers m bytes) ≡ length bytes / m .group * (length (m .columns) * length (m .uncoded))
+unfolding uncodedNumbers
+length-uncoded m bytes =
+    length-each (uncodedGroup m) (length (m .columns) * length (m .uncoded))
+    (λ g. length-each (λ (c : Column). map (besideSymbol g c) (m .uncoded)) (length (m .uncoded)) (λ c. length-map (m .uncoded) (besideSymbol g c)) (m .columns))
+    (groupsOf m bytes)
+    ∙ ap (λ (n : ℕ). n * (length (m .columns) * length (m .uncoded))) (length-groups (m .group) (length bytes / m .group) bytes)
+
+-- of a block
+pub length-block-encoded : (m : Mode) (block : List ℕ) → length block ≡ 204 → length (encodedBits m block) ≡ blockBitsBy m
+unfolding blockBitsBy
+length-block-encoded m block h = length-encoded m block ∙ ap (λ (n : ℕ). n / m .group * length (m .columns)) h
+
+empty : (l : List ℕ) → length l ≡ 0 → l ≡ []
+empty [] e = refl
+empty (x ∷ l) e = absurd (omega arith)
+
+pub uncoded-none : (m : Mode) → m .uncoded ≡ [] → (bytes : List ℕ) → uncodedNumbers m bytes ≡ []
+uncoded-none m e bytes =
+    empty (uncodedNumbers m bytes)
+    (length-uncoded m bytes
+    ∙ ap (λ (u : List (List ℕ)). length bytes / m .group * (length (m .columns) * length u)) e
+    ∙ ap (λ (n : ℕ). length bytes / m .group * n) (mul-zero (length (m .columns)))
+    ∙ mul-zero (length bytes / m .group))
+
+-- ---- one list after another
+
+groups-append : (size k n : ℕ) (a b : List ℕ) → length a ≡ k * size → groups size (k + n) (a ++ b) ≡ groups size k a ++ groups size n b
+unfolding groups
+groups-append size zero n a b e =
+    let z : a ≡ [] = empty a (e ∙ zero-mul size) in
+    ap₂ (λ (j : ℕ) (l : List ℕ). groups size j (l ++ b)) (zero-add n) z
+groups-append size (suc k) n a b e =
+    let s : length a ≡ k * size + size = e ∙ suc-mul k size in
+    let h : size ≤ length a = omega arith in
+    let d : length (drop size a) ≡ k * size = length-drop size a ∙ omega arith in
+    ap (λ (j : ℕ). groups size j (a ++ b)) (suc-add k n)
+    ∙ ap₂ (λ (g l : List ℕ). g ∷ groups size (k + n) l) (take-append-le size a b h) (drop-append-le size a b h)
+    ∙ ap (λ (t : List (List ℕ)). take size a ∷ t) (groups-append size k n (drop size a) b d)
+
+flatten-append : (f : List ℕ → List ℕ) (gs hs : List (List ℕ)) → flatten (map f (gs ++ hs)) ≡ flatten (map f gs) ++ flatten (map f hs)
+unfolding flatten
+flatten-append f [] hs = refl
+flatten-append f (g ∷ gs) hs =
+    ap (λ (l : List ℕ). f g ++ l) (flatten-append f gs hs) ∙ sym (append-assoc (f g) (flatten (map f gs)) (flatten (map f hs)))
+
+module _ (m : Mode) (k : ℕ) (a b : List ℕ) (some : 0 < m .group) (e : length a ≡ k * m .group) where
+  groups-split : groupsOf m (a ++ b) ≡ groupsOf m a ++ groupsOf m b
+  groups-split =
+      let g = m .group in
+      let n : length (a ++ b) / g ≡ k + length b / g
+      = ap (λ (j : ℕ). j / g) (length-append a b ∙ ap (λ (j : ℕ). j + length b) e) ∙ mul-add-div-right some k (length b)
+      in
+      let o : k ≡ length a / g = sym (ap (λ (j : ℕ). j / g) e ∙ mul-div-cancel k some) in
+      ap (λ (j : ℕ). groups g j (a ++ b)) n
+      ∙ groups-append g k (length b / g) a b e
+      ∙ ap (λ (j : ℕ). groups g j a ++ groupsOf m b) o
+
+  pub encoded-append : encodedBits m (a ++ b) ≡ encodedBits m a ++ encodedBits m b
+  unfolding encodedBits
+  encoded-append = ap (λ (gs : List (List ℕ)). flatten (map (encodedGroup m) gs)) groups-split ∙ flatten-append (encodedGroup m) (groupsOf m a) (groupsOf m b)
+
+  pub uncoded-append : uncodedNumbers m (a ++ b) ≡ uncodedNumbers m a ++ uncodedNumbers m b
+  unfolding uncodedNumbers
+  uncoded-append = ap (λ (gs : List (List ℕ)). flatten (map (uncodedGroup m) gs)) groups-split ∙ flatten-append (uncodedGroup m) (groupsOf m a) (groupsOf m b)
+
+pub encoded-empty : (m : Mode) → encodedBits m [] ≡ []
+unfolding encodedBits groups flatten
+encoded-empty m = ap (λ (n : ℕ). flatten (map (encodedGroup m) (groups (m .group) n []))) (zero-div (m .group))
+
+pub uncoded-empty : (m : Mode) → uncodedNumbers m [] ≡ []
+unfolding uncodedNumbers groups flatten
+uncoded-empty m = ap (λ (n : ℕ). flatten (map (uncodedGroup m) (groups (m .group) n []))) (zero-div (m .group))
+
+-- the symbols of two lists, with the bits beside them
+pub sequenced-append : (us vs cs ds : List ℕ) → length us ≡ length cs → sequenced (us ++ vs) (cs ++ ds) ≡ sequenced us cs ++ sequenced vs ds
+unfolding sequenced
+sequenced-append [] vs [] ds e = refl
+sequenced-append [] vs (c ∷ cs) ds e = absurd (omega arith)
+sequenced-append (u ∷ us) vs [] ds e = absurd (omega arith)
+sequenced-append (u ∷ us) vs (c ∷ cs) ds e = ap (λ (l : List ℕ). (4 * u + c) ∷ l) (sequenced-append us vs cs ds (omega arith))
+
+pub length-sequenced : (us cs : List ℕ) → length us ≡ length cs → length (sequenced us cs) ≡ length cs
+unfolding sequenced
+length-sequenced [] cs e = refl
+length-sequenced (u ∷ us) [] e = absurd (omega arith)
+length-sequenced (u ∷ us) (c ∷ cs) e = ap suc (length-sequenced us cs (omega arith))
+
+-- ---- the QPSK rates
+
+every-bit : (bytes : List ℕ) (b : ℕ) (s : List (List CodedBit)) → flatten (map (encodedGroup (qpsk b s)) (groups 1 (length bytes) bytes)) ≡ bitsOf bytes
+unfolding flatten groups bitsOf
+every-bit [] b s = refl
+every-bit (x ∷ bytes) b s = ap (λ (l : List ℕ). encodedGroup (qpsk b s) (x ∷ []) ++ l) (every-bit bytes b s)
+
+encoded-plain : (b : ℕ) (s : List (List CodedBit)) (bytes : List ℕ) → encodedBits (qpsk b s) bytes ≡ bitsOf bytes
+unfolding encodedBits
+encoded-plain b s bytes = ap (λ (n : ℕ). flatten (map (encodedGroup (qpsk b s)) (groups 1 n bytes))) (div-one (length bytes)) ∙ every-bit bytes b s
+
+abbrev EveryBit : ℕ → Type 0
+EveryBit r = (bytes : List ℕ) → encodedBits (modeOf r) bytes ≡ bitsOf bytes
+
+all-coded : Below EveryBit 5
+unfolding modeOf
+all-coded = encoded-plain _ _ & encoded-plain _ _ & encoded-plain _ _ & encoded-plain _ _ & encoded-plain _ _ & end
+
+-- every bit is coded
+pub encoded-qpsk : (r : ℕ) → r < 5 → (bytes : List ℕ) → encodedBits (modeOf r) bytes ≡ bitsOf bytes
+encoded-qpsk r h bytes = below EveryBit 5 all-coded r h bytes
+
+no-uncoded : Below (λ r. modeOf r .uncoded ≡ []) 5
+unfolding modeOf
+no-uncoded = refl & refl & refl & refl & refl & end
+
+pub uncoded-qpsk : (r : ℕ) → r < 5 → (bytes : List ℕ) → uncodedNumbers (modeOf r) bytes ≡ []
+uncoded-qpsk r h bytes = uncoded-none (modeOf r) (below (λ r. modeOf r .uncoded ≡ []) 5 no-uncoded r h) bytes

@@ -1,0 +1,93 @@
+// A block at 16QAM 3/4 of EN 301 210: of each three bytes A, B, D the first is coded, beside the bit pairs of the others.
+ghost use mathlib.Core.Path.{_≡_};
+ghost use mathlib.Core.List.{_++_};
+ghost use Prim.Native.Nat.{ℕ, _+_, _*_, _<_, _≤_};
+ghost use lib.ListN.{length, getD, drop};
+ghost use Rattle.convolutional_code.specs.Bits.{Bits, bitsOf};
+ghost use Rattle.convolutional_code.specs.Code.{memoryAfter, blockMother};
+ghost use Rattle.inner_code.specs.Triples.{firsts, pairs, groupPairs, numbered};
+use convolutional_code::code_bytes;
+
+// The bytes A.
+fn encoded_bytes(block: &[u8], bytes: &mut [u8])
+    requires { ⌜ (length (now block) ≡ 204) × (length (now bytes) ≡ 68) ⌝ }
+    ensures { λ r. ⌜ now (bytes .exit) ≡ firsts 68 (now (block .entry)) ⌝ }
+{
+    let mut i: usize = 0;
+    while i < 68 {
+        bytes[i] = block[3 * i];
+        i += 1;
+    }
+}
+
+// The bit pairs of two bytes, NE2 counting 2 and NE1 counting 1.
+fn unpack_pairs(b: u8, d: u8, room: &mut [u8])
+    requires { ⌜ 8 ≤ length (now room) ⌝ }
+    ensures { λ r. ⌜ now (room .exit) ≡ groupPairs b d ++ drop 8 (now (room .entry)) ⌝ }
+{
+    room[0] = b / 64 % 4;
+    room[1] = b / 16 % 4;
+    room[2] = b / 4 % 4;
+    room[3] = b % 4;
+    room[4] = d / 64 % 4;
+    room[5] = d / 16 % 4;
+    room[6] = d / 4 % 4;
+    room[7] = d % 4;
+}
+
+// The bit pairs of a block.
+fn uncoded_pairs(block: &[u8], uncoded: &mut [u8])
+    requires { ⌜ (length (now block) ≡ 204) × (length (now uncoded) ≡ 544) ⌝ }
+    ensures { λ r. ⌜ now (uncoded .exit) ≡ pairs 68 (now (block .entry)) ⌝ }
+{
+    let mut i: usize = 0;
+    while i < 68 {
+        let n = 8 * i;
+        unpack_pairs(block[3 * i + 1], block[3 * i + 2], &mut uncoded[n..]);
+        i += 1;
+    }
+}
+
+// The number of a symbol.
+fn number(u: u8, c2: u8, c1: u8) -> u8
+    requires { ⌜ (u < 4) × (c2 < 2) × (c1 < 2) ⌝ }
+    ensures { λ r. ⌜ r ≡ 4 * u + (2 * c2 + c1) ⌝ }
+{
+    4 * u + (2 * c2 + c1)
+}
+
+// The symbols: the pairs beside Y and X of each bit.
+fn sequence(uncoded: &[u8], coded: &[u8], room: &mut [u8])
+    requires { ⌜
+        ((n : ℕ) → getD (now uncoded) n 0 < 4)
+        × (Bits (now coded))
+        × (length (now uncoded) ≡ 544)
+        × (length (now coded) ≡ 1088)
+        × (544 ≤ length (now room)) ⌝ }
+    ensures { λ r. ⌜ now (room .exit) ≡ numbered (now (uncoded .entry)) (now (coded .entry)) 0 544 ++ drop 544 (now (room .entry)) ⌝ }
+{
+    let mut n: usize = 0;
+    while n < 544 {
+        room[n] = number(uncoded[n], coded[544 + n], coded[n]);
+        n += 1;
+    }
+}
+
+// Codes a block, and gives the memory after it.
+pub fn code_qam(memory: u8, block: &[u8], room: &mut [u8]) -> u8
+    requires { ⌜ (memory < 64) × (length (now block) ≡ 204) × (544 ≤ length (now room)) ⌝ }
+    ensures { λ r. ⌜
+        (r ≡ memoryAfter memory (bitsOf (firsts 68 (now (block .entry)))))
+        × (now (room .exit)
+        ≡ numbered (pairs 68 (now (block .entry))) (blockMother memory (bitsOf (firsts 68 (now (block .entry))))) 0 544 ++ drop 544 (now (room .entry))) ⌝ }
+{
+    let mut bytes = [0u8; 68];
+    encoded_bytes(block, &mut bytes);
+    let mut uncoded = [0u8; 544];
+    uncoded_pairs(block, &mut uncoded);
+    let mut history = [0u8; 550];
+    let mut coded = [0u8; 1088];
+    let next = code_bytes(memory, &bytes, &mut history, &mut coded);
+    sequence(&uncoded, &coded, room);
+    next
+}

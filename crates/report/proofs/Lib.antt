@@ -1,0 +1,7 @@
+pub mod Table
+pub mod LineRuns
+pub mod Fronts
+pub mod Counting
+pub mod Answers
+pub mod AsWritten
+pub mod Moving

@@ -1,0 +1,139 @@
+-- A report moved from one form to the other: what is answered, and that there and back gives the same bytes.
+-- Assumes nothing.
+use mathlib.Core.Path.{_≡_, refl, sym, ap, ap₂, _∙_}
+use mathlib.Core.Bool.{Bool, true, false}
+use mathlib.Core.List.{List}
+use Prim.Native.Nat.{ℕ, _+_, _-_, _≤_}
+use native.Mathlib.Decide.{ℕ-discrete}
+use native.Mathlib.Omega.{arith}
+use borrow.Author.Tests.{eqb-true, eq-eqb, ne-eqb}
+use lib.Dec.{eqb}
+use lib.ListN.{length, take, drop}
+use lib.Seq.{take-at}
+use Rattle.common.specs.Choice.{pick}
+use Rattle.common.specs.Lists.{placed}
+use Rattle.common.proofs.Choice.{false-true}
+use Rattle.report.specs.declared.Bits.{Bits}
+use Rattle.report.specs.declared.Bits.the-variants.{Absent, Dash, Number}
+use Rattle.report.specs.declared.Report.{Report}
+use Rattle.report.specs.Text.{reportText, writeNumber, writeLength, writeRoom}
+use Rattle.report.specs.Read.{ReadsWhole}
+use Rattle.report.specs.Move.{movable, movedBits, moved, moveNumber, Moves, otherForm}
+use Rattle.report.proofs.AsWritten.{read-given, given-read, write-passed, write-done, write-within}
+
+-- ---- moving
+
+abbrev pub withBits : Report → Bits → Report
+withBits r b = record {
+  taken = r .taken;
+  filling = r .filling;
+  delivered = r .delivered;
+  lost = r .lost;
+  waiting = r .waiting;
+  outofstep = r .outofstep;
+  changed = r .changed;
+  bits = b;
+  rest = r .rest;
+}
+
+module _ (t : List ℕ) (form : ℕ) (room : List ℕ) (n : ℕ) (r : Report) (w : ReadsWhole t n r) where
+  pub move-unread : (n ≡ 0 → ⊥) → Moves t form room n 0 room
+  move-unread e = record {
+    answer = n;
+    report = r;
+    read = w;
+    number-is = simp (ne-eqb n 0 e);
+    size-is = simp (ne-eqb n 0 e);
+    room-is = simp (ne-eqb n 0 e);
+  }
+
+  pub move-refused : n ≡ 0 → movable (r .bits) form ≡ false → Moves t form room 19 0 room
+  move-refused e m = record {
+    answer = n;
+    report = r;
+    read = w;
+    number-is = simp (eq-eqb n 0 e, m);
+    size-is = simp (eq-eqb n 0 e, m);
+    room-is = simp (eq-eqb n 0 e, m);
+  }
+
+  pub move-done : n ≡ 0 → movable (r .bits) form ≡ true → (b : Bits) → b ≡ movedBits (r .bits) → (number size : ℕ) (exit : List ℕ)
+      → number ≡ writeNumber (withBits r b) room → size ≡ writeLength (withBits r b) room → exit ≡ writeRoom (withBits r b) room
+      → Moves t form room number size exit
+  move-done e m b q number size exit x y z = record {
+    answer = n;
+    report = r;
+    read = w;
+    number-is = simp (eq-eqb n 0 e, m) (x ∙ ap (λ (c : Bits). writeNumber (withBits r c) room) q);
+    size-is = simp (eq-eqb n 0 e, m) (y ∙ ap (λ (c : Bits). writeLength (withBits r c) room) q);
+    room-is = simp (eq-eqb n 0 e, m) (z ∙ ap (λ (c : Bits). writeRoom (withBits r c) room) q);
+  }
+
+-- ---- there and back
+
+back-bits : (b : Bits) (form : ℕ) → movable b form ≡ true → (movedBits (movedBits b) ≡ b) × (movable (movedBits b) (otherForm form) ≡ true)
+back-bits Absent form e = (refl, ap (λ (k : ℕ). eqb (3 - k) 1) (eqb-true form 2 e))
+back-bits Dash form e = (refl, ap (λ (k : ℕ). eqb (3 - k) 2) (eqb-true form 1 e))
+back-bits (Number n) form e = false-true e
+
+-- moved twice, a report is as it was
+back : (r : Report) (form : ℕ) → movable (r .bits) form ≡ true → (moved (moved r) ≡ r) × (movable (moved r .bits) (otherForm form) ≡ true)
+back r form e = let b = back-bits (r .bits) form e in (ap (withBits r) (b .0), b .1)
+
+-- what is moved was read, may be moved, and is written
+record Done (read : ℕ) (r : Report) (form : ℕ) (room : List ℕ) : Type 0 where
+  whole : read ≡ 0
+  may : movable (r .bits) form ≡ true
+  gone : writeNumber (moved r) room ≡ 0
+
+move-passed : (read : ℕ) (r : Report) (form : ℕ) (room : List ℕ) → 0 ≡ moveNumber read r form room → Done read r form room
+move-passed read r form room e = by (eqb read 0) refl (movable (r .bits) form) refl
+  where
+    by : (a : Bool) → eqb read 0 ≡ a → (b : Bool) → movable (r .bits) form ≡ b → Done read r form room
+    by true p true q = record { whole = eqb-true _ _ p; may = q; gone = sym (e ∙ simp (p, q) refl) }
+    by true p false q = let z : _≡_ {A = ℕ} 0 19 = e ∙ simp (p, q) refl in absurd (omega arith)
+    by false p b q = let z : 0 ≡ read = e ∙ simp p refl in false-true (sym p ∙ eq-eqb read 0 (sym z))
+
+-- no more is written than there is room for
+pub move-within : {t room exit : List ℕ} {form number size : ℕ} → Moves t form room number size exit → size ≤ length room
+move-within {t} {room} {exit} {form} {number} {size} a = by (ℕ-discrete (moveNumber (a .answer) (a .report) form room) 0)
+  where
+    by : Dec (moveNumber (a .answer) (a .report) form room ≡ 0) → size ≤ length room
+    by (yes e) =
+        let d = move-passed (a .answer) (a .report) form room (sym e) in
+        let n : writeLength (moved (a .report)) room ≡ length (reportText (moved (a .report)))
+        = ap (λ (i : ℕ). pick (eqb i 0) (length (reportText (moved (a .report)))) 0) (d .gone) in
+        let m : size ≡ length (reportText (moved (a .report)))
+        = a .size-is ∙ ap (λ (i : ℕ). pick (eqb i 0) (length (reportText (moved (a .report)))) 0) e in
+        let w = write-within (moved (a .report)) room in
+        omega arith
+    by (no e) =
+        let m : size ≡ 0 = a .size-is ∙ ap (λ (x : Bool). pick x (length (reportText (moved (a .report)))) 0) (ne-eqb _ _ e) in
+        omega arith
+
+-- a text placed at the front of a room stands there
+front : (room l : List ℕ) → take (length l) (placed room 0 l) ≡ l
+front room l = take-at l (drop (0 + length l) room) (length l) refl
+
+-- A text that is moved to a form and then back to the other is the same text, byte for byte, where there is room for it.
+pub there-and-back : (t room exit back last : List ℕ) (form n number m : ℕ)
+    → Moves t form room 0 n exit → length t ≤ length back → Moves (take n exit) (otherForm form) back number m last
+    → (number ≡ 0) × (take m last ≡ t)
+there-and-back t room exit hall last form n number m a h b =
+    let r = a .report in
+    let d = move-passed (a .answer) r form room (a .number-is) in
+    let g = read-given t (a .answer) r (a .read) (d .whole) in
+    let p = write-passed (moved r) room (d .gone) in
+    let k : moveNumber (a .answer) r form room ≡ 0 = sym (a .number-is) in
+    let u : n ≡ length (reportText (moved r)) = a .size-is ∙ ap (λ (i : ℕ). pick (eqb i 0) (length (reportText (moved r))) 0) k in
+    let v : exit ≡ placed room 0 (reportText (moved r)) = a .room-is ∙ ap (λ (i : ℕ). pick (eqb i 0) (placed room 0 (reportText (moved r))) room) k in
+    let o : take n exit ≡ reportText (moved r) = ap₂ take u v ∙ front room (reportText (moved r)) in
+    let q = given-read (take n exit) (b .answer) (b .report) (moved r) (b .read) (record { fit = p .0; add = p .1; text = o }) in
+    let w = back r form (d .may) in
+    let e : moved (b .report) ≡ r = ap moved (q .1) ∙ w .0 in
+    let f : movable (b .report .bits) (otherForm form) ≡ true = ap (λ (s : Report). movable (s .bits) (otherForm form)) (q .1) ∙ w .1 in
+    let i : moveNumber (b .answer) (b .report) (otherForm form) hall ≡ 0
+    = simp (q .0, f) (ap (λ (s : Report). writeNumber s hall) e ∙ write-done r t g hall h) in
+    let x : m ≡ length (reportText (moved (b .report))) = b .size-is ∙ ap (λ (j : ℕ). pick (eqb j 0) (length (reportText (moved (b .report)))) 0) i in
+    let y : last ≡ placed hall 0 (reportText (moved (b .report))) = b .room-is ∙ ap (λ (j : ℕ). pick (eqb j 0) (placed hall 0 (reportText (moved (b .report)))) hall) i in
+    (b .number-is ∙ i, ap₂ take x y ∙ front hall (reportText (moved (b .report))) ∙ ap reportText e ∙ sym (g .text))

@@ -1,0 +1,63 @@
+-- A report moved from one form to the other: document 02, P7.
+-- Assumes nothing.
+use mathlib.Core.Path.{_≡_}
+use mathlib.Core.Bool.{Bool, false}
+use mathlib.Core.List.{List}
+use Prim.Native.Nat.{ℕ, _-_}
+use lib.Dec.{eqb}
+use lib.ListN.{length}
+use Rattle.common.specs.Choice.{pick}
+use Rattle.common.specs.Lists.{placed}
+use Rattle.report.specs.declared.Bits.{Bits}
+use Rattle.report.specs.declared.Bits.the-variants.{Absent, Dash, Number}
+use Rattle.report.specs.declared.Report.{Report}
+use Rattle.report.specs.Text.{reportText, writeNumber}
+use Rattle.report.specs.Read.{ReadsWhole}
+
+-- Bits are absent and form 2 is wanted, or a dash and form 1 is. To any other number than 1 and 2 no report can be moved.
+abbrev pub movable : Bits → ℕ → Bool
+movable Absent form = eqb form 2
+movable Dash form = eqb form 1
+movable (Number n) form = false
+
+-- a report that is moved has a dash where it had no bits, and none where it had a dash
+abbrev pub movedBits : Bits → Bits
+movedBits Absent = Dash
+movedBits Dash = Absent
+movedBits (Number n) = Number n
+
+abbrev pub moved : Report → Report
+moved r = record {
+  taken = r .taken;
+  filling = r .filling;
+  delivered = r .delivered;
+  lost = r .lost;
+  waiting = r .waiting;
+  outofstep = r .outofstep;
+  changed = r .changed;
+  bits = movedBits (r .bits);
+  rest = r .rest;
+}
+
+-- What moving answers where reading gives this number and report, in the order 17, 18, 19, 4; how many bytes it writes; and the room after it.
+abbrev pub moveNumber : ℕ → Report → ℕ → List ℕ → ℕ
+moveNumber read r form room = pick (eqb read 0) (pick (movable (r .bits) form) (writeNumber (moved r) room) 19) read
+
+abbrev pub moveLength : ℕ → Report → ℕ → List ℕ → ℕ
+moveLength read r form room = pick (eqb (moveNumber read r form room) 0) (length (reportText (moved r))) 0
+
+abbrev pub moveRoom : ℕ → Report → ℕ → List ℕ → List ℕ
+moveRoom read r form room = pick (eqb (moveNumber read r form room) 0) (placed room 0 (reportText (moved r))) room
+
+-- what moving the report of a text to a form promises
+pub record Moves (t : List ℕ) (form : ℕ) (room : List ℕ) (number size : ℕ) (exit : List ℕ) : Type 0 where
+  pub answer : ℕ
+  pub report : Report
+  pub read : ReadsWhole t answer report
+  pub number-is : number ≡ moveNumber answer report form room
+  pub size-is : size ≡ moveLength answer report form room
+  pub room-is : exit ≡ moveRoom answer report form room
+
+-- the form that is not this one: 2 for 1, and 1 for 2
+abbrev pub otherForm : ℕ → ℕ
+otherForm form = 3 - form

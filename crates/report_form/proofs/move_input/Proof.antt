@@ -1,0 +1,51 @@
+-- `report_form::move_input` is safe.
+-- Assumes nothing.
+use mathlib.Core.Path.{sym}
+use native.Mathlib.Omega.{arith}
+use lib.Seq.{length-take-le}
+use borrow.Author.Needs.{needs}
+use Rattle.report_form.proofs.move_input.Statement.{statement}
+use Rattle.report_form.proofs.move_input.Tie as tie
+
+slice-aggregate-read-input : tie.Need-slice-aggregate-read-input
+slice-aggregate-read-input c = search needs
+
+read-input-requires : tie.Need-read-input-requires
+read-input-requires c κs = search needs
+
+slice-aggregate-fail : tie.Need-slice-aggregate-fail
+slice-aggregate-fail c = search needs
+
+fail-requires : tie.Need-fail-requires
+fail-requires c κs = search needs
+
+returns : tie.Need-returns
+returns c = search needs
+
+array-share-prefix-buffer : tie.Need-array-share-prefix-buffer
+array-share-prefix-buffer c = search needs
+
+slice-aggregate-write-moved : tie.Need-slice-aggregate-write-moved
+slice-aggregate-write-moved c =
+    let r = c .before .before .before .read-input in
+    sym (length-take-le (r .result .length) (r .last .0) (omega (arith, r .ensures)))
+
+write-moved-requires : tie.Need-write-moved-requires
+write-moved-requires c κs = search needs
+
+returns-2 : tie.Need-returns-2
+returns-2 c = search needs
+
+pub move-input-spec : {M : Type 1} → statement M
+move-input-spec =
+    tie.close
+    (tie.spec
+    slice-aggregate-read-input
+    read-input-requires
+    slice-aggregate-fail
+    fail-requires
+    returns
+    array-share-prefix-buffer
+    slice-aggregate-write-moved
+    write-moved-requires
+    returns-2)

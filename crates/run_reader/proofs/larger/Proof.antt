@@ -1,0 +1,15 @@
+-- `run_reader::larger` meets its contract.
+-- Assumes nothing.
+use mathlib.Core.Path.{sym}
+use borrow.Author.Tests.{lt-ltb, le-ltb}
+use Rattle.run_reader.proofs.larger.Statement.{statement}
+use Rattle.run_reader.proofs.larger.Tie as tie
+
+returns : tie.Need-returns
+returns c = sym (simp (lt-ltb _ _ (c .if1 .taken)))
+
+returns-2 : tie.Need-returns-2
+returns-2 c = sym (simp (le-ltb _ _ (c .if1 .left)))
+
+pub larger-spec : {M : Type 1} → statement M
+larger-spec = tie.close (tie.spec returns returns-2)

@@ -1,0 +1,72 @@
+-- The report of a pass: the numbers of a stream receiver as a report of form 2, and what writing it gives.
+-- Assumes nothing.
+use mathlib.Core.Path.{_≡_}
+use mathlib.Core.List.{List, []}
+use Prim.Native.Nat.{ℕ, _%_}
+use lib.Dec.{ltb}
+use lib.ListN.{length}
+use Rattle.common.specs.Choice.{pick}
+use Rattle.common.specs.Lists.{placed}
+use Rattle.reception_counts.specs.declared.Counts.{Counts}
+use Rattle.receiver.specs.Receive.{freshReceiver}
+use Rattle.receiver.specs.declared.Receiver.{Receiver}
+use Rattle.recording.specs.Recording.{Recording}
+use Rattle.report.specs.declared.Bits.the-variants.{Number}
+use Rattle.report.specs.declared.Report.{Report}
+use Rattle.report.specs.Text.{reportText, writeNumber, writeLength, writeRoom}
+use Rattle.stream_receiver.specs.Feed.{streamInRange}
+use Rattle.stream_receiver.specs.History.{Reception}
+use Rattle.stream_receiver.specs.declared.StreamReceiver.{StreamReceiver}
+
+-- the report on these counts, with so many bytes after the last whole block
+abbrev pub reportOf : Counts → ℕ → Report
+reportOf n rest = record {
+  taken = n .taken;
+  filling = n .filling;
+  delivered = n .delivered;
+  lost = n .lost;
+  waiting = n .waiting;
+  outofstep = n .outofstep;
+  changed = n .changed;
+  bits = Number (n .bits);
+  rest = rest;
+}
+
+abbrev pub streamReport : StreamReceiver → Report
+streamReport i = reportOf (i .receiver .counts) (i .held)
+
+-- what writing the report of all that came answers, and the room after it: 5 for a state out of range, and else what the writer does
+abbrev pub streamReportNumber : StreamReceiver → List ℕ → ℕ
+streamReportNumber i room = pick (streamInRange i) (writeNumber (streamReport i) room) 5
+
+abbrev pub streamReportLength : StreamReceiver → List ℕ → ℕ
+streamReportLength i room = pick (streamInRange i) (writeLength (streamReport i) room) 0
+
+abbrev pub streamReportRoom : StreamReceiver → List ℕ → List ℕ
+streamReportRoom i room = pick (streamInRange i) (writeRoom (streamReport i) room) room
+
+-- the text of the report on bytes as one recording
+pub record PassReport (bytes text : List ℕ) : Type 0 where
+  pub packets : List (List ℕ)
+  pub last : Receiver
+  pub recording : Recording freshReceiver bytes [] packets last
+  pub text-is : text ≡ reportText (reportOf (last .counts) (length bytes % 204))
+
+-- the answer, the length and the room after a text is written into a room
+abbrev pub textNumber : List ℕ → List ℕ → ℕ
+textNumber text room = pick (ltb (length room) (length text)) 4 0
+
+abbrev pub textLength : List ℕ → List ℕ → ℕ
+textLength text room = pick (ltb (length room) (length text)) 0 (length text)
+
+abbrev pub textRoom : List ℕ → List ℕ → List ℕ
+textRoom text room = pick (ltb (length room) (length text)) room (placed room 0 text)
+
+-- What writing the report promises: of every stream receiver what the definitions give of its counts and the bytes held, and of one that bytes
+-- came to the report on those bytes as one recording.
+pub record Reports (i : StreamReceiver) (room : List ℕ) (number count : ℕ) (exit : List ℕ) : Type 0 where
+  pub number-is : number ≡ streamReportNumber i room
+  pub count-is : count ≡ streamReportLength i room
+  pub exit-is : exit ≡ streamReportRoom i room
+  pub whole : (bytes written text : List ℕ) → Reception bytes written i → PassReport bytes text
+      → (number ≡ textNumber text room) × (count ≡ textLength text room) × (exit ≡ textRoom text room)
