@@ -1,6 +1,6 @@
 #!/bin/bash
 # The tests: the Rattle gate, then what stands beside the crates: the exported functions against the second coder and
-# decoder of reference/, the programs on inputs in pieces and on pass reports, the commands of README.md, and the usage lines of the programs.
+# decoder of reference/, the programs on inputs in pieces, on pass reports and with marks, the commands of README.md, and the usage lines of the programs.
 # The gate's line `N passed, 0 failed` comes last, and only where all of it passed.
 set -euo pipefail
 cd "$(dirname "$0")"
@@ -56,6 +56,7 @@ cargo run --quiet "${in_reference[@]}" --bin compare_seasons target/bin/season t
 
 bash tests/pieces.sh
 bash tests/reports.sh
+bash tests/marks.sh
 
 # The commands of README.md that use what was built, as they stand there.
 sed -n '/^## The programs/,/^## Reading/s/^    //p' README.md > "$work/commands"
@@ -92,7 +93,7 @@ usage dvbs_read 2 2
 usage dvbs_read_soft
 usage dvbs_read_soft 5
 usage dvbs_read_soft 2 2
-usage dvbs_receive 0
+usage dvbs_receive 0 0
 usage pass_report 0
 usage report_form
 usage report_form 0

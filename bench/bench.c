@@ -43,7 +43,7 @@ static const int errors_of[5] = {0, 1, 4, 8, 12};
 static uint8_t doubtful[3][POOL][204], marks[3][POOL][204]; /* with marks: f and e */
 static const int marks_of[3][2] = {{8, 0}, {8, 4}, {16, 0}};
 #ifdef HAVE_LIBFEC
-static int places[3][POOL][16]; /* libfec counts the 51 bytes that are not sent */
+static int places[3][POOL][16]; /* of the marked bytes, for libfec */
 #endif
 static uint8_t factors[FACTORS];
 static uint8_t coded_run[RUN * 204], clean_stream[RUN * 204], harmed_stream[RUN * 204];
@@ -101,7 +101,7 @@ static void prepare(void)
             for (int n = 0, f = 0; n < 204; n++)
                 if ((marks[m][p][n] = b[n] != coded[p][n])) {
 #ifdef HAVE_LIBFEC
-                    places[m][p][f] = 51 + n;
+                    places[m][p][f] = n;
 #endif
                     f++;
                 }

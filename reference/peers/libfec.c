@@ -67,6 +67,60 @@ static void times_x(const uint8_t *g, uint8_t *rest)
     }
 }
 
+/* Errors and erasures: 0 to 16 marked bytes, for more of which libfec has no
+ * room, and other errors on either side of 2 e + f = 16. Where libfec leaves a
+ * codeword beyond that, or a block that is none, it is told apart, and not
+ * followed: the library must answer 8. libfec returns how many places it took
+ * for wrong, marked ones that are right too, so the counts are those of the
+ * blocks. */
+static long marked(void *fec)
+{
+    long agreed = 0, beyond = 0, bad = 0;
+    for (int i = 0; i < 170000; i++) {
+        int f = i % 17, e = (int)next((uint32_t)((16 - f) / 2 + 4)), places[16], k = 0;
+        uint8_t a[204], b[204], before[204], marks[204] = {0}, count[2] = {255, 255}, told[2] = {0, 0};
+        codeword(fec, a);
+        while (k < f) {
+            uint32_t n = next(204);
+            if (!marks[n]) {
+                marks[n] = 1;
+                places[k++] = (int)n;
+                a[n] ^= (uint8_t)(next(4) ? next(256) : 0);
+            }
+        }
+        uint8_t hit[204];
+        memcpy(hit, marks, 204);
+        while (e > 0) {
+            uint32_t n = next(204);
+            if (!hit[n]) {
+                hit[n] = 1;
+                a[n] ^= (uint8_t)(1 + next(255));
+                e--;
+            }
+        }
+        memcpy(b, a, 204);
+        memcpy(before, a, 204);
+        int want = decode_rs_char(fec, a, places, f), cost = f;
+        uint8_t answer = dvbs_rs_decode_marked(b, 204, marks, 204, count, sizeof count);
+        for (int n = 0; n < 204; n++) {
+            told[0] += a[n] != before[n];
+            cost += a[n] != before[n] && !marks[n] ? 2 : 0;
+        }
+        told[1] = (uint8_t)bits(before, a);
+        int untouched = answer == 8 && count[0] == 255 && count[1] == 255 && !memcmp(b, before, 204);
+        if (want >= 0 && is_codeword(fec, a) && cost <= 16)
+            answer == 0 && !memcmp(count, told, 2) && !memcmp(a, b, 204) ? agreed++ : bad++;
+        else if (want < 0)
+            untouched ? agreed++ : bad++;
+        else
+            untouched ? beyond++ : bad++;
+    }
+    printf("libfec, decode, 0 to 16 marked bytes and others: 170000 compared, %ld the same, %ld different\n", agreed, bad);
+    if (beyond)
+        printf("  and %ld where libfec reports success beyond 2 e + f = 16; the library answers 8 there\n", beyond);
+    return bad;
+}
+
 int main(void)
 {
     void *fec = init_rs_char(8, 0x11d, 0, 1, 16, 51);
@@ -145,6 +199,7 @@ int main(void)
                    "  (an error placed among the bytes never sent); the library answers 8 there\n", explained);
         different += bad;
     }
+    different += marked(fec);
     free_rs_char(fec);
     return different != 0;
 }

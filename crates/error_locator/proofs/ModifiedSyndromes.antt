@@ -1,15 +1,14 @@
 -- The syndromes as marked places modify them, one place after the other.
 -- Assumes nothing.
-use mathlib.Core.Path.{_≡_, refl, sym, ap, ap₂, _∙_}
-use mathlib.Core.List.{List, [], _∷_}
-use Prim.Native.Nat.{ℕ, zero, suc, _+_, _-_, _≤_, _<_, Fin}
+use mathlib.Core.Path.{_≡_, sym, ap, ap₂, _∙_}
+use mathlib.Core.List.{List, _∷_}
+use Prim.Native.Nat.{ℕ, suc, _+_, _-_, _≤_, _<_, Fin}
 use native.Mathlib.Nat.{add-zero}
 use native.Mathlib.Omega.{arith}
-use native.Mathlib.Decide.{decLt}
-use lib.ListN.{length, getD, take, drop, length-map, List·getD-eq-default}
+use lib.ListN.{length, getD, drop, length-map}
 use lib.Seq.{drop-cons, drop-length}
 use Rattle.common.proofs.Lists.{getD-map-in}
-use Rattle.algebra.specs.Field.{Field, ops}
+use Rattle.algebra.specs.Field.{Field}
 use Rattle.algebra.specs.Polynomial.{plus, scale}
 use Rattle.algebra.proofs.Ring.{ring}
 use Rattle.algebra.proofs.Polynomial.{fromRoots}

@@ -1,26 +1,24 @@
 -- The marks in the delays: they stay 0 or 1, and where none comes and none is there, none leaves. So what decoding means without marks holds then.
 -- Assumes nothing.
 use mathlib.Core.Path.{_≡_, refl, sym, ap, _∙_, subst}
-use mathlib.Core.Bool.{true}
 use mathlib.Core.List.{List}
 use Prim.Native.Nat.{ℕ, _≤_, _<_}
 use native.Mathlib.Omega.{arith}
-use borrow.Author.Tests.{eq-eqb, lt-ltb}
-use lib.ListN.{length, getD, replicate, length-replicate}
+use lib.ListN.{length, replicate, length-replicate}
 use lib.Seq.{ext-getD}
 use Rattle.common.specs.Lists.{Entries}
 use Rattle.byte_lanes.proofs.Powers.{zeros-at}
 use Rattle.reed_solomon.specs.Decode.{Decodes}
-use Rattle.reed_solomon.specs.Marks.{Marks, largest, areMarks, noMarks, DecodesMarked}
+use Rattle.reed_solomon.specs.Marks.{Marks, largest, noMarks, DecodesMarked}
 use Rattle.reed_solomon.specs.declared.Decoded.{Decoded}
-use Rattle.reed_solomon.proofs.Marks.{largest-least, largest-most, marks-of}
+use Rattle.reed_solomon.proofs.Marks.{largest-least, largest-most}
 use Rattle.reed_solomon.proofs.MarkedDistance.{without-marks}
 use Rattle.delay_branches.specs.Branch.{laid}
 use Rattle.delay_branches.specs.Block.{blockOut, after}
 use Rattle.delay_branches.specs.declared.Branches.{Branches}
 use Rattle.delay_branches.specs.declared.Side.the-variants.{Receiving}
 use Rattle.delay_branches.proofs.Blocks.{Good, good-after, length-out, entries-out, entries-after}
-use Rattle.receiver.specs.Receive.{marksIn, Unmarked, delayedMarks}
+use Rattle.receiver.specs.Receive.{Unmarked, delayedMarks}
 use Rattle.receiver.specs.declared.Receiver.{Receiver}
 
 -- ---- none

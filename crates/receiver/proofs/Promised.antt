@@ -13,7 +13,7 @@ use Rattle.reed_solomon.specs.Marks.{noMarks}
 use Rattle.randomizer.specs.Stream.{Packet, randomizedStream}
 use Rattle.interleaver.specs.Stream.{interleaved}
 use Rattle.receiver.specs.Receive.{freshReceiver}
-use Rattle.receiver.specs.Run.{Call, after, afterCalls, Calls, packetsGiven, blocksOf, answers, Plain, Roomy}
+use Rattle.receiver.specs.Run.{Call, afterCalls, Calls, packetsGiven, blocksOf, answers, Plain, Roomy}
 use Rattle.receiver.specs.Kept.{Kept, none, call}
 use Rattle.receiver.specs.declared.Receiver.{Receiver}
 use Rattle.receiver.proofs.Reception.{stream-received}

@@ -125,17 +125,17 @@ fn take_block(
     let moved = pass_cells(Side::Receiving, &mut cells, positions, block, &mut delayed);
     let mut erased = [0u8; Receiver::BLOCK_LENGTH];
     delay_marks(&mut held, positions, marks, none, &mut erased);
-    let passed = Branches {
-        cells,
-        positions: moved,
-    };
-    let deinterleaver = Deinterleaver { branches: passed };
     if taken < 11 {
         let counts = count(counts, Outcome::Filling, 0, 0);
         return Received {
             answer: Answer::Filling,
             receiver: Receiver {
-                deinterleaver,
+                deinterleaver: Deinterleaver {
+                    branches: Branches {
+                        cells,
+                        positions: moved,
+                    },
+                },
                 marks: held,
                 sync,
                 counts,
@@ -154,7 +154,12 @@ fn take_block(
     Received {
         answer,
         receiver: Receiver {
-            deinterleaver,
+            deinterleaver: Deinterleaver {
+                branches: Branches {
+                    cells,
+                    positions: moved,
+                },
+            },
             marks: held,
             sync: next,
             counts,

@@ -1,14 +1,12 @@
 -- What a recording comes to is decided: there is one outcome and no other. From a sound receiver each whole block is taken.
 -- Assumes nothing.
 use mathlib.Core.Path.{_≡_, refl, sym, ap, ap₂, subst, subst₂, _∙_}
-use mathlib.Core.Bool.{true, false}
-use mathlib.Core.List.{List, [], _∷_, _++_, append-assoc, append-nil, flatten}
+use mathlib.Core.Bool.{true}
+use mathlib.Core.List.{List, [], _∷_, _++_, append-assoc, flatten}
 use mathlib.Core.Logic.{_⊎_, inl, inr}
-use Prim.Native.Nat.{ℕ, zero, suc, _+_, _-_, _*_, _/_, _%_, _≤_, _<_}
-use Prim.{tt}
-use native.Mathlib.Decide.{decLt}
+use Prim.Native.Nat.{ℕ, zero, suc, _+_, _/_, _≤_, _<_}
 use native.Mathlib.Omega.{arith}
-use borrow.Author.Tests.{eq-eqb, ne-eqb, lt-ltb, le-ltb}
+use borrow.Author.Tests.{ne-eqb, le-ltb}
 use lib.Dec.{eqb}
 use lib.ListN.{length, take, drop, replicate, length-append, length-drop, length-replicate}
 use lib.Seq.{take-at, drop-at}
@@ -24,14 +22,14 @@ use Rattle.group_sync.specs.Group.{PlaceOf}
 use Rattle.group_sync.specs.declared.Outcome.{Outcome}
 use Rattle.group_sync.specs.declared.Outcome.the-variants.{Filling, Delivered, Lost, Waiting, OutOfStep}
 use Rattle.reception_counts.specs.Counts.{outcomeNumber}
-use Rattle.receiver.specs.Receive.{freshReceiver, delayedBlock, delayedMarks, stepOf, stateAfter, roomAfter, refusal, Ready, receiveNumber, receiveState, receiveRoom}
+use Rattle.receiver.specs.Receive.{delayedBlock, delayedMarks, stepOf, stateAfter, roomAfter, refusal, Ready}
 use Rattle.receiver.specs.Run.{Call, Calls, answerOf, after, roomOf, afterCalls, Roomy, blocksOf, packetsGiven}
 use Rattle.receiver.specs.declared.Receiver.{Receiver}
 use Rattle.receiver.proofs.Calls.{ready-number, ready-state, ready-room, left-length}
 use Rattle.interleaver.proofs.Blocks.{length-flatten}
 use Rattle.receiver.proofs.Outcomes.{plain-marked, packet-length}
 use Rattle.receiver.proofs.Reception.{blocks-count}
-use Rattle.receiver.proofs.Reached.{Sound, sound-range, sound-fresh, sound-call, Refused, ready-or-refused}
+use Rattle.receiver.proofs.Reached.{Sound, sound-range, sound-call, Refused, ready-or-refused}
 use Rattle.recording.specs.Recording.{blockMarks, MarkedBy, Recording}
 use Rattle.recording.proofs.Recordings.{none-marked, givenBy, step-place, recorded-more}
 use Rattle.recording.proofs.Joins.{recording-few}

@@ -45,6 +45,10 @@ none-marked (c ∷ cs) m = (m .0, none-marked cs (m .1))
 pub marks-none : (marks : List ℕ) (at : ℕ) → length marks ≡ 0 → blockMarks (drop at marks) ≡ noMarks
 marks-none marks at h = ap blockMarks (drop-of-length-le marks {i = at} (omega arith))
 
+-- the block from a byte on
+pub one-block : (l : List ℕ) (at : ℕ) → take (at + 204 - at) (drop at l) ≡ take 204 (drop at l)
+one-block l at = let e : at + 204 - at ≡ 204 = omega arith in ap (λ (k : ℕ). take k (drop at l)) e
+
 -- there is one for each byte
 pub marks-front : (marks : List ℕ) → 204 ≤ length marks → blockMarks marks ≡ take 204 marks
 marks-front marks h = take-append-le 204 marks noMarks h

@@ -1,8 +1,8 @@
 -- A run over the interleaved blocks of a sender gives its packets back. The history of calls that demand 2 speaks of exists.
 -- Assumes nothing.
 use mathlib.Core.Path.{_≡_, refl, sym, ap, ap₂, subst, _∙_}
-use mathlib.Core.List.{List, [], _∷_, _++_, append-assoc, append-nil, map, flatten}
-use Prim.Native.Nat.{ℕ, _+_, _-_, _*_, _/_, _≤_, _<_}
+use mathlib.Core.List.{List, [], _∷_, _++_, append-assoc, map, flatten}
+use Prim.Native.Nat.{ℕ, _-_, _*_, _/_, _≤_, _<_}
 use native.Mathlib.Omega.{arith}
 use borrow.Author.Tests.{le-ltb}
 use lib.ListN.{length, take, drop, length-append}
@@ -20,7 +20,7 @@ use Rattle.receiver.specs.Run.{Call, Calls, blocksOf, Plain, Roomy}
 use Rattle.receiver.specs.declared.Receiver.{Receiver}
 use Rattle.receiver.proofs.Reached.{sound-range, sound-fresh}
 use Rattle.receiver.proofs.Reception.{coded-size, stream-received}
-use Rattle.recording.specs.Recording.{Recording, Takes, recordingNumber, ReceivesRecording, refused, taken}
+use Rattle.recording.specs.Recording.{Recording, recordingNumber, ReceivesRecording, refused, taken}
 use Rattle.recording.specs.Returned.{sentBytes, Returns}
 use Rattle.recording.proofs.Decided.{recording-total}
 use Rattle.recording.proofs.Recordings.{none-marked}

@@ -37,6 +37,19 @@ fn given_bytes(answer: Answer) -> usize
     }
 }
 
+// The marks of the block from a byte on: 0 where none come.
+fn marks_at(marks: &[u8], at: usize) -> [u8; 204]
+    requires { ⌜ (length (now marks) ≡ 0) ⊎ (at + 204 ≤ length (now marks)) ⌝ }
+    ensures { λ r. ⌜ r ≡ blockMarks (drop at (now (marks .entry))) ⌝ }
+{
+    let mut own = [0u8; Receiver::BLOCK_LENGTH];
+    if marks.len() != 0 {
+        let end = at + Receiver::BLOCK_LENGTH;
+        common::put(&marks[at..end], 0, &mut own);
+    }
+    own
+}
+
 // Takes the block from a place on, with its marks, where there are any.
 fn receive_at(
     receiver: Receiver,
@@ -52,10 +65,8 @@ fn receive_at(
         ReceivesMarked receiver (take 204 (drop at (now (bytes .entry)))) (blockMarks (drop at (now (marks .entry)))) (now (room .entry)) r (now (room .exit)) ⌝ }
 {
     let end = at + Receiver::BLOCK_LENGTH;
-    if marks.len() == 0 {
-        return receiver.receive(&bytes[at..end], room);
-    }
-    receiver.receive_marked(&bytes[at..end], &marks[at..end], room)
+    let own = marks_at(marks, at);
+    receiver.receive_marked(&bytes[at..end], &own, room)
 }
 
 // Takes the whole blocks, each with a call. Its packet goes into the room after the one before. There is a mark for each byte, or none at all.

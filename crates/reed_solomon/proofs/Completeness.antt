@@ -8,7 +8,7 @@ use Prim.{tt}
 use native.Mathlib.Decide.{decLt, ℕ-discrete, Fin·val-path}
 use native.Mathlib.Nat.{zero-add, add-zero as add-zero-ℕ}
 use native.Mathlib.Omega.{arith}
-use borrow.Author.Tests.{eq-eqb, ne-eqb}
+use borrow.Author.Tests.{eq-eqb}
 use lib.ListN.{length, getD, take, drop, length-map, length-append, length-take, length-reverse, List·getD-map}
 use lib.Seq.{length-take-le, split-at}
 use Rattle.common.specs.Choice.{pick}
@@ -27,7 +27,7 @@ use Rattle.reed_solomon.specs.Code.{Codeword}
 use Rattle.reed_solomon.specs.Marks.{marked, cost}
 use Rattle.byte_lanes.specs.Lanes.{elements, point}
 use Rattle.error_locator.specs.Locator.{Located, Modified}
-use Rattle.error_correction.specs.Correction.{ByDegree, masked, valuesOf, rootsOf, one, monic, RootProduct, errorValue}
+use Rattle.error_correction.specs.Correction.{ByDegree, valuesOf, rootsOf, one, monic, RootProduct, errorValue}
 use Rattle.error_correction.proofs.RootSearch.{length-values, value-erased, value-kept, value-one, map-join}
 use Rattle.reed_solomon.proofs.Codewords.{blockSyndrome, codeword-length, codeword-bytes, codeword-syndromes, rootsBelow, distinct-roots, length-roots}
 use Rattle.reed_solomon.proofs.Distance.{difference, difference-length, errors, errors-distinct, errors-syndrome}

@@ -1,20 +1,16 @@
 -- The distance of blocks with marked bytes: two codewords that both satisfy 2 e + f at most 16 are one, and without marks it is the Hamming distance.
 -- Assumes nothing.
-use mathlib.Core.Path.{_≡_, refl, sym, ap, ap₂, _∙_, subst}
+use mathlib.Core.Path.{_≡_, refl, sym, ap, ap₂, _∙_}
 use mathlib.Core.List.{List, [], _∷_, _++_, reverse, reverse-cons}
 use Prim.Native.Nat.{ℕ, zero, suc, _+_, _*_, _≤_, _<_, Fin}
-use Prim.{Unit, tt}
-use native.Mathlib.Decide.{ℕ-discrete, decLt, decLe}
-use native.Mathlib.Numerals.{add-one}
+use Prim.{Unit}
+use native.Mathlib.Decide.{ℕ-discrete, decLt}
 use native.Mathlib.Nat.{le-of-suc-le-suc}
 use native.Mathlib.Omega.{arith}
-use borrow.Author.Tests.{eq-eqb, ne-eqb, le-leb, lt-leb}
-use lib.Dec.{eqb, leb}
-use lib.Seq.{take-suc, take-all}
-use mathlib.Core.Bool.{Bool}
-use lib.ListN.{length, getD, take, replicate, length-reverse, length-append, List·getD-eq-default}
+use borrow.Author.Tests.{eq-eqb, ne-eqb}
+use lib.Dec.{eqb}
+use lib.ListN.{length, getD, replicate, length-reverse, length-append}
 use Rattle.common.specs.Choice.{pick}
-use Rattle.common.specs.Lists.{Bytes}
 use Rattle.algebra.specs.Field.{ops}
 use Rattle.algebra.specs.Polynomial.{eval, plus}
 use Rattle.algebra.proofs.Ring.{add-eq-zero, mul-zero, zero-mul}
@@ -23,14 +19,14 @@ use Rattle.algebra.proofs.Terms.{terms}
 use Rattle.galois.proofs.Instance.{bytes, byte}
 use Rattle.reed_solomon.specs.Code.{Codeword, unequal, distance, differ, changes}
 use Rattle.reed_solomon.specs.Decode.{Decodes}
-use Rattle.reed_solomon.specs.Marks.{Marks, noMarks, marked, unmarked, cost, AcceptedMarked, DecodesMarked}
+use Rattle.reed_solomon.specs.Marks.{noMarks, marked, unmarked, cost, AcceptedMarked, DecodesMarked}
 use Rattle.reed_solomon.specs.declared.Decoded.{Decoded}
 use Rattle.reed_solomon.specs.declared.Decoded.the-variants.{Corrected, Uncorrectable, BlockLength, MarkValue}
 use Rattle.reed_solomon.specs.declared.Changed.{Changed}
 use Rattle.byte_lanes.specs.Lanes.{elements}
 use Rattle.error_correction.specs.Correction.{zerosFrom}
 use Rattle.reed_solomon.proofs.Codewords.{codeword-length}
-use Rattle.reed_solomon.proofs.Marks.{mark, mark-clear, mark-marked, marked-append, no-marks}
+use Rattle.reed_solomon.proofs.Marks.{mark, mark-marked, marked-append, no-marks}
 use Rattle.reed_solomon.proofs.Distance.{unequal-same, unequal-other, unequal-le, same-codeword}
 
 -- ---- one place

@@ -39,15 +39,6 @@ mark-bit m h = go (ℕ-discrete m 0)
     go (yes e) = mark-clear m e ∙ sym e
     go (no n) = omega (arith, mark-marked m n)
 
-pub marked-most : (l : List ℕ) → marked l ≤ length l
-unfolding marked
-marked-most [] = omega arith
-marked-most (m ∷ l) = omega (arith, one (ℕ-discrete m 0), marked-most l)
-  where
-    one : Dec (m ≡ 0) → mark m ≤ 1
-    one (yes e) = omega (arith, mark-clear m e)
-    one (no n) = omega (arith, mark-marked m n)
-
 -- where none is counted, none is marked
 pub marked-zero : (ms : List ℕ) → marked ms ≡ 0 → (i : ℕ) → getD ms i 0 ≡ 0
 unfolding marked

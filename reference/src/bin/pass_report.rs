@@ -1,6 +1,7 @@
 //! The pass report, by the reference, in form 2: received bytes on standard
-//! input, key=value lines on standard output. To be compared with the
-//! project's own program.
+//! input, key=value lines on standard output. A word is the file of their marks,
+//! a byte for each; bytes past its end are not marked. To be compared with the
+//! project's own programs.
 
 use reference::receiver::Receiver;
 use reference::report::{Bits, Report};
@@ -9,6 +10,8 @@ use std::io::Read;
 
 fn main() -> std::io::Result<()> {
     let mut input = std::io::stdin().lock();
+    let marks = std::env::args_os().nth(1).map_or(Ok(Vec::new()), std::fs::read)?;
+    let mut blocks_of_marks = marks.chunks(BLOCK_LENGTH);
     let mut receiver = Receiver::fresh();
     let mut room = [0; PACKET_LENGTH];
     let mut block = [0; BLOCK_LENGTH];
@@ -18,7 +21,10 @@ fn main() -> std::io::Result<()> {
         rest += read;
         if rest == BLOCK_LENGTH {
             rest = 0;
-            receiver.receive(&block, &mut room);
+            let mut marked = [0; BLOCK_LENGTH];
+            let given = blocks_of_marks.next().unwrap_or(&[]);
+            marked[..given.len()].copy_from_slice(given);
+            receiver.receive_marked(&block, &marked, &mut room);
             if receiver.counts().taken == reference::receiver::MOST_BLOCKS {
                 break;
             }

@@ -9,8 +9,6 @@ use Rattle.byte_lanes.proofs.Powers.{zeros-at}
 use borrow.Author.Needs.{needs}
 use Rattle.error_correction.proofs.by_degree.Statement.{statement}
 use Rattle.error_correction.proofs.by_degree.Tie as tie
-use Rattle.error_correction.proofs.by_degree.Reads as reads
-use Rattle.error_correction.proofs.by_degree.Lts as lts
 
 abbrev Inv-loop : tie.InvT-loop
 Inv-loop marks count u₀ d₀ u d = (d ≤ 204) × Updated (λ k x. x ≡ getD marks (203 - k) 0) u₀ u d

@@ -4,7 +4,6 @@ use mathlib.Core.Path.{_∙_, subst}
 use native.Mathlib.Omega.{arith}
 use Rattle.error_correction.specs.Correction.{one, FoundRoots}
 use Rattle.error_correction.proofs.RootSearch.{found-none}
-use borrow.Author.Needs.{needs}
 use Rattle.error_correction.proofs.find_erasures.Statement.{statement}
 use Rattle.error_correction.proofs.find_erasures.Tie as tie
 

@@ -8,9 +8,6 @@ use Rattle.error_correction.specs.Correction.{masked}
 use borrow.Author.Needs.{needs}
 use Rattle.error_correction.proofs.masked_values.Statement.{statement}
 use Rattle.error_correction.proofs.masked_values.Tie as tie
-use Rattle.error_correction.proofs.masked_values.Reads as reads
-use Rattle.error_correction.proofs.masked_values.Lts as lts
-use Rattle.error_correction.proofs.masked_value.Reads as masked-value-reads
 
 abbrev Inv-loop : tie.InvT-loop
 Inv-loop m v w₀ j₀ w j = Each (λ k x. x ≡ masked (getD m k 0) (getD v k 0)) 16 w j

@@ -7,7 +7,7 @@ use borrow.Author.Tests.{eq-eqb}
 use lib.ListN.{getD, take, drop}
 use lib.Seq.{getD-take, getD-drop}
 use Rattle.common.specs.Choice.{pick}
-use Rattle.error_correction.specs.Correction.{masked, Masked}
+use Rattle.error_correction.specs.Correction.{Masked}
 use borrow.Author.Needs.{needs}
 use Rattle.error_correction.proofs.with_erasures.Statement.{statement}
 use Rattle.error_correction.proofs.with_erasures.Tie as tie

@@ -1,6 +1,6 @@
 -- `exports::put_recorded` meets its contract.
 -- Assumes nothing.
-use mathlib.Core.Path.{_≡_, sym, ap, _∙_}
+use mathlib.Core.Path.{sym, ap, _∙_}
 use borrow.Author.Tests.{eq-eqb, ne-eqb}
 use lib.ListN.{set}
 use Rattle.answer.specs.Number.{numberOf}

@@ -1,12 +1,12 @@
 -- `receiver::take_block` meets its contract.
 -- Assumes nothing.
-use mathlib.Core.Path.{_≡_, refl, sym, ap, ap₂, _∙_, subst, subst₂}
+use mathlib.Core.Path.{refl, sym, ap, ap₂, _∙_, subst, subst₂}
 use mathlib.Core.List.{List}
 use Prim.Native.Nat.{ℕ}
 use native.Mathlib.Omega.{arith}
 use lib.ListN.{replicate}
 use Rattle.reed_solomon.specs.Code.{noChange}
-use Rattle.reed_solomon.specs.Marks.{noMarks, DecodesMarked}
+use Rattle.reed_solomon.specs.Marks.{DecodesMarked}
 use Rattle.reed_solomon.specs.declared.Changed.{Changed}
 use Rattle.reed_solomon.proofs.Laws.{tells-changes, FewChanges, few-changes}
 use Rattle.reed_solomon.proofs.Marks.{marks-of}

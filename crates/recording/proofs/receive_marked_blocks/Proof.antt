@@ -1,6 +1,5 @@
 -- `recording::receive_marked_blocks` meets its contract.
 -- Assumes nothing.
-use mathlib.Core.Path.{_∙_}
 use Prim.Native.Nat.{_-_}
 use native.Mathlib.Omega.{arith}
 use lib.ListN.{length}

@@ -1,6 +1,7 @@
 -- `dvbs_receive::marked::receive_files` is safe, and ends: no more than 4,294,967,295 blocks are taken.
 -- Assumes nothing.
 use Prim.Native.Nat.{_-_, _≤_}
+use native.Mathlib.Omega.{arith}
 use borrow.Author.Needs.{needs}
 use Rattle.dvbs_receive.proofs.marked.receive_files.Statement.{statement}
 use Rattle.dvbs_receive.proofs.marked.receive_files.Tie as tie
@@ -90,13 +91,13 @@ returns-5 : tie.Need-returns-5 Inv-loop μ-loop
 returns-5 c = search needs
 
 add-blocks : tie.Need-add-blocks Inv-loop μ-loop
-add-blocks c = search needs
+add-blocks c = let t = c .before .before .before .before .before .before .before .before .before .before .before .before .before .before .before .before .before .before .before .loop-test in omega arith
 
 loop-less : tie.Need-loop-less Inv-loop μ-loop
-loop-less c = search needs
+loop-less c = let t = c .before .before .before .before .before .before .before .before .before .before .before .before .before .before .before .before .before .before .before .loop-test in omega arith
 
 loop-again : tie.Need-loop-again Inv-loop μ-loop
-loop-again c = search needs
+loop-again c = let t = c .before .before .before .before .before .before .before .before .before .before .before .before .before .before .before .before .before .before .before .loop-test in omega arith
 
 report-requires-2 : tie.Need-report-requires-2 Inv-loop μ-loop
 report-requires-2 c κs = search needs

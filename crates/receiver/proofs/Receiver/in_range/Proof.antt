@@ -1,8 +1,5 @@
 -- `receiver::Receiver::in_range` meets its contract.
 -- Assumes nothing.
-use mathlib.Core.Path.{ap, _∙_}
-use Prim.Native.Nat.{ℕ}
-use Rattle.receiver.specs.Receive.{inRange}
 use Rattle.receiver.proofs.Calls.{parts-range}
 use borrow.Author.Needs.{needs}
 use Rattle.receiver.proofs.Receiver.in_range.Statement.{statement}
