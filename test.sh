@@ -30,6 +30,7 @@ tool() {
     hash -r
 }
 tool cc gcc
+tool c++ g++
 tool cargo cargo
 tool rustc rustc
 
@@ -44,9 +45,11 @@ last=$(tail -n 1 "$work/gate")
 export CARGO_HOME=$PWD/target/cargo-home CARGO_TARGET_DIR=$PWD/target/cargo
 in_reference=(--release --offline --manifest-path reference/Cargo.toml)
 quietly rt staticlib exports
+quietly rt staticlib bridge
 quietly cargo build "${in_reference[@]}"
 quietly cargo test "${in_reference[@]}"
 EXPORTS_DIR=$PWD/target/staticlib cargo run --quiet "${in_reference[@]}" --bin compare
+EXPORTS_DIR=$PWD/target/staticlib cargo run --quiet "${in_reference[@]}" --bin compare_bridge
 cargo run --quiet "${in_reference[@]}" --bin compare_calls target/bin/send_calls
 cargo run --quiet "${in_reference[@]}" --bin compare_reports target/bin/report_calls
 cargo run --quiet "${in_reference[@]}" --bin compare_seasons target/bin/season target/bin/report_calls
@@ -59,6 +62,21 @@ bash tests/marks.sh
 sed -n '/^## The programs/,/^## Reading/s/^    //p' README.md > "$work/commands"
 bash -eu -o pipefail "$work/commands" 2>&1 | diff examples/expected.txt - || fail "the commands of README.md"
 echo "the commands of README.md: as expected"
+
+# The firmware loop as C++: the same packets and counts as in C, of a stream with bytes behind its last block.
+quietly c++ -std=c++11 -Wall -Wextra -Werror -Iinclude -x c++ examples/bridge_pass.c -x none -Ltarget/staticlib -lbridge -o "$work/bridge_pass"
+{ cat target/try/blocks; echo rest; } > "$work/blocks"
+for side in target/try/bridge_pass "$work/bridge_pass"; do
+    "$side" "$work/state" < "$work/blocks" > "$work/packets" 2> "$work/counts"
+    cat "$work/packets" "$work/counts" > "$work/bridged_by_${side//\//_}"
+done
+cmp "$work"/bridged_by_* && grep -q '^rest=5$' "$work/counts" || fail "bridge_pass as C++"
+# A saved state that cannot be written ends the pass.
+! target/try/bridge_pass "$work/none/state" < "$work/blocks" > "$work/packets" 2> "$work/err" && grep -q "not saved" "$work/err" || fail "bridge_pass: no file"
+# Nothing of the sender is in the part for the bridge.
+nm target/staticlib/libbridge.a > "$work/names"
+! grep -E "send|inner_code|convolutional|puncturing|encode" "$work/names" || fail "libbridge.a has a part of the sender"
+echo "bridge_pass: as expected"
 
 # usage PROGRAM WORD..: with these words it gives its usage line on standard error, and does nothing else.
 usage() {

@@ -8,6 +8,7 @@
  */
 #define _POSIX_C_SOURCE 200809L
 #include "../include/dvbs.h"
+#include "../include/dvbs_bridge.h"
 #include "kernels.h"
 #include "plain.h"
 
@@ -303,6 +304,23 @@ static void receive(const struct kernel *k, int side, int n)
                                                                       answer, 1);
 }
 
+/* The state is kept as bytes between the blocks. */
+static void bridge(const struct kernel *k, int side, int n)
+{
+    static uint8_t kept[DVBS_BRIDGE_STATE];
+    const uint8_t *stream = k->argument ? harmed_stream : clean_stream;
+    if (side != LIBRARY) {
+        receive(k, side, n);
+        return;
+    }
+    size_t written = 0;
+    dvbs_bridge_fresh(kept, sizeof kept);
+    for (int p = 0; p < RUN; p++)
+        if (dvbs_bridge_take(kept, sizeof kept, stream + 204 * p, 204, room + written, 188) == 0)
+            written += 188;
+    sink += written;
+}
+
 enum { TWO = 3, THREE = 7, FOUR = 15 };
 static const struct kernel kernels[] = {
     {"scale", "field product, 16 lanes", FACTORS, TWO, 0, scale},
@@ -336,6 +354,8 @@ static const struct kernel kernels[] = {
     {"read_soft_3_4", "read 1,632 softly, 3/4", 1, TWO, 2, read_soft_run},
     {"receive_clean", "receive a block, clean", RUN, TWO, 0, receive},
     {"receive_harmed", "receive a block, harmed", RUN, TWO, 1, receive},
+    {"bridge_clean", "through the bridge, clean", RUN, TWO, 0, bridge},
+    {"bridge_harmed", "through the bridge, harmed", RUN, TWO, 1, bridge},
 };
 enum { KERNELS = sizeof kernels / sizeof *kernels };
 

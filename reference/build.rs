@@ -1,6 +1,7 @@
-//! Links the project's static library `libexports.a` from the folder named by
-//! the environment variable EXPORTS_DIR. Without it (or with the feature
-//! `self`) nothing is linked, and the tests of the reference still run.
+//! Links the project's static library `libexports.a`, and `libbridge.a` where it
+//! is there, from the folder named by the environment variable EXPORTS_DIR.
+//! Without it (or with the feature `self`) nothing is linked, and the tests of the
+//! reference still run.
 
 fn main() {
     println!("cargo:rerun-if-env-changed=EXPORTS_DIR");
@@ -11,6 +12,11 @@ fn main() {
             println!("cargo:rustc-link-search=native={folder}");
             println!("cargo:rustc-link-lib=static=exports");
             println!("cargo:rustc-cfg=exports_linked");
+            println!("cargo:rerun-if-changed={folder}/libbridge.a");
+            if std::path::Path::new(&folder).join("libbridge.a").exists() {
+                println!("cargo:rustc-link-lib=static=bridge");
+                println!("cargo:rustc-cfg=bridge_linked");
+            }
         }
         _ => {}
     }

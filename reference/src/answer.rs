@@ -25,6 +25,8 @@ pub enum Answer {
     FormKept = 19,
     MarkValue = 20,
     TooManyReports = 21,
+    StateLength = 22,
+    NoSuchCount = 23,
     SoftLists = 24,
 }
 

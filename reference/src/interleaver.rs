@@ -9,7 +9,8 @@ pub const BRANCHES: usize = 12;
 pub const DEPTH: usize = 17;
 
 pub struct Branches {
-    queues: Vec<VecDeque<u8>>,
+    /// The oldest byte of each in front.
+    pub queues: Vec<VecDeque<u8>>,
 }
 
 impl Branches {

@@ -3,10 +3,11 @@
 //! no code with the project and favours the shapes of the standard's figures
 //! (shift registers, queues, bit by bit) over speed.
 
-// build.rs sets the cfg `exports_linked`. Newer compilers want to be told of it, and older ones do not know the lint.
+// build.rs sets the cfgs `exports_linked` and `bridge_linked`. Newer compilers want to be told of it, and older ones do not know the lint.
 #![allow(unknown_lints, unexpected_cfgs)]
 
 pub mod answer;
+pub mod bridge;
 pub mod channel;
 pub mod exports;
 pub mod inner_code;

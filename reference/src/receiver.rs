@@ -29,13 +29,13 @@ impl Counts {
 }
 
 pub struct Receiver {
-    branches: Branches,
+    pub branches: Branches,
     /// The marks, delayed as their bytes are.
-    marks: Branches,
-    place: Option<usize>,
+    pub marks: Branches,
+    pub place: Option<usize>,
     /// The mark: the last block that was not lost began with neither sync byte.
-    odd: bool,
-    counts: Counts,
+    pub odd: bool,
+    pub counts: Counts,
 }
 
 impl Receiver {

@@ -2,7 +2,7 @@
 -- Assumes nothing.
 use Prim.Native.Nat.{ℕ}
 use Rattle.answer.specs.declared.Answer.{Answer}
-use Rattle.answer.specs.declared.Answer.the-variants.{Done, PacketLength, SyncByte, BlockLength, RoomLength, StateRange, UnknownRate, CountsFull, Uncorrectable, Filling, WaitingForGroup, OutOfStep, PatternLength, RunLength, SymbolRange, NullPacket, NoSuchBlock, NotReport, WrongSums, FormKept, MarkValue, TooManyReports, SoftLists}
+use Rattle.answer.specs.declared.Answer.the-variants.{Done, PacketLength, SyncByte, BlockLength, RoomLength, StateRange, UnknownRate, CountsFull, Uncorrectable, Filling, WaitingForGroup, OutOfStep, PatternLength, RunLength, SymbolRange, NullPacket, NoSuchBlock, NotReport, WrongSums, FormKept, MarkValue, TooManyReports, StateLength, UnknownCount, SoftLists}
 
 abbrev pub numberOf : Answer → ℕ
 numberOf Done = 0
@@ -27,4 +27,6 @@ numberOf WrongSums = 18
 numberOf FormKept = 19
 numberOf MarkValue = 20
 numberOf TooManyReports = 21
+numberOf StateLength = 22
+numberOf UnknownCount = 23
 numberOf SoftLists = 24

@@ -47,6 +47,10 @@ pub enum Answer {
     MarkValue,
     // Something follows the 4,096 reports of a season.
     TooManyReports,
+    // A state given as bytes is not as long as a state is.
+    StateLength,
+    // There is no count with this number.
+    UnknownCount,
     // The lists of a soft run are not of one length, or a mark is above 1.
     SoftLists,
 }
@@ -79,6 +83,8 @@ impl Answer {
             Answer::FormKept => 19,
             Answer::MarkValue => 20,
             Answer::TooManyReports => 21,
+            Answer::StateLength => 22,
+            Answer::UnknownCount => 23,
             Answer::SoftLists => 24,
         }
     }

@@ -1,9 +1,8 @@
--- The counts of a receiver as bytes.
+-- Numbers as bytes, the lowest first, and the counts of a receiver so.
 -- Assumes nothing.
-use mathlib.Core.List.{List, [], _∷_}
-use Prim.Native.Nat.{ℕ, zero, suc, _/_, _%_}
-use lib.ListN.{getD}
-use Rattle.common.specs.Lists.{listOf}
+use mathlib.Core.List.{List, [], _∷_, _++_}
+use Prim.Native.Nat.{ℕ, zero, suc, _+_, _*_, _/_, _%_}
+use lib.ListN.{take, drop}
 use Rattle.reception_counts.specs.declared.Counts.{Counts}
 
 -- byte k of a number, the lowest being byte 0
@@ -11,11 +10,39 @@ unfoldable pub byteAt : ℕ → ℕ → ℕ
 byteAt zero n = n % 256
 byteAt (suc k) n = byteAt k (n / 256)
 
+-- a number in so many bytes
+unfoldable pub toBytes : ℕ → ℕ → List ℕ
+toBytes zero n = []
+toBytes (suc size) n = n % 256 ∷ toBytes size (n / 256)
+
+-- the number that bytes are
+unfoldable pub fromBytes : List ℕ → ℕ
+fromBytes [] = 0
+fromBytes (b ∷ bs) = b + 256 * fromBytes bs
+
 -- the counts in the order of document 01, and the bits of document 02
 abbrev pub numbersOf : Counts → List ℕ
 numbersOf c = c .taken ∷ c .filling ∷ c .delivered ∷ c .lost ∷ c .waiting ∷ c .outofstep ∷ c .changed ∷ c .bits ∷ []
 
--- each in eight bytes, the lowest first
+-- numbers in eight bytes each
+unfoldable pub eightEach : List ℕ → List ℕ
+unfolding toBytes
+eightEach [] = []
+eightEach (n ∷ ns) = toBytes 8 n ++ eightEach ns
+
 unfoldable pub countBytes : Counts → List ℕ
-unfolding listOf byteAt
-countBytes c = listOf 64 (λ i. byteAt (i % 8) (getD (numbersOf c) (i / 8) 0))
+unfolding eightEach
+countBytes c = eightEach (numbersOf c)
+
+-- the counts that are read, from a place on
+abbrev pub countsAt : List ℕ → ℕ → Counts
+countsAt bytes at = record {
+  taken = fromBytes (take 8 (drop at bytes));
+  filling = fromBytes (take 8 (drop (at + 8) bytes));
+  delivered = fromBytes (take 8 (drop (at + 16) bytes));
+  lost = fromBytes (take 8 (drop (at + 24) bytes));
+  waiting = fromBytes (take 8 (drop (at + 32) bytes));
+  outofstep = fromBytes (take 8 (drop (at + 40) bytes));
+  changed = fromBytes (take 8 (drop (at + 48) bytes));
+  bits = fromBytes (take 8 (drop (at + 56) bytes));
+}

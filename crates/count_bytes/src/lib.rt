@@ -1,10 +1,11 @@
-// Numbers as bytes, and the counts of a receiver so.
+// Numbers as bytes and back, and the counts of a receiver so. The lowest byte comes first.
 // Inner: its functions may require what the crates above have tested. docs/ARCHITECTURE.md names the public surface.
 ghost use mathlib.Core.Path.{_≡_};
 ghost use mathlib.Core.List.{_++_};
-ghost use Prim.Native.Nat.{_≤_};
-ghost use lib.ListN.{length, drop};
-ghost use Rattle.count_bytes.specs.Bytes.{byteAt, countBytes};
+ghost use Prim.Native.Nat.{_+_, _*_, _≤_, _<_};
+ghost use lib.ListN.{length, take, drop};
+ghost use Rattle.common.specs.Lists.{placed};
+ghost use Rattle.count_bytes.specs.Bytes.{byteAt, toBytes, fromBytes, countBytes, countsAt};
 use reception_counts::Counts;
 
 // Byte k of a number, the lowest being byte 0.
@@ -18,6 +19,18 @@ pub fn byte_at(n: u64, k: usize) -> u8
         j += 1;
     }
     (left % 256) as u8
+}
+
+// Writes a number in eight bytes, from a place on.
+fn put_number(number: u64, at: usize, room: &mut [u8])
+    requires { ⌜ at + 8 ≤ length (now room) ⌝ }
+    ensures { λ _. ⌜ now (room .exit) ≡ placed (now (room .entry)) at (toBytes 8 number) ⌝ }
+{
+    let mut k: usize = 0;
+    while k < 8 {
+        room[at + k] = byte_at(number, k);
+        k += 1;
+    }
 }
 
 // Writes the eight counts, each in eight bytes.
@@ -36,8 +49,55 @@ pub fn put_counts(counts: Counts, room: &mut [u8])
         counts.bits,
     ];
     let mut i: usize = 0;
-    while i < 64 {
-        room[i] = byte_at(numbers[i / 8], i % 8);
+    while i < 8 {
+        put_number(numbers[i], 8 * i, room);
         i += 1;
+    }
+}
+
+// A byte below a number.
+fn join(low: u8, high: u64) -> u64
+    requires { ⌜ high < 72057594037927936 ⌝ }
+    ensures { λ r. ⌜ r ≡ low + 256 * high ⌝ }
+{
+    low as u64 + 256 * high
+}
+
+// The number in eight bytes, from a place on.
+fn number_at(bytes: &[u8], at: usize) -> u64
+    requires { ⌜ at + 8 ≤ length (now bytes) ⌝ }
+    ensures { λ r. ⌜ r ≡ fromBytes (take 8 (drop at (now (bytes .entry)))) ⌝ }
+{
+    let mut number: u64 = 0;
+    let mut left: usize = 8;
+    while 0 < left {
+        left -= 1;
+        number = join(bytes[at + left], number);
+    }
+    number
+}
+
+// The eight counts, from a place on.
+pub fn counts_at(bytes: &[u8], at: usize) -> Counts
+    requires { ⌜ at + 64 ≤ length (now bytes) ⌝ }
+    ensures { λ r. ⌜ r ≡ countsAt (now (bytes .entry)) at ⌝ }
+{
+    let taken = number_at(bytes, at);
+    let filling = number_at(bytes, at + 8);
+    let delivered = number_at(bytes, at + 16);
+    let lost = number_at(bytes, at + 24);
+    let waiting = number_at(bytes, at + 32);
+    let outofstep = number_at(bytes, at + 40);
+    let changed = number_at(bytes, at + 48);
+    let bits = number_at(bytes, at + 56);
+    Counts {
+        taken,
+        filling,
+        delivered,
+        lost,
+        waiting,
+        outofstep,
+        changed,
+        bits,
     }
 }
