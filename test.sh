@@ -84,6 +84,7 @@ usage() {
     [ ! -s "$work/out" ] && [ "$(wc -l < "$work/err")" = 1 ] && grep -q "^usage: $1 " "$work/err" || fail "usage line: $*"
 }
 usage dvbs_send
+usage dvbs_send 4
 usage dvbs_send 6
 usage dvbs_send 22
 usage dvbs_send 2 2

@@ -209,8 +209,9 @@ static void decode(const struct kernel *k, int side, int n)
 static void decode_marked(const struct kernel *k, int side, int n)
 {
     memcpy(block, doubtful[k->argument][n % POOL], 204);
-    if (side == LIBRARY)
-        sink += dvbs_rs_decode_marked(block, 204, marks[k->argument][n % POOL], 204, answer, sizeof answer);
+    if (side != LIBFEC)
+        sink += (side == LIBRARY ? dvbs_rs_decode_marked
+                                 : PLAIN(rs_decode_marked))(block, 204, marks[k->argument][n % POOL], 204, answer, sizeof answer);
 #ifdef HAVE_LIBFEC
     else {
         int eras[16];
@@ -320,7 +321,7 @@ static void bridge(const struct kernel *k, int side, int n)
     sink += written;
 }
 
-enum { TWO = 3, BESIDE_LIBFEC = 5, THREE = 7, FOUR = 15 };
+enum { TWO = 3, THREE = 7, FOUR = 15 };
 static const struct kernel kernels[] = {
     {"scale", "field product, 16 lanes", FACTORS, TWO, 0, scale},
     {"rs_encode", "RS encode", 1, THREE, 0, encode},
@@ -329,22 +330,20 @@ static const struct kernel kernels[] = {
     {"rs_decode_4", "RS decode, 4 errors", 1, THREE, 2, decode},
     {"rs_decode_8", "RS decode, 8 errors", 1, THREE, 3, decode},
     {"rs_decode_lost", "RS decode, uncorrectable", 1, THREE, 4, decode},
-    {"rs_decode_f8", "RS decode, 8 marks", 1, BESIDE_LIBFEC, 0, decode_marked},
-    {"rs_decode_f8_e4", "RS decode, 8 and 4", 1, BESIDE_LIBFEC, 1, decode_marked},
-    {"rs_decode_f16", "RS decode, 16 marks", 1, BESIDE_LIBFEC, 2, decode_marked},
+    {"rs_decode_f8", "RS decode, 8 marks", 1, THREE, 0, decode_marked},
+    {"rs_decode_f8_e4", "RS decode, 8 and 4", 1, THREE, 1, decode_marked},
+    {"rs_decode_f16", "RS decode, 16 marks", 1, THREE, 2, decode_marked},
     {"randomize", "randomizer", 1, TWO, 0, randomize},
     {"interleave", "interleaver", RUN, TWO, 0, interleave},
     {"inner_code_1_2", "inner coder, 1/2", RUN, TWO, 0, inner_code},
     {"inner_code_2_3", "inner coder, 2/3", RUN, TWO, 1, inner_code},
     {"inner_code_3_4", "inner coder, 3/4", RUN, TWO, 2, inner_code},
     {"inner_code_5_6", "inner coder, 5/6", RUN, TWO, 3, inner_code},
-    {"inner_code_7_8", "inner coder, 7/8", RUN, TWO, 4, inner_code},
     {"inner_code_16qam", "inner coder, 16QAM 3/4", RUN, TWO, 5, inner_code},
     {"send_1_2", "send a packet, 1/2", RUN, TWO, 0, send},
     {"send_2_3", "send a packet, 2/3", RUN, TWO, 1, send},
     {"send_3_4", "send a packet, 3/4", RUN, TWO, 2, send},
     {"send_5_6", "send a packet, 5/6", RUN, TWO, 3, send},
-    {"send_7_8", "send a packet, 7/8", RUN, TWO, 4, send},
     {"send_16qam", "send a packet, 16QAM 3/4", RUN, TWO, 5, send},
     {"read_1_2", "read 1,632 bits, 1/2", 1, FOUR, 0, read_run},
     {"read_2_3", "read 1,632 bits, 2/3", 1, TWO, 1, read_run},

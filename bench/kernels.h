@@ -14,7 +14,7 @@ void kernel_scale(uint8_t *lanes, size_t lanes_len, const uint8_t *factors, size
 void kernel_interleave(const uint8_t *blocks, size_t blocks_len, uint8_t *room, size_t room_len);
 
 /* The whole blocks through a fresh inner coder; returns the symbols written. A
- * rate above 5, or room for fewer symbols than bits: returns 0, writes nothing. */
+ * mode that is not sent, or room for fewer symbols than bits: returns 0, writes nothing. */
 uint64_t kernel_inner_code(uint8_t rate, const uint8_t *blocks, size_t blocks_len, uint8_t *room, size_t room_len);
 
 #endif

@@ -130,9 +130,29 @@ static uint8_t value_at(const uint8_t *p, int top, uint8_t x)
     return sum;
 }
 
-/* Bytes changed, or -1 and the block as it was. The bits changed are added. */
-static int repair(uint8_t *block, int *bits)
+/* Whether each of so many marks is 0 or 1. */
+static int are_marks(const uint8_t *marks, size_t count)
 {
+    uint8_t any = 0;
+    for (size_t n = 0; n < count; n++)
+        any |= marks[n];
+    return any < 2;
+}
+
+/* Bytes changed, or -1 and the block as it was. The bits changed are added. Bytes with a mark of 1 are erasures; marks may be NULL. */
+static int repair(uint8_t *block, const uint8_t *marks, int *bits)
+{
+    /* The erasure locator: the product of 1 + X x over the marked places X. */
+    uint8_t erasures[CHECK + 1] = {1};
+    int f = 0;
+    for (int n = 0; marks && n < BLOCK; n++)
+        if (marks[n]) {
+            if (f == CHECK)
+                return -1;
+            f++;
+            for (int i = f; i > 0; i--)
+                erasures[i] ^= mul(erasures[i - 1], exp_table[BLOCK - 1 - n]);
+        }
     uint8_t s[CHECK] = {0}, any = 0;
     for (int n = 0; n < BLOCK; n++)
         for (int i = 0; i < CHECK; i++)
@@ -142,12 +162,18 @@ static int repair(uint8_t *block, int *bits)
     if (!any)
         return 0;
 
-    /* Euclid: x^16 and the syndromes, until the rest is of degree below 8. */
+    /* Euclid: x^16 and the syndromes, until the rest is of degree below 8. With erasures it is the syndromes times their locator,
+     * and a degree below 8 + f / 2. */
     uint8_t r0[CHECK + 1] = {0}, r1[CHECK + 1] = {0}, t0[CHECK + 1] = {0}, t1[CHECK + 1] = {1};
     r0[CHECK] = 1;
     memcpy(r1, s, CHECK);
+    for (int i = 0; f && i < CHECK; i++) {
+        r1[i] = 0;
+        for (int k = 0; k <= i && k <= f; k++)
+            r1[i] ^= mul(erasures[k], s[i - k]);
+    }
     int d0 = CHECK, d1 = degree(r1, CHECK - 1);
-    while (d1 >= T) {
+    while (2 * d1 >= CHECK + f) {
         uint8_t lead = exp_table[255 - log_table[r1[d1]]];
         while (d0 >= d1) {
             uint8_t q = mul(r0[d0], lead);
@@ -164,14 +190,21 @@ static int repair(uint8_t *block, int *bits)
         int d = d0;
         d0 = d1, d1 = d;
     }
-    int errors = degree(t1, CHECK);
-    if (errors > T || t1[0] == 0 || d1 >= errors)
+    int others = degree(t1, CHECK), errors = others + f;
+    if (2 * others + f > CHECK || t1[0] == 0 || d1 >= errors)
         return -1;
+    if (f) {
+        uint8_t both[CHECK + 1] = {0};
+        for (int i = 0; i <= others; i++)
+            for (int k = 0; k <= f; k++)
+                both[i + k] ^= mul(t1[i], erasures[k]);
+        memcpy(t1, both, sizeof both);
+    }
 
     /* As many roots among the 204 places as the locator's degree: then its
      * partial fractions give the syndromes back, and the result is a codeword. */
-    int place[T], found = 0;
-    uint8_t term[T + 1];
+    int place[CHECK], found = 0;
+    uint8_t term[CHECK + 1];
     for (int i = 0; i <= errors; i++)
         term[i] = t1[i] ? log_table[t1[i]] : 0;
     for (int e = 0; e < BLOCK && found < errors; e++) {
@@ -209,7 +242,23 @@ uint8_t PLAIN(rs_decode)(uint8_t *block, size_t block_len, uint8_t *count, size_
         return 3;
     if (count_len < 2)
         return 4;
-    int bits = 0, changed = repair(block, &bits);
+    int bits = 0, changed = repair(block, NULL, &bits);
+    if (changed < 0)
+        return 8;
+    count[0] = (uint8_t)changed;
+    count[1] = (uint8_t)bits;
+    return 0;
+}
+
+uint8_t PLAIN(rs_decode_marked)(uint8_t *block, size_t block_len, const uint8_t *marks, size_t marks_len, uint8_t *count, size_t count_len)
+{
+    if (block_len != BLOCK)
+        return 3;
+    if (marks_len != BLOCK || !are_marks(marks, BLOCK))
+        return 20;
+    if (count_len < 2)
+        return 4;
+    int bits = 0, changed = repair(block, marks, &bits);
     if (changed < 0)
         return 8;
     count[0] = (uint8_t)changed;
@@ -324,7 +373,7 @@ uint64_t PLAIN(send_run)(uint8_t rate, const uint8_t *packets, size_t packets_le
     if (answer_len < 1)
         return 0;
     answer[0] = 0;
-    if (rate > 5)
+    if (rate > 5 || rate == 4) /* 7/8 is read, and no longer sent */
         return answer[0] = 6, 0;
     if (packets_len % PACKET)
         return answer[0] = 1, 0;
@@ -348,29 +397,31 @@ uint64_t PLAIN(send_run)(uint8_t rate, const uint8_t *packets, size_t packets_le
     return written;
 }
 
-uint64_t PLAIN(receive_run)(const uint8_t *blocks, size_t blocks_len, uint8_t *room, size_t room_len,
-                            uint8_t *counts, size_t counts_len, uint8_t *answer, size_t answer_len)
+/* A run with a mark for each byte; marks may be NULL. */
+static uint64_t receive(const uint8_t *blocks, const uint8_t *marks, size_t blocks_len, uint8_t *room, size_t room_len,
+                        uint8_t *counts, size_t counts_len, uint8_t *answer)
 {
     size_t count = blocks_len / BLOCK;
-    if (answer_len < 1)
-        return 0;
     answer[0] = counts_len < 64 || room_len < PACKET * count ? 4 : 0;
     if (answer[0])
         return 0;
     enum { TAKEN, FILLING, DELIVERED, LOST, WAITING, OUTOFSTEP, CHANGED, BITS };
     uint64_t tally[8] = {0}, written = 0;
-    struct branches branches;
+    struct branches branches, doubtful;
     memset(&branches, 0, sizeof branches);
+    memset(&doubtful, 0, sizeof doubtful);
     int place = -1, missed = 0;
     for (size_t b = 0; b < count; b++) {
-        uint8_t block[BLOCK];
+        uint8_t block[BLOCK], marked[BLOCK];
         pass(&branches, 1, blocks + BLOCK * b, block);
+        if (marks)
+            pass(&doubtful, 1, marks + BLOCK * b, marked);
         tally[TAKEN]++;
         if (b < 11) {
             tally[FILLING]++;
             continue;
         }
-        int bits = 0, changed = repair(block, &bits);
+        int bits = 0, changed = repair(block, marks ? marked : NULL, &bits);
         if (changed < 0) {
             tally[LOST]++;
             if (place >= 0)
@@ -403,6 +454,24 @@ uint64_t PLAIN(receive_run)(const uint8_t *blocks, size_t blocks_len, uint8_t *r
     return written;
 }
 
+uint64_t PLAIN(receive_run)(const uint8_t *blocks, size_t blocks_len, uint8_t *room, size_t room_len,
+                            uint8_t *counts, size_t counts_len, uint8_t *answer, size_t answer_len)
+{
+    return answer_len < 1 ? 0 : receive(blocks, NULL, blocks_len, room, room_len, counts, counts_len, answer);
+}
+
+uint64_t PLAIN(receive_run_marked)(const uint8_t *blocks, size_t blocks_len, const uint8_t *marks, size_t marks_len, uint8_t *room,
+                                   size_t room_len, uint8_t *counts, size_t counts_len, uint8_t *answer, size_t answer_len)
+{
+    if (answer_len < 1)
+        return 0;
+    if (marks_len != blocks_len || !are_marks(marks, marks_len)) {
+        answer[0] = 20;
+        return 0;
+    }
+    return receive(blocks, marks, blocks_len, room, room_len, counts, counts_len, answer);
+}
+
 uint8_t PLAIN(recording_block)(const uint8_t *recording, size_t recording_len, uint64_t blocks, uint64_t p,
                                uint8_t *room, size_t room_len, uint8_t *count, size_t count_len)
 {
@@ -416,7 +485,7 @@ uint8_t PLAIN(recording_block)(const uint8_t *recording, size_t recording_len, u
     uint8_t block[BLOCK];
     for (size_t n = 0; n < BLOCK; n++)
         block[n] = recording[BLOCK * (p + n % 12) + n];
-    int bits = 0, changed = repair(block, &bits);
+    int bits = 0, changed = repair(block, NULL, &bits);
     if (changed < 0)
         return 8;
     memcpy(room, block, BLOCK);

@@ -15,7 +15,7 @@
  *   4  room too short
  *   5  a number is out of its range: here a place above 7, a memory above 63, or
  *      a number of blocks that is not the recording's
- *   6  a mode other than 0 to 5; for reading, a rate other than 0 to 4
+ *   6  a mode other than 0 to 3 and 5; for reading, a rate other than 0 to 4
  *   7  the receiver has taken 4,294,967,295 blocks
  *   8  no codeword within eight bytes; with marks, none with 2 e + f at most 16
  *  12  symbols that do not make whole puncturing patterns
@@ -73,8 +73,8 @@ uint8_t dvbs_rs_decode_marked(uint8_t *block, size_t block_len,
                               uint8_t *count, size_t count_len);
 
 /* What a fresh sender sends for the packets, which lie one after the other;
- * modes 0 to 4 are QPSK 1/2, 2/3, 3/4, 5/6, 7/8, and 5 is 16QAM 3/4 of EN 301
- * 210. Returns how many symbols were written, one byte each: 2 I + Q, and at
+ * modes 0 to 3 are QPSK 1/2, 2/3, 3/4, 5/6, and 5 is 16QAM 3/4 of EN 301 210;
+ * QPSK 7/8, rate 4, is read and no longer sent. Returns how many symbols were written, one byte each: 2 I + Q, and at
  * 16QAM 8 U2 + 4 U1 + 2 C2 + C1; answer[0] is the answer. A packet gives at most
  * 1,632 symbols, and at 16QAM 544. In place of 188 bytes that do not begin with 47 hex a null
  * packet is sent (47 1F FF 10 and 184 bytes FF), and the answer is 15 where at

@@ -18,6 +18,7 @@ fail() {
 packets=$OLDPWD/reference/tests/data/packets.ts
 for _ in $(seq 30); do cat "$packets"; done > packets
 cp "$packets" packets.40
+recorded=$OLDPWD/reference/tests/data/symbols_rate4.bin
 "$reference/interleaved" < packets > recording
 for at in 5000 70001 70300 131072 200000; do
     head -c 97 /dev/zero | tr '\0' '\377' | dd of=recording bs=1 seek="$at" conv=notrunc status=none
@@ -78,7 +79,7 @@ for _ in 1 2 3 4 5 6 7; do cat "$packets"; done > good
 { head -c 188 /dev/zero; cat good; head -c 188 /dev/zero; head -c 57 "$packets"; } > mixed
 { null_packet; cat good; null_packet; } > put_in
 printf 'packet=0 answer=15\npacket=281 answer=15\nrest=57\n' > told
-for rate in 0 1 2 3 4 5; do
+for rate in 0 1 2 3 5; do
     "$bin/dvbs_send" $rate < put_in > symbols 2> err
     [ -s symbols ] && [ ! -s err ] || fail "dvbs_send $rate on packets"
     "$reference/pieces" 60 47940 "$bin/dvbs_send" $rate < mixed > out 2> err || fail "dvbs_send $rate in pieces"
@@ -88,12 +89,13 @@ done
 no_report "a directory as input of dvbs_send" "standard input: Is a directory" bash -c "'$bin/dvbs_send' 0 < ."
 no_report "a closed input of dvbs_send" "standard input: Bad file descriptor" bash -c "'$bin/dvbs_send' 0 <&-"
 no_report "a full device for symbols" "standard output: No space left on device" bash -c "'$bin/dvbs_send' 0 < good > /dev/full"
-echo "dvbs_send in 360 cuttings: one stream of symbols, one text on standard error"
+echo "dvbs_send in 300 cuttings: one stream of symbols, one text on standard error"
 
 # The readers of symbols, over more than their buffers take. In all pieces the bytes and the text on standard error are the same; points of 1.0 and
-# -1.0 are read as the symbols are; and points with noise, some of them lost, give the bits that were sent.
+# -1.0 are read as the symbols are; and points with noise, some of them lost, give the bits that were sent. 7/8
+# is no longer sent: there the symbols are GNU Radio's.
 for rate in 0 1 2 3 4; do
-    "$bin/dvbs_send" $rate < packets.40 > symbols
+    if [ $rate = 4 ]; then cp "$recorded" symbols; else "$bin/dvbs_send" $rate < packets.40 > symbols; fi
     "$reference/pieces" 12 16384 "$bin/dvbs_read" $rate < symbols > blocks 2> told || fail "dvbs_read $rate in pieces"
     "$reference/channel" $rate inf 1 < symbols > points
     { cat points; head -c 5 points; } > points.more

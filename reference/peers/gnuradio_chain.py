@@ -11,8 +11,9 @@ from gnuradio import blocks, dtv, gr, trellis
 
 STAGES = sys.argv[1]
 PACKETS = 960
-RATES = ["1/2", "2/3", "3/4", "5/6", "7/8"]
-CODES = [dtv.C1_2, dtv.C2_3, dtv.C3_4, dtv.C5_6, dtv.C7_8]
+# The rates that are sent.
+RATES = ["1/2", "2/3", "3/4", "5/6"]
+CODES = [dtv.C1_2, dtv.C2_3, dtv.C3_4, dtv.C5_6]
 OUTER = (2, 8, 0x11D, 255, 239, 8, 51, 8)
 different = 0
 
@@ -60,7 +61,7 @@ compare("outer coder", coded, theirs, 204, "blocks", PACKETS)
 theirs = peer(dtv.dvbt_convolutional_interleaver(136, 12, 17), coded, 1632, 1)
 compare("interleaver (ours: sent at 1/2, inner code undone)", interleaved, theirs, 204, "blocks", PACKETS)
 stream = theirs
-for rate in range(5):
+for rate in range(len(RATES)):
     ours = library(packets, "send", str(rate))
     padded = np.concatenate([stream, np.zeros(20000, np.uint8)])
     theirs = peer(dtv.dvbt_inner_coder(1, 1512, dtv.MOD_QPSK, dtv.NH, CODES[rate]), padded, 1, 1512)
@@ -87,7 +88,7 @@ different += wrong
 print(f"  counts against the errors put in: {PACKETS} compared, {wrong} different")
 theirs = peer(dtv.dvbt_energy_descramble(8), np.concatenate([randomized, randomized]), 1504, 1)
 compare("our packets through its descrambler", packets, theirs, 188, "packets", PACKETS)
-for rate in range(5):
+for rate in range(len(RATES)):
     longer = library(np.concatenate([packets] + [tail] * 3), "send", str(rate))
     theirs = peer(dtv.dvbt_viterbi_decoder(dtv.MOD_QPSK, dtv.NH, CODES[rate], 768), longer, 1, 1)
     compare(f"our symbols at {RATES[rate]} through its Viterbi decoder", interleaved, theirs, 1, "bytes", PACKETS * 204)

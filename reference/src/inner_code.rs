@@ -4,10 +4,11 @@
 
 use crate::answer::Answer;
 
-/// QPSK at five rates, and 16QAM 3/4 after them.
+/// QPSK at five rates, all of which are read; 7/8 is no longer sent (document 02,
+/// P12), and 16QAM 3/4 is sent.
 pub const RATES: u8 = 5;
-pub const MODES: u8 = 6;
 pub const SIXTEEN_QAM: u8 = 5;
+pub const SENT: [u8; 5] = [0, 1, 2, 3, SIXTEEN_QAM];
 
 /// G1 (X) and G2 (Y); the top one of the seven bits is the newest.
 const G1: u8 = 0o171;
@@ -54,8 +55,9 @@ pub fn pattern(rate: u8, k: usize) -> (bool, bool) {
 }
 
 impl InnerCoder {
+    /// A fresh coder, for sending.
     pub fn fresh(rate: u8) -> Result<Self, Answer> {
-        if rate >= MODES {
+        if !SENT.contains(&rate) {
             return Err(Answer::UnknownRate);
         }
         Ok(InnerCoder { rate: rate as usize, memory: 0, taken: 0, held: None })
@@ -176,13 +178,22 @@ mod tests {
             &[3, 1, 2, 3, 0],
         ];
         for rate in 0..5 {
-            let mut coder = InnerCoder::fresh(rate).ok().unwrap();
+            let mut coder = InnerCoder::after(rate, 0);
             assert_eq!(coder.code(&[0x80]), want[rate as usize]);
             if rate == 2 {
                 assert_eq!(coder.held, Some(0));
             }
         }
-        assert_eq!(InnerCoder::fresh(6).err(), Some(Answer::UnknownRate));
+    }
+
+    #[test]
+    fn what_is_sent() {
+        for rate in [0, 1, 2, 3, 5] {
+            assert!(InnerCoder::fresh(rate).is_ok());
+        }
+        for rate in [4, 6, 7, 255] {
+            assert_eq!(InnerCoder::fresh(rate).err(), Some(Answer::UnknownRate));
+        }
     }
 
     /// By hand from tables 3 and 4 of EN 301 210.
@@ -236,7 +247,7 @@ mod tests {
                     want.push(2 * pick(i, base) + pick(q, base));
                 }
             }
-            assert_eq!(InnerCoder::fresh(rate).ok().unwrap().code(&bytes), want);
+            assert_eq!(InnerCoder::after(rate, 0).code(&bytes), want);
         }
     }
 
@@ -245,7 +256,7 @@ mod tests {
         let mut r = Xorshift::new(6);
         let allowed: [&[usize]; 6] = [&[1632], &[1224], &[1088], &[979, 980], &[932, 933], &[544]];
         for rate in 0..6 {
-            let mut coder = InnerCoder::fresh(rate).ok().unwrap();
+            let mut coder = InnerCoder::after(rate, 0);
             for _ in 0..40 {
                 let due = coder.symbols_due(1632);
                 assert_eq!(coder.code(&r.bytes(204)).len(), due);

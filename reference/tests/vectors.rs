@@ -2,6 +2,7 @@
 //! gr-dtv): 40 packets, five groups.
 
 use reference::answer::Answer;
+use reference::inner_code::InnerCoder;
 use reference::interleaver::Branches;
 use reference::receiver::Receiver;
 use reference::sender::{interleaved_stream, Sender};
@@ -53,8 +54,8 @@ fn interleaver() {
 }
 
 #[test]
-fn sender_at_every_rate() {
-    for rate in 0..5 {
+fn sender_at_every_rate_that_is_sent() {
+    for rate in 0..4 {
         let mut sender = Sender::fresh(rate).ok().unwrap();
         assert_eq!(sender.symbols_due(40), SYMBOLS[rate as usize].len());
         let mut symbols: Vec<u8> = Vec::new();
@@ -66,6 +67,14 @@ fn sender_at_every_rate() {
             symbols.extend(&room[..written]);
         }
         assert_eq!(symbols, SYMBOLS[rate as usize]);
+    }
+}
+
+/// The coding that runs of symbols are read by, 7/8 with the others.
+#[test]
+fn coding_at_every_rate_that_is_read() {
+    for rate in 0..5 {
+        assert_eq!(InnerCoder::after(rate, 0).code(INTERLEAVED), SYMBOLS[rate as usize]);
     }
 }
 

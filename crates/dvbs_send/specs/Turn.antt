@@ -6,13 +6,13 @@ use mathlib.Core.List.{List}
 use Prim.Native.Nat.{ℕ, _≤_}
 use lib.ListN.{length, take}
 use Rattle.io.specs.Counts.{clamped}
-use Rattle.sending.specs.Sending.{sendingInRange, FeedsAll}
+use Rattle.sending.specs.Sending.{canSend, FeedsAll}
 use Rattle.sending.specs.declared.Sending.{Sending}
 use Rattle.dvbs_send.specs.declared.Turn.{Turn}
 
 -- Room for the packets that a piece of 47,940 bytes can make whole, which are at most 255.
 pub record Ready (w : Sending) (buffer symbols answers : List ℕ) : Type 0 where
-  pub range : sendingInRange w ≡ true
+  pub range : canSend w ≡ true
   pub piece : length buffer ≡ 47940
   pub room : length symbols ≡ 416160
   pub numbers : length answers ≡ 255
@@ -20,6 +20,6 @@ pub record Ready (w : Sending) (buffer symbols answers : List ℕ) : Type 0 wher
 -- The buffer after the read, the symbols and the answers before and after it. Where `read` failed, no byte is fed.
 pub record Turns (w : Sending) (buffer symbols answers : List ℕ) (r : Turn) (left told : List ℕ) : Type 0 where
   pub fed : FeedsAll w (take (clamped (r .got) (length buffer)) buffer) symbols answers 0 (r .count) (r .packets) (r .sending) left told
-  pub range : sendingInRange (r .sending) ≡ true
+  pub range : canSend (r .sending) ≡ true
   pub count-fits : r .count ≤ length left
   pub packets-fit : r .packets ≤ length answers

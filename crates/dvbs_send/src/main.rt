@@ -1,11 +1,11 @@
 // dvbs_send MODE < packets > symbols
-// Sends the transport packets of standard input in a mode 0 to 5, and writes the symbols, one byte each, to standard output.
+// Sends the transport packets of standard input in a mode that is sent, and writes the symbols, one byte each, to standard output.
 // No contract can say what is read or written. What is read stands at the front of a buffer, and is what the sending is fed with: `next_turn`.
 ghost use mathlib.Core.Path.{_≡_};
 ghost use mathlib.Core.Bool.{true};
 ghost use Prim.Native.Nat.{_≤_};
 ghost use lib.ListN.{length};
-ghost use Rattle.sending.specs.Sending.{sendingInRange};
+ghost use Rattle.sending.specs.Sending.{canSend};
 ghost use Rattle.dvbs_send.specs.Turn.{Ready, Turns};
 use libc::STDERR_FILENO;
 use libc::STDIN_FILENO;
@@ -111,7 +111,7 @@ fn send_all(sending: Sending, buffer: &mut [u8], symbols: &mut [u8], answers: &m
 
 // The buffers are for a piece of 255 packets, for the symbols that they give at most, and for an answer for each.
 fn send(sending: Sending)
-    requires { ⌜ sendingInRange sending ≡ true ⌝ }
+    requires { ⌜ canSend sending ≡ true ⌝ }
 {
     let mut buffer = [0u8; 47940];
     let mut symbols = [0u8; 416160];
@@ -122,7 +122,7 @@ fn send(sending: Sending)
 fn usage() {
     io::write_all(
         STDERR_FILENO,
-        b"usage: dvbs_send MODE < packets > symbols, MODE 0 to 4 for QPSK 1/2, 2/3, 3/4, 5/6 or 7/8, 5 for 16QAM 3/4\n",
+        b"usage: dvbs_send MODE < packets > symbols, MODE 0 to 3 for QPSK 1/2, 2/3, 3/4 or 5/6, 5 for 16QAM 3/4\n",
     );
 }
 

@@ -1,6 +1,7 @@
 -- Demand 2 from end to end, as one statement: packets, symbols, runs, bits, bytes, blocks, packets.
 -- Assumes nothing.
 use mathlib.Core.Path.{_≡_, sym, ap, _∙_, subst}
+use mathlib.Core.Bool.{true}
 use mathlib.Core.List.{List, [], _∷_, _++_, map, flatten}
 use Prim.Native.Nat.{ℕ, zero, suc, _+_, _-_, _*_, _/_, _%_, _≤_, _<_}
 use Prim.{tt}
@@ -93,16 +94,16 @@ module _ (packets : List (List ℕ)) (ws : All Packet packets) where
 
 -- ---- the theorem
 
-pub arrived : (rate : ℕ) → rate < 5 → (inputs : List (List ℕ)) → All Input inputs → All Bytes inputs → length inputs ≤ 4294967295 → (l : Link rate inputs)
+pub arrived : (rate : ℕ) → rate < 5 → modeOf rate .sent ≡ true → (inputs : List (List ℕ)) → All Input inputs → All Bytes inputs → length inputs ≤ 4294967295 → (l : Link rate inputs)
     → Arrived rate inputs l
 unfolding interleavedBlocks
-arrived rate hr inputs g bs limit l =
+arrived rate hr q inputs g bs limit l =
     let packets = packetsFor inputs in
     let ws = packets-sent inputs g bs in
     let count : length packets ≡ length inputs = length-map inputs packetFor in
     let far = runLength rate (flatten (l .runs)) in
-    let front = sent-front rate hr g (l .sent) (l .runs) (l .whole) (l .unread) (l .cut) (l .read) in
-    let within = front-within rate hr g (l .sent) (l .runs) (l .whole) (l .unread) (l .cut) in
+    let front = sent-front rate hr q g (l .sent) (l .runs) (l .whole) (l .unread) (l .cut) (l .read) in
+    let within = front-within rate hr q g (l .sent) (l .runs) (l .whole) (l .unread) (l .cut) in
     let read : length (l .bits) ≡ far = ap length (front .0) ∙ length-take-le far (sentBits packets) within in
     let n = wholeBlocks (length (l .bits)) in
     let blocks : blocksOf (bytesOf (l .bits)) ≡ take n (interleavedBlocks packets) =
@@ -122,7 +123,7 @@ arrived rate hr inputs g bs limit l =
       answered = sym (m .answered) ∙ r .answered ∙ ap (λ (k : ℕ). take k (replicate 11 9 ++ replicate k 0)) calls;
       packets = sym (m .given) ∙ r .given ∙ ap (λ (k : ℕ). take k packets) e;
       to-the-last = λ short.
-          read ∙ front-last rate hr g (l .sent) (l .runs) (l .whole) (l .unread) (l .cut) short
+          read ∙ front-last rate hr q g (l .sent) (l .runs) (l .whole) (l .unread) (l .cut) short
           ∙ ap (λ (k : ℕ). patternLength rate * (k / patternLength rate)) (bit-count packets ws ∙ ap (λ (k : ℕ). 1632 * k) count);
     }
 

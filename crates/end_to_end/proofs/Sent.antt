@@ -2,6 +2,7 @@
 -- gave, give the bits of the interleaved blocks as far as the runs go, at no cost; up to the last whole pattern where less than one is left.
 -- Assumes nothing.
 use mathlib.Core.Path.{_≡_, refl, sym, _∙_, ap}
+use mathlib.Core.Bool.{true}
 use mathlib.Core.List.{List, [], _∷_, _++_, flatten}
 use Prim.Native.Nat.{ℕ, _+_, _*_, _/_, _%_, _≤_, _<_}
 use native.Mathlib.Nat.{zero-add, zero-mod, mod-add-mod}
@@ -40,14 +41,14 @@ runs-whole rate (r ∷ rs) g =
 
 -- ---- the theorem, of a fresh sender that was given any inputs, with null packets put in
 
-module _ (rate : ℕ) (hr : rate < 5) {inputs : List (List ℕ)} {symbols : List ℕ} {last : Sender} (g : All Input inputs)
+module _ (rate : ℕ) (hr : rate < 5) (q : modeOf rate .sent ≡ true) {inputs : List (List ℕ)} {symbols : List ℕ} {last : Sender} (g : All Input inputs)
     (c : Calls modeOf (freshSender rate) inputs symbols last) (rs : List (List ℕ)) (runs : All (Run rate) rs) (rest : List ℕ) (e : flatten rs ++ rest ≡ symbols) where
   abbrev bytes : List ℕ
   bytes = flatten (interleavedBlocks (packetsFor inputs))
 
   coded : flatten rs ++ rest ≡ symbolsOf (coderAt rate 0) (bitsOf bytes)
   unfolding onAir
-  coded = e ∙ (sent-on-air (modeOf rate) (well-formed rate (up rate hr)) modeOf rate refl g c .0 ∙ (stream-qpsk rate hr bytes ∙ sym (symbols-fresh rate hr (bits-bits bytes))))
+  coded = e ∙ (sent-on-air (modeOf rate) (well-formed rate (up rate hr)) q modeOf rate refl g c .0 ∙ (stream-qpsk rate hr bytes ∙ sym (symbols-fresh rate hr (bits-bits bytes))))
 
   -- the bits of the interleaved blocks, as far as the runs go
   pub sent-front : {out : List ℕ} {cost memory : ℕ} → Readings rate 0 rs out cost memory

@@ -1,12 +1,13 @@
--- Three idle programs do not fit the promise of `send_run`, at any rate: one answer for all, nothing written, and symbols that only the first
+-- Three idle programs do not fit the promise of `send_run`, at any QPSK rate that is sent: one answer for all, nothing written, and symbols that only the first
 -- packets decide. Each would leave the same for two lists of packets that differ in the last one, and the symbols tell those apart.
 -- The lists have more than k packets, whatever k is, and make whole puncturing patterns.
 -- Assumes nothing.
 use mathlib.Core.Path.{_≡_, refl, ap, ap₂, sym, _∙_}
+use mathlib.Core.Bool.{true}
 use mathlib.Core.List.{List, [], _∷_, _++_, append-nil, flatten}
 use Prim.Native.Nat.{ℕ, zero, suc, _+_, _-_, _*_, _%_, _≤_, _<_}
 use native.Mathlib.Omega.{arith}
-use borrow.Author.Tests.{eq-eqb, lt-ltb, le-ltb}
+use borrow.Author.Tests.{eq-eqb, le-ltb}
 use lib.ListN.{length, take, replicate, length-append, length-replicate, drop-of-length-le}
 use lib.Seq.{take-at, drop-at}
 use Rattle.common.specs.Lists.{All, Length}
@@ -84,7 +85,7 @@ whole-patterns (suc (suc (suc (suc (suc rate))))) j h = absurd (omega arith)
 roomFor : ℕ → ℕ → List ℕ
 roomFor rate n = replicate (symbolsIn rate 0 (blockBits rate * n)) 0
 
-module _ (f : Program) (keeps : Keeps f) (rate : ℕ) (h : rate < 5) where
+module _ (f : Program) (keeps : Keeps f) (rate : ℕ) (h : rate < 5) (q : modeOf rate .sent ≡ true) where
   kept : (ps : List (List ℕ)) → All Packet ps → f rate (flatten ps) (roomFor rate (length ps)) .room ≡ onAir (modeOf rate) ps
   unfolding roomFor
   kept ps g =
@@ -95,7 +96,7 @@ module _ (f : Program) (keeps : Keeps f) (rate : ℕ) (h : rate < 5) where
       let k : length room ≡ symbolsIn rate 0 (blockBits rate * length ps) = length-replicate {A = ℕ} (symbolsIn rate 0 (blockBits rate * length ps)) 0 in
       let w : length (flatten ps) % 188 ≡ 0 = (let m = length-flatten 188 ps l in omega arith) in
       let t : length (runSymbols rate (flatten ps)) ≤ length room = omega arith in
-      let z : runRefusal rate (flatten ps) room ≡ 0 = simp (lt-ltb _ _ (up rate h), eq-eqb _ _ w, le-ltb _ _ t) in
+      let z : runRefusal rate (flatten ps) room ≡ 0 = simp (q, eq-eqb _ _ w, le-ltb _ _ t) in
       keeps rate (flatten ps) room .written ∙ simp z
       (ap (λ (d : List ℕ). runSymbols rate (flatten ps) ++ d) (drop-of-length-le room {i = length (runSymbols rate (flatten ps))} (omega arith))
       ∙ append-nil (runSymbols rate (flatten ps)) ∙ ap (onAir (modeOf rate)) e)

@@ -1,6 +1,7 @@
 -- The two branches of a mode: their lengths, one list of bytes after another, and the QPSK rates, which code every bit.
 -- Assumes nothing.
 use mathlib.Core.Path.{_≡_, refl, ap, ap₂, sym, _∙_}
+use mathlib.Core.Bool.{Bool}
 use mathlib.Core.List.{List, [], _∷_, _++_, map, flatten, append-assoc}
 use Prim.Native.Nat.{ℕ, zero, suc, _+_, _*_, _/_, _%_, _≤_, _<_}
 use native.Mathlib.Nat.{zero-add, suc-add, add-comm, zero-mul, suc-mul, mul-zero, zero-div, div-one, mul-add-div-right, mul-div-cancel}
@@ -9,7 +10,7 @@ use lib.ListN.{length, getD, take, drop, length-append, length-drop, length-map}
 use lib.Seq.{take-append-le, drop-append-le}
 use Rattle.convolutional_code.specs.Bits.{bitsOf, Bits, none, more}
 use Rattle.convolutional_code.proofs.Bits.{bits-at, bits-append}
-use Rattle.puncturing.specs.Mode.{CodedBit, InputBit, A, B, D, Column, Mode, qpsk, modeOf, blockBits, blockBitsBy}
+use Rattle.puncturing.specs.Mode.{CodedBit, InputBit, A, B, D, Column, Mode, qpsk, modeOf, blockBitsBy}
 use Rattle.puncturing.proofs.Places.{end, _&_, Below, below}
 use Rattle.inner_code.specs.Converter.{bitAt, inputBit, groups, groupsOf, encodedGroup, encodedBits, besideSymbol, uncodedGroup, uncodedNumbers, sequenced}
 
@@ -158,21 +159,21 @@ length-sequenced (u ∷ us) (c ∷ cs) e = ap suc (length-sequenced us cs (omega
 
 -- ---- the QPSK rates
 
-every-bit : (bytes : List ℕ) (b : ℕ) (s : List (List CodedBit)) → flatten (map (encodedGroup (qpsk b s)) (groups 1 (length bytes) bytes)) ≡ bitsOf bytes
+every-bit : (bytes : List ℕ) (t : Bool) (b : ℕ) (s : List (List CodedBit)) → flatten (map (encodedGroup (qpsk t b s)) (groups 1 (length bytes) bytes)) ≡ bitsOf bytes
 unfolding flatten groups bitsOf
-every-bit [] b s = refl
-every-bit (x ∷ bytes) b s = ap (λ (l : List ℕ). encodedGroup (qpsk b s) (x ∷ []) ++ l) (every-bit bytes b s)
+every-bit [] t b s = refl
+every-bit (x ∷ bytes) t b s = ap (λ (l : List ℕ). encodedGroup (qpsk t b s) (x ∷ []) ++ l) (every-bit bytes t b s)
 
-encoded-plain : (b : ℕ) (s : List (List CodedBit)) (bytes : List ℕ) → encodedBits (qpsk b s) bytes ≡ bitsOf bytes
+encoded-plain : (t : Bool) (b : ℕ) (s : List (List CodedBit)) (bytes : List ℕ) → encodedBits (qpsk t b s) bytes ≡ bitsOf bytes
 unfolding encodedBits
-encoded-plain b s bytes = ap (λ (n : ℕ). flatten (map (encodedGroup (qpsk b s)) (groups 1 n bytes))) (div-one (length bytes)) ∙ every-bit bytes b s
+encoded-plain t b s bytes = ap (λ (n : ℕ). flatten (map (encodedGroup (qpsk t b s)) (groups 1 n bytes))) (div-one (length bytes)) ∙ every-bit bytes t b s
 
 abbrev EveryBit : ℕ → Type 0
 EveryBit r = (bytes : List ℕ) → encodedBits (modeOf r) bytes ≡ bitsOf bytes
 
 all-coded : Below EveryBit 5
 unfolding modeOf
-all-coded = encoded-plain _ _ & encoded-plain _ _ & encoded-plain _ _ & encoded-plain _ _ & encoded-plain _ _ & end
+all-coded = encoded-plain _ _ _ & encoded-plain _ _ _ & encoded-plain _ _ _ & encoded-plain _ _ _ & encoded-plain _ _ _ & end
 
 -- every bit is coded
 pub encoded-qpsk : (r : ℕ) → r < 5 → (bytes : List ℕ) → encodedBits (modeOf r) bytes ≡ bitsOf bytes

@@ -18,8 +18,9 @@ use Rattle.inner_code.specs.declared.InnerCoder.{InnerCoder}
 abbrev pub freshCoder : ℕ → InnerCoder
 freshCoder rate = record { rate = rate; memory = 0; place = 0; held = 0 }
 
+-- 6 for a mode that is not sent
 abbrev pub newNumber : ℕ → ℕ
-newNumber rate = pick (ltb rate 6) 0 6
+newNumber rate = pick (modeOf rate .sent) 0 6
 
 -- ---- one bit
 
@@ -28,13 +29,13 @@ bitValue true = 1
 bitValue false = 0
 
 abbrev pub stepNumber : InnerCoder → ℕ
-stepNumber c = pick (inRange c) 0 5
+stepNumber c = pick (inRange c) (pick (modeOf (c .rate) .sent) 0 6) 5
 
 abbrev pub stepCoder : InnerCoder → Bool → InnerCoder
-stepCoder c bit = pick (inRange c) (coderStep c (bitValue bit)) c
+stepCoder c bit = pick (eqb (stepNumber c) 0) (coderStep c (bitValue bit)) c
 
 abbrev pub stepSymbol : InnerCoder → Bool → Symbol
-stepSymbol c bit = pick (inRange c) (symbolStep c (bitValue bit)) None
+stepSymbol c bit = pick (eqb (stepNumber c) 0) (symbolStep c (bitValue bit)) None
 
 -- ---- one block
 
@@ -65,7 +66,9 @@ abbrev pub symbolCount : InnerCoder → ℕ
 symbolCount c = symbolCountBy (modeOf (c .rate)) c
 
 abbrev pub encodeNumber : InnerCoder → List ℕ → List ℕ → ℕ
-encodeNumber c block room = pick (inRange c) (pick (eqb (length block) 204) (pick (ltb (length room) (length (blockSymbols c block))) 4 0) 3) 5
+encodeNumber c block room =
+    pick (inRange c)
+    (pick (modeOf (c .rate) .sent) (pick (eqb (length block) 204) (pick (ltb (length room) (length (blockSymbols c block))) 4 0) 3) 6) 5
 
 abbrev pub encodeCoder : InnerCoder → List ℕ → List ℕ → InnerCoder
 encodeCoder c block room = pick (eqb (encodeNumber c block room) 0) (blockCoder c block) c

@@ -17,6 +17,7 @@ use convolutional_code::y_of;
 use puncturing::Symbol;
 use puncturing::block_count;
 use puncturing::held_count;
+use puncturing::is_sent;
 use puncturing::pattern_length;
 use puncturing::puncture;
 use puncturing::puncture_block;
@@ -31,7 +32,8 @@ pub struct InnerCoder {
 }
 
 // A fresh coder. As for every constructor of the project the answer stands beside the state, since an enum cannot hold a state with arrays.
-// Where the answer is 6 the coder holds the rate that was wanted, so it is out of range, and every call refuses it with 5.
+// Where the answer is 6 the coder holds the rate that was wanted, and every call refuses it: with 5 where there is no such mode, with 6 where the
+// mode is not sent.
 pub struct Created {
     pub answer: Answer,
     pub coder: InnerCoder,
@@ -65,7 +67,7 @@ impl InnerCoder {
             place: 0,
             held: 0,
         };
-        if rate < 6 {
+        if is_sent(rate) {
             return Created {
                 answer: Answer::Done,
                 coder,
@@ -121,6 +123,13 @@ impl InnerCoder {
             };
         }
         let rate = self.rate;
+        if !is_sent(rate) {
+            return Stepped {
+                answer: Answer::UnknownRate,
+                coder: self,
+                symbol: Symbol::None,
+            };
+        }
         let memory = self.memory;
         let place = self.place;
         let held = self.held;
@@ -151,6 +160,14 @@ impl InnerCoder {
         if !self.in_range() {
             return Encoded {
                 answer: Answer::StateRange,
+                coder: self,
+                count: 0,
+            };
+        }
+        let rate = self.rate;
+        if !is_sent(rate) {
+            return Encoded {
+                answer: Answer::UnknownRate,
                 coder: self,
                 count: 0,
             };

@@ -132,9 +132,9 @@ fn main() {
     compare(1, b"symbols_rate1.bin");
     compare(2, b"symbols_rate2.bin");
     compare(3, b"symbols_rate3.bin");
-    compare(4, b"symbols_rate4.bin");
     let bytes = [0u8; 205];
     let mut room = [0u8; 980];
+    answer_new(b"fresh coder at rate 3: ", 3);
     answer_new(b"fresh coder at rate 4: ", 4);
     answer_new(b"fresh coder of mode 5: ", 5);
     answer_new(b"fresh coder of mode 6: ", 6);
@@ -146,13 +146,14 @@ fn main() {
     answer_room(b"rate 3, place 0, room of 979: ", 3, 0, &mut room, 979);
     answer_room(b"rate 3, place 4, room of 979: ", 3, 4, &mut room, 979);
     answer_room(b"rate 3, place 4, room of 980: ", 3, 4, &mut room, 980);
-    answer_room(b"rate 4, place 0, room of 932: ", 4, 0, &mut room, 932);
     answer_room(b"rate 4, place 0, room of 933: ", 4, 0, &mut room, 933);
-    answer_room(b"rate 4, place 1, room of 931: ", 4, 1, &mut room, 931);
-    answer_room(b"rate 4, place 1, room of 932: ", 4, 1, &mut room, 932);
+    answer_room(b"rate 4, place 0, no room: ", 4, 0, &mut room, 0);
+    answer_room(b"rate 4, place 7, room of 933: ", 4, 7, &mut room, 933);
+    answer_block(b"rate 4, block of 203 bytes: ", 4, &bytes, 203);
     answer_room(b"mode 5, place 0, room of 543: ", 5, 0, &mut room, 543);
     answer_room(b"mode 5, place 0, room of 544: ", 5, 0, &mut room, 544);
     answer_room(b"mode 5, place 1, room of 544: ", 5, 1, &mut room, 544);
     print_steps(b"80 hex bit by bit, rate 2:", 2);
+    print_steps(b"80 hex bit by bit, rate 4:", 4);
     print_steps(b"80 hex bit by bit, mode 5:", 5);
 }

@@ -1,6 +1,7 @@
 -- A loop that codes the blocks of a buffer: what is in the room, and what is left to code.
 -- Assumes nothing.
 use mathlib.Core.Path.{_≡_, refl, ap, ap₂, sym, subst, _∙_}
+use mathlib.Core.Bool.{true}
 use mathlib.Core.List.{List, [], _∷_, _++_, append-assoc, append-nil}
 use Prim.Native.Nat.{ℕ, zero, suc, _+_, _-_, _*_, _/_, _≤_, _<_}
 use native.Mathlib.Nat.{suc-mul, div-mul-le-self}
@@ -20,6 +21,7 @@ use Rattle.inner_code.specs.Encode.{freshCoder, blockSymbolsBy, blockCoderBy, c
 use Rattle.inner_code.specs.declared.InnerCoder.{InnerCoder}
 use Rattle.puncturing.specs.declared.Symbol.{Symbol}
 use Rattle.puncturing.specs.declared.Symbol.the-variants.{None, One}
+use Rattle.puncturing.proofs.Places.{sent-known}
 use Rattle.puncturing.proofs.WellFormed.{well-formed}
 use Rattle.inner_code.proofs.Converter.{encoded-bits, length-block-encoded}
 use Rattle.inner_code.proofs.Coder.{range-test, rate-known, formed, fresh-in-range, coder-in-range, coder-rate, length-symbols, length-coded}
@@ -62,11 +64,11 @@ blocks-whole (suc n) bytes h =
 
 -- ---- a call on a coder in range, with a block and room enough, is answered
 
-encode-done : (c : InnerCoder) (block room : List ℕ) → InRange c → length block ≡ 204 → length (blockSymbols c block) ≤ length room
+encode-done : (c : InnerCoder) (block room : List ℕ) → InRange c → modeOf (c .rate) .sent ≡ true → length block ≡ 204 → length (blockSymbols c block) ≤ length room
     → (encodeCoder c block room ≡ blockCoder c block)
     × (encodeCount c block room ≡ length (blockSymbols c block))
     × (encodeRoom c block room ≡ blockSymbols c block ++ drop (length (blockSymbols c block)) room)
-encode-done c block room g n l = simp (range-test c g, eq-eqb _ _ n, le-ltb _ _ l) (refl, refl, refl)
+encode-done c block room g q n l = simp (range-test c g, q, eq-eqb _ _ n, le-ltb _ _ l) (refl, refl, refl)
 
 -- ---- the loop
 
@@ -74,6 +76,7 @@ encode-done c block room g n l = simp (range-test c g, eq-eqb _ _ n, le-ltb _ _ 
 pub record Coding (rate : ℕ) (bytes room₀ room : List ℕ) (c : InnerCoder) (at count : ℕ) : Type 0 where
   pub within : at ≤ length bytes
   pub few : count ≤ 8 * at
+  pub sent : modeOf rate .sent ≡ true
   pub rate-kept : c .rate ≡ rate
   pub range : InRange c
   pub front : List ℕ
@@ -81,9 +84,10 @@ pub record Coding (rate : ℕ) (bytes room₀ room : List ℕ) (c : InnerCoder) 
   pub written : room ≡ front ++ drop count room₀
   pub symbols : front ++ callsBy (modeOf rate) c (blocksFrom bytes at) ≡ codedSymbols rate bytes
 
-pub coding-start : (rate : ℕ) (bytes room : List ℕ) (c : InnerCoder) → rate < 6 → c ≡ freshCoder rate → Coding rate bytes room room c 0 0
+pub coding-start : (rate : ℕ) (bytes room : List ℕ) (c : InnerCoder) → modeOf rate .sent ≡ true → c ≡ freshCoder rate → Coding rate bytes room room c 0 0
 unfolding codedSymbols
-coding-start rate bytes room c h e = record {
+coding-start rate bytes room c q e = let h = sent-known rate q in record {
+  sent = q;
   within = omega arith;
   few = omega arith;
   rate-kept = ap (λ (x : InnerCoder). x .rate) e;
@@ -142,7 +146,7 @@ module _ {rate : ℕ} {bytes room₀ room : List ℕ} {c : InnerCoder} {at count
       done : (next ≡ blockCoder c block) × (n ≡ length (blockSymbols c block)) × (exit ≡ blockSymbols c block ++ drop (length (blockSymbols c block)) part)
       unfolding block part
       done =
-          let d = encode-done c block part (p .range) size enough in
+          let d = encode-done c block part (p .range) (ap (λ (r : ℕ). modeOf r .sent) (p .rate-kept) ∙ p .sent) size enough in
           (s ∙ d .0, m ∙ d .1, w ∙ d .2)
 
       pub coding-total : count + n ≤ length room₀
@@ -155,6 +159,7 @@ module _ {rate : ℕ} {bytes room₀ room : List ℕ} {c : InnerCoder} {at count
           record {
             within = omega (arith, h, p .within);
             few = omega (arith, p .few, done .1, block-few c (p .range) block size);
+            sent = p .sent;
             rate-kept = ap (λ (x : InnerCoder). x .rate) (done .0) ∙ coder-rate c (encodedBits (modeOf (c .rate)) block) ∙ p .rate-kept;
             range = subst InRange (sym (done .0)) (coder-in-range c (p .range) (encoded-bits (modeOf (c .rate)) block));
             front = p .front ++ symbols;

@@ -14,9 +14,9 @@ use Rattle.kernels.specs.Blocks.{wholeBlocks}
 unfoldable pub codedSymbols : ℕ → List ℕ → List ℕ
 codedSymbols rate bytes = streamSymbols (modeOf rate) (flatten (wholeBlocks bytes))
 
--- no such rate, or less room than a symbol for each bit
+-- a mode that is not sent, or less room than a symbol for each bit
 abbrev pub refused : ℕ → List ℕ → List ℕ → Bool
-refused rate bytes room = pick (ltb rate 6) (ltb (length room / 8) (length bytes)) true
+refused rate bytes room = pick (modeOf rate .sent) (ltb (length room / 8) (length bytes)) true
 
 -- how many symbols are written, and the room then
 abbrev pub codeCount : ℕ → List ℕ → List ℕ → ℕ

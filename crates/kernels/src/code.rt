@@ -1,14 +1,16 @@
 // The whole blocks of a buffer through a fresh inner coder.
 ghost use mathlib.Core.Path.{_≡_};
+ghost use mathlib.Core.Bool.{true};
 ghost use mathlib.Core.List.{_++_};
-ghost use Prim.Native.Nat.{_*_, _<_, _≤_};
+ghost use Prim.Native.Nat.{_*_, _≤_};
 ghost use lib.ListN.{length, drop};
+ghost use Rattle.puncturing.specs.Mode.{modeOf};
 ghost use Rattle.kernels.specs.Code.{codedSymbols};
 use inner_code::InnerCoder;
 
 // Gives the number of symbols.
 pub fn code_blocks(rate: u8, blocks: &[u8], room: &mut [u8]) -> usize
-    requires { ⌜ (rate < 6) × (8 * length (now blocks) ≤ length (now room)) ⌝ }
+    requires { ⌜ (modeOf rate .sent ≡ true) × (8 * length (now blocks) ≤ length (now room)) ⌝ }
     ensures { λ r. ⌜
         (r ≡ length (codedSymbols rate (now (blocks .entry))))
         × (now (room .exit) ≡ codedSymbols rate (now (blocks .entry)) ++ drop (length (codedSymbols rate (now (blocks .entry)))) (now (room .entry))) ⌝ }

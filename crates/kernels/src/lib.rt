@@ -13,6 +13,7 @@ mod lanes;
 use code::code_blocks;
 use delay::interleave_blocks;
 use lanes::scale_by;
+use puncturing::is_sent;
 
 // Multiplies the first sixteen bytes by each factor, one after the other. Fewer than sixteen stay as they are.
 #[no_mangle]
@@ -38,14 +39,14 @@ pub extern "C" fn kernel_interleave(blocks: &[u8], room: &mut [u8])
 }
 
 // Codes the whole blocks of 204 bytes with a fresh inner coder: the number of symbols written.
-// Nothing is written where there is no such rate, or less room than a symbol for each bit.
+// Nothing is written where the mode is not sent, or less room than a symbol for each bit.
 #[no_mangle]
 pub extern "C" fn kernel_inner_code(rate: u8, blocks: &[u8], room: &mut [u8]) -> u64
     ensures { λ r. ⌜
         (r ≡ codeCount rate (now (blocks .entry)) (now (room .entry)))
         × (now (room .exit) ≡ codeRoom rate (now (blocks .entry)) (now (room .entry))) ⌝ }
 {
-    if rate >= 6 {
+    if !is_sent(rate) {
         return 0;
     }
     if room.len() / 8 < blocks.len() {

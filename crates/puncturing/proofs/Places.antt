@@ -1,6 +1,6 @@
 -- Facts at each place of each mode's pattern, by computation.
 -- Assumes nothing.
-use mathlib.Core.Path.{_≡_, refl, subst, sym}
+use mathlib.Core.Path.{_≡_, refl, ap, subst, sym, _∙_}
 use mathlib.Core.Bool.{Bool, true, false}
 use mathlib.Core.Logic.{⊎-elim}
 use Prim.Native.Nat.{ℕ, zero, suc, _≤_, _<_}
@@ -8,8 +8,9 @@ use native.Mathlib.Omega.{arith}
 use native.Mathlib.Nat.{le-of-suc-le-suc, not-suc-le-zero, eq-or-lt-of-le}
 use borrow.Author.Tests.{ltb-true, ltb-false}
 use lib.Dec.{T, ltb, leb, eqb, eqb→eq, leb→le}
+use Rattle.common.proofs.Choice.{false-true}
 use Rattle.common.proofs.Computed as computed
-use Rattle.puncturing.specs.Mode.{modeOf}
+use Rattle.puncturing.specs.Mode.{Mode, noMode, modeOf}
 use Rattle.puncturing.specs.Step.{patternLength}
 
 -- a test that passes at each place of the first n modes
@@ -48,8 +49,8 @@ agreed-at = agreed-of 5
 pub up : (r : ℕ) → r < 5 → r < 6
 up r h = omega arith
 
--- a number that is no mode has no places
-pub outside : (r : ℕ) → 6 ≤ r → patternLength r ≡ 0
+-- what no mode has the number of
+pub outside : (r : ℕ) → 6 ≤ r → modeOf r ≡ noMode
 unfolding modeOf
 outside zero h = absurd (omega arith)
 outside (suc zero) h = absurd (omega arith)
@@ -64,7 +65,15 @@ known r p h = by (ltb r 6) refl
   where
     by : (t : Bool) → ltb r 6 ≡ t → r < 6
     by true e = ltb-true r 6 e
-    by false e = let z = outside r (ltb-false r 6 e) in absurd (omega arith)
+    by false e = let z = ap (λ (m : Mode). m .bits) (outside r (ltb-false r 6 e)) in absurd (omega arith)
+
+-- a number whose mode is sent is that of a mode
+pub sent-known : (r : ℕ) → modeOf r .sent ≡ true → r < 6
+sent-known r s = by (ltb r 6) refl
+  where
+    by : (t : Bool) → ltb r 6 ≡ t → r < 6
+    by true e = ltb-true r 6 e
+    by false e = false-true (sym (ap (λ (m : Mode). m .sent) (outside r (ltb-false r 6 e))) ∙ s)
 
 -- a fact that no test decides, at each number below n, the greatest first
 infixr 5 _&_

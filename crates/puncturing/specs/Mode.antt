@@ -1,6 +1,6 @@
 -- Modes of the inner code: which bits of the bytes are coded, and which coded bits and which others make up each symbol.
 -- Assumes nothing.
-use mathlib.Core.Bool.{Bool, false}
+use mathlib.Core.Bool.{Bool, true, false}
 use mathlib.Core.List.{List, [], _∷_, _++_}
 use Prim.Native.Nat.{ℕ, _+_, _*_, _/_}
 use lib.Dec.{ltb, leb, eqb}
@@ -30,8 +30,10 @@ pub record Column : Type 0 where
 
 -- A mode, as tables 3 and 4 of EN 301 210 define it. Table 3: the bytes of a group, and its columns, the first one first. Table 4: how many bits of
 -- the encoded branch a pattern has, and its symbols in the order in which they are sent. Of each symbol there are the coded bits C, the one that
--- counts most first, and, where a mode has bits that are not coded, those too, U, by their numbers in the column.
+-- counts most first, and, where a mode has bits that are not coded, those too, U, by their numbers in the column. The first column of our own table
+-- is whether the mode is sent.
 pub record Mode : Type 0 where
+  pub sent : Bool
   pub group : ℕ
   pub columns : List Column
   pub bits : ℕ
@@ -46,8 +48,9 @@ iq i q = i ∷ q ∷ []
 abbrev pub alone : InputBit → Column
 alone b = record { e = b; ne = [] }
 
-abbrev pub qpsk : ℕ → List (List CodedBit) → Mode
-qpsk bits symbols = record {
+abbrev pub qpsk : Bool → ℕ → List (List CodedBit) → Mode
+qpsk sent bits symbols = record {
+  sent = sent;
   group = 1;
   columns = alone (A 7) ∷ alone (A 6) ∷ alone (A 5) ∷ alone (A 4) ∷ alone (A 3) ∷ alone (A 2) ∷ alone (A 1) ∷ alone (A 0) ∷ [];
   bits = bits;
@@ -62,6 +65,7 @@ beside e ne2 ne1 = record { e = e; ne = ne1 ∷ ne2 ∷ [] }
 -- EN 301 210, tables 3 and 4, 16QAM 3/4: U2 is NE2, U1 is NE1, C2 is Y1 and C1 is X1; the number is 8 U2 + 4 U1 + 2 C2 + C1
 abbrev pub sixteenQam : Mode
 sixteenQam = record {
+  sent = true;
   group = 3;
   columns =
       beside (A 7) (B 7) (B 6) ∷ beside (A 6) (B 5) (B 4) ∷ beside (A 5) (B 3) (B 2) ∷ beside (A 4) (B 1) (B 0)
@@ -71,21 +75,25 @@ sixteenQam = record {
   uncoded = (2 ∷ 1 ∷ []) ∷ [];
 }
 
--- EN 300 421, 4.4.3, table 2, as document 01, "Inner code", writes it: rates 1/2, 2/3, 3/4, 5/6 and 7/8; then EN 301 210, 16QAM 3/4
+-- EN 300 421, 4.4.3, table 2, as document 01, "Inner code", writes it: rates 1/2, 2/3, 3/4, 5/6 and 7/8; then EN 301 210, 16QAM 3/4. Document 02,
+-- P12: 7/8 is no longer sent. Recorded symbols are read at all five rates.
 unfoldable pub modes : List Mode
 modes =
-    qpsk 1 (iq (X 1) (Y 1) ∷ [])
-    ∷ qpsk 4 (iq (X 1) (Y 1) ∷ iq (Y 2) (X 3) ∷ iq (Y 3) (Y 4) ∷ [])
-    ∷ qpsk 3 (iq (X 1) (Y 1) ∷ iq (Y 2) (X 3) ∷ [])
-    ∷ qpsk 5 (iq (X 1) (Y 1) ∷ iq (Y 2) (X 3) ∷ iq (Y 4) (X 5) ∷ [])
-    ∷ qpsk 7 (iq (X 1) (Y 1) ∷ iq (Y 2) (Y 3) ∷ iq (Y 4) (X 5) ∷ iq (Y 6) (X 7) ∷ [])
+    qpsk true 1 (iq (X 1) (Y 1) ∷ [])
+    ∷ qpsk true 4 (iq (X 1) (Y 1) ∷ iq (Y 2) (X 3) ∷ iq (Y 3) (Y 4) ∷ [])
+    ∷ qpsk true 3 (iq (X 1) (Y 1) ∷ iq (Y 2) (X 3) ∷ [])
+    ∷ qpsk true 5 (iq (X 1) (Y 1) ∷ iq (Y 2) (X 3) ∷ iq (Y 4) (X 5) ∷ [])
+    ∷ qpsk false 7 (iq (X 1) (Y 1) ∷ iq (Y 2) (Y 3) ∷ iq (Y 4) (X 5) ∷ iq (Y 6) (X 7) ∷ [])
     ∷ sixteenQam
     ∷ []
 
--- the mode of a number; of a number that is no mode, one without symbols
+-- the mode of a number; of a number that is no mode, one without symbols, which is not sent
+abbrev pub noMode : Mode
+noMode = record { sent = false; group = 0; columns = []; bits = 0; symbols = []; uncoded = [] }
+
 unfoldable pub modeOf : ℕ → Mode
 unfolding modes
-modeOf rate = getD modes rate (record { group = 0; columns = []; bits = 0; symbols = []; uncoded = [] })
+modeOf rate = getD modes rate noMode
 
 -- how many bits of a block of 204 bytes are coded
 unfoldable pub blockBitsBy : Mode → ℕ

@@ -5,7 +5,7 @@ ghost use Prim.Native.Nat.{ℕ, _+_, _-_, _*_, _<_, _≤_};
 ghost use lib.ListN.{length};
 ghost use Rattle.common.specs.Lists.{placed};
 ghost use Rattle.convolutional_code.specs.Bits.{Bits};
-ghost use Rattle.puncturing.specs.Mode.{blockBits};
+ghost use Rattle.puncturing.specs.Mode.{modeOf, blockBits};
 ghost use Rattle.puncturing.specs.Step.{patternLength, nextPlace, heldCount, punctured, symbolsIn};
 ghost use Rattle.puncturing.specs.Run.{byKind, punctureStep, sentSymbols, placeAfter, progress};
 
@@ -20,10 +20,23 @@ use whole::whole_patterns;
 // The bits of each rate's pattern.
 pub const PATTERN_LENGTHS: [u8; 6] = [1, 4, 3, 5, 7, 1];
 
+// Which modes are sent: 1 where one is.
+const SENT: [u8; 6] = [1, 1, 1, 1, 0, 1];
+
 // What a bit completes: no symbol yet, or one with this number.
 pub enum Symbol {
     None,
     One(u8),
+}
+
+// Whether a mode is sent. No other number is one.
+pub fn is_sent(rate: u8) -> bool
+    ensures { λ r. ⌜ r ≡ modeOf rate .sent ⌝ }
+{
+    if rate >= 6 {
+        return false;
+    }
+    SENT[rate as usize] == 1
 }
 
 pub fn pattern_length(rate: u8) -> u8

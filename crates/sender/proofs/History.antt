@@ -35,7 +35,7 @@ pub input-sent : {t : ℕ → Mode} (s : Sender) (input room : List ℕ) → Rea
     → Answered t s input room
 input-sent {t} s input room g p h =
     let r = range-test t s (ready-range s g) in
-    let n : refusal t s input room ≡ 0 = simp (r, p, le-ltb _ _ h) in
+    let n : refusal t s input room ≡ 0 = simp (r, g .sent, p, le-ltb _ _ h) in
     record { number = simp n; count = simp n; sender = simp n; written = simp n }
 
 -- what the calls of a history wrote, and the sender that they left
@@ -129,30 +129,30 @@ ready-calls {t} s (p ∷ ps) g = ready-calls (senderAfter t s p) ps (ready-after
 
 -- ---- demand 2, of the sending side
 
--- In any mode that is well formed, at whatever number of whatever table of modes: whatever inputs a fresh sender is given, call after call, the
+-- In any mode that is well formed and is sent, at whatever number of whatever table of modes: whatever inputs a fresh sender is given, call after call, the
 -- symbols are the standard's for the list with null packets put in, and the sender left is the one that has sent it.
-pub sent-on-air : (m : Mode) → WellFormed m → (t : ℕ → Mode) (rate : ℕ) → t rate ≡ m
+pub sent-on-air : (m : Mode) → WellFormed m → m .sent ≡ true → (t : ℕ → Mode) (rate : ℕ) → t rate ≡ m
     → {inputs : List (List ℕ)} {symbols : List ℕ} {last : Sender} → All Input inputs → Calls t (freshSender rate) inputs symbols last
     → (symbols ≡ onAir m (packetsFor inputs)) × (last ≡ senderOf t rate (packetsFor inputs))
-sent-on-air m w t rate e {inputs} g c =
+sent-on-air m w q t rate e {inputs} g c =
     let f : WellFormed (t rate) = subst WellFormed (sym e) w in
-    let told-all = told (ready-fresh rate f) g c in
+    let told-all = told (ready-fresh rate f (ap (λ (x : Mode). x .sent) e ∙ q)) g c in
     let l = packet-lengths inputs g in (
       told-all .symbols ∙ calls-on-air (packetsFor inputs) l t rate f ∙ ap (λ (x : Mode). onAir x (packetsFor inputs)) e,
       told-all .sender ∙ calls-sender (packetsFor inputs) l t rate f,
     )
 
 -- where all of them are packets, none is put in
-pub packets-on-air : (m : Mode) → WellFormed m → (t : ℕ → Mode) (rate : ℕ) → t rate ≡ m
+pub packets-on-air : (m : Mode) → WellFormed m → m .sent ≡ true → (t : ℕ → Mode) (rate : ℕ) → t rate ≡ m
     → {packets : List (List ℕ)} {symbols : List ℕ} {last : Sender} → All Packet packets → Calls t (freshSender rate) packets symbols last
     → (symbols ≡ onAir m packets) × (last ≡ senderOf t rate packets)
-packets-on-air m w t rate e {packets} g c =
-    rw (packets-kept packets g) at (sent-on-air m w t rate e (All-map Packet Input (λ p a. inr (a .size)) packets g) c)
+packets-on-air m w q t rate e {packets} g c =
+    rw (packets-kept packets g) at (sent-on-air m w q t rate e (All-map Packet Input (λ p a. inr (a .size)) packets g) c)
 
 -- a sender that has sent packets since it was fresh is ready for more, and goes on where they end
-module _ {t : ℕ → Mode} (rate : ℕ) (w : WellFormed (t rate)) (sent : List (List ℕ)) (f : All (Length 188) sent) where
+module _ {t : ℕ → Mode} (rate : ℕ) (w : WellFormed (t rate)) (q : t rate .sent ≡ true) (sent : List (List ℕ)) (f : All (Length 188) sent) where
   pub ready-sent : Ready t (senderOf t rate sent)
-  ready-sent = subst (Ready t) (calls-sender sent f t rate w) (ready-calls (freshSender rate) sent (ready-fresh rate w))
+  ready-sent = subst (Ready t) (calls-sender sent f t rate w) (ready-calls (freshSender rate) sent (ready-fresh rate w q))
 
   pub sent-further : {inputs : List (List ℕ)} {symbols : List ℕ} {last : Sender} → All Input inputs → Calls t (senderOf t rate sent) inputs symbols last
       → (onAir (t rate) sent ++ symbols ≡ onAir (t rate) (sent ++ packetsFor inputs)) × (last ≡ senderOf t rate (sent ++ packetsFor inputs))

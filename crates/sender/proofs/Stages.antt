@@ -27,7 +27,7 @@ use Rattle.inner_code.specs.Encode as inner
 use Rattle.inner_code.specs.declared.InnerCoder.{InnerCoder}
 use Rattle.inner_code.proofs.Coder as range
 use Rattle.sender.specs.Input.{isInput, packetFor, sentNumber}
-use Rattle.sender.specs.Send.{inRange, codedPacket, sentBlock, sentSymbols, sentCount, senderAfter, refusal, Sends}
+use Rattle.sender.specs.Send.{inRange, codedPacket, sentBlock, sentSymbols, sentCount, senderAfter, isSent, refusal, Sends}
 use Rattle.sender.specs.declared.Sender.{Sender}
 
 -- what the test of the ranges tells
@@ -69,16 +69,17 @@ module _ (t : ℕ → Mode) (s : Sender) (input room : List ℕ) where
   }
 
 -- a call writes no more than the room
-fits : (a b c : Bool) (count n k : ℕ) → count ≡ pick (eqb (pick a (pick b (pick c 4 0) 1) 5) 0) n 0 → (c ≡ false → n ≤ k) → count ≤ k
-fits false b c count n k e f = omega arith
-fits true false c count n k e f = omega arith
-fits true true true count n k e f = omega arith
-fits true true false count n k e f = let l = f refl in omega arith
+fits : (a s b c : Bool) (count n k : ℕ) → count ≡ pick (eqb (pick a (pick s (pick b (pick c 4 0) 1) 6) 5) 0) n 0 → (c ≡ false → n ≤ k) → count ≤ k
+fits false s b c count n k e f = omega arith
+fits true false b c count n k e f = omega arith
+fits true true false c count n k e f = omega arith
+fits true true true true count n k e f = omega arith
+fits true true true false count n k e f = let l = f refl in omega arith
 
 pub count-fits : {t : ℕ → Mode} {s : Sender} {input room : List ℕ} {number count : ℕ} {next : Sender} {left : List ℕ}
     → Sends t s input room number count next left → count ≤ length room
 count-fits {t} {s} {input} {room} {number} {count} m =
-    fits (inRange t s) (isInput input) (ltb (length room) (sentCount t s)) count (sentCount t s) (length room) (m .counted) (λ z. ltb-false _ _ z)
+    fits (inRange t s) (isSent t s) (isInput input) (ltb (length room) (sentCount t s)) count (sentCount t s) (length room) (m .counted) (λ z. ltb-false _ _ z)
 
 -- ---- the stages
 
@@ -124,18 +125,18 @@ module _ {t : ℕ → Mode} (s : Sender) (packet : List ℕ) (g : InRange t s) (
 
 -- the last stage, in the modes of the product
 module _ (s : Sender) (packet : List ℕ) (g : InRange modeOf s) (p : length packet ≡ 188) where
-  pub modulating : (room r m : List ℕ) (number count : ℕ) (c : InnerCoder) → sentCount modeOf s ≤ length room → m ≡ sentBlock s packet
+  pub modulating : isSent modeOf s ≡ true → (room r m : List ℕ) (number count : ℕ) (c : InnerCoder) → sentCount modeOf s ≤ length room → m ≡ sentBlock s packet
       → number ≡ inner.encodeNumber (s .coder) m room → count ≡ inner.encodeCount (s .coder) m room
       → c ≡ inner.encodeCoder (s .coder) m room → r ≡ inner.encodeRoom (s .coder) m room
       → (number ≡ 0) × (count ≡ sentCount modeOf s) × (c ≡ inner.blockCoder (s .coder) (sentBlock s packet))
       × (r ≡ sentSymbols modeOf s packet ++ drop (sentCount modeOf s) room)
   unfolding sentSymbols
-  modulating room r m number count c h f en ec es er =
+  modulating q room r m number count c h f en ec es er =
       let n : length (inner.blockSymbols (s .coder) (sentBlock s packet)) ≡ sentCount modeOf s
       = symbol-count s packet g p (range.formed (s .coder) (range.in-range (s .coder) (g .coder))) in
       let k : length (inner.blockSymbols (s .coder) (sentBlock s packet)) ≤ length room = rw n h in
       let b = length-block s packet g p in
-      let done : inner.encodeNumber (s .coder) (sentBlock s packet) room ≡ 0 = simp (g .coder, eq-eqb _ _ b, le-ltb _ _ k) in (
+      let done : inner.encodeNumber (s .coder) (sentBlock s packet) room ≡ 0 = simp (g .coder, q, eq-eqb _ _ b, le-ltb _ _ k) in (
         en ∙ ap (λ (l : List ℕ). inner.encodeNumber (s .coder) l room) f ∙ done,
         ec ∙ ap (λ (l : List ℕ). inner.encodeCount (s .coder) l room) f
             ∙ ap (λ (j : ℕ). pick (eqb j 0) (length (inner.blockSymbols (s .coder) (sentBlock s packet))) 0) done

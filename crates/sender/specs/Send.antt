@@ -12,7 +12,7 @@ use Rattle.randomizer.specs.Packet.{randomized}
 use Rattle.delay_branches.specs.Branch as branch
 use Rattle.delay_branches.specs.Block.{fresh, blockOut, after}
 use Rattle.delay_branches.specs.declared.Side.the-variants.{Sending}
-use Rattle.puncturing.specs.Mode.{Mode}
+use Rattle.puncturing.specs.Mode.{Mode, modeOf}
 use Rattle.inner_code.specs.Step.{inRangeBy}
 use Rattle.inner_code.specs.Encode.{freshCoder, blockSymbolsBy, blockCoderBy, symbolCountBy}
 use Rattle.sender.specs.Input.{isInput, packetFor, sentNumber}
@@ -22,8 +22,9 @@ use Rattle.sender.specs.declared.Sender.{Sender}
 unfoldable pub freshSender : ℕ → Sender
 freshSender rate = record { place = 0; interleaver = record { branches = fresh }; coder = freshCoder rate }
 
+-- 6 for a mode that is not sent
 abbrev pub newNumber : ℕ → ℕ
-newNumber rate = pick (ltb rate 6) 0 6
+newNumber rate = pick (modeOf rate .sent) 0 6
 
 -- ---- A sender knows its mode by the number that its inner coder holds. Each definition takes the table of modes: `modeOf` in the product.
 
@@ -53,9 +54,14 @@ senderAfter t s packet = record {
   coder = blockCoderBy (t (s .coder .rate)) (s .coder) (sentBlock s packet);
 }
 
--- What is refused: 5 for a state out of range, 1 for an input that is neither no bytes nor 188, 4 for short room; 0 where nothing is.
+-- whether its mode is sent
+abbrev pub isSent : (ℕ → Mode) → Sender → Bool
+isSent t s = t (s .coder .rate) .sent
+
+-- What is refused: 5 for a state out of range, 6 for one whose mode is not sent, 1 for an input that is neither no bytes nor 188, 4 for short room;
+-- 0 where nothing is.
 abbrev pub refusal : (ℕ → Mode) → Sender → List ℕ → List ℕ → ℕ
-refusal t s input room = pick (inRange t s) (pick (isInput input) (pick (ltb (length room) (sentCount t s)) 4 0) 1) 5
+refusal t s input room = pick (inRange t s) (pick (isSent t s) (pick (isInput input) (pick (ltb (length room) (sentCount t s)) 4 0) 1) 6) 5
 
 -- the number of the answer: the refusal, or else which packet was sent
 abbrev pub sendNumber : (ℕ → Mode) → Sender → List ℕ → List ℕ → ℕ

@@ -7,7 +7,7 @@ ghost use lib.ListN.{length, getD, drop};
 ghost use Rattle.answer.specs.Number.{numberOf};
 ghost use Rattle.puncturing.specs.Mode.{modeOf};
 ghost use Rattle.sender.specs.Input.{isInput, isSynced, nullPacket};
-ghost use Rattle.sender.specs.Send.{freshSender, newNumber, inRange, sentSymbols, sentCount, senderAfter, Sends};
+ghost use Rattle.sender.specs.Send.{freshSender, newNumber, inRange, sentSymbols, sentCount, senderAfter, isSent, Sends};
 use answer::Answer;
 use inner_code::InnerCoder;
 use interleaver::Interleaver;
@@ -21,7 +21,8 @@ pub struct Sender {
 }
 
 // A fresh sender. The answer stands beside the state, since an enum cannot hold a state with arrays.
-// Where the answer is 6 the sender holds the rate that was wanted, so it is out of range, and every call refuses it with 5.
+// Where the answer is 6 the sender holds the rate that was wanted, and every call refuses it: with 5 where there is no such mode, with 6 where the
+// mode is not sent.
 pub struct Created {
     pub answer: Answer,
     pub sender: Sender,
@@ -88,6 +89,15 @@ impl Sender {
                 sender: self,
             };
         }
+        let coder = self.coder;
+        let rate = coder.rate;
+        if !puncturing::is_sent(rate) {
+            return Sent {
+                answer: Answer::UnknownRate,
+                count: 0,
+                sender: self,
+            };
+        }
         if !is_input(input) {
             return Sent {
                 answer: Answer::PacketLength,
@@ -95,7 +105,6 @@ impl Sender {
                 sender: self,
             };
         }
-        let coder = self.coder;
         if room.len() < coder.symbol_count() {
             return Sent {
                 answer: Answer::RoomLength,
@@ -149,9 +158,9 @@ fn null_packet() -> [u8; Sender::PACKET_LENGTH]
     packet
 }
 
-// Sends a packet with a sender that is in range and room enough.
+// Sends a packet with a sender that is in range, in a mode that is sent, and room enough.
 fn transmit(sender: Sender, packet: &[u8], room: &mut [u8]) -> Sent
-    requires { ⌜ (inRange modeOf sender ≡ true) × (length (now packet) ≡ 188) × (getD (now packet) 0 0 ≡ 0x47) × (sentCount modeOf sender ≤ length (now room)) ⌝ }
+    requires { ⌜ (inRange modeOf sender ≡ true) × (isSent modeOf sender ≡ true) × (length (now packet) ≡ 188) × (getD (now packet) 0 0 ≡ 0x47) × (sentCount modeOf sender ≤ length (now room)) ⌝ }
     ensures { λ r. ⌜
         (numberOf (r .answer) ≡ 0)
         × (r .count ≡ sentCount modeOf sender)

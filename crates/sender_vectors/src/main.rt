@@ -141,7 +141,6 @@ fn main() {
     compare(1, b"symbols_rate1.bin");
     compare(2, b"symbols_rate2.bin");
     compare(3, b"symbols_rate3.bin");
-    compare(4, b"symbols_rate4.bin");
     let mut packets = [0u8; 376];
     send_part(b"packet that begins 00: ", 0, &packets, 188, 1632);
     send_part(b"the same, room of 1631: ", 0, &packets, 188, 1631);
@@ -149,7 +148,16 @@ fn main() {
     send_part(b"no bytes, room of 1631: ", 0, &packets, 0, 1631);
     send_part(b"one byte: ", 0, &packets, 1, 1632);
     packets[0] = 0x47;
+    answer_new(b"fresh sender at rate 3: ", 3);
     answer_new(b"fresh sender at rate 4: ", 4);
+    send_part(b"sender of rate 4: ", 4, &packets, 188, 1632);
+    send_part(
+        b"sender of rate 4, packet of 187 bytes: ",
+        4,
+        &packets,
+        187,
+        1632,
+    );
     answer_new(b"fresh sender of mode 5: ", 5);
     answer_new(b"fresh sender of mode 6: ", 6);
     send_part(b"sender of mode 6: ", 6, &packets, 188, 1632);
@@ -185,5 +193,6 @@ fn main() {
         376,
         3264,
     );
-    run_part(b"run of no packets, no room: ", 4, &packets, 0, 0);
+    run_part(b"run of no packets, no room: ", 3, &packets, 0, 0);
+    run_part(b"run at rate 4 of no packets, no room: ", 4, &packets, 0, 0);
 }

@@ -4,16 +4,17 @@
 use mathlib.Core.Path.{_≡_, refl, ap, ap₂, sym, subst, _∙_}
 use mathlib.Core.Bool.{Bool, true, false}
 use mathlib.Core.List.{List, [], _∷_, _++_, append-assoc, append-nil, map, flatten}
-use Prim.Native.Nat.{ℕ, _+_, _/_, _%_, _<_}
+use Prim.Native.Nat.{ℕ, _+_, _/_, _%_}
 use native.Mathlib.Omega.{arith}
-use borrow.Author.Tests.{eq-eqb, ne-eqb, ltb-true}
-use lib.Dec.{ltb, eqb}
+use borrow.Author.Tests.{eq-eqb, ne-eqb}
+use lib.Dec.{eqb}
 use lib.ListN.{length, take, drop, length-append, length-map}
 use lib.Seq.{take-at, take-append-seam}
 use Rattle.common.specs.Choice.{pick}
 use Rattle.common.specs.Lists.{All, Length}
 use Rattle.puncturing.specs.Mode.{modeOf}
 use Rattle.puncturing.specs.WellFormed.{WellFormed}
+use Rattle.puncturing.proofs.Places.{sent-known}
 use Rattle.puncturing.proofs.WellFormed.{well-formed}
 use Rattle.sender.specs.Standard.{onAir}
 use Rattle.sender.specs.Input.{packetFor, packetsFor, sentNumber}
@@ -26,7 +27,7 @@ use Rattle.sender.proofs.History.{history, ready-sent, sent-further}
 use Rattle.sender.proofs.Counts.{length-packets}
 use Rattle.transmission.specs.Run.{packetsOf}
 use Rattle.transmission.proofs.Buffers.{packets-none, packets-inputs}
-use Rattle.sending.specs.Sending.{holding, heldBytes, freshSending, sendingInRange, restOf, fedSymbols, fedAnswers, FeedsAll, Feeds, refused, fed}
+use Rattle.sending.specs.Sending.{holding, heldBytes, freshSending, canSend, restOf, fedSymbols, fedAnswers, FeedsAll, Feeds, refused, fed}
 use Rattle.sending.specs.History.{Feedings, none, feeding, Transmitted}
 use Rattle.sending.specs.declared.Sending.{Sending}
 use Rattle.sending.proofs.Pieces.{cut, length-rest}
@@ -44,9 +45,9 @@ count-packets bytes = length-packets (length bytes / 188) bytes
 pub held-are : (s : Sender) (bytes : List ℕ) → heldBytes (holding s bytes) ≡ bytes
 held-are s bytes = take-append-seam bytes _
 
-module _ (rate : ℕ) (h : rate < 6) where
+module _ (rate : ℕ) (h : modeOf rate .sent ≡ true) where
   formed : WellFormed (modeOf rate)
-  formed = well-formed rate h
+  formed = well-formed rate (sent-known rate h)
 
   sizes : (bytes : List ℕ) → All (Length 188) (packetsFor (packetsOf bytes))
   sizes bytes = packet-lengths (packetsOf bytes) (packets-inputs bytes)
@@ -91,8 +92,8 @@ module _ (rate : ℕ) (h : rate < 6) where
         × (callsSender modeOf (senderOf modeOf rate before) (packetsFor (packetsOf came)) ≡ senderOf modeOf rate (before ++ packetsFor (packetsOf came)))
     unfolding before
     further =
-        sent-further rate formed before (sizes bytes) (packets-inputs came)
-        (history (senderOf modeOf rate before) (packetsOf came) (ready-sent rate formed before (sizes bytes)) (packets-inputs came))
+        sent-further rate formed h before (sizes bytes) (packets-inputs came)
+        (history (senderOf modeOf rate before) (packetsOf came) (ready-sent rate formed h before (sizes bytes)) (packets-inputs came))
 
     sent : take count left ≡ flatten (callsSymbols modeOf (senderOf modeOf rate before) (packetsFor (packetsOf came)))
     unfolding before w
@@ -184,16 +185,16 @@ module _ (rate : ℕ) (h : rate < 6) where
     pub held-count : w .held ≡ length bytes % 188
     held-count = ap (λ (x : Sending). x .held) (t .state) ∙ length-rest bytes
 
-    -- no call refuses it with 5
-    pub transmitted-range : sendingInRange w ≡ true
+    -- no call refuses it with 5 or 6
+    pub transmitted-range : canSend w ≡ true
     transmitted-range =
         let packets = packetsFor (packetsOf bytes) in
-        ap sendingInRange (t .state) ∙ holding-range (senderOf modeOf rate packets) bytes (ready-sent rate formed packets (sizes bytes))
+        ap canSend (t .state) ∙ holding-range (senderOf modeOf rate packets) bytes (ready-sent rate formed h packets (sizes bytes))
 
--- a fresh one that was not refused is in range
-pub fresh-range : (rate : ℕ) → newNumber rate ≡ 0 → sendingInRange (freshSending rate) ≡ true
-fresh-range rate e = let h = known (ltb rate 6) refl e in transmitted-range rate h (every-history rate h none)
+-- a fresh one that was not refused can send
+pub fresh-range : (rate : ℕ) → newNumber rate ≡ 0 → canSend (freshSending rate) ≡ true
+fresh-range rate e = let h = sent (modeOf rate .sent) refl e in transmitted-range rate h (every-history rate h none)
   where
-    known : (t : Bool) → ltb rate 6 ≡ t → _≡_ {A = ℕ} (pick t 0 6) 0 → rate < 6
-    known true f e = ltb-true rate 6 f
-    known false f e = absurd (omega arith)
+    sent : (t : Bool) → modeOf rate .sent ≡ t → _≡_ {A = ℕ} (pick t 0 6) 0 → modeOf rate .sent ≡ true
+    sent true f e = f
+    sent false f e = absurd (omega arith)

@@ -1,4 +1,4 @@
--- For callers: with room enough nothing is refused, and a sending in range stays so.
+-- For callers: with room enough nothing is refused, and a sending that can send stays so.
 -- Assumes nothing.
 use mathlib.Core.Path.{_≡_, refl, ap, _∙_}
 use mathlib.Core.Bool.{true}
@@ -14,14 +14,14 @@ use Rattle.sender.specs.declared.Sender.{Sender}
 use Rattle.sender.proofs.Stages.{range-test}
 use Rattle.sender.proofs.Ready.{Ready, ready-range}
 use Rattle.sender.proofs.History.{ready-calls}
-use Rattle.sending.specs.Sending.{holding, heldBytes, sendingInRange, restOf, wholePackets, feedNumber, Roomy, FeedsAll, Feeds, refused, fed}
+use Rattle.sending.specs.Sending.{holding, heldBytes, canSend, restOf, wholePackets, feedNumber, Roomy, FeedsAll, Feeds, refused, fed}
 use Rattle.sending.specs.declared.Sending.{Sending}
-use Rattle.sending.proofs.Pieces.{length-rest, sending-range}
+use Rattle.sending.proofs.Pieces.{length-rest, sending-range, sending-sent}
 use Rattle.sending.proofs.Progress.{ready-of}
 
-pub holding-range : (s : Sender) (bytes : List ℕ) → Ready modeOf s → sendingInRange (holding s (restOf bytes)) ≡ true
+pub holding-range : (s : Sender) (bytes : List ℕ) → Ready modeOf s → canSend (holding s (restOf bytes)) ≡ true
 holding-range s bytes g =
-    simp (range-test modeOf s (ready-range s g), lt-ltb (length (restOf bytes)) 188 (omega (arith, length-rest bytes)))
+    simp (range-test modeOf s (ready-range s g), lt-ltb (length (restOf bytes)) 188 (omega (arith, length-rest bytes)), g .sent)
 
 module _ {w : Sending} {piece room answers : List ℕ} {number count packets : ℕ} {next : Sending} {left told : List ℕ}
     (f : Feeds w piece room answers number count packets next left told) where
@@ -29,7 +29,7 @@ module _ {w : Sending} {piece room answers : List ℕ} {number count packets : �
   feeds-all g = by f
     where
       none : feedNumber w piece room answers ≡ 0
-      none = simp (g .range, le-ltb _ _ (g .symbols), le-ltb _ _ (g .answers-fit))
+      none = simp (g .range, g .sent, le-ltb _ _ (g .symbols), le-ltb _ _ (g .answers-fit))
 
       by : {n c k : ℕ} {x : Sending} {l t : List ℕ} → Feeds w piece room answers n c k x l t → FeedsAll w piece room answers 0 c k x l t
       by (refused e z) = absurd (z (e ∙ none))
@@ -44,9 +44,10 @@ module _ {w : Sending} {piece room answers : List ℕ} {number count packets : �
 
 -- its arrays are whole
 pub fed-range : {w : Sending} {piece room answers : List ℕ} {number count packets : ℕ} {next : Sending} {left told : List ℕ}
-    → length (w .sender .interleaver .branches .cells) ≡ 1122 → length (w .sender .interleaver .branches .positions) ≡ 12 → sendingInRange w ≡ true
-    → FeedsAll w piece room answers number count packets next left told → sendingInRange next ≡ true
+    → length (w .sender .interleaver .branches .cells) ≡ 1122 → length (w .sender .interleaver .branches .positions) ≡ 12 → canSend w ≡ true
+    → FeedsAll w piece room answers number count packets next left told → canSend next ≡ true
 fed-range {w} {piece} n m e f =
-    let g = ready-of (w .sender) n m (sending-range w e .0) in
+    let r = sending-sent w e in
+    let g = ready-of (w .sender) n m (sending-range w (r .0) .0) (r .1) in
     let packets = packetsFor (wholePackets w piece) in
-    ap sendingInRange (f .sending) ∙ holding-range (callsSender modeOf (w .sender) packets) (heldBytes w ++ piece) (ready-calls (w .sender) packets g)
+    ap canSend (f .sending) ∙ holding-range (callsSender modeOf (w .sender) packets) (heldBytes w ++ piece) (ready-calls (w .sender) packets g)

@@ -14,10 +14,10 @@ use Rattle.common.proofs.Choice.{both-true}
 use Rattle.common.proofs.Lists.{put-after}
 use Rattle.randomizer.specs.Stream.{inPackets}
 use Rattle.puncturing.specs.Mode.{modeOf}
-use Rattle.sender.specs.Send.{inRange}
+use Rattle.sender.specs.Send.{inRange, isSent}
 use Rattle.transmission.specs.Run.{packetsOf}
 use Rattle.transmission.proofs.Buffers.{packets-more}
-use Rattle.sending.specs.Sending.{padded, sendingInRange, restOf}
+use Rattle.sending.specs.Sending.{padded, sendingInRange, canSend, restOf}
 use Rattle.sending.specs.declared.Sending.{Sending}
 
 -- ---- the rest of some bytes
@@ -111,3 +111,6 @@ pub sending-range : (w : Sending) → sendingInRange w ≡ true → (inRange mod
 sending-range w e =
     let p = both-true (inRange modeOf (w .sender)) (ltb (w .held) 188) e in
     (p .0, ltb-true (w .held) 188 (p .1))
+
+pub sending-sent : (w : Sending) → canSend w ≡ true → (sendingInRange w ≡ true) × (isSent modeOf (w .sender) ≡ true)
+sending-sent w e = both-true (sendingInRange w) (isSent modeOf (w .sender)) e

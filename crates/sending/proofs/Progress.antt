@@ -13,7 +13,7 @@ use lib.Seq.{take-all, take-at, drop-at, drop-drop, drop-cons, set-at, take-appe
 use Rattle.puncturing.specs.Mode.{modeOf}
 use Rattle.inner_code.proofs.Coder as range
 use Rattle.sender.specs.Input.{isInput, packetFor, packetsFor, sentNumber}
-use Rattle.sender.specs.Send.{inRange, sentSymbols, sentCount, senderAfter, Sends}
+use Rattle.sender.specs.Send.{inRange, isSent, sentSymbols, sentCount, senderAfter, Sends}
 use Rattle.sender.specs.Calls.{callsSymbols, callsSender}
 use Rattle.sender.specs.declared.Sender.{Sender}
 use Rattle.sender.proofs.Inputs.{input-test, packet-size}
@@ -28,14 +28,15 @@ use Rattle.sending.specs.declared.Sending.{Sending}
 use Rattle.sending.proofs.Pieces.{rest-few, rest-more, packets-few}
 
 -- a sender in range whose arrays are whole
-pub ready-of : (s : Sender) → length (s .interleaver .branches .cells) ≡ 1122 → length (s .interleaver .branches .positions) ≡ 12 → inRange modeOf s ≡ true → Ready modeOf s
-ready-of s n m e =
+pub ready-of : (s : Sender) → length (s .interleaver .branches .cells) ≡ 1122 → length (s .interleaver .branches .positions) ≡ 12 → inRange modeOf s ≡ true → isSent modeOf s ≡ true → Ready modeOf s
+ready-of s n m e q =
     let g = in-range modeOf s e in
     let c = range.in-range (s .coder) (g .coder) in
     record {
       place = g .place;
       branches = record { cells = n; positions = m; range = g .branches };
       formed = range.formed (s .coder) c;
+      sent = q;
       coder = c;
     }
 

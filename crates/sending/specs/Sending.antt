@@ -9,7 +9,7 @@ use lib.ListN.{length, take, drop, replicate}
 use Rattle.common.specs.Choice.{pick}
 use Rattle.puncturing.specs.Mode.{modeOf}
 use Rattle.sender.specs.Input.{packetsFor, sentNumber}
-use Rattle.sender.specs.Send.{freshSender, inRange}
+use Rattle.sender.specs.Send.{freshSender, inRange, isSent}
 use Rattle.sender.specs.Calls.{callsSymbols, callsSender}
 use Rattle.sender.specs.declared.Sender.{Sender}
 use Rattle.transmission.specs.Run.{packetsOf}
@@ -34,6 +34,10 @@ freshSending rate = record { sender = freshSender rate; pending = replicate 188 
 abbrev pub sendingInRange : Sending → Bool
 sendingInRange w = pick (inRange modeOf (w .sender)) (ltb (w .held) 188) false
 
+-- and its mode is sent
+abbrev pub canSend : Sending → Bool
+canSend w = pick (sendingInRange w) (isSent modeOf (w .sender)) false
+
 -- the bytes after the last whole packet
 unfoldable pub restOf : List ℕ → List ℕ
 restOf bytes = drop (length bytes - length bytes % 188) bytes
@@ -55,15 +59,17 @@ fedAnswers w piece = map sentNumber (wholePackets w piece)
 abbrev pub fedSending : Sending → List ℕ → Sending
 fedSending w piece = holding (callsSender modeOf (w .sender) (packetsFor (wholePackets w piece))) (restOf (heldBytes w ++ piece))
 
--- 5 for a state out of range, 4 where there is not room for 1,632 symbols, the most that a packet gives, or not a byte for the answer, for each
+-- 5 for a state out of range, 6 for one whose mode is not sent, 4 where there is not room for 1,632 symbols, the most that a packet gives, or not a byte for the answer, for each
 -- packet that is whole; 0 where nothing is refused
 abbrev pub feedNumber : Sending → List ℕ → List ℕ → List ℕ → ℕ
 feedNumber w piece room answers =
-    pick (sendingInRange w) (pick (ltb (length room / 1632) (wholeCount w piece)) 4 (pick (ltb (length answers) (wholeCount w piece)) 4 0)) 5
+    pick (sendingInRange w)
+    (pick (isSent modeOf (w .sender)) (pick (ltb (length room / 1632) (wholeCount w piece)) 4 (pick (ltb (length answers) (wholeCount w piece)) 4 0)) 6) 5
 
 -- what the tests tell
 pub record Roomy (w : Sending) (piece room answers : List ℕ) : Type 0 where
   pub range : sendingInRange w ≡ true
+  pub sent : isSent modeOf (w .sender) ≡ true
   pub symbols : wholeCount w piece ≤ length room / 1632
   pub answers-fit : wholeCount w piece ≤ length answers
 

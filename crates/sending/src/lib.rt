@@ -78,6 +78,17 @@ impl Sending {
                 sending: self,
             };
         }
+        let sender = self.sender;
+        let coder = sender.coder;
+        let rate = coder.rate;
+        if !puncturing::is_sent(rate) {
+            return Fed {
+                answer: Answer::UnknownRate,
+                count: 0,
+                packets: 0,
+                sending: self,
+            };
+        }
         let held = self.held;
         let packets = whole_count(held, piece.len());
         if room.len() / Sending::MOST_SYMBOLS < packets {

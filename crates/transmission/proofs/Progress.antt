@@ -10,6 +10,7 @@ use borrow.Rule.Slice.PartMut.{putMid, midOf}
 use lib.ListN.{length, take, drop, length-append, length-drop, drop-of-length-le}
 use lib.Seq.{take-all, take-at, drop-at, drop-drop}
 use Rattle.puncturing.specs.Mode.{modeOf}
+use Rattle.puncturing.proofs.Places.{sent-known}
 use Rattle.puncturing.proofs.WellFormed.{well-formed}
 use Rattle.sender.specs.Input.{isInput, packetFor, packetsFor}
 use Rattle.sender.specs.Send.{freshSender, sentSymbols, sentCount, senderAfter, Sends}
@@ -32,17 +33,17 @@ pub record Progress (rate : ℕ) (bytes room₀ room : List ℕ) (s : Sender) (a
   pub written : room ≡ front ++ drop count room₀
   pub symbols : front ++ flatten (callsSymbols modeOf s (packetsFor (packetsOf (drop at bytes)))) ≡ runSymbols rate bytes
 
-pub progress-start : (rate : ℕ) (bytes room : List ℕ) (s : Sender) → rate < 6 → length bytes % 188 ≡ 0 → s ≡ freshSender rate
+pub progress-start : (rate : ℕ) (bytes room : List ℕ) (s : Sender) → modeOf rate .sent ≡ true → length bytes % 188 ≡ 0 → s ≡ freshSender rate
     → Progress rate bytes room room s 0 0
 progress-start rate bytes room s h w e = record {
-  ready = subst (Ready modeOf) (sym e) (ready-fresh rate (well-formed rate h));
+  ready = subst (Ready modeOf) (sym e) (ready-fresh rate (well-formed rate (sent-known rate h)) h);
   scanning = scanning-start bytes w;
   front = [];
   counted = refl;
   written = refl;
   symbols =
       ap (λ (x : Sender). flatten (callsSymbols modeOf x (packetsFor (packetsOf bytes)))) e
-      ∙ calls-on-air (packetsFor (packetsOf bytes)) (packet-lengths (packetsOf bytes) (packets-inputs bytes)) modeOf rate (well-formed rate h);
+      ∙ calls-on-air (packetsFor (packetsOf bytes)) (packet-lengths (packetsOf bytes) (packets-inputs bytes)) modeOf rate (well-formed rate (sent-known rate h));
 }
 
 module _ {rate : ℕ} {bytes room₀ room : List ℕ} {s : Sender} {at count : ℕ} (g : Sendable rate bytes room₀) (p : Progress rate bytes room₀ room s at count) where

@@ -3,7 +3,7 @@
 use mathlib.Core.Path.{_≡_}
 use mathlib.Core.Bool.{Bool, true, false}
 use mathlib.Core.List.{List, [], _∷_, _++_}
-use Prim.Native.Nat.{ℕ, _/_, _%_, _≤_, _<_}
+use Prim.Native.Nat.{ℕ, _/_, _%_, _≤_}
 use lib.Dec.{ltb, eqb}
 use lib.ListN.{length, drop}
 use Rattle.common.specs.Choice.{pick}
@@ -27,15 +27,15 @@ runSymbols rate bytes = onAir (modeOf rate) (packetsFor (packetsOf bytes))
 
 -- what the tests tell: all of them can be sent
 pub record Sendable (rate : ℕ) (bytes room : List ℕ) : Type 0 where
-  pub known : rate < 6
+  pub sent : modeOf rate .sent ≡ true
   pub whole : length bytes % 188 ≡ 0
   pub fits : length (runSymbols rate bytes) ≤ length room
 
--- What is refused. A constructor's answer comes first: 6 for another mode. Then, as for one packet, 1 where the bytes make no whole packets,
+-- What is refused. A constructor's answer comes first: 6 for a mode that is not sent. Then, as for one packet, 1 where the bytes make no whole packets,
 -- 4 where the room is too short for all the symbols; 0 where nothing is.
 abbrev pub runRefusal : ℕ → List ℕ → List ℕ → ℕ
 runRefusal rate bytes room =
-    pick (ltb rate 6) (pick (eqb (length bytes % 188) 0) (pick (ltb (length room) (length (runSymbols rate bytes))) 4 0) 1) 6
+    pick (modeOf rate .sent) (pick (eqb (length bytes % 188) 0) (pick (ltb (length room) (length (runSymbols rate bytes))) 4 0) 1) 6
 
 -- the number of the answer: the refusal, or else 15 where a null packet was put in
 abbrev pub runNumber : ℕ → List ℕ → List ℕ → ℕ

@@ -10,6 +10,7 @@ ghost use Rattle.puncturing.specs.Step.{symbolsIn};
 ghost use Rattle.transmission.specs.Run.{packetsOf, synced, runSymbols, Sendable, Runs};
 use answer::Answer;
 use inner_code::InnerCoder;
+use puncturing::is_sent;
 use sender::Sender;
 
 // The bits of a coded block. At 16QAM a third of them is coded, and the place in the pattern is 0 all the same.
@@ -90,7 +91,7 @@ fn send_packets(rate: u8, packets: &[u8], room: &mut [u8]) -> usize
 pub fn send_run(rate: u8, packets: &[u8], room: &mut [u8]) -> Run
     ensures { λ r. ⌜ Runs rate (now (packets .entry)) (now (room .entry)) (numberOf (r .answer)) (r .count) (now (room .exit)) ⌝ }
 {
-    if rate >= 6 {
+    if !is_sent(rate) {
         return Run {
             answer: Answer::UnknownRate,
             count: 0,

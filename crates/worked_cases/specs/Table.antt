@@ -67,7 +67,7 @@ cases =
     ∷ gives (checkBytes unit) coefficients
     -- that last block with its final byte made 00 is no codeword
     ∷ no-codeword damaged
-    -- byte 80 into fresh memory, at the five rates; rate 2 then holds I = 0, at place 2 of its pattern
+    -- byte 80 into fresh memory, at the five rates, the last by the coding that symbols are read by; rate 2 then holds I = 0, at place 2 of its pattern
     ∷ gives (streamed 0) (3 ∷ 2 ∷ 3 ∷ 3 ∷ 0 ∷ 1 ∷ 3 ∷ 0 ∷ [])
     ∷ gives (streamed 1) (3 ∷ 1 ∷ 3 ∷ 0 ∷ 3 ∷ 2 ∷ [])
     ∷ gives (streamed 2) (3 ∷ 1 ∷ 3 ∷ 0 ∷ 3 ∷ [])

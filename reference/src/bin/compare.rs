@@ -5,7 +5,7 @@
 
 use reference::answer::Answer;
 use reference::exports::{expected, library, COUNTS_LENGTH, RESULT_LENGTH};
-use reference::inner_code::InnerCoder;
+use reference::inner_code::{InnerCoder, SENT};
 use reference::inner_decoder::LONGEST;
 use reference::interleaver::Branches;
 use reference::reed_solomon::{check_bytes, encode};
@@ -758,8 +758,8 @@ fn symbols_of(rate: u8, count: usize) -> usize {
 }
 
 fn send_kinds(s: &mut Score) {
-    let kinds = ["send_run at 1/2", "send_run at 2/3", "send_run at 3/4", "send_run at 5/6", "send_run at 7/8", "send_run at 16QAM 3/4"];
-    for (rate, kind) in (0u8..).zip(kinds) {
+    let kinds = ["send_run at 1/2", "send_run at 2/3", "send_run at 3/4", "send_run at 5/6", "send_run at 16QAM 3/4"];
+    for (rate, kind) in SENT.into_iter().zip(kinds) {
         let mut sent = 0;
         s.kind(kind, 60, |s, r, case| {
             // 0 to 49 packets one by one, then longer lists.
@@ -786,7 +786,7 @@ fn send_kinds(s: &mut Score) {
         for n in (0..count).filter(|&n| bad[n]) {
             list[188 * n] = r.not_sync();
         }
-        for rate in 0..6 {
+        for rate in SENT {
             let need = symbols_of(rate, count);
             let room = room_of(r, need);
             let (answer, symbols) = send_run(s, rate, &list, room, vec![0xA5]);
@@ -798,7 +798,7 @@ fn send_kinds(s: &mut Score) {
         // Every mode with each of the other refusals, alone and together.
         let count = 1 + case as usize % 10;
         for rate in [case as u8, case as u8 % 6] {
-            let need = symbols_of(rate % 6, count);
+            let need = symbols_of(if SENT.contains(&rate) { rate } else { 0 }, count);
             let good = packets(r, count);
             let mut wrong = good.clone();
             wrong[188 * r.below(count)] = r.not_sync();

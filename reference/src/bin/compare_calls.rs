@@ -5,6 +5,7 @@
 //!
 //! `compare_calls PROGRAM`, PROGRAM being `target/bin/send_calls`.
 
+use reference::inner_code::SENT;
 use reference::sender::Sender;
 use reference::xorshift::Xorshift;
 use reference::{PACKET_LENGTH, SYNC};
@@ -13,7 +14,7 @@ use std::process::{exit, Command, Stdio};
 
 /// Answer, number of symbols and symbols of each input, by the reference.
 fn expected(rate: u8, inputs: &[Vec<u8>]) -> Vec<u8> {
-    let mut sender = Sender::fresh(rate).ok().expect("one of six modes");
+    let mut sender = Sender::fresh(rate).ok().expect("a mode that is sent");
     let mut out = Vec::new();
     for input in inputs {
         let mut room = [0; 1632];
@@ -62,7 +63,7 @@ fn main() {
     let mut compare = |r: &mut Xorshift, kinds: &[usize]| {
         let list: Vec<Vec<u8>> = kinds.iter().map(|&kind| input(r, kind)).collect();
         kinds.iter().for_each(|&kind| inputs[kind] += 1);
-        for rate in 0..6 {
+        for rate in SENT {
             lists += 1;
             if got(&program, rate, &list) != expected(rate, &list) {
                 different += 1;
@@ -84,6 +85,6 @@ fn main() {
         compare(&mut r, &kinds);
     }
     println!("send, call after call: {lists} lists compared, {different} different");
-    println!("  good, bad, empty inputs and wrong lengths, in each of six modes: {inputs:?}");
+    println!("  good, bad, empty inputs and wrong lengths, in each of five modes: {inputs:?}");
     exit((different > 0) as i32);
 }

@@ -1,7 +1,7 @@
 -- `dvbs_send::main` is safe.
 -- Assumes nothing.
 use mathlib.Core.Path.{ap, sym, _∙_}
-use Rattle.sending.specs.Sending.{sendingInRange}
+use Rattle.sending.specs.Sending.{canSend}
 use Rattle.sending.proofs.History.{fresh-range}
 use borrow.Author.Needs.{needs}
 use Rattle.dvbs_send.proofs.main.Statement.{statement}
@@ -46,7 +46,7 @@ returns-3 c = search needs
 send-requires : tie.Need-send-requires
 send-requires c κs =
     let n = c .before .before .before .new .ensures in
-    ap sendingInRange (n .1) ∙ fresh-range _ (sym (n .0) ∙ sym (c .before .before .number .ensures) ∙ c .before .if4 .left)
+    ap canSend (n .1) ∙ fresh-range _ (sym (n .0) ∙ sym (c .before .before .number .ensures) ∙ c .before .if4 .left)
 
 returns-4 : tie.Need-returns-4
 returns-4 c = search needs

@@ -31,7 +31,7 @@ loop-holds : tie.Need-loop-holds Inv-loop μ-loop
 loop-holds c =
     let s = c .before .before .before .before .before in
     let r = sending-range (s .args .sending) (s .pre .range) in
-    progress-start (s .args .sending) (s .args .piece .now) (s .args .room .now) (s .args .answers .now) (ready-of (s .args .sending .sender) (cells s) (positions s) (r .0)) (r .1)
+    progress-start (s .args .sending) (s .args .piece .now) (s .args .room .now) (s .args .answers .now) (ready-of (s .args .sending .sender) (cells s) (positions s) (r .0) (s .pre .sent)) (r .1)
 
 sub-loop : tie.Need-sub-loop Inv-loop μ-loop
 sub-loop c = search needs

@@ -21,7 +21,7 @@ new-requires c κs = search needs
 loop-holds : tie.Need-loop-holds Inv-loop μ-loop
 loop-holds c =
     let a = c .before .before .before .before in
-    progress-start _ _ _ _ (a .pre .known) (a .pre .whole) (c .before .new .ensures .1)
+    progress-start _ _ _ _ (a .pre .sent) (a .pre .whole) (c .before .new .ensures .1)
 
 add-end : tie.Need-add-end Inv-loop μ-loop
 add-end c = omega (arith, scanning-left (c .before .loop .inv .scanning) (c .loop-test .taken))

@@ -1,9 +1,12 @@
 -- `transmission::send_run` meets its contract.
 -- Assumes nothing.
 use mathlib.Core.Path.{_≡_, refl, sym, ap, _∙_}
-use borrow.Author.Tests.{eq-eqb, ne-eqb, lt-ltb, le-ltb, ltb-false, not-true, not-false}
+use mathlib.Core.Bool.{true}
+use borrow.Author.Tests.{eq-eqb, ne-eqb, ltb-false, not-true, not-false}
 use lib.Dec.{ltb}
 use lib.ListN.{length}
+use Rattle.puncturing.specs.Mode.{modeOf}
+use Rattle.puncturing.proofs.Places.{sent-known}
 use Rattle.transmission.specs.Run.{runSymbols, runRefusal}
 use Rattle.transmission.proofs.Counting.{length-run}
 use Rattle.transmission.proofs.Outcome.{run-refused, run-answered}
@@ -11,48 +14,55 @@ use borrow.Author.Needs.{needs}
 use Rattle.transmission.proofs.send_run.Statement.{statement}
 use Rattle.transmission.proofs.send_run.Tie as tie
 
+is-sent-requires : tie.Need-is-sent-requires
+is-sent-requires c κs = search needs
+
 returns : tie.Need-returns
 returns c =
-    let a = c .before .before .before in
-    run-refused (a .args .rate) (a .args .packets .now) (a .args .room .now) 6 (simp (le-ltb _ _ (c .if1 .taken))) refl
+    let a = c .before .before .before .before in
+    run-refused (a .args .rate) (a .args .packets .now) (a .args .room .now) 6 (simp (sym (c .before .is-sent .ensures) ∙ not-true _ (c .if1 .taken))) refl
+
+-- past the first test
+sent : (c : tie.Else1) → modeOf (c .before .before .before .before .args .rate) .sent ≡ true
+sent c = sym (c .before .is-sent .ensures) ∙ not-false _ (c .if1 .left)
 
 returns-2 : tie.Need-returns-2
 returns-2 c =
-    let a = c .before .before .before .before in
-    run-refused (a .args .rate) (a .args .packets .now) (a .args .room .now) 1 (simp (lt-ltb _ _ (c .before .if1 .left), ne-eqb _ _ (c .if2 .taken))) refl
+    let a = c .before .before .before .before .before in
+    run-refused (a .args .rate) (a .args .packets .now) (a .args .room .now) 1 (simp (sent (c .before), ne-eqb _ _ (c .if2 .taken))) refl
 
 -- the third test
 short : (c : tie.After-is-short)
-    → let a = c .before .before .before .before .before .args in
+    → let a = c .before .before .before .before .before .before .args in
     ltb (length (a .room .now)) (length (runSymbols (a .rate) (a .packets .now))) ≡ c .is-short .result
 short c =
     let e = c .before in
-    let a = e .before .before .before .before .args in
-    ap (ltb (length (a .room .now))) (length-run (a .rate) (e .before .if1 .left) (a .packets .now)) ∙ sym (c .is-short .ensures)
+    let a = e .before .before .before .before .before .args in
+    ap (ltb (length (a .room .now))) (length-run (a .rate) (sent-known (a .rate) (sent (e .before))) (a .packets .now)) ∙ sym (c .is-short .ensures)
 
 is-short-requires : tie.Need-is-short-requires
-is-short-requires c κs = search needs
+is-short-requires c κs = sent-known (c .before .before .before .before .before .args .rate) (sent (c .before))
 
 returns-3 : tie.Need-returns-3
 returns-3 c =
     let e = c .before .before in
-    let a = e .before .before .before .before in
+    let a = e .before .before .before .before .before in
     run-refused (a .args .rate) (a .args .packets .now) (a .args .room .now) 4
-    (simp (lt-ltb _ _ (e .before .if1 .left), eq-eqb _ _ (e .if2 .left), short (c .before) ∙ c .if3 .taken)) refl
+    (simp (sent (e .before), eq-eqb _ _ (e .if2 .left), short (c .before) ∙ c .if3 .taken)) refl
 
 -- past it: nothing is refused
 taken : (c : tie.Else3)
-    → let a = c .before .before .before .before .before .before .args in
+    → let a = c .before .before .before .before .before .before .before .args in
     runRefusal (a .rate) (a .packets .now) (a .room .now) ≡ 0
 taken c =
     let e = c .before .before in
-    simp (lt-ltb _ _ (e .before .if1 .left), eq-eqb _ _ (e .if2 .left), short (c .before) ∙ c .if3 .left)
+    simp (sent (e .before), eq-eqb _ _ (e .if2 .left), short (c .before) ∙ c .if3 .left)
 
 send-packets-requires : tie.Need-send-packets-requires
 send-packets-requires c κs =
     let f = c .before in
     let e = f .before .before in
-    record { known = e .before .if1 .left; whole = e .if2 .left; fits = ltb-false _ _ (short (f .before) ∙ f .if3 .left) }
+    record { sent = sent (e .before); whole = e .if2 .left; fits = ltb-false _ _ (short (f .before) ∙ f .if3 .left) }
 
 is-synced-requires : tie.Need-is-synced-requires
 is-synced-requires c κs = search needs
@@ -64,7 +74,7 @@ returns-4 : tie.Need-returns-4
 returns-4 c =
     let t = c .before .before .before .before in
     let f = t .before .before in
-    let a = f .before .before .before .before .before .before in
+    let a = f .before .before .before .before .before .before .before in
     let r = t .send-packets .ensures in
     run-answered (a .args .rate) (a .args .packets .now) (a .args .room .now) (taken f)
     (sym (simp (sym (c .before .is-synced .ensures) ∙ not-true _ (c .if4 .taken)))) (r .0) (r .1)
@@ -76,7 +86,7 @@ returns-5 : tie.Need-returns-5
 returns-5 c =
     let t = c .before .before .before .before in
     let f = t .before .before in
-    let a = f .before .before .before .before .before .before in
+    let a = f .before .before .before .before .before .before .before in
     let r = t .send-packets .ensures in
     run-answered (a .args .rate) (a .args .packets .now) (a .args .room .now) (taken f)
     (sym (simp (sym (c .before .is-synced .ensures) ∙ not-false _ (c .if4 .left)))) (r .0) (r .1)
@@ -85,6 +95,7 @@ pub send-run-spec : {M : Type 1} → statement M
 send-run-spec =
     tie.close
     (tie.spec
+    is-sent-requires
     returns
     returns-2
     is-short-requires

@@ -4,6 +4,7 @@ use mathlib.Core.Path.{_≡_, refl, sym, _∙_}
 use mathlib.Core.Bool.{true}
 use borrow.Author.Tests.{eq-eqb, ne-eqb, lt-ltb, le-ltb, not-true, not-false}
 use lib.ListN.{length}
+use Rattle.puncturing.specs.Mode.{modeOf}
 use Rattle.inner_code.specs.Step.{inRange}
 use Rattle.inner_code.specs.Encode.{blockSymbols}
 use Rattle.inner_code.proofs.Coder.{in-range, length-block}
@@ -21,43 +22,57 @@ returns c = simp (sym (c .before .in-range .ensures) ∙ not-true _ (c .if1 .tak
 good : (c : tie.Else1) → inRange (c .before .before .before .before .args .self) ≡ true
 good c = sym (c .before .in-range .ensures) ∙ not-false _ (c .if1 .left)
 
--- how many symbols the block gives
-count : (c : tie.After-symbol-count)
-    → let a = c .before .before .before .before .before .before .args in
-    length (blockSymbols (a .self) (a .block .now)) ≡ c .symbol-count .result
-count c =
-    let a = c .before .before .before .before .before .before .args in
-    length-block (a .self) (a .block .now) (in-range (a .self) (good (c .before .before))) (c .before .if2 .left)
-    ∙ sym (c .symbol-count .ensures ∙ simp (good (c .before .before)))
+is-sent-requires : tie.Need-is-sent-requires
+is-sent-requires c κs = search needs
 
 returns-2 : tie.Need-returns-2
-returns-2 c = simp (good (c .before), ne-eqb _ _ (c .if2 .taken)) (refl, refl, refl, refl)
+returns-2 c = simp (good (c .before .before), sym (c .before .is-sent .ensures) ∙ not-true _ (c .if2 .taken)) (refl, refl, refl, refl)
+
+-- past the second test
+sent : (c : tie.Else2) → modeOf (c .before .before .before .before .before .before .args .self .rate) .sent ≡ true
+sent c = sym (c .before .is-sent .ensures) ∙ not-false _ (c .if2 .left)
+
+-- how many symbols the block gives
+count : (c : tie.After-symbol-count)
+    → let a = c .before .before .before .before .before .before .before .before .args in
+    length (blockSymbols (a .self) (a .block .now)) ≡ c .symbol-count .result
+count c =
+    let a = c .before .before .before .before .before .before .before .before .args in
+    let g = good (c .before .before .before .before) in
+    length-block (a .self) (a .block .now) (in-range (a .self) g) (c .before .if3 .left) ∙ sym (c .symbol-count .ensures ∙ simp g)
+
+returns-3 : tie.Need-returns-3
+returns-3 c = simp (good (c .before .before .before), sent (c .before), ne-eqb _ _ (c .if3 .taken)) (refl, refl, refl, refl)
 
 symbol-count-requires : tie.Need-symbol-count-requires
 symbol-count-requires c κs = search needs
 
-returns-3 : tie.Need-returns-3
-returns-3 c =
+returns-4 : tie.Need-returns-4
+returns-4 c =
     let b = c .before in
-    simp (good (b .before .before), eq-eqb _ _ (b .before .if2 .left), lt-ltb _ _ (rw (← count b) at (c .if3 .taken))) (refl, refl, refl, refl)
+    simp
+    (good (b .before .before .before .before), sent (b .before .before), eq-eqb _ _ (b .before .if3 .left), lt-ltb _ _ (rw (← count b) at (c .if4 .taken)))
+    (refl, refl, refl, refl)
 
 encode-block-requires : tie.Need-encode-block-requires
 encode-block-requires c κs =
     let b = c .before .before in (
-      in-range (b .before .before .before .before .before .before .args .self) (good (b .before .before)),
-      b .before .if2 .left,
-      rw (count b) (c .before .if3 .left),
+      in-range (b .before .before .before .before .before .before .before .before .args .self) (good (b .before .before .before .before)),
+      b .before .if3 .left,
+      rw (count b) (c .before .if4 .left),
     )
 
 same-length : tie.Need-same-length
 same-length c = search needs
 
-returns-4 : tie.Need-returns-4
-returns-4 c =
+returns-5 : tie.Need-returns-5
+returns-5 c =
     let e = c .before .before .before .before in
     let b = e .before in
     let r = c .before .before .encode-block .ensures in
-    simp (good (b .before .before), eq-eqb _ _ (b .before .if2 .left), le-ltb _ _ (rw (← count b) at (e .if3 .left))) (r .0, r .1, r .2, r .3)
+    simp
+    (good (b .before .before .before .before), sent (b .before .before), eq-eqb _ _ (b .before .if3 .left), le-ltb _ _ (rw (← count b) at (e .if4 .left)))
+    (r .0, r .1, r .2, r .3)
 
 pub encode-spec : {M : Type 1} → statement M
 encode-spec =
@@ -65,9 +80,11 @@ encode-spec =
     (tie.spec
     in-range-requires
     returns
+    is-sent-requires
     returns-2
-    symbol-count-requires
     returns-3
+    symbol-count-requires
+    returns-4
     encode-block-requires
     same-length
-    returns-4)
+    returns-5)

@@ -1,12 +1,13 @@
 -- `inner_code::InnerCoder::in_range` meets its contract.
 -- Assumes nothing.
-use mathlib.Core.Path.{_≡_, refl}
+use mathlib.Core.Path.{_≡_, refl, ap}
 use mathlib.Core.Bool.{Bool, true, false}
 use native.Mathlib.Omega.{arith}
 use borrow.Author.Needs.{needs}
 use borrow.Author.Tests.{lt-ltb, le-ltb}
 use lib.Dec.{ltb}
 use Rattle.common.specs.Choice.{pick}
+use Rattle.puncturing.specs.Mode.{Mode}
 use Rattle.puncturing.specs.Step.{patternLength}
 use Rattle.puncturing.proofs.Places.{outside}
 use Rattle.inner_code.specs.Step.{inRangeBy}
@@ -18,7 +19,7 @@ returns : tie.Need-returns
 unfolding inRangeBy
 returns c =
     let a = c .before .args .self in
-    let z = outside (a .rate) (c .if1 .taken) in
+    let z = ap (λ (m : Mode). m .bits) (outside (a .rate) (c .if1 .taken)) in
     simp (le-ltb (a .place) (patternLength (a .rate)) (omega arith)) (either (ltb (a .memory) 64))
   where
     either : (t : Bool) → false ≡ pick t false false

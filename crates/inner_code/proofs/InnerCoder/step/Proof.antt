@@ -6,6 +6,7 @@ use Prim.Native.Nat.{_<_}
 use native.Mathlib.Omega.{arith}
 use borrow.Author.Tests.{not-true, not-false}
 use Rattle.convolutional_code.specs.Code.{tapsX, tapsY, coded, nextMemory}
+use Rattle.puncturing.specs.Mode.{modeOf}
 use Rattle.puncturing.specs.Run.{punctureStep}
 use Rattle.puncturing.proofs.Steps.{held-le}
 use Rattle.inner_code.specs.Step.{inRange}
@@ -21,22 +22,32 @@ in-range-requires c κs = search needs
 returns : tie.Need-returns
 returns c = simp (sym (c .before .in-range .ensures) ∙ not-true _ (c .if1 .taken)) (refl, refl, refl)
 
--- past the test
+-- past the first test
 good : (c : tie.Else1) → inRange (c .before .before .args .self) ≡ true
 good c = sym (c .before .in-range .ensures) ∙ not-false _ (c .if1 .left)
+
+is-sent-requires : tie.Need-is-sent-requires
+is-sent-requires c κs = search needs
+
+returns-2 : tie.Need-returns-2
+returns-2 c = simp (good (c .before .before), sym (c .before .is-sent .ensures) ∙ not-true _ (c .if2 .taken)) (refl, refl, refl)
+
+-- past the second test
+sent : (c : tie.Else2) → modeOf (c .before .before .before .before .args .self .rate) .sent ≡ true
+sent c = sym (c .before .is-sent .ensures) ∙ not-false _ (c .if2 .left)
 
 bit-small : (b : Bool) → bitValue b < 2
 bit-small true = omega arith
 bit-small false = omega arith
 
 small : (c : tie.After-bit-value) → c .bit-value .result < 2
-small c = rw (c .bit-value .ensures) (bit-small (c .before .before .before .args .bit))
+small c = rw (c .bit-value .ensures) (bit-small (c .before .before .before .before .before .args .bit))
 
 bit-value-requires : tie.Need-bit-value-requires
 bit-value-requires c κs = search needs
 
 next-memory-requires : tie.Need-next-memory-requires
-next-memory-requires c κs = (in-range (c .before .before .before .args .self) (good (c .before)) .memory, small c)
+next-memory-requires c κs = (in-range (c .before .before .before .before .before .args .self) (good (c .before .before .before)) .memory, small c)
 
 x-of-requires : tie.Need-x-of-requires
 x-of-requires c κs = small (c .before)
@@ -46,8 +57,8 @@ y-of-requires c κs = small (c .before .before)
 
 puncture-requires : tie.Need-puncture-requires
 puncture-requires c κs =
-    let a = c .before .before .before .before .before .before .args .self in
-    let g = in-range a (good (c .before .before .before .before)) in (
+    let a = c .before .before .before .before .before .before .before .before .args .self in
+    let g = in-range a (good (c .before .before .before .before .before .before)) in (
       rate-known a g,
       g .place,
       omega (arith, g .held, held-le (a .rate) (a .place) (rate-known a g) (g .place)),
@@ -55,9 +66,9 @@ puncture-requires c κs =
       rw (c .y-of .ensures) (omega arith),
     )
 
-returns-2 : tie.Need-returns-2
-returns-2 c =
-    let a = c .before .before .before .before .before .before .before .args .self in
+returns-3 : tie.Need-returns-3
+returns-3 c =
+    let a = c .before .before .before .before .before .before .before .before .before .args .self in
     let y = c .before in
     let m = y .before .before in
     let b = m .before .bit-value .ensures in
@@ -65,7 +76,7 @@ returns-2 c =
     let ey = y .y-of .ensures ∙ ap (coded tapsY (a .memory)) b in
     let em = m .next-memory .ensures ∙ ap (nextMemory (a .memory)) b in
     let e = c .puncture .ensures ∙ ap₂ (punctureStep (a .rate) (a .place) (a .held)) ex ey in
-    simp (good (c .before .before .before .before .before)) (refl, λ i. record { rate = a .rate; memory = em i; place = e i .place; held = e i .held }, λ i. e i .symbol)
+    simp (good (c .before .before .before .before .before .before .before), sent (c .before .before .before .before .before)) (refl, λ i. record { rate = a .rate; memory = em i; place = e i .place; held = e i .held }, λ i. e i .symbol)
 
 pub step-spec : {M : Type 1} → statement M
 step-spec =
@@ -73,9 +84,11 @@ step-spec =
     (tie.spec
     in-range-requires
     returns
+    is-sent-requires
+    returns-2
     bit-value-requires
     next-memory-requires
     x-of-requires
     y-of-requires
     puncture-requires
-    returns-2)
+    returns-3)

@@ -6,6 +6,8 @@ use mathlib.Core.List.{List}
 use Prim.Native.Nat.{ℕ, _<_}
 use native.Mathlib.Omega.{arith}
 use borrow.Author.Tests.{lt-ltb, le-ltb, not-true, not-false}
+use Rattle.puncturing.specs.Mode.{modeOf}
+use Rattle.sender.specs.Send.{isSent}
 use Rattle.sending.specs.Sending.{sendingInRange, feedNumber, Roomy, Feeds, refused, fed}
 use Rattle.sending.specs.declared.Sending.{Sending}
 use Rattle.sending.proofs.Pieces.{sending-range}
@@ -29,34 +31,52 @@ returns c =
 good : (c : tie.Else1) → sendingInRange (c .before .before .before .before .before .args .self) ≡ true
 good c = sym (c .before .in-range .ensures) ∙ not-false _ (c .if1 .left)
 
-whole-count-requires : tie.Need-whole-count-requires
-whole-count-requires c κs = sending-range (c .before .before .before .before .before .args .self) (good c) .1
+is-sent-requires : tie.Need-is-sent-requires
+is-sent-requires c κs = search needs
 
 returns-2 : tie.Need-returns-2
 returns-2 c =
-    let e = c .before .before in
+    let e = c .before .before .before .before in
     let s = e .before .before .before .before .before in
-    refuse (s .args .self) (s .args .piece .now) (s .args .room .now) (s .args .answers .now) 4
-    (simp (good e, lt-ltb _ _ (rw (c .before .whole-count .ensures) at (c .if2 .taken)))) (omega arith)
+    refuse (s .args .self) (s .args .piece .now) (s .args .room .now) (s .args .answers .now) 6
+    (simp (good e, sym (c .before .is-sent .ensures) ∙ not-true _ (c .if2 .taken))) (omega arith)
+
+-- past the second
+sent : (c : tie.Else2) → isSent modeOf (c .before .before .before .before .before .before .before .before .before .args .self .sender) ≡ true
+sent c = sym (c .before .is-sent .ensures) ∙ not-false _ (c .if2 .left)
+
+ranged : (c : tie.Else2) → sendingInRange (c .before .before .before .before .before .before .before .before .before .args .self) ≡ true
+ranged c = good (c .before .before .before .before)
+
+whole-count-requires : tie.Need-whole-count-requires
+whole-count-requires c κs = sending-range (c .before .before .before .before .before .before .before .before .before .args .self) (ranged c) .1
 
 returns-3 : tie.Need-returns-3
 returns-3 c =
+    let e = c .before .before in
+    let s = e .before .before .before .before .before .before .before .before .before in
+    refuse (s .args .self) (s .args .piece .now) (s .args .room .now) (s .args .answers .now) 4
+    (simp (ranged e, sent e, lt-ltb _ _ (rw (c .before .whole-count .ensures) at (c .if3 .taken)))) (omega arith)
+
+returns-4 : tie.Need-returns-4
+returns-4 c =
     let n = c .before .before in
     let e = n .before in
-    let s = e .before .before .before .before .before in
+    let s = e .before .before .before .before .before .before .before .before .before in
     refuse (s .args .self) (s .args .piece .now) (s .args .room .now) (s .args .answers .now) 4
-    (simp (good e, le-ltb _ _ (rw (n .whole-count .ensures) at (c .before .if2 .left)), lt-ltb _ _ (rw (n .whole-count .ensures) at (c .if3 .taken)))) (omega arith)
+    (simp (ranged e, sent e, le-ltb _ _ (rw (n .whole-count .ensures) at (c .before .if3 .left)), lt-ltb _ _ (rw (n .whole-count .ensures) at (c .if4 .taken)))) (omega arith)
 
 -- past the others
-roomy : (c : tie.Else3)
-    → let a = c .before .before .before .before .before .before .before .before .args in
+roomy : (c : tie.Else4)
+    → let a = c .before .before .before .before .before .before .before .before .before .before .before .before .args in
     Roomy (a .self) (a .piece .now) (a .room .now) (a .answers .now)
 roomy c =
     let n = c .before .before in
     record {
-      range = good (n .before);
-      symbols = rw (n .whole-count .ensures) at (c .before .if2 .left);
-      answers-fit = rw (n .whole-count .ensures) at (c .if3 .left);
+      range = ranged (n .before);
+      sent = sent (n .before);
+      symbols = rw (n .whole-count .ensures) at (c .before .if3 .left);
+      answers-fit = rw (n .whole-count .ensures) at (c .if4 .left);
     }
 
 send-whole-requires : tie.Need-send-whole-requires
@@ -68,12 +88,12 @@ same-length c = search needs
 same-length-2 : tie.Need-same-length-2
 same-length-2 c = search needs
 
-returns-4 : tie.Need-returns-4
-returns-4 c =
+returns-5 : tie.Need-returns-5
+returns-5 c =
     let r = c .before .before .before .before in
     let d = r .before .before .before in
     let g = roomy d in
-    fed (simp (g .range, le-ltb _ _ (g .symbols), le-ltb _ _ (g .answers-fit))) (r .send-whole .ensures)
+    fed (simp (g .range, g .sent, le-ltb _ _ (g .symbols), le-ltb _ _ (g .answers-fit))) (r .send-whole .ensures)
 
 pub feed-spec : {M : Type 1} → statement M
 feed-spec =
@@ -81,10 +101,12 @@ feed-spec =
     (tie.spec
     in-range-requires
     returns
-    whole-count-requires
+    is-sent-requires
     returns-2
+    whole-count-requires
     returns-3
+    returns-4
     send-whole-requires
     same-length
     same-length-2
-    returns-4)
+    returns-5)
