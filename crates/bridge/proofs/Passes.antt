@@ -29,16 +29,16 @@ pub record AsKept (s : Receiver) (blocks : List (List ℕ)) (numbers : List ℕ)
 pub pass-kept : {state last : List ℕ} {blocks : List (List ℕ)} {numbers : List ℕ} {packets : List (List ℕ)} (s : Receiver) → StandsFor state s
     → BridgePass state blocks numbers packets last → AsKept s blocks numbers packets last
 pass-kept s h none = record { last = s; calls = kept.none; stands = h }
-pass-kept s h (call block room r after exit l (wrong-length n q a x) rest) = absurd (n (h .size))
-pass-kept s h (call block room r after exit l (no-state n f q a x) rest) = absurd (f s h)
-pass-kept s h (call {blocks = blocks} {numbers = numbers} {packets = packets} block room r after exit l (as-receiver t k received g q a m) rest) =
+pass-kept s h (call block output r after exit l (wrong-length n q a x) rest) = absurd (n (h .size))
+pass-kept s h (call block output r after exit l (no-state n f q a x) rest) = absurd (f s h)
+pass-kept s h (call {blocks = blocks} {numbers = numbers} {packets = packets} block output r after exit l (as-receiver t k received g q a m) rest) =
     let w = pass-kept (received .receiver) m rest in
-    let own = subst (λ (x : Receiver). Receives x block room received exit) (one-receiver _ t s k h) g in
+    let own = subst (λ (x : Receiver). Receives x block output received exit) (one-receiver _ t s k h) g in
     record {
       last = w .last;
       calls =
           subst (λ (n : ℕ). Kept s (block ∷ blocks) (n ∷ numbers) (pick (eqb n 0) (take 188 exit ∷ []) [] ++ packets) (w .last)) (sym q)
-          (kept.call block room exit received l own (w .calls));
+          (kept.call block output exit received l own (w .calls));
       stands = w .stands;
     }
 

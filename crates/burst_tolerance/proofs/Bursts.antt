@@ -1,5 +1,5 @@
--- What a burst may do: where the wrong bytes of every 2,448 lie within 96, a receiver fresh at any block of a sender repairs every block
--- to what was sent and gives every packet from the first start of a group on. And a block with nine wrong bytes is not so repaired.
+-- What a burst may do: where the wrong bytes of every 2,448 lie within 96, a receiver fresh at any block of a sender corrects every block
+-- to what was sent and gives every packet from the first start of a group on. And a block with nine wrong bytes is not so corrected.
 -- Assumes nothing.
 use mathlib.Core.Path.{_≡_, refl, sym, ap, ap₂, _∙_, subst}
 use mathlib.Core.Bool.{Bool, true, false}
@@ -29,7 +29,7 @@ use Rattle.interleaver.proofs.Blocks.{length-flatten}
 use Rattle.group_sync.specs.Stream.{beforeGroup}
 use Rattle.reception_counts.specs.declared.Counts.{Counts}
 use Rattle.receiver.specs.Receive.{freshReceiver, Unmarked, delayedBlock}
-use Rattle.receiver.specs.Run.{Call, answerOf, after, Calls, afterCalls, history, acceptedBy, overAccepted, blocksOf, answers, Plain, Roomy}
+use Rattle.receiver.specs.Run.{Call, answerOf, after, Calls, afterCalls, history, acceptedBy, overAccepted, blocksOf, answers, Plain, OutputFits}
 use Rattle.receiver.specs.Begun.{lefts, BegunAt}
 use Rattle.receiver.specs.Kept.{Kept}
 use Rattle.receiver.specs.declared.Receiver.{Receiver}
@@ -160,15 +160,15 @@ left-near (c ∷ cs) s u z pl (suc i) h =
 -- ---- the stream
 
 module _ (packets : List (List ℕ)) (ws : All Packet packets) (m : ℕ) (cs : List Call) (h : m + length cs ≤ length packets)
-    (l : length cs ≤ 4294967295) (bs : All (Length 204) (blocksOf cs)) (pl : All Plain cs) (rs : All Roomy cs) (ds : Calls freshReceiver cs) where
+    (l : length cs ≤ 4294967295) (bs : All (Length 204) (blocksOf cs)) (pl : All Plain cs) (rs : All OutputFits cs) (ds : Calls freshReceiver cs) where
   abbrev coded : List (List ℕ)
   coded = map encoded (randomizedStream packets)
 
   calls : Unrefused freshReceiver cs
   unfolding freshReceiver
-  calls = record { sound = sound-fresh; most = omega arith; sizes = bs; marked = plain-marked cs pl; rooms = rs; decodes = ds }
+  calls = record { sound = sound-fresh; most = omega arith; sizes = bs; marked = plain-marked cs pl; outputs = rs; decodes = ds }
 
-  -- the block that call i + 12 repairs, and the one sent
+  -- the block that call i + 12 corrects, and the one sent
   wrong-is : (i : ℕ) → i + 11 < length cs
       → differ (getD (drop 11 (run Receiving fresh (blocksOf cs))) i []) (getD (drop m coded) i [])
       ≡ wrongIn (sentBytes packets m) (receivedBytes cs) i
@@ -177,7 +177,7 @@ module _ (packets : List (List ℕ)) (ws : All Packet packets) (m : ℕ) (cs : L
   many : length (run Receiving fresh (blocksOf cs)) ≡ length cs
   many = length-run Receiving fresh (blocksOf cs) ∙ blocks-count cs
 
-  -- where the answers are those of a stream begun at block m, and every block was repaired
+  -- where the answers are those of a stream begun at block m, and every block was corrected
   module _ (begun : BegunAt m packets cs) where
     abbrev late : List ℕ
     late = replicate (beforeGroup m) 10 ++ replicate (length cs) 0
@@ -207,7 +207,7 @@ module _ (packets : List (List ℕ)) (ws : All Packet packets) (m : ℕ) (cs : L
         ∙ calls-changed cs freshReceiver calls
         ∙ ap (λ (ns : List ℕ). changedIn ns (run Receiving fresh (blocksOf cs)) (lefts cs)) (begun .answered)
         ∙ changed-filling 11 (length cs) late (run Receiving fresh (blocksOf cs)) (lefts cs) (omega (arith, many)) (omega (arith, lefts-count cs))
-        ∙ ap (changedIn (take (length cs - 11) late) (drop 11 (run Receiving fresh (blocksOf cs)))) (lefts-drop 11 cs ∙ begun .repaired)
+        ∙ ap (changedIn (take (length cs - 11) late) (drop 11 (run Receiving fresh (blocksOf cs)))) (lefts-drop 11 cs ∙ begun .corrected)
         ∙ late-changed
 
   -- what a burst may do
@@ -223,11 +223,11 @@ module _ (packets : List (List ℕ)) (ws : All Packet packets) (m : ℕ) (cs : L
       begun : BegunAt m packets cs
       begun = near-received packets ws m cs calls pl (coded-nears packets ws m cs h each)
 
-  -- a block with more wrong bytes is not repaired to what was sent
-  pub never-repaired : (p : ℕ) → p + 11 < length cs → 8 < wrongIn (sentBytes packets m) (receivedBytes cs) p
+  -- a block with more wrong bytes is not corrected to what was sent
+  pub never-corrected : (p : ℕ) → p + 11 < length cs → 8 < wrongIn (sentBytes packets m) (receivedBytes cs) p
       → getD (lefts cs) (p + 11) [] ≡ getD (drop m coded) p [] → ⊥
   unfolding freshReceiver
-  never-repaired p k w e =
+  never-corrected p k w e =
       let i : 11 + p ≡ p + 11 = omega arith in
       let a : getD (drop 11 (run Receiving fresh (blocksOf cs))) p [] ≡ getD (run Receiving fresh (blocksOf cs)) (p + 11) [] =
       getD-drop 11 (run Receiving fresh (blocksOf cs)) p [] ∙ ap (λ (j : ℕ). getD (run Receiving fresh (blocksOf cs)) j []) i in
@@ -245,7 +245,7 @@ burst-promised packets ws m blocks h l bs b numbers given last k =
     let c = kept-calls k in
     let n : length (c .calls) ≡ length blocks = sym (blocks-count (c .calls)) ∙ ap length (c .lent) in
     let t =
-    burst-received packets ws m (c .calls) (omega arith) (omega arith) (subst (All (Length 204)) (sym (c .lent)) bs) (c .plain) (c .roomy) (c .decodes)
+    burst-received packets ws m (c .calls) (omega arith) (omega arith) (subst (All (Length 204)) (sym (c .lent)) bs) (c .plain) (c .output-fits) (c .decodes)
     (subst (λ (x : List (List ℕ)). Bursts (sentBytes packets m) (flatten x)) (sym (c .lent)) b) in
     record {
       answered =

@@ -41,7 +41,7 @@ Bursts sent received = (a n : ℕ) → n ≤ span → a + n ≤ length received 
 
 -- ---- what is promised
 
--- how many bytes of the block that call p + 12 repairs are wrong
+-- how many bytes of the block that call p + 12 corrects are wrong
 abbrev pub wrongIn : List ℕ → List ℕ → ℕ → ℕ
 wrongIn sent received p = differ (gathered received p) (gathered sent p)
 
@@ -50,7 +50,7 @@ abbrev pub wrongBytes : List ℕ → List ℕ → ℕ → ℕ → ℕ
 wrongBytes sent received p zero = 0
 wrongBytes sent received p (suc n) = wrongIn sent received p + wrongBytes sent received (p + 1) n
 
--- A receiver fresh at block m of the sender repairs every block after the eleven to what was sent, and gives every packet from the first
+-- A receiver fresh at block m of the sender corrects every block after the eleven to what was sent, and gives every packet from the first
 -- start of a group on. So it accepts every block after the eleven, and changed is the number of wrong bytes in them.
 pub record Tolerated (m : ℕ) (packets : List (List ℕ)) (cs : List Call) : Type 0 where
   pub begun : BegunAt m packets cs

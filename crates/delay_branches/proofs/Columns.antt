@@ -19,7 +19,7 @@ pub getD-column : (j : ℕ) (block : List ℕ) (k : ℕ) → k < 17 → getD (co
 unfolding column
 getD-column j block k h = getD-listOf 17 (λ i. getD block (12 * i + j) 0) 0 k h
 
--- k of the bytes of branch j are written; r is the room now
+-- k of the bytes of branch j are written; r is the output now
 pub record Placing (j : ℕ) (bs d : List ℕ) (r : List ℕ) (k : ℕ) : Type 0 where
   pub rest : placed (12 * k + j) (drop k bs) r ≡ placed j bs d
   pub same : length r ≡ length d

@@ -12,5 +12,5 @@ column j block = listOf 17 (λ k. getD block (12 * k + j) 0)
 
 -- the output switch: bytes put into a list, the first at place n and each twelve places on
 unfoldable pub placed : ℕ → List ℕ → List ℕ → List ℕ
-placed n [] room = room
-placed n (b ∷ bs) room = placed (n + 12) bs (set room n b)
+placed n [] output = output
+placed n (b ∷ bs) output = placed (n + 12) bs (set output n b)

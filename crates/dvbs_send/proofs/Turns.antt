@@ -8,7 +8,7 @@ use native.Mathlib.Omega.{arith}
 use lib.IntN.{ℤ}
 use lib.ListN.{length, take, drop, length-take, length-append}
 use Rattle.io.specs.Counts.{clamped}
-use Rattle.sending.specs.Sending.{canSend, fedSymbols, Roomy, FeedsAll, Feeds}
+use Rattle.sending.specs.Sending.{canSend, fedSymbols, OutputFits, FeedsAll, Feeds}
 use Rattle.sending.specs.declared.Sending.{Sending}
 use Rattle.sending.proofs.Pieces.{sending-range, sending-sent}
 use Rattle.sending.proofs.Laws.{feeds-all, fed-range}
@@ -23,7 +23,7 @@ turns w buffer symbols answers {got} {n} {number} {count} {packets} {next} {left
     let q = sending-sent w range in
     let h = sending-range w (q .0) .1 in
     let l = length-take n buffer in
-    let g : Roomy w (take n buffer) symbols answers = record { range = q .0; sent = q .1; symbols = omega arith; answers-fit = omega arith } in
+    let g : OutputFits w (take n buffer) symbols answers = record { range = q .0; sent = q .1; symbols = omega arith; answers-fit = omega arith } in
     let all = feeds-all f g in
     record {
       fed = subst (λ (k : ℕ). FeedsAll w (take k buffer) symbols answers 0 count packets next left told) e all;

@@ -114,7 +114,7 @@ arrived rate hr q inputs g bs limit l =
     let calls : length (m .calls) ≡ n =
     sym (blocks-count (m .calls)) ∙ ap length (m .lent ∙ blocks) ∙ length-take-le n (interleavedBlocks packets) (omega (arith, interleaved-count packets ws)) in
     let r = begun-anywhere packets ws 0 (m .calls) (omega arith) (omega arith)
-    (m .lent ∙ blocks ∙ ap (λ (k : ℕ). take k (interleavedBlocks packets)) (sym calls)) (m .plain) (m .roomy) (m .decodes) in
+    (m .lent ∙ blocks ∙ ap (λ (k : ℕ). take k (interleavedBlocks packets)) (sym calls)) (m .plain) (m .output-fits) (m .decodes) in
     let e : length (m .calls) - 11 - 0 ≡ n - 11 = omega arith in
     record {
       no-cost = front .1;

@@ -204,8 +204,8 @@ module _ (degrees places : List ℕ) (count : ℕ) (v x : List ℕ) (i : ℕ) (d
     one-more : zerosFrom i (take l v) ++ (i + l) ∷ [] ≡ zerosFrom i (take (l + 1) v)
     one-more = sym (zeros-more i v l h ∙ ap (λ b. zerosFrom i (take l v) ++ pick b ((i + l) ∷ []) []) (eq-eqb _ _ z))
 
-    pub listed-room : count + length (zerosFrom i v) ≤ 16 → count' < 16
-    listed-room r =
+    pub listed-fits : count + length (zerosFrom i v) ≤ 16 → count' < 16
+    listed-fits r =
         omega (arith, s .all .number, ap length one-more, length-append (zerosFrom i (take l v)) ((i + l) ∷ []), zeros-front i (l + 1) v)
 
     pub listed-more : count + length (zerosFrom i v) ≤ 16 → ListedTo degrees places count v x i (set degrees' count' (i + l)) (set places' count' (getD x l 0)) (count' + 1) (l + 1)
@@ -217,11 +217,11 @@ module _ (degrees places : List ℕ) (count : ℕ) (v x : List ℕ) (i : ℕ) (d
               record {
                 number = omega (arith, s .all .number, ap length one-more, length-append (zerosFrom i (take l v)) ((i + l) ∷ []));
                 listed =
-                    ap (λ (k : ℕ). take k (set degrees' count' (i + l))) (add-one count') ∙ take-suc-set degrees' count' (i + l) (omega (arith, s .degrees-len, listed-room r))
+                    ap (λ (k : ℕ). take k (set degrees' count' (i + l))) (add-one count') ∙ take-suc-set degrees' count' (i + l) (omega (arith, s .degrees-len, listed-fits r))
                     ∙ ap (λ (m : List ℕ). m ++ (i + l) ∷ []) (s .all .listed) ∙ append-assoc (take count degrees) (zerosFrom i (take l v)) ((i + l) ∷ [])
                     ∙ ap (λ (m : List ℕ). take count degrees ++ m) one-more;
                 placed =
-                    ap (λ (k : ℕ). take k (set places' count' (getD x l 0))) (add-one count') ∙ take-suc-set places' count' (getD x l 0) (omega (arith, s .places-len, listed-room r))
+                    ap (λ (k : ℕ). take k (set places' count' (getD x l 0))) (add-one count') ∙ take-suc-set places' count' (getD x l 0) (omega (arith, s .places-len, listed-fits r))
                     ∙ ap (λ (m : List ℕ). m ++ getD x l 0 ∷ []) (s .all .placed)
                     ∙ append-assoc (take count places) (map (λ d. getD x (d - i) 0) (zerosFrom i (take l v))) (getD x l 0 ∷ [])
                     ∙ ap (λ (m : List ℕ). take count places ++ m)
@@ -256,8 +256,8 @@ module _ (u q degrees places : List ℕ) (count i : ℕ) (s : Searched u q degre
         ∙ ap₂ (λ (k : ℕ) (l : List ℕ). zerosFrom 0 (take i (valuesOf u q)) ++ zerosFrom k l)
         (zero-add (length (take i (valuesOf u q))) ∙ length-take-le i (valuesOf u q) (omega (arith, length-values u q))) (sym e)
 
-    pub searched-room : length (rootsOf u q) ≤ 16 → count + length (zerosFrom i v) ≤ 16
-    searched-room r =
+    pub searched-fits : length (rootsOf u q) ≤ 16 → count + length (zerosFrom i v) ≤ 16
+    searched-fits r =
         omega (arith, s .number, ap length more, length-append (zerosFrom 0 (take i (valuesOf u q))) (zerosFrom i v), zeros-front 0 (i + 16) (valuesOf u q))
 
     pub searched-more : (degrees' places' : List ℕ) (count' : ℕ) → Listed degrees places count v x i degrees' places' count' → Searched u q degrees' places' count' (i + 16)

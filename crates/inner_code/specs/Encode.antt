@@ -1,4 +1,4 @@
--- What each call gives: its answer, by its tests in the order of document 01, the coder, and the room.
+-- What each call gives: its answer, by its tests in the order of document 01, the coder, and the output.
 -- Assumes nothing.
 use mathlib.Core.Bool.{Bool, true, false}
 use mathlib.Core.List.{List, [], _∷_, _++_}
@@ -66,16 +66,16 @@ abbrev pub symbolCount : InnerCoder → ℕ
 symbolCount c = symbolCountBy (modeOf (c .rate)) c
 
 abbrev pub encodeNumber : InnerCoder → List ℕ → List ℕ → ℕ
-encodeNumber c block room =
+encodeNumber c block output =
     pick (inRange c)
-    (pick (modeOf (c .rate) .sent) (pick (eqb (length block) 204) (pick (ltb (length room) (length (blockSymbols c block))) 4 0) 3) 6) 5
+    (pick (modeOf (c .rate) .sent) (pick (eqb (length block) 204) (pick (ltb (length output) (length (blockSymbols c block))) 4 0) 3) 6) 5
 
 abbrev pub encodeCoder : InnerCoder → List ℕ → List ℕ → InnerCoder
-encodeCoder c block room = pick (eqb (encodeNumber c block room) 0) (blockCoder c block) c
+encodeCoder c block output = pick (eqb (encodeNumber c block output) 0) (blockCoder c block) c
 
 abbrev pub encodeCount : InnerCoder → List ℕ → List ℕ → ℕ
-encodeCount c block room = pick (eqb (encodeNumber c block room) 0) (length (blockSymbols c block)) 0
+encodeCount c block output = pick (eqb (encodeNumber c block output) 0) (length (blockSymbols c block)) 0
 
--- the symbols, and what stood in the room beyond them
-abbrev pub encodeRoom : InnerCoder → List ℕ → List ℕ → List ℕ
-encodeRoom c block room = pick (eqb (encodeNumber c block room) 0) (blockSymbols c block ++ drop (length (blockSymbols c block)) room) room
+-- the symbols, and what stood in the output beyond them
+abbrev pub encodeOutput : InnerCoder → List ℕ → List ℕ → List ℕ
+encodeOutput c block output = pick (eqb (encodeNumber c block output) 0) (blockSymbols c block ++ drop (length (blockSymbols c block)) output) output

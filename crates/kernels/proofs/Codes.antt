@@ -1,4 +1,4 @@
--- A loop that codes the blocks of a buffer: what is in the room, and what is left to code.
+-- A loop that codes the blocks of a buffer: what is in the output, and what is left to code.
 -- Assumes nothing.
 use mathlib.Core.Path.{_≡_, refl, ap, ap₂, sym, subst, _∙_}
 use mathlib.Core.Bool.{true}
@@ -17,7 +17,7 @@ use Rattle.common.specs.Lists.{All, Length}
 use Rattle.common.proofs.Computed as computed
 use Rattle.puncturing.specs.Mode.{modeOf, blockBits, blockBitsBy}
 use Rattle.inner_code.specs.Converter.{encodedBits}
-use Rattle.inner_code.specs.Encode.{freshCoder, blockSymbolsBy, blockCoderBy, callsBy, blockSymbols, blockCoder, encodeCoder, encodeCount, encodeRoom}
+use Rattle.inner_code.specs.Encode.{freshCoder, blockSymbolsBy, blockCoderBy, callsBy, blockSymbols, blockCoder, encodeCoder, encodeCount, encodeOutput}
 use Rattle.inner_code.specs.declared.InnerCoder.{InnerCoder}
 use Rattle.puncturing.specs.declared.Symbol.{Symbol}
 use Rattle.puncturing.specs.declared.Symbol.the-variants.{None, One}
@@ -64,16 +64,16 @@ blocks-whole (suc n) bytes h =
 
 -- ---- a call on a coder in range, with a block and room enough, is answered
 
-encode-done : (c : InnerCoder) (block room : List ℕ) → InRange c → modeOf (c .rate) .sent ≡ true → length block ≡ 204 → length (blockSymbols c block) ≤ length room
-    → (encodeCoder c block room ≡ blockCoder c block)
-    × (encodeCount c block room ≡ length (blockSymbols c block))
-    × (encodeRoom c block room ≡ blockSymbols c block ++ drop (length (blockSymbols c block)) room)
-encode-done c block room g q n l = simp (range-test c g, q, eq-eqb _ _ n, le-ltb _ _ l) (refl, refl, refl)
+encode-done : (c : InnerCoder) (block output : List ℕ) → InRange c → modeOf (c .rate) .sent ≡ true → length block ≡ 204 → length (blockSymbols c block) ≤ length output
+    → (encodeCoder c block output ≡ blockCoder c block)
+    × (encodeCount c block output ≡ length (blockSymbols c block))
+    × (encodeOutput c block output ≡ blockSymbols c block ++ drop (length (blockSymbols c block)) output)
+encode-done c block output g q n l = simp (range-test c g, q, eq-eqb _ _ n, le-ltb _ _ l) (refl, refl, refl)
 
 -- ---- the loop
 
--- the symbols so far are in the room, and with those that the rest gives they are those of the whole buffer
-pub record Coding (rate : ℕ) (bytes room₀ room : List ℕ) (c : InnerCoder) (at count : ℕ) : Type 0 where
+-- the symbols so far are in the output, and with those that the rest gives they are those of the whole buffer
+pub record Coding (rate : ℕ) (bytes output₀ output : List ℕ) (c : InnerCoder) (at count : ℕ) : Type 0 where
   pub within : at ≤ length bytes
   pub few : count ≤ 8 * at
   pub sent : modeOf rate .sent ≡ true
@@ -81,12 +81,12 @@ pub record Coding (rate : ℕ) (bytes room₀ room : List ℕ) (c : InnerCoder) 
   pub range : InRange c
   pub front : List ℕ
   pub counted : length front ≡ count
-  pub written : room ≡ front ++ drop count room₀
+  pub written : output ≡ front ++ drop count output₀
   pub symbols : front ++ callsBy (modeOf rate) c (blocksFrom bytes at) ≡ codedSymbols rate bytes
 
-pub coding-start : (rate : ℕ) (bytes room : List ℕ) (c : InnerCoder) → modeOf rate .sent ≡ true → c ≡ freshCoder rate → Coding rate bytes room room c 0 0
+pub coding-start : (rate : ℕ) (bytes output : List ℕ) (c : InnerCoder) → modeOf rate .sent ≡ true → c ≡ freshCoder rate → Coding rate bytes output output c 0 0
 unfolding codedSymbols
-coding-start rate bytes room c q e = let h = sent-known rate q in record {
+coding-start rate bytes output c q e = let h = sent-known rate q in record {
   sent = q;
   within = omega arith;
   few = omega arith;
@@ -100,45 +100,45 @@ coding-start rate bytes room c q e = let h = sent-known rate q in record {
       ∙ calls-stream (modeOf rate) (well-formed rate h) rate (wholeBlocks bytes) (blocks-whole (length bytes / 204) bytes (div-mul-le-self (length bytes) 204));
 }
 
-module _ {rate : ℕ} {bytes room₀ room : List ℕ} {c : InnerCoder} {at count : ℕ} (fits : 8 * length bytes ≤ length room₀) (p : Coding rate bytes room₀ room c at count) where
-  pub coding-length : length room ≡ length room₀
+module _ {rate : ℕ} {bytes output₀ output : List ℕ} {c : InnerCoder} {at count : ℕ} (fits : 8 * length bytes ≤ length output₀) (p : Coding rate bytes output₀ output c at count) where
+  pub coding-length : length output ≡ length output₀
   coding-length =
-      omega (arith, ap length (p .written), length-append (p .front) (drop count room₀), length-drop count room₀, p .counted, p .few, p .within)
+      omega (arith, ap length (p .written), length-append (p .front) (drop count output₀), length-drop count output₀, p .counted, p .few, p .within)
 
-  pub coding-room : count ≤ length room
-  coding-room = omega (arith, coding-length, p .few, p .within)
+  pub coding-fits : count ≤ length output
+  coding-fits = omega (arith, coding-length, p .few, p .within)
 
   pub coding-end : length bytes - at < 204
-      → (count ≡ length (codedSymbols rate bytes)) × (room ≡ codedSymbols rate bytes ++ drop (length (codedSymbols rate bytes)) room₀)
+      → (count ≡ length (codedSymbols rate bytes)) × (output ≡ codedSymbols rate bytes ++ drop (length (codedSymbols rate bytes)) output₀)
   unfolding callsBy
   coding-end h =
       let e : p .front ≡ codedSymbols rate bytes
       = sym (append-nil (p .front)) ∙ ap (λ (l : List (List ℕ)). p .front ++ callsBy (modeOf rate) c l) (sym (blocks-end bytes at h)) ∙ p .symbols in
       let n : count ≡ length (codedSymbols rate bytes) = sym (p .counted) ∙ ap length e in
-      (n, p .written ∙ ap₂ (λ (a : List ℕ) (k : ℕ). a ++ drop k room₀) e n)
+      (n, p .written ∙ ap₂ (λ (a : List ℕ) (k : ℕ). a ++ drop k output₀) e n)
 
   module _ (h : 204 ≤ length bytes - at) where
     is : at + 204 - at ≡ 204
     is = omega arith
 
-    -- a call on this block and the rest of the room
+    -- a call on this block and the rest of the output
     module _ {next : InnerCoder} {n : ℕ} {exit : List ℕ}
-        (s : next ≡ encodeCoder c (take (at + 204 - at) (drop at bytes)) (midOf count (length room - count) room))
-        (m : n ≡ encodeCount c (take (at + 204 - at) (drop at bytes)) (midOf count (length room - count) room))
-        (w : exit ≡ encodeRoom c (take (at + 204 - at) (drop at bytes)) (midOf count (length room - count) room)) where
+        (s : next ≡ encodeCoder c (take (at + 204 - at) (drop at bytes)) (midOf count (length output - count) output))
+        (m : n ≡ encodeCount c (take (at + 204 - at) (drop at bytes)) (midOf count (length output - count) output))
+        (w : exit ≡ encodeOutput c (take (at + 204 - at) (drop at bytes)) (midOf count (length output - count) output)) where
       block : List ℕ
       block = take (at + 204 - at) (drop at bytes)
 
       part : List ℕ
-      part = midOf count (length room - count) room
+      part = midOf count (length output - count) output
 
       size : length block ≡ 204
       unfolding block
       size = length-take-le (at + 204 - at) (drop at bytes) (omega (arith, length-drop at bytes)) ∙ is
 
-      part-size : length part ≡ length room - count
+      part-size : length part ≡ length output - count
       unfolding part
-      part-size = length-take-le (length room - count) (drop count room) (omega (arith, length-drop count room))
+      part-size = length-take-le (length output - count) (drop count output) (omega (arith, length-drop count output))
 
       enough : length (blockSymbols c block) ≤ length part
       enough = omega (arith, block-few c (p .range) block size, part-size, coding-length, p .few, p .within, h)
@@ -149,10 +149,10 @@ module _ {rate : ℕ} {bytes room₀ room : List ℕ} {c : InnerCoder} {at count
           let d = encode-done c block part (p .range) (ap (λ (r : ℕ). modeOf r .sent) (p .rate-kept) ∙ p .sent) size enough in
           (s ∙ d .0, m ∙ d .1, w ∙ d .2)
 
-      pub coding-total : count + n ≤ length room₀
-      coding-total = omega (arith, done .1, enough, part-size, coding-length, coding-room)
+      pub coding-total : count + n ≤ length output₀
+      coding-total = omega (arith, done .1, enough, part-size, coding-length, coding-fits)
 
-      pub coding-more : Coding rate bytes room₀ (putMid count (length room - count) room exit) next (at + 204) (count + n)
+      pub coding-more : Coding rate bytes output₀ (putMid count (length output - count) output exit) next (at + 204) (count + n)
       unfolding block part callsBy
       coding-more =
           let symbols : List ℕ = blockSymbols c block in
@@ -165,9 +165,9 @@ module _ {rate : ℕ} {bytes room₀ room : List ℕ} {c : InnerCoder} {at count
             front = p .front ++ symbols;
             counted = length-append (p .front) symbols ∙ ap₂ (λ (i j : ℕ). i + j) (p .counted) (sym (done .1));
             written =
-                ap (putMid count (length room - count) room) (done .2)
-                ∙ put-next (p .front) room₀ room count (p .counted) (p .written) symbols (length room - count) enough
-                ∙ ap (λ (j : ℕ). (p .front ++ symbols) ++ drop (count + j) room₀) (sym (done .1));
+                ap (putMid count (length output - count) output) (done .2)
+                ∙ put-next (p .front) output₀ output count (p .counted) (p .written) symbols (length output - count) enough
+                ∙ ap (λ (j : ℕ). (p .front ++ symbols) ++ drop (count + j) output₀) (sym (done .1));
             symbols =
                 ap (λ (x : InnerCoder). (p .front ++ symbols) ++ callsBy (modeOf rate) x (blocksFrom bytes (at + 204))) (done .0)
                 ∙ append-assoc (p .front) symbols _

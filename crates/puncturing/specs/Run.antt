@@ -42,7 +42,7 @@ heldBehind rate place held l n zero = held
 heldBehind rate place held l n (suc k) =
     heldBehind rate (nextPlace rate place) (heldAfter rate place (getD l n 0) (getD l (1632 + n) 0) held) l (suc n) k
 
--- where the puncturing stands after k bits, and how many symbols are in the room
+-- where the puncturing stands after k bits, and how many symbols are in the output
 abbrev pub progress : ℕ → ℕ → ℕ → List ℕ → ℕ → ℕ → ℕ → Progress
 progress rate place held l n k at = record {
   place = placeAfter rate place k;

@@ -14,8 +14,8 @@ use lib.Seq.{getD-drop}
 use Rattle.common.specs.Choice.{pick}
 use Rattle.common.specs.Lists.{ByteEntries}
 use Rattle.common.proofs.Entries.{entries-drop}
-use Rattle.randomizer.specs.Prbs.{loaded, output, stepped, steps, bits, sequence, generator, enabled, masks}
-use Rattle.randomizer.specs.Packet.{randomized, derandomized, randomizeNumber, randomizeRoom, derandomizeNumber, derandomizeRoom}
+use Rattle.randomizer.specs.Prbs.{loaded, outputBit, stepped, steps, bits, sequence, generator, enabled, masks}
+use Rattle.randomizer.specs.Packet.{randomized, derandomized, randomizeNumber, randomizeOutput, derandomizeNumber, derandomizeOutput}
 use Rattle.randomizer.proofs.Xors.{length-xors, getD-xors, bytes-xors, xors-undo}
 
 -- ---- the masks
@@ -34,9 +34,9 @@ pub length-masks : length masks ≡ 1504
 unfolding masks generator
 length-masks = ap suc (length-enabled 1 generator ∙ length-sequence 1503 loaded)
 
-output-lt : (register : List ℕ) → output register < 2
-unfolding output
-output-lt r = mod-lt (getD r 13 0 + getD r 14 0) (omega arith)
+output-bit-lt : (register : List ℕ) → outputBit register < 2
+unfolding outputBit
+output-bit-lt r = mod-lt (getD r 13 0 + getD r 14 0) (omega arith)
 
 -- eight bits make a byte
 byte-lt : (register : List ℕ) → bits 8 0 register < 256
@@ -49,8 +49,8 @@ byte-lt r =
     let r5 = stepped r4 in
     let r6 = stepped r5 in
     let r7 = stepped r6 in
-    eight (output r) (output r1) (output r2) (output r3) (output r4) (output r5) (output r6) (output r7) (output-lt r) (output-lt r1) (output-lt r2) (output-lt r3)
-    (output-lt r4) (output-lt r5) (output-lt r6) (output-lt r7)
+    eight (outputBit r) (outputBit r1) (outputBit r2) (outputBit r3) (outputBit r4) (outputBit r5) (outputBit r6) (outputBit r7) (output-bit-lt r) (output-bit-lt r1) (output-bit-lt r2) (output-bit-lt r3)
+    (output-bit-lt r4) (output-bit-lt r5) (output-bit-lt r6) (output-bit-lt r7)
   where
     eight : (a b c d e f g h : ℕ) → a < 2 → b < 2 → c < 2 → d < 2 → e < 2 → f < 2 → g < 2 → h < 2
         → (((((((0 * 2 + a) * 2 + b) * 2 + c) * 2 + d) * 2 + e) * 2 + f) * 2 + g) * 2 + h < 256
@@ -131,15 +131,15 @@ module _ (place : ℕ) (packet : List ℕ) (h : place ≤ 7) (n : length packet 
       headed (x ∷ xs) k e = ap (λ (a : ℕ). a ∷ xs) (sym e)
 
   -- a call at that place, with room enough, is answered
-  module _ (room : List ℕ) (l : 188 ≤ length room) where
+  module _ (output : List ℕ) (l : 188 ≤ length output) where
     pub randomize-done : getD packet 0 0 ≡ 0x47
-        → (randomizeNumber place packet room ≡ 0) × (randomizeRoom place packet room ≡ randomized place packet ++ drop 188 room)
+        → (randomizeNumber place packet output ≡ 0) × (randomizeOutput place packet output ≡ randomized place packet ++ drop 188 output)
     randomize-done e = simp (le-ltb _ _ h, eq-eqb _ _ n, eq-eqb _ _ e, le-ltb _ _ l) (refl, refl)
 
-    pub derandomize-done : (derandomizeNumber place packet room ≡ 0) × (derandomizeRoom place packet room ≡ derandomized place packet ++ drop 188 room)
+    pub derandomize-done : (derandomizeNumber place packet output ≡ 0) × (derandomizeOutput place packet output ≡ derandomized place packet ++ drop 188 output)
     derandomize-done = simp (le-ltb _ _ h, eq-eqb _ _ n, le-ltb _ _ l) (refl, refl)
 
--- the room when the sync byte is set
+-- the output when the sync byte is set
 pub first-set : (xs ys : List ℕ) (v : ℕ) → 0 < length xs → set (xs ++ ys) 0 v ≡ (v ∷ drop 1 xs) ++ ys
 first-set [] ys v h = absurd (not-suc-le-zero h)
 first-set (x ∷ xs) ys v h = refl

@@ -11,13 +11,13 @@ unfoldable pub loaded : List ℕ
 loaded = 1 ∷ 0 ∷ 0 ∷ 1 ∷ 0 ∷ 1 ∷ 0 ∷ 1 ∷ 0 ∷ 0 ∷ 0 ∷ 0 ∷ 0 ∷ 0 ∷ 0 ∷ []
 
 -- the bit that a step puts out: stage 14 xor stage 15
-unfoldable pub output : List ℕ → ℕ
-output register = (getD register 13 0 + getD register 14 0) % 2
+unfoldable pub outputBit : List ℕ → ℕ
+outputBit register = (getD register 13 0 + getD register 14 0) % 2
 
 -- the register after a step: the bit put out is fed to stage 1
 unfoldable pub stepped : List ℕ → List ℕ
-unfolding output
-stepped register = output register ∷ take 14 register
+unfolding outputBit
+stepped register = outputBit register ∷ take 14 register
 
 -- the register after n steps
 unfoldable pub steps : ℕ → List ℕ → List ℕ
@@ -27,9 +27,9 @@ steps (suc n) register = steps n (stepped register)
 
 -- the number whose binary digits are acc's and then the bits of n steps: the first bit is the top one
 unfoldable pub bits : ℕ → ℕ → List ℕ → ℕ
-unfolding output stepped
+unfolding outputBit stepped
 bits zero acc register = acc
-bits (suc n) acc register = bits n (acc * 2 + output register) (stepped register)
+bits (suc n) acc register = bits n (acc * 2 + outputBit register) (stepped register)
 
 -- n bytes of the sequence
 unfoldable pub sequence : ℕ → List ℕ → List ℕ

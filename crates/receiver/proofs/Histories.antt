@@ -107,23 +107,23 @@ taken-event n o came left =
 
 pub call-counts : (s : Receiver) (c : Call) → after s c .counts ≡ with-event (s .counts) (eventOf s c)
 unfolding stateAfter
-call-counts s c = by (ready-or-refused s (c .block) (c .marks) (c .room))
+call-counts s c = by (ready-or-refused s (c .block) (c .marks) (c .output))
   where
     unpicked : (k : ℕ) → 0 < k → (o : ℕ) → pick (eqb k 0) o k ≡ k
     unpicked k h o = simp (ne-eqb k 0 (λ e. omega arith))
 
-    by : Ready s (c .block) (c .marks) (c .room) ⊎ Refused s (c .block) (c .marks) (c .room) → after s c .counts ≡ with-event (s .counts) (eventOf s c)
+    by : Ready s (c .block) (c .marks) (c .output) ⊎ Refused s (c .block) (c .marks) (c .output) → after s c .counts ≡ with-event (s .counts) (eventOf s c)
     by (inl y) =
-        ap (λ (r : Receiver). r .counts) (ready-state s (c .block) (c .marks) (c .room) y (c .left) (c .decoded))
+        ap (λ (r : Receiver). r .counts) (ready-state s (c .block) (c .marks) (c .output) y (c .left) (c .decoded))
         ∙ taken-event (s .counts) (stepOf s (c .left) (c .decoded) .outcome) (delayedBlock s (c .block)) (c .left)
         ∙ ap (λ (k : ℕ). with-event (s .counts) (record { number = k; changed = changes (delayedBlock s (c .block)) (c .left) }))
-        (sym (ready-number s (c .block) (c .marks) (c .room) y (c .left) (c .decoded)))
+        (sym (ready-number s (c .block) (c .marks) (c .output) y (c .left) (c .decoded)))
     by (inr f) =
-        ap (λ (r : Receiver). r .counts) (refused-state s (c .block) (c .marks) (c .room) (c .left) (c .decoded) f)
+        ap (λ (r : Receiver). r .counts) (refused-state s (c .block) (c .marks) (c .output) (c .left) (c .decoded) f)
         ∙ sym
         (ap (λ (k : ℕ). with-event (s .counts) (record { number = k; changed = changes (delayedBlock s (c .block)) (c .left) }))
-        (unpicked (refusal s (c .block) (c .marks) (c .room)) (f .some) (outcomeNumber (stepOf s (c .left) (c .decoded) .outcome)))
-        ∙ refused-event (s .counts) (refusal s (c .block) (c .marks) (c .room)) (changes (delayedBlock s (c .block)) (c .left)) (f .some) (f .apart))
+        (unpicked (refusal s (c .block) (c .marks) (c .output)) (f .some) (outcomeNumber (stepOf s (c .left) (c .decoded) .outcome)))
+        ∙ refused-event (s .counts) (refusal s (c .block) (c .marks) (c .output)) (changes (delayedBlock s (c .block)) (c .left)) (f .some) (f .apart))
 
 -- ---- a list of calls
 

@@ -29,8 +29,8 @@ use Rattle.interleaver.proofs.Gathering.{gathered-front, run-gathered, sent-gat
 use Rattle.group_sync.specs.Group.{freshSync, knownSync}
 use Rattle.group_sync.specs.Stream.{outcomes, sentFrom, deliveredFrom, beforeGroup}
 use Rattle.group_sync.specs.declared.Place.the-variants.{NotKnown}
-use Rattle.group_sync.specs.declared.Repair.{Repair}
-use Rattle.group_sync.specs.declared.Repair.the-variants as repair
+use Rattle.group_sync.specs.declared.BlockDecoding.{BlockDecoding}
+use Rattle.group_sync.specs.declared.BlockDecoding.the-variants as decoding
 use Rattle.group_sync.specs.declared.Outcome.{Outcome}
 use Rattle.group_sync.specs.declared.Outcome.the-variants.{Filling, Waiting, OutOfStep}
 use Rattle.group_sync.specs.declared.GroupSync.{GroupSync}
@@ -38,21 +38,21 @@ use Rattle.group_sync.proofs.Streams as streams
 use Rattle.group_sync.proofs.AsBefore as before
 use Rattle.reception_counts.specs.Counts.{outcomeNumber}
 use Rattle.receiver.specs.Receive.{freshReceiver}
-use Rattle.receiver.specs.Run.{Call, Calls, packetsGiven, blocksOf, answers, Plain, Roomy}
-use Rattle.receiver.specs.Begun.{lefts, repairs, packetsOf, ComeTo, filledFirst, BegunAt}
+use Rattle.receiver.specs.Run.{Call, Calls, packetsGiven, blocksOf, answers, Plain, OutputFits}
+use Rattle.receiver.specs.Begun.{lefts, decodings, packetsOf, ComeTo, filledFirst, BegunAt}
 use Rattle.receiver.specs.declared.Receiver.{Receiver}
 use Rattle.receiver.proofs.Reached.{sound-fresh}
 use Rattle.receiver.proofs.Outcomes.{Unrefused, plain-marked, come-to, filled-come-to}
-use Rattle.receiver.proofs.Decoding.{sent-length, sent-bytes, coded-back, Nears, nears-of, Repaired, repaired-after}
+use Rattle.receiver.proofs.Decoding.{sent-length, sent-bytes, coded-back, Nears, nears-of, CorrectedFrom, corrected-after}
 
 -- ---- as before
 
 -- where every block after the first eleven is lost or in order, the calls come to what they came to by the rule before document 02, P4
-pub in-order-as-before : (m : ℕ) (cs : List Call) → Unrefused freshReceiver cs → before.InOrder m (repairs (drop 11 cs))
-    → ComeTo freshReceiver cs (filledFirst 11 cs (before.outcomesBefore NotKnown (repairs (drop 11 cs))))
+pub in-order-as-before : (m : ℕ) (cs : List Call) → Unrefused freshReceiver cs → before.InOrder m (decodings (drop 11 cs))
+    → ComeTo freshReceiver cs (filledFirst 11 cs (before.outcomesBefore NotKnown (decodings (drop 11 cs))))
 unfolding freshReceiver
 in-order-as-before m cs u o =
-    subst (λ (x : List Outcome). ComeTo freshReceiver cs (filledFirst 11 cs x)) (before.as-before m (repairs (drop 11 cs)) o)
+    subst (λ (x : List Outcome). ComeTo freshReceiver cs (filledFirst 11 cs x)) (before.as-before m (decodings (drop 11 cs)) o)
     (filled-come-to 11 cs freshReceiver u refl)
 
 -- ---- the answers
@@ -134,7 +134,7 @@ pub blocks-count : (cs : List Call) → length (blocksOf cs) ≡ length cs
 blocks-count [] = refl
 blocks-count (c ∷ cs) = ap suc (blocks-count cs)
 
--- ---- the blocks that are repaired
+-- ---- the blocks that are corrected
 
 module _ (cs : List Call) where
   came-count : length (drop 11 (run Receiving fresh (blocksOf cs))) ≡ length cs - 11
@@ -142,7 +142,7 @@ module _ (cs : List Call) where
       length-drop 11 (run Receiving fresh (blocksOf cs))
       ∙ ap (λ (i : ℕ). i - 11) (length-run Receiving fresh (blocksOf cs) ∙ blocks-count cs)
 
-  -- call i + 12 repairs the block gathered from the bytes received
+  -- call i + 12 corrects the block gathered from the bytes received
   pub came-gathered : All (Length 204) (blocksOf cs) → (i : ℕ) → i + 11 < length cs
       → getD (drop 11 (run Receiving fresh (blocksOf cs))) i [] ≡ gathered (flatten (blocksOf cs)) i
   came-gathered sizes i k =
@@ -185,16 +185,16 @@ module _ (packets : List (List ℕ)) (ws : All Packet packets) where
         let e : 0 + m ≡ m = omega arith in
         ap (drop m) stream ∙ coded-drop m 0 packets ∙ ap (λ (i : ℕ). map encoded (randomizedFrom i (drop m packets))) e
 
-    late : Repaired m (drop m packets) (drop 11 cs)
+    late : CorrectedFrom m (drop m packets) (drop 11 cs)
     unfolding freshReceiver
     late =
-        repaired-after 11 m (drop m packets) cs freshReceiver u refl pl (All-drop Packet m packets ws)
+        corrected-after 11 m (drop m packets) cs freshReceiver u refl pl (All-drop Packet m packets ws)
         (subst (Nears (drop 11 (run Receiving fresh (blocksOf cs)))) dropped q)
 
     fewer : length (drop 11 cs) ≡ length cs - 11
     fewer = length-drop 11 cs
 
-    pub near-accepted : repairs (drop 11 cs) ≡ sentFrom m (length cs - 11)
+    pub near-accepted : decodings (drop 11 cs) ≡ sentFrom m (length cs - 11)
     near-accepted = late .accepted ∙ ap (sentFrom m) fewer
 
     near-lefts : lefts (drop 11 cs) ≡ take (length cs - 11) (map encoded (randomizedFrom m (drop m packets)))
@@ -215,13 +215,13 @@ module _ (packets : List (List ℕ)) (ws : All Packet packets) where
               t .given ∙ packets-filled 11 cs (take (length cs - 11) os) ∙ ap (packetsOf (take (length cs - 11) os)) near-lefts
               ∙ packets-late w m (length cs - 11) (length cs) (drop m packets) (All-drop Packet m packets ws) (omega arith)
               ∙ ap (take (length cs - 11 - w)) (drop-drop w m packets);
-          repaired = near-lefts ∙ ap (take (length cs - 11)) (sym dropped);
+          corrected = near-lefts ∙ ap (take (length cs - 11)) (sym dropped);
         }
 
   -- ---- no byte wrong
 
   module _ (m : ℕ) (cs : List Call) (h : m + length cs ≤ length packets) (l : length cs ≤ 4294967295)
-      (b : blocksOf cs ≡ take (length cs) (drop m (interleaved coded))) (pl : All Plain cs) (rs : All Roomy cs) (ds : Calls freshReceiver cs) where
+      (b : blocksOf cs ≡ take (length cs) (drop m (interleaved coded))) (pl : All Plain cs) (rs : All OutputFits cs) (ds : Calls freshReceiver cs) where
     air : List (List ℕ)
     air = drop m (interleaved coded)
 
@@ -233,7 +233,7 @@ module _ (packets : List (List ℕ)) (ws : All Packet packets) where
 
     unharmed-calls : Unrefused freshReceiver cs
     unfolding freshReceiver
-    unharmed-calls = record { sound = sound-fresh; most = omega arith; sizes = sizes; marked = plain-marked cs pl; rooms = rs; decodes = ds }
+    unharmed-calls = record { sound = sound-fresh; most = omega arith; sizes = sizes; marked = plain-marked cs pl; outputs = rs; decodes = ds }
 
     -- the bytes received, and those sent after them
     front : flatten air ≡ flatten (blocksOf cs) ++ flatten (drop (length cs) air)
@@ -242,7 +242,7 @@ module _ (packets : List (List ℕ)) (ws : All Packet packets) where
         ap flatten (sym (take-append-drop (length cs) air)) ∙ flatten-join (take (length cs) air) (drop (length cs) air)
         ∙ ap (λ (x : List (List ℕ)). flatten x ++ flatten (drop (length cs) air)) (sym b)
 
-    -- the block that call i + 12 repairs is the one that was sent
+    -- the block that call i + 12 corrects is the one that was sent
     each : (i : ℕ) → i + 11 < length cs → getD (drop 11 (run Receiving fresh (blocksOf cs))) i [] ≡ getD (drop m coded) i []
     unfolding air
     each i k =
@@ -259,14 +259,14 @@ module _ (packets : List (List ℕ)) (ws : All Packet packets) where
     begun-anywhere = near-received m cs unharmed-calls pl nears
 
     -- document 02, P4: the calls come to what they came to by the rule before it
-    pub as-before : ComeTo freshReceiver cs (filledFirst 11 cs (before.outcomesBefore NotKnown (repairs (drop 11 cs))))
+    pub as-before : ComeTo freshReceiver cs (filledFirst 11 cs (before.outcomesBefore NotKnown (decodings (drop 11 cs))))
     as-before =
         in-order-as-before m cs unharmed-calls
         (subst (before.InOrder m) (sym (near-accepted m cs unharmed-calls pl nears)) (before.sent-in-order m (length cs - 11)))
 
 -- demand 2, receiving: the case of block 0
 pub stream-received : (packets : List (List ℕ)) → All Packet packets → length packets ≤ 4294967295
-    → (cs : List Call) → blocksOf cs ≡ interleaved (map encoded (randomizedStream packets)) → All Plain cs → All Roomy cs → Calls freshReceiver cs
+    → (cs : List Call) → blocksOf cs ≡ interleaved (map encoded (randomizedStream packets)) → All Plain cs → All OutputFits cs → Calls freshReceiver cs
     → (answers freshReceiver cs ≡ take (length packets) (replicate 11 9 ++ replicate (length packets) 0))
     × (packetsGiven freshReceiver cs ≡ take (length packets - 11) packets)
 stream-received packets ws l cs b pl rs ds =
@@ -283,7 +283,7 @@ stream-received packets ws l cs b pl rs ds =
 
 -- From a known place, such a block among good ones costs its own packet and no other.
 pub one-odd : (s : Receiver) (cs : List Call) → Unrefused s cs → 11 ≤ s .counts .taken → (n missed a b first : ℕ) → s .sync ≡ knownSync (n % 8) missed
-    → (a ≡ 0 → missed ≡ 0) → (first ≡ 0xB8 → ⊥) → (first ≡ 0x47 → ⊥) → repairs cs ≡ sentFrom n a ++ repair.Accepted first ∷ sentFrom (n + a + 1) b
+    → (a ≡ 0 → missed ≡ 0) → (first ≡ 0xB8 → ⊥) → (first ≡ 0x47 → ⊥) → decodings cs ≡ sentFrom n a ++ decoding.Accepted first ∷ sentFrom (n + a + 1) b
     → ComeTo s cs (deliveredFrom n a ++ OutOfStep ∷ deliveredFrom (n + a + 1) b)
 one-odd s cs u h n missed a b first at m f g e =
-    subst (ComeTo s cs) (ap₂ (λ (x : GroupSync) (rs : List Repair). outcomes x rs) at e ∙ streams.one-odd n missed a b first m f g) (come-to cs s u h)
+    subst (ComeTo s cs) (ap₂ (λ (x : GroupSync) (rs : List BlockDecoding). outcomes x rs) at e ∙ streams.one-odd n missed a b first m f g) (come-to cs s u h)

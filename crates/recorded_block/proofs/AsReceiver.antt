@@ -1,4 +1,4 @@
--- Block p of a recording is the very block that a fresh receiver repairs at its call p + 12, the first being call 1.
+-- Block p of a recording is the very block that a fresh receiver corrects at its call p + 12, the first being call 1.
 -- Assumes nothing.
 use mathlib.Core.Path.{_≡_, refl, sym, ap, ap₂, _∙_}
 use mathlib.Core.Bool.{false}
@@ -32,7 +32,7 @@ use Rattle.group_sync.specs.Group.{groupStep}
 use Rattle.group_sync.specs.declared.Outcome.{Outcome}
 use Rattle.group_sync.proofs.Synchronization.{accepted-outcome}
 use Rattle.reception_counts.specs.Counts.{outcomeNumber}
-use Rattle.receiver.specs.Receive.{freshReceiver, Unmarked, delayedBlock, repairOf, ofAccepted, stepOf, stateAfter, Ready, Receives}
+use Rattle.receiver.specs.Receive.{freshReceiver, Unmarked, delayedBlock, decodingOf, ofAccepted, stepOf, stateAfter, Ready, Receives}
 use Rattle.receiver.specs.Run.{Call, after, afterCalls, blocksOf, Plain}
 use Rattle.receiver.specs.declared.Receiver.{Receiver}
 use Rattle.receiver.specs.declared.Received.{Received}
@@ -40,8 +40,8 @@ use Rattle.receiver.proofs.Calls.{state-range, ready-number, ready-state, chang
 use Rattle.receiver.proofs.Outcomes.{Unrefused, next-unrefused, branches-after, taken-after, unmarked-after}
 use Rattle.receiver.proofs.MarkDelays.{none-decodes}
 use Rattle.receiver.proofs.Reception.{blocks-count}
-use Rattle.recorded_block.specs.Block.{blockRefusal, roomWith, GivesBlock}
-use Rattle.recorded_block.specs.declared.RepairedBlock.{RepairedBlock}
+use Rattle.recorded_block.specs.Block.{blockRefusal, outputWith, GivesBlock}
+use Rattle.recorded_block.specs.declared.DecodedBlock.{DecodedBlock}
 
 -- the branches after calls that are not refused
 branches-calls : (cs : List Call) (s : Receiver) → Unrefused s cs
@@ -92,7 +92,7 @@ module _ (p : ℕ) (before : List Call) (u : Unrefused freshReceiver before) (pl
       ap (λ (x : List ℕ). x ++ rest) (flatten-join (blocksOf before) (came ∷ []) ∙ ap (λ (x : List ℕ). flatten (blocksOf before) ++ x) (append-nil came))
       ∙ append-assoc (flatten (blocksOf before)) came rest
 
-  -- the block that the call repairs
+  -- the block that the call corrects
   pub call-gathered : delayedBlock (afterCalls freshReceiver before) came ≡ gathered recorded p
   unfolding freshReceiver whole
   call-gathered =
@@ -111,21 +111,21 @@ module _ (p : ℕ) (before : List Call) (u : Unrefused freshReceiver before) (pl
   plain lent exit′ received v =
       none-decodes (afterCalls freshReceiver before) (delayedBlock (afterCalls freshReceiver before) came) (v .left) (v .decoded) (unmarked-calls before freshReceiver u refl pl) (v .decodes)
 
-  -- so the block, the counts and the answer are those of that call's repair
+  -- so the block, the counts and the answer are those of that call's decoding
   pub as-receiver : (lent exit′ : List ℕ) (received : Received) (v : Receives (afterCalls freshReceiver before) came lent received exit′)
-      → (blocks : ℕ) (room : List ℕ) (r : RepairedBlock) (exit : List ℕ) → blockRefusal recorded blocks p room ≡ 0 → GivesBlock recorded blocks p room r exit
-      → (numberOf (r .answer) ≡ decodedNumber (v .decoded)) × (r .changed ≡ changedBy (v .decoded)) × (exit ≡ roomWith (v .decoded) (v .left) room)
-  as-receiver lent exit′ received v blocks room r exit e g =
+      → (blocks : ℕ) (output : List ℕ) (r : DecodedBlock) (exit : List ℕ) → blockRefusal recorded blocks p output ≡ 0 → GivesBlock recorded blocks p output r exit
+      → (numberOf (r .answer) ≡ decodedNumber (v .decoded)) × (r .changed ≡ changedBy (v .decoded)) × (exit ≡ outputWith (v .decoded) (v .left) output)
+  as-receiver lent exit′ received v blocks output r exit e g =
       let q = unique (gathered recorded p) (g .left) (v .left) (g .decoded) (v .decoded) (g .decodes) (rw call-gathered at (plain lent exit′ received v)) in (
         g .number ∙ simp e (ap decodedNumber (q .answer)),
         g .changed ∙ simp e (ap changedBy (q .answer)),
-        g .written ∙ simp e (ap₂ (λ (x : Decoded) (y : List ℕ). roomWith x y room) (q .answer) (q .block)),
+        g .written ∙ simp e (ap₂ (λ (x : Decoded) (y : List ℕ). outputWith x y output) (q .answer) (q .block)),
       )
 
   -- What the call shows of it: it is answered 8 where the block is, and its sums of changed bytes and bits grow by the block's.
   module _ (lent exit′ : List ℕ) (received : Received) (v : Receives (afterCalls freshReceiver before) came lent received exit′)
-      (y : Ready (afterCalls freshReceiver before) came noMarks lent) (blocks : ℕ) (room : List ℕ) (r : RepairedBlock) (exit : List ℕ)
-      (e : blockRefusal recorded blocks p room ≡ 0) (g : GivesBlock recorded blocks p room r exit) where
+      (y : Ready (afterCalls freshReceiver before) came noMarks lent) (blocks : ℕ) (output : List ℕ) (r : DecodedBlock) (exit : List ℕ)
+      (e : blockRefusal recorded blocks p output ≡ 0) (g : GivesBlock recorded blocks p output r exit) where
     past : Receiver
     past = afterCalls freshReceiver before
 
@@ -135,7 +135,7 @@ module _ (p : ℕ) (before : List Call) (u : Unrefused freshReceiver before) (pl
 
     outcome : Decoded → Outcome
     unfolding past
-    outcome decoded = groupStep (past .sync) (repairOf decoded (getD (v .left) 0 0)) .outcome
+    outcome decoded = groupStep (past .sync) (decodingOf decoded (getD (v .left) 0 0)) .outcome
 
     stepped : stepOf past (v .left) (v .decoded) .outcome ≡ outcome (v .decoded)
     unfolding past outcome
@@ -158,7 +158,7 @@ module _ (p : ℕ) (before : List Call) (u : Unrefused freshReceiver before) (pl
     pub lost-as-received : eqb (numberOf (r .answer)) 8 ≡ eqb (numberOf (received .answer)) 8
     unfolding past
     lost-as-received =
-        ap (λ (k : ℕ). eqb k 8) (as-receiver lent exit′ received v blocks room r exit e g .0)
+        ap (λ (k : ℕ). eqb k 8) (as-receiver lent exit′ received v blocks output r exit e g .0)
         ∙ sym (ap (λ (k : ℕ). eqb k 8) answered ∙ lost-or-not (v .decoded) (plain lent exit′ received v))
 
     -- of each number of changes, what the call adds to its sum is the block's
@@ -168,7 +168,7 @@ module _ (p : ℕ) (before : List Call) (u : Unrefused freshReceiver before) (pl
     added f z =
         ap (λ (o : Outcome). ofAccepted o (f (changes (delayedBlock past came) (v .left)))) stepped
         ∙ sym (changed-is past came noMarks lent y f z (v .left) (v .decoded) (v .decodes))
-        ∙ sym (ap f (as-receiver lent exit′ received v blocks room r exit e g .1))
+        ∙ sym (ap f (as-receiver lent exit′ received v blocks output r exit e g .1))
 
     pub changed-as-received : (received .receiver .counts .changed ≡ afterCalls freshReceiver before .counts .changed + r .changed .bytes)
         × (received .receiver .counts .bits ≡ afterCalls freshReceiver before .counts .bits + r .changed .bits)

@@ -168,10 +168,10 @@ module _ {marks came s u ts : List ℕ} {size : ℕ} {q degrees places : List �
           (λ e. k (reverse-at came i (203 - i) (omega arith) ∙ e ∙ sym (reverse-at done i (203 - i) (omega (arith, done-length)))))
 
   -- explained: what is left is a codeword, and the counts are true
-  pub repaired : (left : List ℕ) (k m : ℕ) → Explained places values s true → left ≡ correctedBy came (take count degrees) es
+  pub corrected : (left : List ℕ) (k m : ℕ) → Explained places values s true → left ≡ correctedBy came (take count degrees) es
       → k ≡ changedIn es → m ≡ weighed (unequalBits 8) es → AcceptedMarked marks came left (record { bytes = k; bits = m })
   unfolding differ differBits
-  repaired left k m f e g i =
+  corrected left k m f e g i =
       subst (λ (l : List ℕ). AcceptedMarked marks came l (record { bytes = k; bits = m })) (sym whole)
       (accepted-marked marks came done (record { bytes = k; bits = m }) lm n
       (codeword-of done done-length (corrected-bytes came (rootsOf u q) es n b es-bytes)

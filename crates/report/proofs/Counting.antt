@@ -56,18 +56,18 @@ told-fits r b e p1 p2 p3 p4 p5 p6 p7 p8 p9 =
 
 -- ---- lines written
 
-pub appended-none : (room : List ℕ) (at most : ℕ) → at ≤ most → Appended [] room room at at most
-appended-none room at most h = record { place = sym (add-zero at); bound = h; same = refl; text = sym (append-nil (take at room)) }
+pub appended-none : (output : List ℕ) (at most : ℕ) → at ≤ most → Appended [] output output at at most
+appended-none output at most h = record { place = sym (add-zero at); bound = h; same = refl; text = sym (append-nil (take at output)) }
 
-pub no-lines : (values room : List ℕ) → Appended (linesText 0 values) room room 0 0 0
+pub no-lines : (values output : List ℕ) → Appended (linesText 0 values) output output 0 0 0
 unfolding linesText
-no-lines values room = appended-none room 0 0 (omega arith)
+no-lines values output = appended-none output 0 0 (omega arith)
 
-pub line-more : (values room next last : List ℕ) (i at r : ℕ) → Appended (linesText i values) room next 0 at (31 * i)
-    → Appended (lineText (row i .key) (getD values i 0)) next last at r (at + 31) → Appended (linesText (i + 1) values) room last 0 r (31 * (i + 1))
+pub line-more : (values output next last : List ℕ) (i at r : ℕ) → Appended (linesText i values) output next 0 at (31 * i)
+    → Appended (lineText (row i .key) (getD values i 0)) next last at r (at + 31) → Appended (linesText (i + 1) values) output last 0 r (31 * (i + 1))
 unfolding linesText
-line-more values room next last i at r a b =
+line-more values output next last i at r a b =
     let p = a .bound in
     let q = b .bound in
     rw (add-one i)
-    (restated (31 * suc i) (joined-appended (linesText i values) (lineText (row i .key) (getD values i 0)) room next last 0 at r (31 * i) (at + 31) a b) refl (omega arith))
+    (restated (31 * suc i) (joined-appended (linesText i values) (lineText (row i .key) (getD values i 0)) output next last 0 at r (31 * i) (at + 31) a b) refl (omega arith))

@@ -83,12 +83,12 @@ sums r =
 
 -- ---- writing
 
--- What writing a report into a room answers, in the order 17, 18, 4; how many bytes it writes; and the room after it.
+-- What writing a report into an output answers, in the order 17, 18, 4; how many bytes it writes; and the output after it.
 abbrev pub writeNumber : Report → List ℕ → ℕ
-writeNumber r room = pick (fits r) (pick (sums r) (pick (ltb (length room) (length (reportText r))) 4 0) 18) 17
+writeNumber r output = pick (fits r) (pick (sums r) (pick (ltb (length output) (length (reportText r))) 4 0) 18) 17
 
 abbrev pub writeLength : Report → List ℕ → ℕ
-writeLength r room = pick (eqb (writeNumber r room) 0) (length (reportText r)) 0
+writeLength r output = pick (eqb (writeNumber r output) 0) (length (reportText r)) 0
 
-abbrev pub writeRoom : Report → List ℕ → List ℕ
-writeRoom r room = pick (eqb (writeNumber r room) 0) (placed room 0 (reportText r)) room
+abbrev pub writeOutput : Report → List ℕ → List ℕ
+writeOutput r output = pick (eqb (writeNumber r output) 0) (placed output 0 (reportText r)) output

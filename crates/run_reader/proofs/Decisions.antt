@@ -42,18 +42,18 @@ decision-at ss t i j e h =
 
 -- ---- the loop
 
-pub record Deciding (ss room₀ : List ℕ) (room : List ℕ) (i at : ℕ) : Type 0 where
+pub record Deciding (ss output₀ : List ℕ) (output : List ℕ) (i at : ℕ) : Type 0 where
   pub most : i ≤ length ss
   pub end : at ≡ 4 * i
-  pub written : Updated (λ t v. v ≡ decisionCost ss t) room₀ room at
+  pub written : Updated (λ t v. v ≡ decisionCost ss t) output₀ output at
 
-pub deciding-none : (ss room : List ℕ) → Deciding ss room room 0 0
-deciding-none ss room = record { most = omega arith; end = refl; written = updated-none }
+pub deciding-none : (ss output : List ℕ) → Deciding ss output output 0 0
+deciding-none ss output = record { most = omega arith; end = refl; written = updated-none }
 
-pub deciding-more : {ss room₀ room : List ℕ} {i at : ℕ} → All (λ s. s < 4) ss → 4 * length ss ≤ length room₀ → Deciding ss room₀ room i at → i < length ss
+pub deciding-more : {ss output₀ output : List ℕ} {i at : ℕ} → All (λ s. s < 4) ss → 4 * length ss ≤ length output₀ → Deciding ss output₀ output i at → i < length ss
     → let s = getD ss i 0 in
-    Deciding ss room₀ (set (set (set (set room at (s / 2)) (at + 1) (1 - s / 2)) (at + 1 + 1) (s % 2)) (at + 1 + 1 + 1) (1 - s % 2)) (i + 1) (at + 1 + 1 + 1 + 1)
-deciding-more {ss} {room₀} {room} {i} {at} w fits g h =
+    Deciding ss output₀ (set (set (set (set output at (s / 2)) (at + 1) (1 - s / 2)) (at + 1 + 1) (s % 2)) (at + 1 + 1 + 1) (1 - s % 2)) (i + 1) (at + 1 + 1 + 1 + 1)
+deciding-more {ss} {output₀} {output} {i} {at} w fits g h =
     let s = getD ss i 0 in
     let four : s < 4 = All-at (λ s. s < 4) ss 0 i w h in
     let a : ℕ = at in

@@ -16,7 +16,7 @@ use Rattle.report.specs.Text.{fits, reportText, row, linesText, fields, bitsTex
 use Rattle.report.specs.Read.{Reads}
 use Rattle.report.proofs.Counting.{Small, fits-small}
 use Rattle.report.proofs.Fronts.{report-short}
-use Rattle.season_totals.specs.Totals.{total, Worst, Room, counted, zeroTotals}
+use Rattle.season_totals.specs.Totals.{total, Worst, TotalsFit, counted, zeroTotals}
 use Rattle.season_totals.specs.Season.{Good, texts, Seasons}
 use Rattle.season_totals.specs.Progress.{Unread}
 use Rattle.season_totals.proofs.Fractions.{totals-more}
@@ -69,8 +69,8 @@ module _ {bytes totals rest : List ℕ} (u : Unread bytes totals rest) where
     sums = u .sums;
   }
 
-  pub unread-room : (r : Report) → getD totals 0 0 < 4096 → fits r ≡ true → Room totals r
-  unread-room r n f =
+  pub unread-fits : (r : Report) → getD totals 0 0 < 4096 → fits r ≡ true → TotalsFit totals r
+  unread-fits r n f =
       let p = u .sums .passes in
       let a = total-most (λ r. r .taken) 1099511627776 (λ r m. m .taken) (u .reports) (u .good) in
       let b = total-most (λ r. r .lost) 1099511627776 (λ r m. m .lost) (u .reports) (u .good) in
@@ -207,8 +207,8 @@ module _ {text start totals : List ℕ} {at : ℕ} (o : CountedTo text start tot
   pub counted-done : length text ≤ at → Seasons bytes 0 totals
   counted-done l = unread-done (o .is bytes u) (drop-of-length-le text l)
 
-  pub counted-room : (r : Report) → (getD totals 0 0 ≡ 4096 → ⊥) → fits r ≡ true → Room totals r
-  counted-room r n f = unread-room (o .is bytes u) r (unread-fewer (o .is bytes u) n) f
+  pub counted-fits : (r : Report) → (getD totals 0 0 ≡ 4096 → ⊥) → fits r ≡ true → TotalsFit totals r
+  counted-fits r n f = unread-fits (o .is bytes u) r (unread-fewer (o .is bytes u) n) f
 
 pub counted-next : {text start totals : List ℕ} {at : ℕ} → CountedTo text start totals at → (number : ℕ) (r : Report) (end : ℕ) → end ≤ length text
     → Reads (drop at text) number r (drop end text) → number ≡ 0 → (getD totals 0 0 ≡ 4096 → ⊥) → CountedTo text start (counted totals r) end

@@ -64,7 +64,7 @@ counted t r =
     ∷ []
 
 -- another report can be counted, and no total wraps: no number of a report takes more than forty bits
-pub record Room (t : List ℕ) (r : Report) : Type 0 where
+pub record TotalsFit (t : List ℕ) (r : Report) : Type 0 where
   pub passes : getD t 0 0 < 4096
   pub taken : getD t 1 0 ≤ 1099511627776 * getD t 0 0
   pub lost : getD t 2 0 ≤ 1099511627776 * getD t 0 0

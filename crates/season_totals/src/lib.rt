@@ -11,7 +11,7 @@ ghost use lib.ListN.{length, getD, take};
 ghost use Rattle.answer.specs.Number.{numberOf};
 ghost use Rattle.report_lines.specs.Line.{Appended};
 ghost use Rattle.report.specs.Text.{fits};
-ghost use Rattle.season_totals.specs.Totals.{wide, accepted, beats, counted, Room};
+ghost use Rattle.season_totals.specs.Totals.{wide, accepted, beats, counted, TotalsFit};
 ghost use Rattle.season_totals.specs.Season.{Seasons, seasonText};
 ghost use Rattle.season_totals.specs.Progress.{freshSeason, Came, Feeds, Finishes, Begun, Counts, Takes};
 use answer::Answer;
@@ -81,7 +81,7 @@ fn is_worse(totals: [u64; 7], report: Report) -> bool
 
 // The totals with a report more: passes, taken, lost, changed, the number of the worst, and its changed and accepted.
 fn count_report(totals: [u64; 7], report: Report) -> [u64; 7]
-    requires { ⌜ Room totals report ⌝ }
+    requires { ⌜ TotalsFit totals report ⌝ }
     ensures { λ r. ⌜ r ≡ counted totals report ⌝ }
 {
     let passes = totals[0] + 1;

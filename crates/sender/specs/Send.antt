@@ -1,4 +1,4 @@
--- What one call of the sender gives: the answer's number, by its tests in the order of document 01, the symbols, the sender after it and the room.
+-- What one call of the sender gives: the answer's number, by its tests in the order of document 01, the symbols, the sender after it and the output.
 -- Assumes nothing.
 use mathlib.Core.Path.{_≡_}
 use mathlib.Core.Bool.{Bool, false}
@@ -61,26 +61,26 @@ isSent t s = t (s .coder .rate) .sent
 -- What is refused: 5 for a state out of range, 6 for one whose mode is not sent, 1 for an input that is neither no bytes nor 188, 4 for short room;
 -- 0 where nothing is.
 abbrev pub refusal : (ℕ → Mode) → Sender → List ℕ → List ℕ → ℕ
-refusal t s input room = pick (inRange t s) (pick (isSent t s) (pick (isInput input) (pick (ltb (length room) (sentCount t s)) 4 0) 1) 6) 5
+refusal t s input output = pick (inRange t s) (pick (isSent t s) (pick (isInput input) (pick (ltb (length output) (sentCount t s)) 4 0) 1) 6) 5
 
 -- the number of the answer: the refusal, or else which packet was sent
 abbrev pub sendNumber : (ℕ → Mode) → Sender → List ℕ → List ℕ → ℕ
-sendNumber t s input room = pick (eqb (refusal t s input room) 0) (sentNumber input) (refusal t s input room)
+sendNumber t s input output = pick (eqb (refusal t s input output) 0) (sentNumber input) (refusal t s input output)
 
--- how many symbols the call sends, the sender and the room after it; on refusal none, and both as before
+-- how many symbols the call sends, the sender and the output after it; on refusal none, and both as before
 abbrev pub sendCount : (ℕ → Mode) → Sender → List ℕ → List ℕ → ℕ
-sendCount t s input room = pick (eqb (refusal t s input room) 0) (sentCount t s) 0
+sendCount t s input output = pick (eqb (refusal t s input output) 0) (sentCount t s) 0
 
 abbrev pub sendSender : (ℕ → Mode) → Sender → List ℕ → List ℕ → Sender
-sendSender t s input room = pick (eqb (refusal t s input room) 0) (senderAfter t s (packetFor input)) s
+sendSender t s input output = pick (eqb (refusal t s input output) 0) (senderAfter t s (packetFor input)) s
 
-abbrev pub sendRoom : (ℕ → Mode) → Sender → List ℕ → List ℕ → List ℕ
-sendRoom t s input room =
-    pick (eqb (refusal t s input room) 0) (sentSymbols t s (packetFor input) ++ drop (sentCount t s) room) room
+abbrev pub sendOutput : (ℕ → Mode) → Sender → List ℕ → List ℕ → List ℕ
+sendOutput t s input output =
+    pick (eqb (refusal t s input output) 0) (sentSymbols t s (packetFor input) ++ drop (sentCount t s) output) output
 
 -- what a call promises
-pub record Sends (t : ℕ → Mode) (s : Sender) (input room : List ℕ) (number count : ℕ) (next : Sender) (left : List ℕ) : Type 0 where
-  pub answered : number ≡ sendNumber t s input room
-  pub counted : count ≡ sendCount t s input room
-  pub sender : next ≡ sendSender t s input room
-  pub written : left ≡ sendRoom t s input room
+pub record Sends (t : ℕ → Mode) (s : Sender) (input output : List ℕ) (number count : ℕ) (next : Sender) (left : List ℕ) : Type 0 where
+  pub answered : number ≡ sendNumber t s input output
+  pub counted : count ≡ sendCount t s input output
+  pub sender : next ≡ sendSender t s input output
+  pub written : left ≡ sendOutput t s input output

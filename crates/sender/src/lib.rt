@@ -79,8 +79,8 @@ impl Sender {
     }
 
     // Sends a packet: writes its symbols. For no bytes, and for 188 that do not begin with the sync byte, a null packet is sent.
-    pub fn send(self, input: &[u8], room: &mut [u8]) -> Sent
-        ensures { λ r. ⌜ Sends modeOf self (now (input .entry)) (now (room .entry)) (numberOf (r .answer)) (r .count) (r .sender) (now (room .exit)) ⌝ }
+    pub fn send(self, input: &[u8], output: &mut [u8]) -> Sent
+        ensures { λ r. ⌜ Sends modeOf self (now (input .entry)) (now (output .entry)) (numberOf (r .answer)) (r .count) (r .sender) (now (output .exit)) ⌝ }
     {
         if !self.in_range() {
             return Sent {
@@ -105,18 +105,18 @@ impl Sender {
                 sender: self,
             };
         }
-        if room.len() < coder.symbol_count() {
+        if output.len() < coder.symbol_count() {
             return Sent {
-                answer: Answer::RoomLength,
+                answer: Answer::OutputLength,
                 count: 0,
                 sender: self,
             };
         }
         if is_synced(input) {
-            return transmit(self, input, room);
+            return transmit(self, input, output);
         }
         let null = null_packet();
-        let sent = transmit(self, &null, room);
+        let sent = transmit(self, &null, output);
         let count = sent.count;
         let sender = sent.sender;
         Sent {
@@ -159,13 +159,13 @@ fn null_packet() -> [u8; Sender::PACKET_LENGTH]
 }
 
 // Sends a packet with a sender that is in range, in a mode that is sent, and room enough.
-fn transmit(sender: Sender, packet: &[u8], room: &mut [u8]) -> Sent
-    requires { ⌜ (inRange modeOf sender ≡ true) × (isSent modeOf sender ≡ true) × (length (now packet) ≡ 188) × (getD (now packet) 0 0 ≡ 0x47) × (sentCount modeOf sender ≤ length (now room)) ⌝ }
+fn transmit(sender: Sender, packet: &[u8], output: &mut [u8]) -> Sent
+    requires { ⌜ (inRange modeOf sender ≡ true) × (isSent modeOf sender ≡ true) × (length (now packet) ≡ 188) × (getD (now packet) 0 0 ≡ 0x47) × (sentCount modeOf sender ≤ length (now output)) ⌝ }
     ensures { λ r. ⌜
         (numberOf (r .answer) ≡ 0)
         × (r .count ≡ sentCount modeOf sender)
         × (r .sender ≡ senderAfter modeOf sender (now (packet .entry)))
-        × (now (room .exit) ≡ sentSymbols modeOf sender (now (packet .entry)) ++ drop (sentCount modeOf sender) (now (room .entry))) ⌝ }
+        × (now (output .exit) ≡ sentSymbols modeOf sender (now (packet .entry)) ++ drop (sentCount modeOf sender) (now (output .entry))) ⌝ }
 {
     let place = sender.place;
     let interleaver = sender.interleaver;
@@ -177,7 +177,7 @@ fn transmit(sender: Sender, packet: &[u8], room: &mut [u8]) -> Sent
     let mut block = [0u8; Sender::BLOCK_LENGTH];
     let interleaved = interleaver.interleave(&coded, &mut block);
     let interleaver = interleaved.interleaver;
-    let encoded = coder.encode(&block, room);
+    let encoded = coder.encode(&block, output);
     let answer = encoded.answer;
     let coder = encoded.coder;
     let count = encoded.count;

@@ -63,8 +63,8 @@ module _ (rate : ℕ) (h : modeOf rate .sent ≡ true) where
       }
 
   -- a piece more
-  module _ (bytes piece room answers : List ℕ) {number count packets : ℕ} {next : Sending} {left told : List ℕ}
-      (f : FeedsAll (holding (senderOf modeOf rate (packetsFor (packetsOf bytes))) (restOf bytes)) piece room answers number count packets next left told) where
+  module _ (bytes piece output answers : List ℕ) {number count packets : ℕ} {next : Sending} {left told : List ℕ}
+      (f : FeedsAll (holding (senderOf modeOf rate (packetsFor (packetsOf bytes))) (restOf bytes)) piece output answers number count packets next left told) where
     before : List (List ℕ)
     before = packetsFor (packetsOf bytes)
 
@@ -99,7 +99,7 @@ module _ (rate : ℕ) (h : modeOf rate .sent ≡ true) where
     unfolding before w
     sent =
         ap (take count) (f .written)
-        ∙ take-at (fedSymbols w piece) (drop count room) count (sym (f .counted))
+        ∙ take-at (fedSymbols w piece) (drop count output) count (sym (f .counted))
         ∙ ap (λ (l : List (List ℕ)). flatten (callsSymbols modeOf (senderOf modeOf rate before) (packetsFor l))) packets-are
 
     answers-count : length (fedAnswers w piece) ≡ packets
@@ -133,18 +133,18 @@ module _ (rate : ℕ) (h : modeOf rate .sent ≡ true) where
     }
 
   transmitted-feeds : {bytes symbols numbers : List ℕ} {w : Sending} → Transmitted rate bytes symbols numbers w
-      → (piece room answers : List ℕ) {number count packets : ℕ} {next : Sending} {left told : List ℕ} → Feeds w piece room answers number count packets next left told
+      → (piece output answers : List ℕ) {number count packets : ℕ} {next : Sending} {left told : List ℕ} → Feeds w piece output answers number count packets next left told
       → Transmitted rate (bytes ++ pick (eqb number 0) piece []) (symbols ++ take count left) (numbers ++ take packets told) next
-  transmitted-feeds {bytes} {symbols} {numbers} {w} t piece room answers (refused {number = n} e z) =
+  transmitted-feeds {bytes} {symbols} {numbers} {w} t piece output answers (refused {number = n} e z) =
       let b : bytes ++ pick (eqb n 0) piece [] ≡ bytes = ap (λ (x : Bool). bytes ++ pick x piece []) (ne-eqb n 0 z) ∙ append-nil bytes in
       record {
         on-air = append-nil symbols ∙ t .on-air ∙ ap (λ (l : List ℕ). onAir (modeOf rate) (packetsFor (packetsOf l))) (sym b);
         answered = append-nil numbers ∙ t .answered ∙ ap (λ (l : List ℕ). map sentNumber (packetsOf l)) (sym b);
         state = t .state ∙ ap (λ (l : List ℕ). holding (senderOf modeOf rate (packetsFor (packetsOf l))) (restOf l)) (sym b);
       }
-  transmitted-feeds {bytes} {symbols} {numbers} {w} t piece room answers (fed {number = n} {count = c} {packets = k} {next = next} {left = left} {told = told} z f) =
+  transmitted-feeds {bytes} {symbols} {numbers} {w} t piece output answers (fed {number = n} {count = c} {packets = k} {next = next} {left = left} {told = told} z f) =
       subst (λ (x : Bool). Transmitted rate (bytes ++ pick x piece []) (symbols ++ take c left) (numbers ++ take k told) next) (sym (eq-eqb n 0 (f .done)))
-      (transmitted-more bytes piece room answers (subst (λ (x : Sending). FeedsAll x piece room answers n c k next left told) (t .state) f) (t .on-air) (t .answered))
+      (transmitted-more bytes piece output answers (subst (λ (x : Sending). FeedsAll x piece output answers n c k next left told) (t .state) f) (t .on-air) (t .answered))
 
   transmitted-feedings : {bytes symbols numbers b s n : List ℕ} {w last : Sending} → Transmitted rate bytes symbols numbers w → Feedings w b s n last
       → Transmitted rate (bytes ++ b) (symbols ++ s) (numbers ++ n) last
@@ -153,8 +153,8 @@ module _ (rate : ℕ) (h : modeOf rate .sent ≡ true) where
     answered = append-nil numbers ∙ t .answered ∙ ap (λ (l : List ℕ). map sentNumber (packetsOf l)) (sym (append-nil bytes));
     state = t .state ∙ ap (λ (l : List ℕ). holding (senderOf modeOf rate (packetsFor (packetsOf l))) (restOf l)) (sym (append-nil bytes));
   }
-  transmitted-feedings {bytes} {symbols} {numbers} t (feeding {bytes = b} {symbols = s} {numbers = n} piece room answers left told number count packets f g) =
-      let r = transmitted-feedings (transmitted-feeds t piece room answers f) g in
+  transmitted-feedings {bytes} {symbols} {numbers} t (feeding {bytes = b} {symbols = s} {numbers = n} piece output answers left told number count packets f g) =
+      let r = transmitted-feedings (transmitted-feeds t piece output answers f) g in
       rw (append-assoc bytes (pick (eqb number 0) piece []) b, append-assoc symbols (take count left) s, append-assoc numbers (take packets told) n) at r
 
   -- whatever the pieces

@@ -18,8 +18,8 @@ use Rattle.sending.specs.declared.Sending.{Sending}
 -- what the calls wrote, one after the other, of symbols and of answers.
 pub data Feedings : Sending → List ℕ → List ℕ → List ℕ → Sending → Type 0 where
   none : {w : Sending} → Feedings w [] [] [] w
-  feeding : {w next last : Sending} {bytes symbols numbers : List ℕ} (piece room answers left told : List ℕ) (number count packets : ℕ)
-      → Feeds w piece room answers number count packets next left told → Feedings next bytes symbols numbers last
+  feeding : {w next last : Sending} {bytes symbols numbers : List ℕ} (piece output answers left told : List ℕ) (number count packets : ℕ)
+      → Feeds w piece output answers number count packets next left told → Feedings next bytes symbols numbers last
       → Feedings w (pick (eqb number 0) piece [] ++ bytes) (take count left ++ symbols) (take packets told ++ numbers) last
 
 -- What bytes come to, from a fresh sending: the symbols of the standard for their whole packets, with null packets put in; for each packet the

@@ -62,29 +62,29 @@ fedSending w piece = holding (callsSender modeOf (w .sender) (packetsFor (wholeP
 -- 5 for a state out of range, 6 for one whose mode is not sent, 4 where there is not room for 1,632 symbols, the most that a packet gives, or not a byte for the answer, for each
 -- packet that is whole; 0 where nothing is refused
 abbrev pub feedNumber : Sending → List ℕ → List ℕ → List ℕ → ℕ
-feedNumber w piece room answers =
+feedNumber w piece output answers =
     pick (sendingInRange w)
-    (pick (isSent modeOf (w .sender)) (pick (ltb (length room / 1632) (wholeCount w piece)) 4 (pick (ltb (length answers) (wholeCount w piece)) 4 0)) 6) 5
+    (pick (isSent modeOf (w .sender)) (pick (ltb (length output / 1632) (wholeCount w piece)) 4 (pick (ltb (length answers) (wholeCount w piece)) 4 0)) 6) 5
 
 -- what the tests tell
-pub record Roomy (w : Sending) (piece room answers : List ℕ) : Type 0 where
+pub record OutputFits (w : Sending) (piece output answers : List ℕ) : Type 0 where
   pub range : sendingInRange w ≡ true
   pub sent : isSent modeOf (w .sender) ≡ true
-  pub symbols : wholeCount w piece ≤ length room / 1632
+  pub symbols : wholeCount w piece ≤ length output / 1632
   pub answers-fit : wholeCount w piece ≤ length answers
 
 -- what is left where nothing is refused
-pub record FeedsAll (w : Sending) (piece room answers : List ℕ) (number count packets : ℕ) (next : Sending) (left told : List ℕ) : Type 0 where
+pub record FeedsAll (w : Sending) (piece output answers : List ℕ) (number count packets : ℕ) (next : Sending) (left told : List ℕ) : Type 0 where
   pub done : number ≡ 0
   pub counted : count ≡ length (fedSymbols w piece)
   pub whole : packets ≡ wholeCount w piece
   pub sending : next ≡ fedSending w piece
-  pub written : left ≡ fedSymbols w piece ++ drop count room
+  pub written : left ≡ fedSymbols w piece ++ drop count output
   pub answers-written : told ≡ fedAnswers w piece ++ drop packets answers
 
--- What a call promises: the answer, the number of symbols and of packets, the sending, the room and the answers after it. After a refusal
+-- What a call promises: the answer, the number of symbols and of packets, the sending, the output and the answers after it. After a refusal
 -- nothing is written, and all is as before.
-pub data Feeds (w : Sending) (piece room answers : List ℕ) : ℕ → ℕ → ℕ → Sending → List ℕ → List ℕ → Type 0 where
-  refused : {number : ℕ} → number ≡ feedNumber w piece room answers → (number ≡ 0 → ⊥) → Feeds w piece room answers number 0 0 w room answers
-  fed : {number count packets : ℕ} {next : Sending} {left told : List ℕ} → feedNumber w piece room answers ≡ 0
-      → FeedsAll w piece room answers number count packets next left told → Feeds w piece room answers number count packets next left told
+pub data Feeds (w : Sending) (piece output answers : List ℕ) : ℕ → ℕ → ℕ → Sending → List ℕ → List ℕ → Type 0 where
+  refused : {number : ℕ} → number ≡ feedNumber w piece output answers → (number ≡ 0 → ⊥) → Feeds w piece output answers number 0 0 w output answers
+  fed : {number count packets : ℕ} {next : Sending} {left told : List ℕ} → feedNumber w piece output answers ≡ 0
+      → FeedsAll w piece output answers number count packets next left told → Feeds w piece output answers number count packets next left told

@@ -35,20 +35,20 @@ streamInRange i = pick (inRange (i .receiver)) (ltb (i .held) 204) false
 abbrev pub capacityOf : StreamReceiver → ℕ
 capacityOf i = 204 * (4294967295 - i .receiver .counts .taken) - i .held
 
--- What a piece comes to, after the bytes held: a recording of both, with the packets in the room. The bytes after its last whole block are held.
-pub record TakesPiece (i : StreamReceiver) (piece room : List ℕ) (count : ℕ) (next : StreamReceiver) (exit : List ℕ) : Type 0 where
-  pub takes : Takes (i .receiver) (heldBytes i ++ piece) [] room count (next .receiver) exit
+-- What a piece comes to, after the bytes held: a recording of both, with the packets in the output. The bytes after its last whole block are held.
+pub record TakesPiece (i : StreamReceiver) (piece output : List ℕ) (count : ℕ) (next : StreamReceiver) (exit : List ℕ) : Type 0 where
+  pub takes : Takes (i .receiver) (heldBytes i ++ piece) [] output count (next .receiver) exit
   pub kept : next ≡ holding (next .receiver) (restOf (heldBytes i ++ piece))
 
 -- The tests before the work, in the order of document 01: 5 for a state out of range, 4 where there is not room for a packet for each block
 -- that is whole then, 7 where not all the bytes can be taken; 0 where none refuses.
 abbrev pub feedNumber : StreamReceiver → List ℕ → List ℕ → ℕ
-feedNumber i piece room =
+feedNumber i piece output =
     pick (streamInRange i)
-    (pick (ltb (length room) (188 * ((i .held + length piece) / 204))) 4 (pick (ltb (capacityOf i) (length piece)) 7 0))
+    (pick (ltb (length output) (188 * ((i .held + length piece) / 204))) 4 (pick (ltb (capacityOf i) (length piece)) 7 0))
     5
 
 -- what feeding promises: all as before, or the whole piece taken
-pub data Feeds (i : StreamReceiver) (piece room : List ℕ) (number count : ℕ) (next : StreamReceiver) (exit : List ℕ) : Type 0 where
-  refused : number ≡ feedNumber i piece room → 0 < number → count ≡ 0 → next ≡ i → exit ≡ room → Feeds i piece room number count next exit
-  fed : feedNumber i piece room ≡ 0 → number ≡ 0 → TakesPiece i piece room count next exit → Feeds i piece room number count next exit
+pub data Feeds (i : StreamReceiver) (piece output : List ℕ) (number count : ℕ) (next : StreamReceiver) (exit : List ℕ) : Type 0 where
+  refused : number ≡ feedNumber i piece output → 0 < number → count ≡ 0 → next ≡ i → exit ≡ output → Feeds i piece output number count next exit
+  fed : feedNumber i piece output ≡ 0 → number ≡ 0 → TakesPiece i piece output count next exit → Feeds i piece output number count next exit

@@ -12,10 +12,10 @@ use Rattle.recording.specs.Recording.{restOf, Recording}
 use Rattle.stream_receiver.specs.Feed.{holding, Feeds}
 use Rattle.stream_receiver.specs.declared.StreamReceiver.{StreamReceiver}
 
--- a call: the piece and the room lent, the number of the answer, how many bytes were written, the stream receiver and the room after it
+-- a call: the piece and the output lent, the number of the answer, how many bytes were written, the stream receiver and the output after it
 pub record Feeding : Type 0 where
   pub piece : List ℕ
-  pub room : List ℕ
+  pub output : List ℕ
   pub number : ℕ
   pub count : ℕ
   pub next : StreamReceiver
@@ -24,7 +24,7 @@ pub record Feeding : Type 0 where
 -- each call is what feeding promises of the stream receiver that the one before it left
 abbrev pub Feedings : StreamReceiver → List Feeding → Type 0
 Feedings i [] = Unit {0}
-Feedings i (c ∷ cs) = Feeds i (c .piece) (c .room) (c .number) (c .count) (c .next) (c .exit) × Feedings (c .next) cs
+Feedings i (c ∷ cs) = Feeds i (c .piece) (c .output) (c .number) (c .count) (c .next) (c .exit) × Feedings (c .next) cs
 
 abbrev pub afterFeedings : StreamReceiver → List Feeding → StreamReceiver
 afterFeedings i [] = i

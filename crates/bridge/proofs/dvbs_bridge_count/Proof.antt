@@ -85,8 +85,8 @@ returns-5 c =
     simp (eq-eqb _ _ n, le-ltb _ _ h, ranged (c .before .before .before .before .before .before .before) ∙ not-false _ (c .before .before .before .before .before .before .if3 .left), le-ltb _ _ (c .before .before .before .before .before .if4 .left)) (
       refl,
       c .before .before .put .ensures
-          ∙ front (a .state .now) (a .room .now) (1136 + 8 * a .number) (1136 + 8 * a .number + 8) 8 refl (omega arith)
-          ∙ ap (λ (l : List ℕ). l ++ drop 8 (a .room .now)) (count-bytes (a .state .now) n (λ i. c .before .before .before .before .before .before .before .before .before .before .before .before .shared-slice-known .given i .fits) (a .number) (omega arith)),
+          ∙ front (a .state .now) (a .output .now) (1136 + 8 * a .number) (1136 + 8 * a .number + 8) 8 refl (omega arith)
+          ∙ ap (λ (l : List ℕ). l ++ drop 8 (a .output .now)) (count-bytes (a .state .now) n (λ i. c .before .before .before .before .before .before .before .before .before .before .before .before .shared-slice-known .given i .fits) (a .number) (omega arith)),
     )
 
 pub dvbs-bridge-count-spec : {M : Type 1} → statement M

@@ -21,10 +21,10 @@ straight : (size p k : ℕ) → p + k < size → advanced size p k ≡ p + k
 straight size p k h = simp (lt-ltb (p + k) size h)
 
 abbrev Inv-loop : tie.InvT-loop
-Inv-loop cells₀ position j block room₀ k₀ cells room k = (k ≤ 17) × Turning cells₀ position (column j block) cells (advanced (length cells₀) position k) k × Placing j (take 17 (turned position cells₀ ++ column j block)) room₀ room k
+Inv-loop cells₀ position j block output₀ k₀ cells output k = (k ≤ 17) × Turning cells₀ position (column j block) cells (advanced (length cells₀) position k) k × Placing j (take 17 (turned position cells₀ ++ column j block)) output₀ output k
 
 abbrev μ-loop : tie.MeasureT-loop
-μ-loop cells₀ position j block room₀ k₀ cells room k = 17 - k
+μ-loop cells₀ position j block output₀ k₀ cells output k = 17 - k
 
 loop-holds : tie.Need-loop-holds Inv-loop μ-loop
 loop-holds c =
@@ -51,8 +51,8 @@ shared-slice-read-cells c = search needs
 slice-write-cells : tie.Need-slice-write-cells Inv-loop μ-loop
 slice-write-cells c = let e = c .before .before .before .loop .inv .1 .same in omega arith
 
-slice-write-room : tie.Need-slice-write-room Inv-loop μ-loop
-slice-write-room c = let e = c .before .before .before .loop .inv .2 .same in search needs
+slice-write-output : tie.Need-slice-write-output Inv-loop μ-loop
+slice-write-output c = let e = c .before .before .before .loop .inv .2 .same in search needs
 
 add-k : tie.Need-add-k Inv-loop μ-loop
 add-k c = search needs
@@ -123,7 +123,7 @@ exchange-row-spec =
     slice-read-out
     shared-slice-read-cells
     slice-write-cells
-    slice-write-room
+    slice-write-output
     add-k
     loop-less
     loop-again

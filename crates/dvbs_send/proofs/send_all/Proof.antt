@@ -81,7 +81,7 @@ same-length-8 c =
     let t = c .before .before .before .before .before .before .before .before .before .before .before .before .before .before .before in
     let l = t .before .before .before .before .before in
     let s = l .before .before .before .before in
-    omega (arith, t .next-turn .kept .1 .1 .0, l .loop .inv .room, s .pre .room)
+    omega (arith, t .next-turn .kept .1 .1 .0, l .loop .inv .output, s .pre .output)
 
 same-length-9 : tie.Need-same-length-9 Inv-loop μ-loop
 same-length-9 c =
@@ -118,7 +118,7 @@ loop-again c =
     record {
       range = t .next-turn .ensures .range;
       piece = t .next-turn .kept .1 .0 ∙ l .piece;
-      room = t .next-turn .kept .1 .1 .0 ∙ l .room;
+      output = t .next-turn .kept .1 .1 .0 ∙ l .output;
       numbers = t .next-turn .kept .1 .1 .1 .0 ∙ l .numbers;
     }
 

@@ -54,7 +54,7 @@ returns c =
     let a = c .before .before .before .before .before .before .before .before .before .before .before .before in
     let coder = a .args .coder in
     let block = a .args .block .now in
-    let room = a .args .room .now in
+    let output = a .args .output .now in
     let coded = c .before .before .before .before .before .before .before .code-bytes .ensures in
     let memory = coded .0 in
     let e = coded .1 in
@@ -66,9 +66,9 @@ returns c =
       (λ i. record { rate = coder .rate; memory = memory i; place = progressed i .place; held = progressed i .held }) ∙ sym (qpsk-coder coder (a .pre .1) block ∙ coder-serial coder (bitsOf block) bits),
       (λ i. progressed i .count) ∙ zero-add _ ∙ ap length (sym symbols),
       r .1
-          ∙ ap (λ (l : List ℕ). placed room 0 (sentSymbols (coder .rate) (coder .place) (coder .held) l 0 1632)) e
-          ∙ ap (λ (l : List ℕ). placed room 0 l) (sym symbols)
-          ∙ ap (λ (k : ℕ). blockSymbols coder block ++ drop k room) (zero-add (length (blockSymbols coder block))),
+          ∙ ap (λ (l : List ℕ). placed output 0 (sentSymbols (coder .rate) (coder .place) (coder .held) l 0 1632)) e
+          ∙ ap (λ (l : List ℕ). placed output 0 l) (sym symbols)
+          ∙ ap (λ (k : ℕ). blockSymbols coder block ++ drop k output) (zero-add (length (blockSymbols coder block))),
     )
 
 pub encode-qpsk-spec : {M : Type 1} → statement M

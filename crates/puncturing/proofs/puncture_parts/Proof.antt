@@ -6,7 +6,7 @@ use Prim.Native.Nat.{ℕ, _+_, _-_, _*_, _≤_}
 use native.Mathlib.Omega.{arith}
 use lib.ListN.{length, length-append}
 use Rattle.common.specs.Lists.{placed}
-use Rattle.common.proofs.Rooms.{placed-three}
+use Rattle.common.proofs.Outputs.{placed-three}
 use Rattle.puncturing.specs.Step.{patternLength}
 use Rattle.puncturing.specs.Run.{sentSymbols, heldBehind, patternsSymbols, iBits, qBits}
 use Rattle.puncturing.specs.declared.Progress.{Progress}
@@ -42,10 +42,10 @@ module _ (a : tie.Start) where
       ++ whole-symbols a
       ++ sentSymbols (a .args .rate) 0 0 (a .args .coded .now) (sym (a .pre .6) i) (1632 - a .args .tail))
 
-  fits : length (head-symbols a ++ whole-symbols a ++ tail-symbols a) ≤ length (a .args .room .now)
-  fits = subst (λ (s : List ℕ). length s ≤ length (a .args .room .now)) three (a .pre .8)
+  fits : length (head-symbols a ++ whole-symbols a ++ tail-symbols a) ≤ length (a .args .output .now)
+  fits = subst (λ (s : List ℕ). length s ≤ length (a .args .output .now)) three (a .pre .8)
 
-  sizes : length (head-symbols a) + length (whole-symbols a) + length (tail-symbols a) ≤ length (a .args .room .now)
+  sizes : length (head-symbols a) + length (whole-symbols a) + length (tail-symbols a) ≤ length (a .args .output .now)
   sizes =
       let e : length (head-symbols a ++ whole-symbols a ++ tail-symbols a) ≡ length (head-symbols a) + length (whole-symbols a) + length (tail-symbols a)
       = length-append (head-symbols a ++ whole-symbols a) (tail-symbols a)
@@ -68,7 +68,7 @@ whole-patterns-requires c κs =
     let g = a .pre in
     let b = c .before .before .before .puncture-bits in
     let counted = ap (λ (p : Progress). p .count) (b .ensures .0) in
-    let kept : length (b .last .1 .1 .1 .1 .1 .1 .0) ≡ length (a .args .room .now) = b .kept .1 .1 .1 .1 .1 .1 .0 in
+    let kept : length (b .last .1 .1 .1 .1 .1 .1 .0) ≡ length (a .args .output .now) = b .kept .1 .1 .1 .1 .1 .1 .0 in
     (g .0, g .3, g .4, omega (arith, g .6, g .7), omega (arith, sizes a, turned a, counted, kept))
 
 puncture-bits-requires-2 : tie.Need-puncture-bits-requires-2
@@ -78,7 +78,7 @@ puncture-bits-requires-2 c κs =
     let b = c .before .before .before .before .before .before .before .puncture-bits in
     let w = c .before .before .before .whole-patterns in
     let counted = ap (λ (p : Progress). p .count) (b .ensures .0) in
-    let kept : length (w .last .1 .1 .1 .1 .0) ≡ length (a .args .room .now) = w .kept .1 .1 .1 .1 .0 ∙ b .kept .1 .1 .1 .1 .1 .1 .0 in
+    let kept : length (w .last .1 .1 .1 .1 .0) ≡ length (a .args .output .now) = w .kept .1 .1 .1 .1 .0 ∙ b .kept .1 .1 .1 .1 .1 .1 .0 in
     (g .0, omega (arith, g .1), omega arith, g .3, g .4, g .7, omega arith, omega (arith, sizes a, turned a, counted, w .ensures .0, kept))
 
 same-length : tie.Need-same-length
@@ -116,8 +116,8 @@ returns c =
       t .ensures .1
           ∙ (λ i. placed (w .ensures .1 i) (next i) (tail-symbols a))
           ∙ (λ i. placed (placed (b .ensures .1 i) (counted i) (whole-symbols a)) (0 + length (head-symbols a) + length (whole-symbols a)) (tail-symbols a))
-          ∙ placed-three (a .args .room .now) (head-symbols a) (whole-symbols a) (tail-symbols a) (fits a)
-          ∙ ap (placed (a .args .room .now) 0) (sym (three a)),
+          ∙ placed-three (a .args .output .now) (head-symbols a) (whole-symbols a) (tail-symbols a) (fits a)
+          ∙ ap (placed (a .args .output .now) 0) (sym (three a)),
     )
 
 pub puncture-parts-spec : {M : Type 1} → statement M

@@ -43,8 +43,8 @@ returns-3 : tie.Need-returns-3
 returns-3 c =
     let a = c .before .before .before .before .before .before .before .before .before .before .before .args in
     let k = c .before .before .take-recording in
-    let e : recordingNumber (a .receiver) (a .bytes .now) (a .room .now) ≡ markedNumber (a .receiver) (a .bytes .now) (a .marks .now) (a .room .now) = sym (simp (good (c .before .before .before .before .before .before), marked (c .before .before .before .before))) in
-    subst (λ (n : ℕ). Answers (a .receiver) (a .bytes .now) (a .marks .now) (a .room .now) n (numberOf (k .result .answer)) (k .result .count) (k .result .receiver) (k .last .1 .1 .1 .0)) e (k .ensures)
+    let e : recordingNumber (a .receiver) (a .bytes .now) (a .output .now) ≡ markedNumber (a .receiver) (a .bytes .now) (a .marks .now) (a .output .now) = sym (simp (good (c .before .before .before .before .before .before), marked (c .before .before .before .before))) in
+    subst (λ (n : ℕ). Answers (a .receiver) (a .bytes .now) (a .marks .now) (a .output .now) n (numberOf (k .result .answer)) (k .result .count) (k .result .receiver) (k .last .1 .1 .1 .0)) e (k .ensures)
 
 pub receive-marked-recording-spec : {M : Type 1} → statement M
 receive-marked-recording-spec =

@@ -43,12 +43,12 @@ returns : tie.Need-returns
 returns c =
     let a = c .before .before .before .before .before .before .before .before .before .before .before .before .before .args in
     let e = sym (range (c .before)) ∙ not-true _ (c .if1 .taken) in
-    refused-call (a .self) (a .block .now) (a .marks .now) (a .room .now) _ _ (simp e) (simp e) refl
+    refused-call (a .self) (a .block .now) (a .marks .now) (a .output .now) _ _ (simp e) (simp e) refl
 
 returns-2 : tie.Need-returns-2
 returns-2 c =
     let a = c .before .before .before .before .before .before .before .before .before .before .before .before .before .before .args in
-    refused-call (a .self) (a .block .now) (a .marks .now) (a .room .now) _ _ (simp (good (c .before), ne-eqb _ _ (c .if2 .taken))) (simp (good (c .before), ne-eqb _ _ (c .if2 .taken))) refl
+    refused-call (a .self) (a .block .now) (a .marks .now) (a .output .now) _ _ (simp (good (c .before), ne-eqb _ _ (c .if2 .taken))) (simp (good (c .before), ne-eqb _ _ (c .if2 .taken))) refl
 
 are-marks-requires : tie.Need-are-marks-requires
 are-marks-requires c κs = search needs
@@ -57,18 +57,18 @@ returns-3 : tie.Need-returns-3
 returns-3 c =
     let a = c .before .before .before .before .before .before .before .before .before .before .before .before .before .before .before .before .args in
     let e = sym (c .before .are-marks .ensures) ∙ not-true _ (c .if3 .taken) in
-    refused-call (a .self) (a .block .now) (a .marks .now) (a .room .now) _ _ (simp (good (c .before .before .before), eq-eqb _ _ (c .before .before .if2 .left), e)) (simp (good (c .before .before .before), eq-eqb _ _ (c .before .before .if2 .left), e)) refl
+    refused-call (a .self) (a .block .now) (a .marks .now) (a .output .now) _ _ (simp (good (c .before .before .before), eq-eqb _ _ (c .before .before .if2 .left), e)) (simp (good (c .before .before .before), eq-eqb _ _ (c .before .before .if2 .left), e)) refl
 
 returns-4 : tie.Need-returns-4
 returns-4 c =
     let a = c .before .before .before .before .before .before .before .before .before .before .before .before .before .before .before .before .before .args in
-    refused-call (a .self) (a .block .now) (a .marks .now) (a .room .now) _ _
+    refused-call (a .self) (a .block .now) (a .marks .now) (a .output .now) _ _
     (simp (good (c .before .before .before .before), eq-eqb _ _ (c .before .before .before .if2 .left), marked (c .before), lt-ltb _ _ (c .if4 .taken))) (simp (good (c .before .before .before .before), eq-eqb _ _ (c .before .before .before .if2 .left), marked (c .before), lt-ltb _ _ (c .if4 .taken))) refl
 
 returns-5 : tie.Need-returns-5
 returns-5 c =
     let a = c .before .before .before .before .before .before .before .before .before .before .before .before .before .before .before .before .before .before .args in
-    refused-call (a .self) (a .block .now) (a .marks .now) (a .room .now) _ _
+    refused-call (a .self) (a .block .now) (a .marks .now) (a .output .now) _ _
     (simp (good (c .before .before .before .before .before), eq-eqb _ _ (c .before .before .before .before .if2 .left), marked (c .before .before), le-ltb _ _ (c .before .if4 .left), le-ltb _ _ (c .if5 .taken)))
     (simp (good (c .before .before .before .before .before), eq-eqb _ _ (c .before .before .before .before .if2 .left), marked (c .before .before), le-ltb _ _ (c .before .if4 .left), le-ltb _ _ (c .if5 .taken))) refl
 
