@@ -15,7 +15,7 @@ use Rattle.receiver.specs.Kept as kept
 use Rattle.receiver.specs.Kept.{Kept}
 use Rattle.receiver.specs.declared.Receiver.{Receiver}
 use Rattle.receiver.proofs.Promised.{promised-received}
-use Rattle.bridge.specs.State.{bytesOf, StandsFor}
+use Rattle.bridge.specs.State.{stateBytes, StandsFor}
 use Rattle.bridge.specs.Calls.{wrong-length, no-state, as-receiver}
 use Rattle.bridge.specs.Pass.{BridgePass, none, call}
 use Rattle.bridge.proofs.States.{one-receiver, stands-fresh}
@@ -44,7 +44,7 @@ pass-kept s h (call {blocks = blocks} {numbers = numbers} {packets = packets} bl
 
 -- demand 2, receiving, through the bridge: begun with a fresh state, the blocks of a fresh sender give its packets back, eleven blocks late
 pub pass-received : (packets : List (List ℕ)) → All Packet packets → length packets ≤ 4294967295 → (numbers : List ℕ) (given : List (List ℕ)) (last : List ℕ)
-    → BridgePass (bytesOf freshReceiver) (interleaved (map encoded (randomizedStream packets))) numbers given last
+    → BridgePass (stateBytes freshReceiver) (interleaved (map encoded (randomizedStream packets))) numbers given last
     → (numbers ≡ take (length packets) (replicate 11 9 ++ replicate (length packets) 0)) × (given ≡ take (length packets - 11) packets)
 pass-received packets ws l numbers given last p =
     let w = pass-kept freshReceiver stands-fresh p in

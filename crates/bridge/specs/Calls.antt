@@ -9,11 +9,11 @@ use lib.ListN.{length, getD, drop}
 use Rattle.common.specs.Choice.{pick}
 use Rattle.answer.specs.Number.{numberOf}
 use Rattle.count_bytes.specs.Bytes.{toBytes, numbersOf}
-use Rattle.receiver.specs.Receive.{freshReceiver, inRange, Receives}
+use Rattle.receiver.specs.Receive.{freshReceiver, receiverInRange, Receives}
 use Rattle.receiver.specs.Run.{takenBy}
 use Rattle.receiver.specs.declared.Receiver.{Receiver}
 use Rattle.receiver.specs.declared.Received.{Received}
-use Rattle.bridge.specs.State.{stateLength, stateOf, bytesOf, StandsFor}
+use Rattle.bridge.specs.State.{stateLength, stateOf, stateBytes, StandsFor}
 
 -- ---- a fresh state
 
@@ -21,7 +21,7 @@ abbrev pub freshNumber : List ℕ → ℕ
 freshNumber state = pick (eqb (length state) stateLength) 0 22
 
 abbrev pub freshBytes : List ℕ → List ℕ
-freshBytes state = pick (eqb (length state) stateLength) (bytesOf freshReceiver) state
+freshBytes state = pick (eqb (length state) stateLength) (stateBytes freshReceiver) state
 
 -- ---- a block
 
@@ -36,14 +36,14 @@ pub data BridgeTakes (state block output : List ℕ) (r : ℕ) (after exit : Lis
   no-state : length state ≡ stateLength → ((s : Receiver) → StandsFor state s → ⊥) → r ≡ 5 → after ≡ state → exit ≡ output
       → BridgeTakes state block output r after exit
   as-receiver : (s : Receiver) → StandsFor state s → (received : Received) → Receives s block output received exit
-      → r ≡ numberOf (received .answer) → after ≡ bytesOf (received .receiver) → StandsFor after (received .receiver)
+      → r ≡ numberOf (received .answer) → after ≡ stateBytes (received .receiver) → StandsFor after (received .receiver)
       → BridgeTakes state block output r after exit
 
 -- ---- a count
 
 -- the tests of the state that is read, and of the output
 abbrev heldNumber : List ℕ → List ℕ → ℕ
-heldNumber state output = pick (inRange (stateOf state)) (pick (ltb (length output) 8) 4 0) 5
+heldNumber state output = pick (receiverInRange (stateOf state)) (pick (ltb (length output) 8) 4 0) 5
 
 -- all tests in their order: 22, 23, 5, 4
 abbrev pub countNumber : List ℕ → ℕ → List ℕ → ℕ

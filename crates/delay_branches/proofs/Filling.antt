@@ -8,7 +8,7 @@ use native.Mathlib.Decide.{ℕ-discrete, decLt}
 use native.Mathlib.Omega.{arith}
 use lib.ListN.{length, getD, drop, set, length-set, length-append, length-drop, List·getD-append}
 use lib.Seq.{getD-set-same, getD-set-other, getD-append-add, getD-drop, ext-getD}
-use Rattle.delay_branches.specs.Column.{placed}
+use Rattle.delay_branches.specs.Column.{scattered}
 
 -- m bytes of the block are written, those of branch 0 first
 pub record Filled (block d : List ℕ) (r : List ℕ) (m : ℕ) : Type 0 where
@@ -42,8 +42,8 @@ module _ {block d r : List ℕ} (j k : ℕ) (g : Filled block d r (17 * j + k)) 
 -- the bytes of branch j from its byte k on
 pub filled-placed : {block d : List ℕ} (j k : ℕ) (bs r : List ℕ) → Filled block d r (17 * j + k) → j < 12 → k + length bs ≤ 17 → 204 ≤ length d
     → ((i : ℕ) → i < length bs → getD bs i 0 ≡ getD block (12 * (k + i) + j) 0)
-    → Filled block d (placed (12 * k + j) bs r) (17 * j + (k + length bs))
-unfolding placed
+    → Filled block d (scattered (12 * k + j) bs r) (17 * j + (k + length bs))
+unfolding scattered
 filled-placed {block} {d} j k [] r g h l output e = rw (add-zero k) g
 filled-placed {block} {d} j k (b ∷ bs) r g h l output e =
     rw (next, count)

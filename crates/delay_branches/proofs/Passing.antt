@@ -11,8 +11,8 @@ use lib.Seq.{drop-cons, set-at, drop-at, take-at, drop-drop, getD-append-add, ge
 use Rattle.common.specs.Lists.{listOf}
 use Rattle.common.proofs.Lists.{length-listOf}
 use Rattle.delay_branches.specs.Branch.{sizeOf, baseOf, cellsOf, turned, queue}
-use Rattle.delay_branches.specs.Column.{column, placed}
-use Rattle.delay_branches.specs.Block.{leaving, staying, positionAfter, positionOf, storedOf, joined, blockOut, after}
+use Rattle.delay_branches.specs.Column.{column, scattered}
+use Rattle.delay_branches.specs.Block.{leaving, staying, positionAfter, positionOf, storedOf, joined, blockOut, branchesAfter}
 use Rattle.delay_branches.specs.declared.Side.{Side}
 use Rattle.delay_branches.specs.declared.Branches.{Branches}
 use Rattle.delay_branches.proofs.Cells.{base-end, cells-fit, length-cells, length-joined}
@@ -72,7 +72,7 @@ module _ {side : Side} {s : Branches} {block d output cells positions : List ℕ
       → next ≡ positionAfter (length part) p
       → part′ ≡ turned (length part - next) (drop 17 (turned p part ++ column j block))
       → cells′ ≡ take base cells ++ (part′ ++ drop size (drop base cells))
-      → output′ ≡ placed j (take 17 (turned p part ++ column j block)) output
+      → output′ ≡ scattered j (take 17 (turned p part ++ column j block)) output
       → Passing side s block d output′ cells′ (set positions j next) end (j + 1)
   unfolding baseOf joined listOf positionOf storedOf staying leaving queue
   passing-more {p} {next} {size} {end} {part} {part′} {cells′} {output′} long e1 e2 e3 e4 e5 e6 e7 e8 = record {
@@ -114,8 +114,8 @@ module _ {side : Side} {s : Branches} {block d output cells positions : List ℕ
           let m : length (leaving side s block j) ≡ 17 = length-leaves side s block j in
           let k : 17 * j + (0 + length (leaving side s block j)) ≡ 17 * (j + 1) = omega arith in
           let z : 17 * j + 0 ≡ 17 * j = omega arith in
-          let r : output′ ≡ placed (12 * 0 + j) (leaving side s block j) output
-          = e8 ∙ ap₂ (λ (i : ℕ) (l : List ℕ). placed i (take 17 l) output) (sym (zero-add j)) passed
+          let r : output′ ≡ scattered (12 * 0 + j) (leaving side s block j) output
+          = e8 ∙ ap₂ (λ (i : ℕ) (l : List ℕ). scattered i (take 17 l) output) (sym (zero-add j)) passed
           in
           rw (r, sym k)
           (filled-placed j 0 (leaving side s block j) output (rw z (g .filled)) h (omega arith) long
@@ -123,8 +123,8 @@ module _ {side : Side} {s : Branches} {block d output cells positions : List ℕ
 
 pub passing-all : {side : Side} {s : Branches} {block d output cells positions : List ℕ} {base j : ℕ}
     → Passing side s block d output cells positions base j → Good side s → j ≡ 12 → 204 ≤ length d
-    → (cells ≡ after side s block .cells) × (positions ≡ after side s block .positions) × (output ≡ blockOut side s block ++ drop 204 d)
-unfolding after
+    → (cells ≡ branchesAfter side s block .cells) × (positions ≡ branchesAfter side s block .positions) × (output ≡ blockOut side s block ++ drop 204 d)
+unfolding branchesAfter
 passing-all {side} {s} {block} {d} {output} {cells} {positions} {base} {j} g whole e long =
     let f : Passing side s block d output cells positions base 12 = rw e at g in (
       f .stored ∙ ends (joined 12 (storedOf side s block)) (s .cells) (baseOf side 12) (base-end side ∙ sym (whole .cells)),

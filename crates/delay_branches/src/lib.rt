@@ -7,9 +7,9 @@ ghost use Prim.Native.Nat.{_+_, _-_, _<_, _≤_, max};
 ghost use lib.Dec.{eqb};
 ghost use lib.ListN.{length, take, drop};
 ghost use Rattle.common.specs.Choice.{pick};
-ghost use Rattle.delay_branches.specs.Branch.{laid, delayOf, within, inRange, turned};
-ghost use Rattle.delay_branches.specs.Column.{column, placed};
-ghost use Rattle.delay_branches.specs.Block.{fresh, blockOut, after, positionAfter, advanced};
+ghost use Rattle.delay_branches.specs.Branch.{laid, delayOf, positionsWithin, branchesInRange, turned};
+ghost use Rattle.delay_branches.specs.Column.{column, scattered};
+ghost use Rattle.delay_branches.specs.Block.{fresh, blockOut, branchesAfter, positionAfter, positionAdvanced};
 
 // The side of the line that the branches stand on.
 pub enum Side {
@@ -56,7 +56,7 @@ fn limit_of(size: usize) -> usize
 
 // Whether each position is within its branch.
 pub fn positions_within(side: Side, positions: [u8; 12]) -> bool
-    ensures { λ r. ⌜ r ≡ within side positions 12 ⌝ }
+    ensures { λ r. ⌜ r ≡ positionsWithin side positions 12 ⌝ }
 {
     let mut j: usize = 0;
     while j < 12 {
@@ -73,7 +73,7 @@ pub fn positions_within(side: Side, positions: [u8; 12]) -> bool
 // Copies the bytes of branch j.
 fn copy_column(j: usize, block: &[u8], output: &mut [u8])
     requires { ⌜ (j < 12) × (length (now block) ≡ 204) × (204 ≤ length (now output)) ⌝ }
-    ensures { λ _. ⌜ now (output .exit) ≡ placed j (column j (now (block .entry))) (now (output .entry)) ⌝ }
+    ensures { λ _. ⌜ now (output .exit) ≡ scattered j (column j (now (block .entry))) (now (output .entry)) ⌝ }
 {
     let mut k: usize = 0;
     while k < 17 {
@@ -104,9 +104,9 @@ fn exchange_row(
         (position + 17 ≤ length (now cells))
         × (j < 12) × (length (now block) ≡ 204) × (204 ≤ length (now output)) ⌝ }
     ensures { λ r. ⌜
-        (r ≡ advanced (length (now (cells .entry))) position 17)
+        (r ≡ positionAdvanced (length (now (cells .entry))) position 17)
         × (now (cells .exit) ≡ turned (length (now (cells .entry)) - r) (drop 17 (turned position (now (cells .entry)) ++ column j (now (block .entry)))))
-        × (now (output .exit) ≡ placed j (take 17 (turned position (now (cells .entry)) ++ column j (now (block .entry)))) (now (output .entry))) ⌝ }
+        × (now (output .exit) ≡ scattered j (take 17 (turned position (now (cells .entry)) ++ column j (now (block .entry)))) (now (output .entry))) ⌝ }
 {
     let mut k: usize = 0;
     while k < 17 {
@@ -132,9 +132,9 @@ fn exchange_round(
         (17 ≤ length (now cells)) × (position < length (now cells))
         × (j < 12) × (length (now block) ≡ 204) × (204 ≤ length (now output)) ⌝ }
     ensures { λ r. ⌜
-        (r ≡ advanced (length (now (cells .entry))) position 17)
+        (r ≡ positionAdvanced (length (now (cells .entry))) position 17)
         × (now (cells .exit) ≡ turned (length (now (cells .entry)) - r) (drop 17 (turned position (now (cells .entry)) ++ column j (now (block .entry)))))
-        × (now (output .exit) ≡ placed j (take 17 (turned position (now (cells .entry)) ++ column j (now (block .entry)))) (now (output .entry))) ⌝ }
+        × (now (output .exit) ≡ scattered j (take 17 (turned position (now (cells .entry)) ++ column j (now (block .entry)))) (now (output .entry))) ⌝ }
 {
     let size = cells.len();
     let mut p = position;
@@ -162,9 +162,9 @@ fn exchange_column(
         (17 ≤ length (now cells)) × (position < length (now cells))
         × (j < 12) × (length (now block) ≡ 204) × (204 ≤ length (now output)) ⌝ }
     ensures { λ r. ⌜
-        (r ≡ advanced (length (now (cells .entry))) position 17)
+        (r ≡ positionAdvanced (length (now (cells .entry))) position 17)
         × (now (cells .exit) ≡ turned (length (now (cells .entry)) - r) (drop 17 (turned position (now (cells .entry)) ++ column j (now (block .entry)))))
-        × (now (output .exit) ≡ placed j (take 17 (turned position (now (cells .entry)) ++ column j (now (block .entry)))) (now (output .entry))) ⌝ }
+        × (now (output .exit) ≡ scattered j (take 17 (turned position (now (cells .entry)) ++ column j (now (block .entry)))) (now (output .entry))) ⌝ }
 {
     if cells.len() - position >= 17 {
         return exchange_row(cells, position, j, block, output);
@@ -180,7 +180,7 @@ fn pass_column(cells: &mut [u8], position: u8, j: usize, block: &[u8], output: &
     ensures { λ r. ⌜
         (r ≡ positionAfter (length (now (cells .entry))) position)
         × (now (cells .exit) ≡ turned (length (now (cells .entry)) - r) (drop 17 (turned position (now (cells .entry)) ++ column j (now (block .entry)))))
-        × (now (output .exit) ≡ placed j (take 17 (turned position (now (cells .entry)) ++ column j (now (block .entry)))) (now (output .entry))) ⌝ }
+        × (now (output .exit) ≡ scattered j (take 17 (turned position (now (cells .entry)) ++ column j (now (block .entry)))) (now (output .entry))) ⌝ }
 {
     if cells.len() == 0 {
         copy_column(j, block, output);
@@ -198,10 +198,10 @@ pub fn pass_cells(
     output: &mut [u8],
 ) -> [u8; 12]
     requires { ⌜
-        (within side positions 12 ≡ true) × (length (now cells) ≡ 1122) × (length (now block) ≡ 204) × (204 ≤ length (now output)) ⌝ }
+        (positionsWithin side positions 12 ≡ true) × (length (now cells) ≡ 1122) × (length (now block) ≡ 204) × (204 ≤ length (now output)) ⌝ }
     ensures { λ r. ⌜
-        (r ≡ after side (laid (now (cells .entry)) positions) (now (block .entry)) .positions)
-        × (now (cells .exit) ≡ after side (laid (now (cells .entry)) positions) (now (block .entry)) .cells)
+        (r ≡ branchesAfter side (laid (now (cells .entry)) positions) (now (block .entry)) .positions)
+        × (now (cells .exit) ≡ branchesAfter side (laid (now (cells .entry)) positions) (now (block .entry)) .cells)
         × (now (output .exit) ≡ blockOut side (laid (now (cells .entry)) positions) (now (block .entry)) ++ drop 204 (now (output .entry))) ⌝ }
 {
     let mut next = positions;
@@ -219,9 +219,9 @@ pub fn pass_cells(
 
 // Puts a block through branches whose positions are in range.
 pub fn pass_block(side: Side, branches: Branches, block: &[u8], output: &mut [u8]) -> Branches
-    requires { ⌜ (inRange side branches ≡ true) × (length (now block) ≡ 204) × (204 ≤ length (now output)) ⌝ }
+    requires { ⌜ (branchesInRange side branches ≡ true) × (length (now block) ≡ 204) × (204 ≤ length (now output)) ⌝ }
     ensures { λ r. ⌜
-        (r ≡ after side branches (now (block .entry)))
+        (r ≡ branchesAfter side branches (now (block .entry)))
         × (now (output .exit) ≡ blockOut side branches (now (block .entry)) ++ drop 204 (now (output .entry))) ⌝ }
 {
     let mut cells = branches.cells;

@@ -19,7 +19,7 @@ use Rattle.common.specs.Choice.{pick}
 use Rattle.convolutional_code.specs.Code.{tapsX, tapsY, coded, nextMemory}
 use Rattle.trellis.specs.Metric.{Costs, costFrom}
 use Rattle.viterbi_decoder.specs.Step.{at, decided, stepCost, stepCosts}
-use Rattle.depuncturing.specs.Steps.{kind, width, kindCost, kindAt, first, punctured, pairCost, value, stepValue}
+use Rattle.depuncturing.specs.Steps.{kind, width, kindCost, kindAt, first, puncturedCosts, pairCost, value, stepValue}
 
 -- a step's four numbers cost what its coded bits do
 
@@ -51,8 +51,8 @@ kind-is l (suc (suc (suc q))) j m b =
 
 -- steps that are spread out cost what the run does
 pub steps-are : (l steps : List ℕ) (rate n : ℕ) → ((t : ℕ) → t < 4 * n → getD steps t 0 ≡ stepValue l rate t)
-    → (k m b : ℕ) → k < n → stepCosts steps k m b ≡ punctured rate (pairCost l) k m b
-unfolding stepCosts punctured stepValue
+    → (k m b : ℕ) → k < n → stepCosts steps k m b ≡ puncturedCosts rate (pairCost l) k m b
+unfolding stepCosts puncturedCosts stepValue
 steps-are l steps rate n h k m b lt =
     let z : 4 * k + 0 ≡ 4 * k = omega arith in
     let e0 : getD steps (4 * k) 0 ≡ value l (kindAt rate k) (first rate k) 0 = sym (ap (λ (t : ℕ). getD steps t 0) z) ∙ at-step 0 (omega arith) (omega arith) in

@@ -7,7 +7,7 @@ ghost use lib.Ieee.{isNan, ofBits, binary32, nanBits};
 ghost use lib.ListN.{length, getD};
 ghost use Rattle.soft_decision.specs.Steps.{costsAlong};
 ghost use Rattle.symbol_pass.specs.Going.{Going};
-ghost use Rattle.dvbs_read_soft.specs.Points.{word, number, point, pointAt, Held, TookPoints};
+ghost use Rattle.dvbs_read_soft.specs.Points.{wordAt, number, point, pointAt, Held, TookPoints};
 use common::put;
 use libc::STDERR_FILENO;
 use libc::STDIN_FILENO;
@@ -41,7 +41,7 @@ fn word_of(a: u8, b: u8, c: u8, d: u8) -> u32
 // The number whose lowest byte is at a place.
 fn word_at(bytes: &[u8], at: usize) -> u32
     requires { ⌜ at + 4 ≤ length (now bytes) ⌝ }
-    ensures { λ r. ⌜ r ≡ word (now (bytes .entry)) at ⌝ }
+    ensures { λ r. ⌜ r ≡ wordAt (now (bytes .entry)) at ⌝ }
 {
     word_of(bytes[at], bytes[at + 1], bytes[at + 2], bytes[at + 3])
 }

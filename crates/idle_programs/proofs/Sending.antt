@@ -30,7 +30,7 @@ use Rattle.sender.specs.Input.{packetsFor}
 use Rattle.sender.proofs.Inputs.{packets-kept}
 use Rattle.sender.proofs.Counts.{block-bits, length-on-air}
 use Rattle.sender.proofs.Distinct.{same-bits}
-use Rattle.transmission.specs.Run.{packetsOf, runSymbols, runRefusal, Runs}
+use Rattle.transmission.specs.Run.{packetsOf, runSymbols, runRefusal, SendsRun}
 use Rattle.transmission.proofs.Buffers.{packets-none, packets-more}
 use Rattle.idle_programs.proofs.Samples.{samples, samples-packets, samples-length, samples-front, last-byte}
 
@@ -46,7 +46,7 @@ Program = ℕ → List ℕ → List ℕ → Left
 
 -- it keeps the promise of `send_run`
 abbrev pub Keeps : Program → Type 0
-Keeps f = (rate : ℕ) (bytes output : List ℕ) → Runs rate bytes output (f rate bytes output .number) (f rate bytes output .count) (f rate bytes output .output)
+Keeps f = (rate : ℕ) (bytes output : List ℕ) → SendsRun rate bytes output (f rate bytes output .number) (f rate bytes output .count) (f rate bytes output .output)
 
 -- ---- the packets of a list, one after the other
 

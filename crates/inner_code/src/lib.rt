@@ -4,8 +4,8 @@ ghost use Prim.Native.Nat.{_<_, _≤_};
 ghost use mathlib.Core.List.{_++_};
 ghost use lib.ListN.{length, drop};
 ghost use Rattle.answer.specs.Number.{numberOf};
-ghost use Rattle.inner_code.specs.Step.{InRange, inRange};
-ghost use Rattle.inner_code.specs.Encode.{freshCoder, newNumber, bitValue, stepNumber, stepCoder, stepSymbol, blockSymbols, blockCoder, symbolCount, encodeNumber, encodeCoder, encodeCount, encodeOutput};
+ghost use Rattle.inner_code.specs.Step.{CoderInRange, coderInRange};
+ghost use Rattle.inner_code.specs.Encode.{freshCoder, newNumber, bitValue, stepNumber, stepCoder, stepSymbol, blockSymbols, blockCoder, symbolCount, innerEncodeNumber, encodeCoder, encodeCount, innerEncodeOutput};
 
 mod qam;
 
@@ -81,7 +81,7 @@ impl InnerCoder {
 
     // Whether each number is in its range.
     pub fn in_range(self) -> bool
-        ensures { λ r. ⌜ r ≡ inRange self ⌝ }
+        ensures { λ r. ⌜ r ≡ coderInRange self ⌝ }
     {
         let rate = self.rate;
         let memory = self.memory;
@@ -152,10 +152,10 @@ impl InnerCoder {
     // Codes a block of 204 bytes into the output.
     pub fn encode(self, block: &[u8], output: &mut [u8]) -> Encoded
         ensures { λ r. ⌜
-            (numberOf (r .answer) ≡ encodeNumber self (now (block .entry)) (now (output .entry)))
+            (numberOf (r .answer) ≡ innerEncodeNumber self (now (block .entry)) (now (output .entry)))
             × (r .coder ≡ encodeCoder self (now (block .entry)) (now (output .entry)))
             × (r .count ≡ encodeCount self (now (block .entry)) (now (output .entry)))
-            × (now (output .exit) ≡ encodeOutput self (now (block .entry)) (now (output .entry))) ⌝ }
+            × (now (output .exit) ≡ innerEncodeOutput self (now (block .entry)) (now (output .entry))) ⌝ }
     {
         if !self.in_range() {
             return Encoded {
@@ -198,7 +198,7 @@ fn bit_value(bit: bool) -> u8
 
 // Codes a block at one of the five QPSK rates.
 fn encode_qpsk(coder: InnerCoder, block: &[u8], output: &mut [u8]) -> Encoded
-    requires { ⌜ (InRange coder) × (coder .rate < 5) × (length (now block) ≡ 204) × (length (blockSymbols coder (now block)) ≤ length (now output)) ⌝ }
+    requires { ⌜ (CoderInRange coder) × (coder .rate < 5) × (length (now block) ≡ 204) × (length (blockSymbols coder (now block)) ≤ length (now output)) ⌝ }
     ensures { λ r. ⌜
         (numberOf (r .answer) ≡ 0)
         × (r .coder ≡ blockCoder coder (now (block .entry)))
@@ -227,7 +227,7 @@ fn encode_qpsk(coder: InnerCoder, block: &[u8], output: &mut [u8]) -> Encoded
 
 // Codes a block at 16QAM 3/4: nothing is held, and the place stays 0.
 fn encode_qam(coder: InnerCoder, block: &[u8], output: &mut [u8]) -> Encoded
-    requires { ⌜ (InRange coder) × (coder .rate ≡ 5) × (length (now block) ≡ 204) × (length (blockSymbols coder (now block)) ≤ length (now output)) ⌝ }
+    requires { ⌜ (CoderInRange coder) × (coder .rate ≡ 5) × (length (now block) ≡ 204) × (length (blockSymbols coder (now block)) ≤ length (now output)) ⌝ }
     ensures { λ r. ⌜
         (numberOf (r .answer) ≡ 0)
         × (r .coder ≡ blockCoder coder (now (block .entry)))
@@ -251,7 +251,7 @@ fn encode_qam(coder: InnerCoder, block: &[u8], output: &mut [u8]) -> Encoded
 
 // Codes a block into an output that is long enough.
 fn encode_block(coder: InnerCoder, block: &[u8], output: &mut [u8]) -> Encoded
-    requires { ⌜ (InRange coder) × (length (now block) ≡ 204) × (length (blockSymbols coder (now block)) ≤ length (now output)) ⌝ }
+    requires { ⌜ (CoderInRange coder) × (length (now block) ≡ 204) × (length (blockSymbols coder (now block)) ≤ length (now output)) ⌝ }
     ensures { λ r. ⌜
         (numberOf (r .answer) ≡ 0)
         × (r .coder ≡ blockCoder coder (now (block .entry)))

@@ -5,19 +5,19 @@ use Prim.Native.Nat.{ℕ}
 use lib.Dec.{ltb, eqb}
 use lib.ListN.{length, drop}
 use Rattle.common.specs.Choice.{pick}
-use Rattle.delay_branches.specs.Branch.{inRange}
-use Rattle.delay_branches.specs.Block.{blockOut, after}
+use Rattle.delay_branches.specs.Branch.{branchesInRange}
+use Rattle.delay_branches.specs.Block.{blockOut, branchesAfter}
 use Rattle.delay_branches.specs.declared.Side.{Side}
 use Rattle.delay_branches.specs.declared.Branches.{Branches}
 
 -- the number of the answer, by the tests in the order of document 01
 abbrev pub passNumber : Side → Branches → List ℕ → List ℕ → ℕ
 passNumber side s block output =
-    pick (inRange side s) (pick (eqb (length block) 204) (pick (ltb (length output) 204) 4 0) 3) 5
+    pick (branchesInRange side s) (pick (eqb (length block) 204) (pick (ltb (length output) 204) 4 0) 3) 5
 
 -- the state and the output after the call
 abbrev pub passBranches : Side → Branches → List ℕ → List ℕ → Branches
-passBranches side s block output = pick (eqb (passNumber side s block output) 0) (after side s block) s
+passBranches side s block output = pick (eqb (passNumber side s block output) 0) (branchesAfter side s block) s
 
 abbrev pub passOutput : Side → Branches → List ℕ → List ℕ → List ℕ
 passOutput side s block output = pick (eqb (passNumber side s block output) 0) (blockOut side s block ++ drop 204 output) output

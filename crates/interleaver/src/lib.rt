@@ -1,7 +1,7 @@
 // Convolutional interleaving and its removal: EN 300 421, 4.4.2.
 ghost use mathlib.Core.Path.{_≡_};
 ghost use Rattle.answer.specs.Number.{numberOf};
-ghost use Rattle.delay_branches.specs.Branch.{inRange};
+ghost use Rattle.delay_branches.specs.Branch.{branchesInRange};
 ghost use Rattle.delay_branches.specs.Block.{fresh};
 ghost use Rattle.interleaver.specs.Call.{passNumber, passBranches, passOutput};
 use answer::Answer;
@@ -82,7 +82,7 @@ impl Interleaver {
 
     // Whether each position is within its branch.
     pub fn in_range(self) -> bool
-        ensures { λ r. ⌜ r ≡ inRange Side.Sending (self .branches) ⌝ }
+        ensures { λ r. ⌜ r ≡ branchesInRange Side.Sending (self .branches) ⌝ }
     {
         let branches = self.branches;
         let positions = branches.positions;
@@ -119,7 +119,7 @@ impl Deinterleaver {
 
     // Whether each position is within its branch.
     pub fn in_range(self) -> bool
-        ensures { λ r. ⌜ r ≡ inRange Side.Receiving (self .branches) ⌝ }
+        ensures { λ r. ⌜ r ≡ branchesInRange Side.Receiving (self .branches) ⌝ }
     {
         let branches = self.branches;
         let positions = branches.positions;

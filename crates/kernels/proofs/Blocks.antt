@@ -7,24 +7,24 @@ use native.Mathlib.Omega.{arith}
 use borrow.Rule.Slice.PartMut.{putMid, midOf}
 use lib.ListN.{length, take, drop, take-append-drop, length-drop}
 use lib.Seq.{take-at, drop-at, drop-drop, drop-append-le}
-use Rattle.kernels.specs.Blocks.{blocksOf, wholeBlocks}
+use Rattle.kernels.specs.Blocks.{firstBlocks, wholeBlocks}
 
 -- the whole blocks from at on
 abbrev pub blocksFrom : List ℕ → ℕ → List (List ℕ)
 blocksFrom bytes at = wholeBlocks (drop at bytes)
 
 pub blocks-end : (bytes : List ℕ) (at : ℕ) → length bytes - at < 204 → blocksFrom bytes at ≡ []
-unfolding blocksOf
+unfolding firstBlocks
 blocks-end bytes at h =
     let e : length (drop at bytes) / 204 ≡ 0 = omega (arith, length-drop at bytes) in
-    ap (λ (n : ℕ). blocksOf n (drop at bytes)) e
+    ap (λ (n : ℕ). firstBlocks n (drop at bytes)) e
 
 pub blocks-more : (bytes : List ℕ) (at : ℕ) → 204 ≤ length bytes - at → blocksFrom bytes at ≡ take 204 (drop at bytes) ∷ blocksFrom bytes (at + 204)
-unfolding blocksOf
+unfolding firstBlocks
 blocks-more bytes at h =
     let e : length (drop at bytes) / 204 ≡ suc (length (drop (at + 204) bytes) / 204) = omega (arith, length-drop at bytes, length-drop (at + 204) bytes) in
-    ap (λ (n : ℕ). blocksOf n (drop at bytes)) e
-    ∙ ap (λ (l : List ℕ). take 204 (drop at bytes) ∷ blocksOf (length (drop (at + 204) bytes) / 204) l) (drop-drop 204 at bytes)
+    ap (λ (n : ℕ). firstBlocks n (drop at bytes)) e
+    ∙ ap (λ (l : List ℕ). take 204 (drop at bytes) ∷ firstBlocks (length (drop (at + 204) bytes) / 204) l) (drop-drop 204 at bytes)
 
 -- a list written to the front of a part of the output, which begins behind what stands there
 module _ (front output₀ output : List ℕ) (n : ℕ) (c : length front ≡ n) (w : output ≡ front ++ drop n output₀) where

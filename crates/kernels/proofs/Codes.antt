@@ -11,13 +11,13 @@ use borrow.Author.Tests.{eq-eqb, le-ltb}
 use borrow.Rule.Slice.PartMut.{putMid, midOf}
 use lib.ListN.{length, take, drop, length-append, length-drop}
 use lib.Seq.{length-take-le}
-use Rattle.puncturing.specs.Step.{listOf}
-use Rattle.inner_code.specs.Step.{InRange, symbolsBy, symbolStep, coderStep, symbolsOf}
+use Rattle.puncturing.specs.Step.{symbolList}
+use Rattle.inner_code.specs.Step.{CoderInRange, symbolsBy, symbolStep, coderStep, symbolsOf}
 use Rattle.common.specs.Lists.{All, Length}
 use Rattle.common.proofs.Computed as computed
 use Rattle.puncturing.specs.Mode.{modeOf, blockBits, blockBitsBy}
 use Rattle.inner_code.specs.Converter.{encodedBits}
-use Rattle.inner_code.specs.Encode.{freshCoder, blockSymbolsBy, blockCoderBy, callsBy, blockSymbols, blockCoder, encodeCoder, encodeCount, encodeOutput}
+use Rattle.inner_code.specs.Encode.{freshCoder, blockSymbolsBy, blockCoderBy, callsBy, blockSymbols, blockCoder, encodeCoder, encodeCount, innerEncodeOutput}
 use Rattle.inner_code.specs.declared.InnerCoder.{InnerCoder}
 use Rattle.puncturing.specs.declared.Symbol.{Symbol}
 use Rattle.puncturing.specs.declared.Symbol.the-variants.{None, One}
@@ -26,13 +26,13 @@ use Rattle.puncturing.proofs.WellFormed.{well-formed}
 use Rattle.inner_code.proofs.Converter.{encoded-bits, length-block-encoded}
 use Rattle.inner_code.proofs.Coder.{range-test, rate-known, formed, fresh-in-range, coder-in-range, coder-rate, length-symbols, length-coded}
 use Rattle.inner_code.proofs.Stream.{calls-stream}
-use Rattle.kernels.specs.Blocks.{blocksOf, wholeBlocks}
+use Rattle.kernels.specs.Blocks.{firstBlocks, wholeBlocks}
 use Rattle.kernels.specs.Code.{codedSymbols}
 use Rattle.kernels.proofs.Blocks.{blocksFrom, blocks-end, blocks-more, put-next}
 
 -- ---- a bit gives at most one symbol
 
-at-most-one : (s : Symbol) → length (listOf s) ≤ 1
+at-most-one : (s : Symbol) → length (symbolList s) ≤ 1
 at-most-one None = omega arith
 at-most-one (One s) = omega arith
 
@@ -41,13 +41,13 @@ unfolding symbolsBy
 symbols-few c [] = omega arith
 symbols-few c (b ∷ bs) =
     let r = symbols-few (coderStep c b) bs in
-    omega (arith, at-most-one (symbolStep c b), length-append (listOf (symbolStep c b)) (symbolsOf (coderStep c b) bs))
+    omega (arith, at-most-one (symbolStep c b), length-append (symbolList (symbolStep c b)) (symbolsOf (coderStep c b) bs))
 
 bits-few : (r : ℕ) → r < 6 → blockBits r ≤ 1632
 unfolding blockBitsBy modeOf
 bits-few r h = leb→le _ _ (computed.below-at (λ r. leb (blockBits r) 1632) 6 tt r h)
 
-block-few : (c : InnerCoder) → InRange c → (block : List ℕ) → length block ≡ 204 → length (blockSymbols c block) ≤ 1632
+block-few : (c : InnerCoder) → CoderInRange c → (block : List ℕ) → length block ≡ 204 → length (blockSymbols c block) ≤ 1632
 block-few c g block n =
     let m = modeOf (c .rate) in
     let bits = encodedBits m block in
@@ -55,8 +55,8 @@ block-few c g block n =
     omega (arith, symbols-few c bits, length-block-encoded m block n, bits-few (c .rate) (rate-known c g))
 
 -- the blocks are whole
-blocks-whole : (n : ℕ) (bytes : List ℕ) → n * 204 ≤ length bytes → All (Length 204) (blocksOf n bytes)
-unfolding blocksOf
+blocks-whole : (n : ℕ) (bytes : List ℕ) → n * 204 ≤ length bytes → All (Length 204) (firstBlocks n bytes)
+unfolding firstBlocks
 blocks-whole zero bytes h = tt
 blocks-whole (suc n) bytes h =
     let k : n * 204 + 204 ≤ length bytes = rw (← suc-mul n 204) h in
@@ -64,10 +64,10 @@ blocks-whole (suc n) bytes h =
 
 -- ---- a call on a coder in range, with a block and room enough, is answered
 
-encode-done : (c : InnerCoder) (block output : List ℕ) → InRange c → modeOf (c .rate) .sent ≡ true → length block ≡ 204 → length (blockSymbols c block) ≤ length output
+encode-done : (c : InnerCoder) (block output : List ℕ) → CoderInRange c → modeOf (c .rate) .sent ≡ true → length block ≡ 204 → length (blockSymbols c block) ≤ length output
     → (encodeCoder c block output ≡ blockCoder c block)
     × (encodeCount c block output ≡ length (blockSymbols c block))
-    × (encodeOutput c block output ≡ blockSymbols c block ++ drop (length (blockSymbols c block)) output)
+    × (innerEncodeOutput c block output ≡ blockSymbols c block ++ drop (length (blockSymbols c block)) output)
 encode-done c block output g q n l = simp (range-test c g, q, eq-eqb _ _ n, le-ltb _ _ l) (refl, refl, refl)
 
 -- ---- the loop
@@ -78,7 +78,7 @@ pub record Coding (rate : ℕ) (bytes output₀ output : List ℕ) (c : InnerCod
   pub few : count ≤ 8 * at
   pub sent : modeOf rate .sent ≡ true
   pub rate-kept : c .rate ≡ rate
-  pub range : InRange c
+  pub range : CoderInRange c
   pub front : List ℕ
   pub counted : length front ≡ count
   pub written : output ≡ front ++ drop count output₀
@@ -91,7 +91,7 @@ coding-start rate bytes output c q e = let h = sent-known rate q in record {
   within = omega arith;
   few = omega arith;
   rate-kept = ap (λ (x : InnerCoder). x .rate) e;
-  range = subst InRange (sym e) (fresh-in-range rate h);
+  range = subst CoderInRange (sym e) (fresh-in-range rate h);
   front = [];
   counted = refl;
   written = refl;
@@ -125,7 +125,7 @@ module _ {rate : ℕ} {bytes output₀ output : List ℕ} {c : InnerCoder} {at c
     module _ {next : InnerCoder} {n : ℕ} {exit : List ℕ}
         (s : next ≡ encodeCoder c (take (at + 204 - at) (drop at bytes)) (midOf count (length output - count) output))
         (m : n ≡ encodeCount c (take (at + 204 - at) (drop at bytes)) (midOf count (length output - count) output))
-        (w : exit ≡ encodeOutput c (take (at + 204 - at) (drop at bytes)) (midOf count (length output - count) output)) where
+        (w : exit ≡ innerEncodeOutput c (take (at + 204 - at) (drop at bytes)) (midOf count (length output - count) output)) where
       block : List ℕ
       block = take (at + 204 - at) (drop at bytes)
 
@@ -161,7 +161,7 @@ module _ {rate : ℕ} {bytes output₀ output : List ℕ} {c : InnerCoder} {at c
             few = omega (arith, p .few, done .1, block-few c (p .range) block size);
             sent = p .sent;
             rate-kept = ap (λ (x : InnerCoder). x .rate) (done .0) ∙ coder-rate c (encodedBits (modeOf (c .rate)) block) ∙ p .rate-kept;
-            range = subst InRange (sym (done .0)) (coder-in-range c (p .range) (encoded-bits (modeOf (c .rate)) block));
+            range = subst CoderInRange (sym (done .0)) (coder-in-range c (p .range) (encoded-bits (modeOf (c .rate)) block));
             front = p .front ++ symbols;
             counted = length-append (p .front) symbols ∙ ap₂ (λ (i j : ℕ). i + j) (p .counted) (sym (done .1));
             written =

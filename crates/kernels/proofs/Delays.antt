@@ -7,7 +7,7 @@ use native.Mathlib.Omega.{arith}
 use borrow.Rule.Slice.PartMut.{putMid, midOf}
 use lib.ListN.{length, take, drop, length-append, length-drop}
 use lib.Seq.{length-take-le}
-use Rattle.delay_branches.specs.Block.{fresh, blockOut, after}
+use Rattle.delay_branches.specs.Block.{fresh, blockOut, branchesAfter}
 use Rattle.interleaver.specs.Call.{passBranches, passOutput}
 use Rattle.interleaver.specs.Stream.{run}
 use Rattle.delay_branches.specs.declared.Side.{Side}
@@ -85,7 +85,7 @@ module _ {side : Side} {bytes output₀ output : List ℕ} {s : Branches} {at : 
           w ∙ pass-done side s block (midOf at (at + 204 - at) output) (p .good) size (omega (arith, part)) .1
           ∙ ap (λ (n : ℕ). out ++ drop n (midOf at (at + 204 - at) output)) (sym out-size)
 
-      next-is : next ≡ after side s block
+      next-is : next ≡ branchesAfter side s block
       unfolding block
       next-is = b ∙ pass-done side s block (midOf at (at + 204 - at) output) (p .good) size (omega (arith, part)) .0
 
@@ -104,7 +104,7 @@ module _ {side : Side} {bytes output₀ output : List ℕ} {s : Branches} {at : 
         leaving =
             ap (λ (x : Branches). (p .front ++ out) ++ flatten (run side x (blocksFrom bytes (at + 204)))) next-is
             ∙ append-assoc (p .front) out _
-            ∙ ap (λ (n : ℕ). p .front ++ (blockOut side s (take n (drop at bytes)) ++ flatten (run side (after side s (take n (drop at bytes))) (blocksFrom bytes (at + 204))))) is
+            ∙ ap (λ (n : ℕ). p .front ++ (blockOut side s (take n (drop at bytes)) ++ flatten (run side (branchesAfter side s (take n (drop at bytes))) (blocksFrom bytes (at + 204))))) is
             ∙ ap (λ (l : List (List ℕ)). p .front ++ flatten (run side s l)) (sym (blocks-more bytes at h))
             ∙ p .leaving;
       }

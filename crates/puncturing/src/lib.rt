@@ -7,7 +7,7 @@ ghost use Rattle.common.specs.Lists.{placed};
 ghost use Rattle.convolutional_code.specs.Bits.{Bits};
 ghost use Rattle.puncturing.specs.Mode.{modeOf, blockBits};
 ghost use Rattle.puncturing.specs.Step.{patternLength, nextPlace, heldCount, punctured, symbolsIn};
-ghost use Rattle.puncturing.specs.Run.{byKind, punctureStep, sentSymbols, placeAfter, progress};
+ghost use Rattle.puncturing.specs.Run.{byKind, punctureStep, puncturedSymbols, patternPlaceAfter, progress};
 
 mod tables;
 mod whole;
@@ -157,10 +157,10 @@ fn puncture_bits(
         × (length (now coded) ≡ 3264)
         × (from ≤ to)
         × (to ≤ 1632)
-        × (at + length (sentSymbols rate place held (now coded) from (to - from)) ≤ length (now output)) ⌝ }
+        × (at + length (puncturedSymbols rate place held (now coded) from (to - from)) ≤ length (now output)) ⌝ }
     ensures { λ r. ⌜
         (r ≡ progress rate place held (now (coded .entry)) from (to - from) at)
-        × (now (output .exit) ≡ placed (now (output .entry)) at (sentSymbols rate place held (now (coded .entry)) from (to - from))) ⌝ }
+        × (now (output .exit) ≡ placed (now (output .entry)) at (puncturedSymbols rate place held (now (coded .entry)) from (to - from))) ⌝ }
 {
     let mut p = place;
     let mut i = held;
@@ -201,13 +201,13 @@ fn puncture_parts(
         × (held ≤ heldCount rate place)
         × (Bits (now coded))
         × (length (now coded) ≡ 3264)
-        × (placeAfter rate place head ≡ 0)
+        × (patternPlaceAfter rate place head ≡ 0)
         × (tail ≡ head + turns * patternLength rate)
         × (tail ≤ 1632)
-        × (length (sentSymbols rate place held (now coded) 0 1632) ≤ length (now output)) ⌝ }
+        × (length (puncturedSymbols rate place held (now coded) 0 1632) ≤ length (now output)) ⌝ }
     ensures { λ r. ⌜
         (r ≡ progress rate place held (now (coded .entry)) 0 1632 0)
-        × (now (output .exit) ≡ placed (now (output .entry)) 0 (sentSymbols rate place held (now (coded .entry)) 0 1632)) ⌝ }
+        × (now (output .exit) ≡ placed (now (output .entry)) 0 (puncturedSymbols rate place held (now (coded .entry)) 0 1632)) ⌝ }
 {
     let first = puncture_bits(rate, place, held, coded, 0, head, output, 0);
     let next = whole_patterns(rate, coded, head, turns, output, first.count);
@@ -222,10 +222,10 @@ pub fn puncture_block(rate: u8, place: u8, held: u8, coded: &[u8], output: &mut 
         × (held ≤ heldCount rate place)
         × (Bits (now coded))
         × (length (now coded) ≡ 3264)
-        × (length (sentSymbols rate place held (now coded) 0 1632) ≤ length (now output)) ⌝ }
+        × (length (puncturedSymbols rate place held (now coded) 0 1632) ≤ length (now output)) ⌝ }
     ensures { λ r. ⌜
         (r ≡ progress rate place held (now (coded .entry)) 0 1632 0)
-        × (now (output .exit) ≡ placed (now (output .entry)) 0 (sentSymbols rate place held (now (coded .entry)) 0 1632)) ⌝ }
+        × (now (output .exit) ≡ placed (now (output .entry)) 0 (puncturedSymbols rate place held (now (coded .entry)) 0 1632)) ⌝ }
 {
     let len = pattern_length(rate) as usize;
     let head = (len - place as usize) % len;

@@ -14,7 +14,7 @@ use lib.Seq.{getD-drop}
 use Rattle.common.specs.Choice.{pick}
 use Rattle.common.specs.Lists.{ByteEntries}
 use Rattle.common.proofs.Entries.{entries-drop}
-use Rattle.randomizer.specs.Prbs.{loaded, outputBit, stepped, steps, bits, sequence, generator, enabled, masks}
+use Rattle.randomizer.specs.Prbs.{loaded, outputBit, stepped, steps, stepBits, sequence, period, enabled, masks}
 use Rattle.randomizer.specs.Packet.{randomized, derandomized, randomizeNumber, randomizeOutput, derandomizeNumber, derandomizeOutput}
 use Rattle.randomizer.proofs.Xors.{length-xors, getD-xors, bytes-xors, xors-undo}
 
@@ -31,16 +31,16 @@ length-sequence zero r = refl
 length-sequence (suc n) r = ap suc (length-sequence n (steps 8 r))
 
 pub length-masks : length masks ≡ 1504
-unfolding masks generator
-length-masks = ap suc (length-enabled 1 generator ∙ length-sequence 1503 loaded)
+unfolding masks period
+length-masks = ap suc (length-enabled 1 period ∙ length-sequence 1503 loaded)
 
 output-bit-lt : (register : List ℕ) → outputBit register < 2
 unfolding outputBit
 output-bit-lt r = mod-lt (getD r 13 0 + getD r 14 0) (omega arith)
 
 -- eight bits make a byte
-byte-lt : (register : List ℕ) → bits 8 0 register < 256
-unfolding bits
+byte-lt : (register : List ℕ) → stepBits 8 0 register < 256
+unfolding stepBits
 byte-lt r =
     let r1 = stepped r in
     let r2 = stepped r1 in
@@ -73,9 +73,9 @@ bytes-enabled n (b ∷ bs) h zero = picked (eqb (n % 188) 0) b (h 0)
 bytes-enabled n (b ∷ bs) h (suc i) = bytes-enabled (n + 1) bs (λ k. h (suc k)) i
 
 bytes-masks : ByteEntries masks
-unfolding masks generator
+unfolding masks period
 bytes-masks zero = omega arith
-bytes-masks (suc i) = bytes-enabled 1 generator (bytes-sequence 1503 loaded) i
+bytes-masks (suc i) = bytes-enabled 1 period (bytes-sequence 1503 loaded) i
 
 -- the sequence is disabled at the sync bytes
 disabled : (n i : ℕ) (l : List ℕ) → (n + i) % 188 ≡ 0 → getD (enabled n l) i 0 ≡ 0
@@ -94,7 +94,7 @@ sync zero = refl
 sync (suc p) =
     let e : 188 * suc p ≡ suc (188 * p + 187) = omega arith in
     ap (λ (k : ℕ). bitXor 0x47 (getD masks k 0)) e
-    ∙ ap (bitXor 0x47) (disabled 1 (188 * p + 187) generator (omega arith))
+    ∙ ap (bitXor 0x47) (disabled 1 (188 * p + 187) period (omega arith))
     ∙ simp (ne-eqb (suc p) 0 (λ z. omega arith))
 
 -- ---- a packet

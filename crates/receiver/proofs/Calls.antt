@@ -21,7 +21,7 @@ use Rattle.reed_solomon.specs.declared.Decoded.the-variants.{Corrected, Uncorre
 use Rattle.reed_solomon.proofs.Codewords.{codeword-length}
 use Rattle.reed_solomon.proofs.Laws.{FewChanges, total}
 use Rattle.delay_branches.specs.Branch as branch
-use Rattle.delay_branches.specs.Block.{after}
+use Rattle.delay_branches.specs.Block.{branchesAfter}
 use Rattle.delay_branches.specs.declared.Branches.{Branches}
 use Rattle.delay_branches.specs.declared.Side.the-variants.{Receiving}
 use Rattle.interleaver.specs.declared.Deinterleaver.{Deinterleaver}
@@ -33,35 +33,35 @@ use Rattle.group_sync.proofs.Synchronization.{accepted-outcome}
 use Rattle.reception_counts.specs.Counts.{countsInRange, outcomeNumber, counted, CountsFit}
 use Rattle.reception_counts.specs.declared.Counts.{Counts}
 use Rattle.reception_counts.proofs.Ranges.{counts-range, counts-fit}
-use Rattle.receiver.specs.Receive.{inRange, marksIn, delayedBlock, delayedMarks, decodingOf, ofAccepted, stepOf, stateAfter, outputAfter, refusal, Ready, receiveNumber, receiveState, receiveOutput, ReceivesMarked}
+use Rattle.receiver.specs.Receive.{receiverInRange, marksIn, delayedBlock, delayedMarks, decodingOf, ofAccepted, stepOf, stateAfter, outputAfter, receiveRefusal, Ready, receiveNumber, receiveState, receiveOutput, ReceivesMarked}
 use Rattle.receiver.specs.declared.Receiver.{Receiver}
 
 -- the parts of a state in range
 pub record StateRange (s : Receiver) : Type 0 where
-  pub branches : branch.inRange Receiving (s .deinterleaver .branches) ≡ true
+  pub branches : branch.branchesInRange Receiving (s .deinterleaver .branches) ≡ true
   pub marks : largest (s .marks) < 2
   pub sync : syncInRange (s .sync) ≡ true
   pub counts : countsInRange (s .counts) ≡ true
 
-pub state-range : (s : Receiver) → inRange s ≡ true → StateRange s
-unfolding inRange
+pub state-range : (s : Receiver) → receiverInRange s ≡ true → StateRange s
+unfolding receiverInRange
 state-range s e =
     let a = both-true _ _ e in
     let m = both-true _ _ (a .1) in
     let b = both-true _ _ (m .1) in
     record { branches = a .0; marks = ltb-true _ _ (m .0); sync = b .0; counts = b .1 }
 
-pub state-in-range : (s : Receiver) → StateRange s → inRange s ≡ true
-unfolding inRange
+pub state-in-range : (s : Receiver) → StateRange s → receiverInRange s ≡ true
+unfolding receiverInRange
 state-in-range s r = simp (r .branches, lt-ltb _ _ (r .marks), r .sync, r .counts)
 
 -- the test of a state by its parts, where most is the largest of the marks in the delays
 pub parts-range : (s : Receiver) (most : ℕ) (r : Bool) → most ≡ largest (s .marks)
-    → r ≡ pick (branch.within Receiving (s .deinterleaver .branches .positions) 12) (pick (ltb most 2) (pick (syncInRange (s .sync)) (countsInRange (s .counts)) false) false) false
-    → r ≡ inRange s
-unfolding inRange
+    → r ≡ pick (branch.positionsWithin Receiving (s .deinterleaver .branches .positions) 12) (pick (ltb most 2) (pick (syncInRange (s .sync)) (countsInRange (s .counts)) false) false) false
+    → r ≡ receiverInRange s
+unfolding receiverInRange
 parts-range s most r e f =
-    f ∙ ap (λ (k : ℕ). pick (branch.within Receiving (s .deinterleaver .branches .positions) 12) (pick (ltb k 2) (pick (syncInRange (s .sync)) (countsInRange (s .counts)) false) false) false) e
+    f ∙ ap (λ (k : ℕ). pick (branch.positionsWithin Receiving (s .deinterleaver .branches .positions) 12) (pick (ltb k 2) (pick (syncInRange (s .sync)) (countsInRange (s .counts)) false) false) false) e
 
 -- an accepted block is in the sums over the accepted blocks
 pub accepted-whole : (s : GroupSync) (first n : ℕ) → syncInRange s ≡ true → ofAccepted (groupStep s (decoding.Accepted first) .outcome) n ≡ n
@@ -89,7 +89,7 @@ module _ (s : Receiver) (block marks output : List ℕ) (y : Ready s block marks
 
   -- the call while filling, whatever the block decodes to
   pub filling-call : s .counts .taken < 11 → (a : Answer) (d : Deinterleaver) (k : List ℕ) (n : Counts) (exit : List ℕ)
-      → numberOf a ≡ 9 → d .branches ≡ after Receiving (s .deinterleaver .branches) block → k ≡ after Receiving (marksIn s) marks .cells
+      → numberOf a ≡ 9 → d .branches ≡ branchesAfter Receiving (s .deinterleaver .branches) block → k ≡ branchesAfter Receiving (marksIn s) marks .cells
       → n ≡ counted (s .counts) 9 0 0 → exit ≡ output
       → ReceivesMarked s block marks output (record { answer = a; receiver = record { deinterleaver = d; marks = k; sync = s .sync; counts = n } }) exit
   unfolding stateAfter
@@ -118,8 +118,8 @@ module _ (s : Receiver) (block marks output : List ℕ) (y : Ready s block marks
       → (g : GroupStep) → g ≡ groupStep (s .sync) (decodingOf decoded (getD left 0 0))
       → (a : Answer) (d : Deinterleaver) (k : List ℕ) (n : Counts) (exit : List ℕ)
       → numberOf a ≡ outcomeNumber (g .outcome)
-      → d .branches ≡ after Receiving (s .deinterleaver .branches) block
-      → k ≡ after Receiving (marksIn s) marks .cells
+      → d .branches ≡ branchesAfter Receiving (s .deinterleaver .branches) block
+      → k ≡ branchesAfter Receiving (marksIn s) marks .cells
       → n ≡ counted (s .counts) (outcomeNumber (g .outcome)) (changedBy decoded .bytes) (changedBy decoded .bits)
       → exit ≡ outputAfter (g .outcome) left output
       → ReceivesMarked s block marks output (record { answer = a; receiver = record { deinterleaver = d; marks = k; sync = g .sync; counts = n } }) exit
@@ -137,8 +137,8 @@ module _ (s : Receiver) (block marks output : List ℕ) (y : Ready s block marks
     where
       whole : GroupStep → Receiver
       whole x = record {
-        deinterleaver = record { branches = after Receiving (s .deinterleaver .branches) block };
-        marks = after Receiving (marksIn s) marks .cells;
+        deinterleaver = record { branches = branchesAfter Receiving (s .deinterleaver .branches) block };
+        marks = branchesAfter Receiving (marksIn s) marks .cells;
         sync = x .sync;
         counts =
             counted (s .counts) (outcomeNumber (x .outcome))
@@ -174,8 +174,8 @@ left-length marks came left MarkValue d n = ap length (d .2) ∙ n
 
 -- ---- a call that is refused
 
-pub refused-call : (s : Receiver) (block marks output : List ℕ) (a : Answer) (exit : List ℕ) → numberOf a ≡ refusal s block marks output
-    → eqb (refusal s block marks output) 0 ≡ false → exit ≡ output → ReceivesMarked s block marks output (record { answer = a; receiver = s }) exit
+pub refused-call : (s : Receiver) (block marks output : List ℕ) (a : Answer) (exit : List ℕ) → numberOf a ≡ receiveRefusal s block marks output
+    → eqb (receiveRefusal s block marks output) 0 ≡ false → exit ≡ output → ReceivesMarked s block marks output (record { answer = a; receiver = s }) exit
 refused-call s block marks output a exit n e w =
     let t = total (delayedMarks s marks) (delayedBlock s block) in
     record { left = t .left; decoded = t .answer; decodes = t .decodes; number = n ∙ simp e; state = simp e; written = w ∙ simp e }

@@ -29,8 +29,8 @@ use Rattle.group_sync.specs.Group.{dueByte}
 use Rattle.group_sync.specs.Stream.{sentFrom}
 use Rattle.group_sync.specs.declared.BlockDecoding.{BlockDecoding}
 use Rattle.group_sync.specs.declared.BlockDecoding.the-variants as decoding
-use Rattle.receiver.specs.Receive.{Unmarked, delayedBlock, delayedMarks, decodingOf}
-use Rattle.receiver.specs.Run.{Call, after, blocksOf, Plain}
+use Rattle.receiver.specs.Receive.{NoMarks, delayedBlock, delayedMarks, decodingOf}
+use Rattle.receiver.specs.Run.{Call, afterCall, lentBlocks, Plain}
 use Rattle.receiver.specs.Begun.{lefts, decodings}
 use Rattle.receiver.specs.declared.Receiver.{Receiver}
 use Rattle.receiver.proofs.MarkDelays.{none-decodes}
@@ -90,13 +90,13 @@ pub record CorrectedFrom (n : ℕ) (ps : List (List ℕ)) (cs : List Call) : Typ
   pub accepted : decodings cs ≡ sentFrom n (length cs)
 
 -- a call without marks from a state without one decodes as without marks
-pub plain-decodes : (s : Receiver) (c : Call) (cs : List Call) → Unrefused s (c ∷ cs) → Unmarked s → Plain c → Decodes (delayedBlock s (c .block)) (c .left) (c .decoded)
+pub plain-decodes : (s : Receiver) (c : Call) (cs : List Call) → Unrefused s (c ∷ cs) → NoMarks s → Plain c → Decodes (delayedBlock s (c .block)) (c .left) (c .decoded)
 plain-decodes s c cs u z e =
     none-decodes s (delayedBlock s (c .block)) (c .left) (c .decoded) z
     (subst (λ (m : List ℕ). DecodesMarked (delayedMarks s m) (delayedBlock s (c .block)) (c .left) (c .decoded)) e (u .decodes .0))
 
-corrected : (n : ℕ) (ps : List (List ℕ)) (cs : List Call) (s : Receiver) → Unrefused s cs → Unmarked s → All Plain cs → All Packet ps
-    → Nears (run Receiving (s .deinterleaver .branches) (blocksOf cs)) (map encoded (randomizedFrom n ps)) → CorrectedFrom n ps cs
+corrected : (n : ℕ) (ps : List (List ℕ)) (cs : List Call) (s : Receiver) → Unrefused s cs → NoMarks s → All Plain cs → All Packet ps
+    → Nears (run Receiving (s .deinterleaver .branches) (lentBlocks cs)) (map encoded (randomizedFrom n ps)) → CorrectedFrom n ps cs
 unfolding run randomizedFrom
 corrected n ps [] s u z pl ws q = record { blocks = refl; accepted = refl }
 corrected n [] (c ∷ cs) s u z pl ws q = absurd q
@@ -104,8 +104,8 @@ corrected n (p ∷ ps) (c ∷ cs) s u z pl ws q =
     let k : length (delayedBlock s (c .block)) ≡ 204 = length-out Receiving (s .deinterleaver .branches) (c .block) in
     let d = plain-decodes s c cs u z (pl .0) in
     let r =
-    corrected (n + 1) ps cs (after s c) (next-unrefused s c cs u) (unmarked-after s c cs u z (pl .0)) (pl .1) (ws .1)
-    (subst (λ (b : Branches). Nears (run Receiving b (blocksOf cs)) (map encoded (randomizedFrom (n + 1) ps))) (sym (branches-after s c cs u)) (q .1)) in
+    corrected (n + 1) ps cs (afterCall s c) (next-unrefused s c cs u) (unmarked-after s c cs u z (pl .0)) (pl .1) (ws .1)
+    (subst (λ (b : Branches). Nears (run Receiving b (lentBlocks cs)) (map encoded (randomizedFrom (n + 1) ps))) (sym (branches-after s c cs u)) (q .1)) in
     record {
       blocks =
           ap₂ (λ (x : List ℕ) (xs : List (List ℕ)). x ∷ xs)
@@ -116,11 +116,11 @@ corrected n (p ∷ ps) (c ∷ cs) s u z pl ws q =
     }
 
 -- after k calls
-pub corrected-after : (k n : ℕ) (ps : List (List ℕ)) (cs : List Call) (s : Receiver) → Unrefused s cs → Unmarked s → All Plain cs → All Packet ps
-    → Nears (drop k (run Receiving (s .deinterleaver .branches) (blocksOf cs))) (map encoded (randomizedFrom n ps)) → CorrectedFrom n ps (drop k cs)
+pub corrected-after : (k n : ℕ) (ps : List (List ℕ)) (cs : List Call) (s : Receiver) → Unrefused s cs → NoMarks s → All Plain cs → All Packet ps
+    → Nears (drop k (run Receiving (s .deinterleaver .branches) (lentBlocks cs))) (map encoded (randomizedFrom n ps)) → CorrectedFrom n ps (drop k cs)
 unfolding run
 corrected-after zero n ps cs s u z pl ws q = corrected n ps cs s u z pl ws q
 corrected-after (suc k) n ps [] s u z pl ws q = record { blocks = refl; accepted = refl }
 corrected-after (suc k) n ps (c ∷ cs) s u z pl ws q =
-    corrected-after k n ps cs (after s c) (next-unrefused s c cs u) (unmarked-after s c cs u z (pl .0)) (pl .1) ws
-    (subst (λ (b : Branches). Nears (drop k (run Receiving b (blocksOf cs))) (map encoded (randomizedFrom n ps))) (sym (branches-after s c cs u)) q)
+    corrected-after k n ps cs (afterCall s c) (next-unrefused s c cs u) (unmarked-after s c cs u z (pl .0)) (pl .1) ws
+    (subst (λ (b : Branches). Nears (drop k (run Receiving b (lentBlocks cs))) (map encoded (randomizedFrom n ps))) (sym (branches-after s c cs u)) q)

@@ -13,7 +13,7 @@ use Rattle.reed_solomon.specs.Marks.{noMarks}
 use Rattle.randomizer.specs.Stream.{Packet, randomizedStream}
 use Rattle.interleaver.specs.Stream.{interleaved}
 use Rattle.receiver.specs.Receive.{freshReceiver}
-use Rattle.receiver.specs.Run.{Call, afterCalls, Calls, packetsGiven, blocksOf, answers, Plain, OutputFits}
+use Rattle.receiver.specs.Run.{Call, afterCalls, DecodedCalls, packetsGiven, lentBlocks, answers, Plain, OutputFits}
 use Rattle.receiver.specs.Kept.{Kept, none, call}
 use Rattle.receiver.specs.declared.Receiver.{Receiver}
 use Rattle.receiver.proofs.Reception.{stream-received}
@@ -21,10 +21,10 @@ use Rattle.receiver.proofs.Reception.{stream-received}
 -- calls of a history with these blocks, answers, packets and this state after them
 pub record CallsOf (s : Receiver) (blocks : List (List ℕ)) (numbers : List ℕ) (packets : List (List ℕ)) (last : Receiver) : Type 0 where
   pub calls : List Call
-  pub lent : blocksOf calls ≡ blocks
+  pub lent : lentBlocks calls ≡ blocks
   pub plain : All Plain calls
   pub output-fits : All OutputFits calls
-  pub decodes : Calls s calls
+  pub decodes : DecodedCalls s calls
   pub answered : answers s calls ≡ numbers
   pub given : packetsGiven s calls ≡ packets
   pub state : afterCalls s calls ≡ last
@@ -41,7 +41,7 @@ kept-calls {s} (call block output exit r h p k) =
       lent = ap (λ (l : List (List ℕ)). block ∷ l) (m .lent);
       plain = (refl, m .plain);
       output-fits = (h, m .output-fits);
-      decodes = (p .decodes, subst (λ (x : Receiver). Calls x t) (p .state) (m .decodes));
+      decodes = (p .decodes, subst (λ (x : Receiver). DecodedCalls x t) (p .state) (m .decodes));
       answered = ap₂ (λ (x : ℕ) (l : List ℕ). x ∷ l) (sym (p .number)) (ap (λ (x : Receiver). answers x t) (sym (p .state)) ∙ m .answered);
       given =
           ap₂ (λ (x : List (List ℕ)) (l : List (List ℕ)). x ++ l)

@@ -24,8 +24,8 @@ use Rattle.group_sync.specs.Group.{syncInRange, groupStep}
 use Rattle.group_sync.proofs.Synchronization.{accepted-outcome, sync-in-range}
 use Rattle.reception_counts.specs.Counts.{outcomeNumber, one, counted}
 use Rattle.reception_counts.proofs.Ranges.{CountsRange, counts-in-range, filling-range, lost-range, accepted-range}
-use Rattle.receiver.specs.Receive.{freshReceiver, inRange, marksIn, delayedBlock, delayedMarks, decodingOf, ofAccepted, stateAfter, refusal, Ready, receiveState}
-use Rattle.receiver.specs.Run.{Call, after, Calls, afterCalls}
+use Rattle.receiver.specs.Receive.{freshReceiver, receiverInRange, marksIn, delayedBlock, delayedMarks, decodingOf, ofAccepted, stateAfter, receiveRefusal, Ready, receiveState}
+use Rattle.receiver.specs.Run.{Call, afterCall, DecodedCalls, afterCalls}
 use Rattle.receiver.specs.declared.Receiver.{Receiver}
 use Rattle.receiver.proofs.Calls.{state-in-range, ready-state}
 use Rattle.receiver.proofs.MarkDelays.{stay-marks}
@@ -38,7 +38,7 @@ pub record Sound (s : Receiver) : Type 0 where
   pub sync : syncInRange (s .sync) ≡ true
   pub counts : CountsRange (s .counts)
 
-pub sound-range : (s : Receiver) → Sound s → inRange s ≡ true
+pub sound-range : (s : Receiver) → Sound s → receiverInRange s ≡ true
 sound-range s g = state-in-range s (record { branches = g .branches .range; marks = g .small; sync = g .sync; counts = counts-in-range (s .counts) (g .counts) })
 
 pub sound-fresh : Sound freshReceiver
@@ -54,13 +54,13 @@ sound-fresh = record {
 -- ---- a call is refused, or none of its tests refuses it
 
 pub record Refused (s : Receiver) (block marks output : List ℕ) : Type 0 where
-  pub some : 0 < refusal s block marks output
-  pub apart : (refusal s block marks output < 8) ⊎ (11 < refusal s block marks output)
+  pub some : 0 < receiveRefusal s block marks output
+  pub apart : (receiveRefusal s block marks output < 8) ⊎ (11 < receiveRefusal s block marks output)
 
 pub ready-or-refused : (s : Receiver) (block marks output : List ℕ) → Ready s block marks output ⊎ Refused s block marks output
-ready-or-refused s block marks output = range (inRange s) refl
+ready-or-refused s block marks output = range (receiverInRange s) refl
   where
-    range : (t : Bool) → inRange s ≡ t → Ready s block marks output ⊎ Refused s block marks output
+    range : (t : Bool) → receiverInRange s ≡ t → Ready s block marks output ⊎ Refused s block marks output
     range false e = inr (record { some = simp e (omega arith); apart = simp e (inl (omega arith)) })
     range true e = size (ℕ-discrete (length block) 204)
       where
@@ -87,7 +87,7 @@ ready-or-refused s block marks output = range (inRange s) refl
         size (no n) = inr (record { some = simp (e, ne-eqb _ _ n) (omega arith); apart = simp (e, ne-eqb _ _ n) (inl (omega arith)) })
 
 pub refused-state : (s : Receiver) (block marks output left : List ℕ) (decoded : Decoded) → Refused s block marks output → receiveState s block marks output left decoded ≡ s
-refused-state s block marks output left decoded f = unpicked (refusal s block marks output) (f .some)
+refused-state s block marks output left decoded f = unpicked (receiveRefusal s block marks output) (f .some)
   where
     unpicked : (n : ℕ) → 0 < n → pick (eqb n 0) (stateAfter s block marks left decoded) s ≡ s
     unpicked n h = simp (ne-eqb n 0 (λ e. omega arith))
@@ -141,18 +141,18 @@ module _ (s : Receiver) (block marks left : List ℕ) (decoded : Decoded) (g : S
             counts = simp (le-ltb _ _ k) (counts-after k decoded d);
           }
 
-pub sound-call : (s : Receiver) (c : Call) → Sound s → DecodesMarked (delayedMarks s (c .marks)) (delayedBlock s (c .block)) (c .left) (c .decoded) → Sound (after s c)
+pub sound-call : (s : Receiver) (c : Call) → Sound s → DecodesMarked (delayedMarks s (c .marks)) (delayedBlock s (c .block)) (c .left) (c .decoded) → Sound (afterCall s c)
 sound-call s c g d = by (ready-or-refused s (c .block) (c .marks) (c .output))
   where
-    by : Ready s (c .block) (c .marks) (c .output) ⊎ Refused s (c .block) (c .marks) (c .output) → Sound (after s c)
+    by : Ready s (c .block) (c .marks) (c .output) ⊎ Refused s (c .block) (c .marks) (c .output) → Sound (afterCall s c)
     by (inl y) =
         subst Sound (sym (ready-state s (c .block) (c .marks) (c .output) y (c .left) (c .decoded))) (sound-after s (c .block) (c .marks) (c .left) (c .decoded) g (y .marked) (y .more) d)
     by (inr f) = subst Sound (sym (refused-state s (c .block) (c .marks) (c .output) (c .left) (c .decoded) f)) g
 
-sound-calls : (s : Receiver) (cs : List Call) → Sound s → Calls s cs → Sound (afterCalls s cs)
+sound-calls : (s : Receiver) (cs : List Call) → Sound s → DecodedCalls s cs → Sound (afterCalls s cs)
 sound-calls s [] g d = g
-sound-calls s (c ∷ cs) g d = sound-calls (after s c) cs (sound-call s c g (d .0)) (d .1)
+sound-calls s (c ∷ cs) g d = sound-calls (afterCall s c) cs (sound-call s c g (d .0)) (d .1)
 
 -- the theorem
-pub reached-in-range : (cs : List Call) → Calls freshReceiver cs → inRange (afterCalls freshReceiver cs) ≡ true
+pub reached-in-range : (cs : List Call) → DecodedCalls freshReceiver cs → receiverInRange (afterCalls freshReceiver cs) ≡ true
 reached-in-range cs d = sound-range (afterCalls freshReceiver cs) (sound-calls freshReceiver cs sound-fresh d)

@@ -38,8 +38,8 @@ use Rattle.group_sync.proofs.Streams as streams
 use Rattle.group_sync.proofs.AsBefore as before
 use Rattle.reception_counts.specs.Counts.{outcomeNumber}
 use Rattle.receiver.specs.Receive.{freshReceiver}
-use Rattle.receiver.specs.Run.{Call, Calls, packetsGiven, blocksOf, answers, Plain, OutputFits}
-use Rattle.receiver.specs.Begun.{lefts, decodings, packetsOf, ComeTo, filledFirst, BegunAt}
+use Rattle.receiver.specs.Run.{Call, DecodedCalls, packetsGiven, lentBlocks, answers, Plain, OutputFits}
+use Rattle.receiver.specs.Begun.{lefts, decodings, deliveredPackets, ComeTo, filledFirst, BegunAt}
 use Rattle.receiver.specs.declared.Receiver.{Receiver}
 use Rattle.receiver.proofs.Reached.{sound-fresh}
 use Rattle.receiver.proofs.Outcomes.{Unrefused, plain-marked, come-to, filled-come-to}
@@ -79,13 +79,13 @@ numbers zero zero i (suc n) (suc m) = ap (λ (x : List ℕ). 0 ∷ x) (numbers z
 
 -- ---- the packets
 
-packets-filled : (k : ℕ) (cs : List Call) (os : List Outcome) → packetsOf (filledFirst k cs os) (lefts cs) ≡ packetsOf os (lefts (drop k cs))
-packets-filled zero cs os = ap (λ (x : List Outcome). packetsOf (x ++ os) (lefts cs)) (take-nil (length cs))
+packets-filled : (k : ℕ) (cs : List Call) (os : List Outcome) → deliveredPackets (filledFirst k cs os) (lefts cs) ≡ deliveredPackets os (lefts (drop k cs))
+packets-filled zero cs os = ap (λ (x : List Outcome). deliveredPackets (x ++ os) (lefts cs)) (take-nil (length cs))
 packets-filled (suc k) [] os = refl
 packets-filled (suc k) (c ∷ cs) os = packets-filled k cs os
 
 packets-given : (n j m : ℕ) (ps : List (List ℕ)) → All Packet ps → j ≤ m
-    → packetsOf (take j (deliveredFrom n m)) (take j (map encoded (randomizedFrom n ps))) ≡ take j ps
+    → deliveredPackets (take j (deliveredFrom n m)) (take j (map encoded (randomizedFrom n ps))) ≡ take j ps
 unfolding randomizedFrom
 packets-given n zero m ps ws h = refl
 packets-given n (suc j) zero ps ws h = absurd (not-suc-le-zero h)
@@ -94,19 +94,19 @@ packets-given n (suc j) (suc m) (p ∷ ps) ws h =
     ap₂ (λ (x : List ℕ) (xs : List (List ℕ)). x ∷ xs) (coded-back n p (ws .0)) (packets-given (n + 1) j m ps (ws .1) (omega arith))
 
 packets-late : (w n j m : ℕ) (ps : List (List ℕ)) → All Packet ps → j ≤ m
-    → packetsOf (take j (replicate w Waiting ++ deliveredFrom (n + w) m)) (take j (map encoded (randomizedFrom n ps))) ≡ take (j - w) (drop w ps)
+    → deliveredPackets (take j (replicate w Waiting ++ deliveredFrom (n + w) m)) (take j (map encoded (randomizedFrom n ps))) ≡ take (j - w) (drop w ps)
 unfolding randomizedFrom
 packets-late zero n j m ps ws h =
     let e : n + 0 ≡ n = omega arith in
     let f : j ≡ j - 0 = omega arith in
-    ap (λ (i : ℕ). packetsOf (take j (deliveredFrom i m)) (take j (map encoded (randomizedFrom n ps)))) e
+    ap (λ (i : ℕ). deliveredPackets (take j (deliveredFrom i m)) (take j (map encoded (randomizedFrom n ps)))) e
     ∙ packets-given n j m ps ws h ∙ ap (λ (i : ℕ). take i ps) f
 packets-late (suc w) n zero m ps ws h = let f : 0 ≡ 0 - suc w = omega arith in ap (λ (i : ℕ). take i (drop (suc w) ps)) f
 packets-late (suc w) n (suc j) m [] ws h = sym (take-nil (suc j - suc w))
 packets-late (suc w) n (suc j) m (p ∷ ps) ws h =
     let e : n + suc w ≡ n + 1 + w = omega arith in
     let f : j - w ≡ suc j - suc w = omega arith in
-    ap (λ (i : ℕ). packetsOf (take j (replicate w Waiting ++ deliveredFrom i m)) (take j (map encoded (randomizedFrom (n + 1) ps)))) e
+    ap (λ (i : ℕ). deliveredPackets (take j (replicate w Waiting ++ deliveredFrom i m)) (take j (map encoded (randomizedFrom (n + 1) ps)))) e
     ∙ packets-late w (n + 1) j m ps (ws .1) (omega arith) ∙ ap (λ (i : ℕ). take i (drop w ps)) f
 
 -- ---- the coded packets
@@ -130,25 +130,25 @@ unfolding randomizedFrom
 coded-count n [] = refl
 coded-count n (p ∷ ps) = ap suc (coded-count (n + 1) ps)
 
-pub blocks-count : (cs : List Call) → length (blocksOf cs) ≡ length cs
+pub blocks-count : (cs : List Call) → length (lentBlocks cs) ≡ length cs
 blocks-count [] = refl
 blocks-count (c ∷ cs) = ap suc (blocks-count cs)
 
 -- ---- the blocks that are corrected
 
 module _ (cs : List Call) where
-  came-count : length (drop 11 (run Receiving fresh (blocksOf cs))) ≡ length cs - 11
+  came-count : length (drop 11 (run Receiving fresh (lentBlocks cs))) ≡ length cs - 11
   came-count =
-      length-drop 11 (run Receiving fresh (blocksOf cs))
-      ∙ ap (λ (i : ℕ). i - 11) (length-run Receiving fresh (blocksOf cs) ∙ blocks-count cs)
+      length-drop 11 (run Receiving fresh (lentBlocks cs))
+      ∙ ap (λ (i : ℕ). i - 11) (length-run Receiving fresh (lentBlocks cs) ∙ blocks-count cs)
 
   -- call i + 12 corrects the block gathered from the bytes received
-  pub came-gathered : All (Length 204) (blocksOf cs) → (i : ℕ) → i + 11 < length cs
-      → getD (drop 11 (run Receiving fresh (blocksOf cs))) i [] ≡ gathered (flatten (blocksOf cs)) i
+  pub came-gathered : All (Length 204) (lentBlocks cs) → (i : ℕ) → i + 11 < length cs
+      → getD (drop 11 (run Receiving fresh (lentBlocks cs))) i [] ≡ gathered (flatten (lentBlocks cs)) i
   came-gathered sizes i k =
       let e : 11 + i ≡ i + 11 = omega arith in
-      getD-drop 11 (run Receiving fresh (blocksOf cs)) i [] ∙ ap (λ (j : ℕ). getD (run Receiving fresh (blocksOf cs)) j []) e
-      ∙ run-gathered (blocksOf cs) sizes i (omega (arith, blocks-count cs))
+      getD-drop 11 (run Receiving fresh (lentBlocks cs)) i [] ∙ ap (λ (j : ℕ). getD (run Receiving fresh (lentBlocks cs)) j []) e
+      ∙ run-gathered (lentBlocks cs) sizes i (omega (arith, blocks-count cs))
 
 module _ (packets : List (List ℕ)) (ws : All Packet packets) where
   -- the coded packets, as the standard gives them and call after call
@@ -171,15 +171,15 @@ module _ (packets : List (List ℕ)) (ws : All Packet packets) where
       ∙ sent-gathered coded m i (omega (arith, coded-size)) (All-at (Length 204) coded [] (m + i) coded-blocks (omega (arith, coded-size)))
 
   pub coded-nears : (m : ℕ) (cs : List Call) → m + length cs ≤ length packets
-      → ((i : ℕ) → i + 11 < length cs → differ (getD (drop 11 (run Receiving fresh (blocksOf cs))) i []) (getD (drop m coded) i []) ≤ 8)
-      → Nears (drop 11 (run Receiving fresh (blocksOf cs))) (drop m coded)
+      → ((i : ℕ) → i + 11 < length cs → differ (getD (drop 11 (run Receiving fresh (lentBlocks cs))) i []) (getD (drop m coded) i []) ≤ 8)
+      → Nears (drop 11 (run Receiving fresh (lentBlocks cs))) (drop m coded)
   coded-nears m cs h f =
-      nears-of (drop 11 (run Receiving fresh (blocksOf cs))) (drop m coded) (omega (arith, came-count cs, length-drop m coded, coded-size))
+      nears-of (drop 11 (run Receiving fresh (lentBlocks cs))) (drop m coded) (omega (arith, came-count cs, length-drop m coded, coded-size))
       (λ i k. f i (omega (arith, came-count cs)))
 
   -- ---- at most eight bytes of each block wrong
 
-  module _ (m : ℕ) (cs : List Call) (u : Unrefused freshReceiver cs) (pl : All Plain cs) (q : Nears (drop 11 (run Receiving fresh (blocksOf cs))) (drop m coded)) where
+  module _ (m : ℕ) (cs : List Call) (u : Unrefused freshReceiver cs) (pl : All Plain cs) (q : Nears (drop 11 (run Receiving fresh (lentBlocks cs))) (drop m coded)) where
     dropped : drop m coded ≡ map encoded (randomizedFrom m (drop m packets))
     dropped =
         let e : 0 + m ≡ m = omega arith in
@@ -189,7 +189,7 @@ module _ (packets : List (List ℕ)) (ws : All Packet packets) where
     unfolding freshReceiver
     late =
         corrected-after 11 m (drop m packets) cs freshReceiver u refl pl (All-drop Packet m packets ws)
-        (subst (Nears (drop 11 (run Receiving fresh (blocksOf cs)))) dropped q)
+        (subst (Nears (drop 11 (run Receiving fresh (lentBlocks cs)))) dropped q)
 
     fewer : length (drop 11 cs) ≡ length cs - 11
     fewer = length-drop 11 cs
@@ -212,7 +212,7 @@ module _ (packets : List (List ℕ)) (ws : All Packet packets) where
         record {
           answered = t .answered ∙ ap (map outcomeNumber) (filled-take 11 (length cs) os) ∙ numbers 11 w (m + w) (length cs) (length cs);
           given =
-              t .given ∙ packets-filled 11 cs (take (length cs - 11) os) ∙ ap (packetsOf (take (length cs - 11) os)) near-lefts
+              t .given ∙ packets-filled 11 cs (take (length cs - 11) os) ∙ ap (deliveredPackets (take (length cs - 11) os)) near-lefts
               ∙ packets-late w m (length cs - 11) (length cs) (drop m packets) (All-drop Packet m packets ws) (omega arith)
               ∙ ap (take (length cs - 11 - w)) (drop-drop w m packets);
           corrected = near-lefts ∙ ap (take (length cs - 11)) (sym dropped);
@@ -221,11 +221,11 @@ module _ (packets : List (List ℕ)) (ws : All Packet packets) where
   -- ---- no byte wrong
 
   module _ (m : ℕ) (cs : List Call) (h : m + length cs ≤ length packets) (l : length cs ≤ 4294967295)
-      (b : blocksOf cs ≡ take (length cs) (drop m (interleaved coded))) (pl : All Plain cs) (rs : All OutputFits cs) (ds : Calls freshReceiver cs) where
+      (b : lentBlocks cs ≡ take (length cs) (drop m (interleaved coded))) (pl : All Plain cs) (rs : All OutputFits cs) (ds : DecodedCalls freshReceiver cs) where
     air : List (List ℕ)
     air = drop m (interleaved coded)
 
-    sizes : All (Length 204) (blocksOf cs)
+    sizes : All (Length 204) (lentBlocks cs)
     unfolding air
     sizes =
         subst (All (Length 204)) (sym b)
@@ -236,22 +236,22 @@ module _ (packets : List (List ℕ)) (ws : All Packet packets) where
     unharmed-calls = record { sound = sound-fresh; most = omega arith; sizes = sizes; marked = plain-marked cs pl; outputs = rs; decodes = ds }
 
     -- the bytes received, and those sent after them
-    front : flatten air ≡ flatten (blocksOf cs) ++ flatten (drop (length cs) air)
+    front : flatten air ≡ flatten (lentBlocks cs) ++ flatten (drop (length cs) air)
     unfolding air
     front =
         ap flatten (sym (take-append-drop (length cs) air)) ∙ flatten-join (take (length cs) air) (drop (length cs) air)
         ∙ ap (λ (x : List (List ℕ)). flatten x ++ flatten (drop (length cs) air)) (sym b)
 
     -- the block that call i + 12 corrects is the one that was sent
-    each : (i : ℕ) → i + 11 < length cs → getD (drop 11 (run Receiving fresh (blocksOf cs))) i [] ≡ getD (drop m coded) i []
+    each : (i : ℕ) → i + 11 < length cs → getD (drop 11 (run Receiving fresh (lentBlocks cs))) i [] ≡ getD (drop m coded) i []
     unfolding air
     each i k =
         came-gathered cs sizes i k
-        ∙ sym (gathered-front (flatten (blocksOf cs)) (flatten (drop (length cs) air)) i (omega (arith, length-flatten 204 (blocksOf cs) sizes, blocks-count cs)))
+        ∙ sym (gathered-front (flatten (lentBlocks cs)) (flatten (drop (length cs) air)) i (omega (arith, length-flatten 204 (lentBlocks cs) sizes, blocks-count cs)))
         ∙ ap (λ (x : List ℕ). gathered x i) (sym front)
         ∙ sym (coded-gathered m i (omega arith))
 
-    nears : Nears (drop 11 (run Receiving fresh (blocksOf cs))) (drop m coded)
+    nears : Nears (drop 11 (run Receiving fresh (lentBlocks cs))) (drop m coded)
     nears = coded-nears m cs h (λ i k. rw (each i k) (omega (arith, differ-none (getD (drop m coded) i []))))
 
     -- the theorem
@@ -266,7 +266,7 @@ module _ (packets : List (List ℕ)) (ws : All Packet packets) where
 
 -- demand 2, receiving: the case of block 0
 pub stream-received : (packets : List (List ℕ)) → All Packet packets → length packets ≤ 4294967295
-    → (cs : List Call) → blocksOf cs ≡ interleaved (map encoded (randomizedStream packets)) → All Plain cs → All OutputFits cs → Calls freshReceiver cs
+    → (cs : List Call) → lentBlocks cs ≡ interleaved (map encoded (randomizedStream packets)) → All Plain cs → All OutputFits cs → DecodedCalls freshReceiver cs
     → (answers freshReceiver cs ≡ take (length packets) (replicate 11 9 ++ replicate (length packets) 0))
     × (packetsGiven freshReceiver cs ≡ take (length packets - 11) packets)
 stream-received packets ws l cs b pl rs ds =

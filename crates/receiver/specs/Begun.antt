@@ -32,15 +32,15 @@ packetOf Lost left = []
 packetOf Waiting left = []
 packetOf OutOfStep left = []
 
-abbrev pub packetsOf : List Outcome → List (List ℕ) → List (List ℕ)
-packetsOf [] ls = []
-packetsOf (o ∷ os) [] = []
-packetsOf (o ∷ os) (l ∷ ls) = packetOf o l ++ packetsOf os ls
+abbrev pub deliveredPackets : List Outcome → List (List ℕ) → List (List ℕ)
+deliveredPackets [] ls = []
+deliveredPackets (o ∷ os) [] = []
+deliveredPackets (o ∷ os) (l ∷ ls) = packetOf o l ++ deliveredPackets os ls
 
 -- the calls are answered, and give packets, as these outcomes say
 pub record ComeTo (s : Receiver) (cs : List Call) (os : List Outcome) : Type 0 where
   pub answered : answers s cs ≡ map outcomeNumber os
-  pub given : packetsGiven s cs ≡ packetsOf os (lefts cs)
+  pub given : packetsGiven s cs ≡ deliveredPackets os (lefts cs)
 
 -- the outcomes of calls of which the first k are filling
 abbrev pub filledFirst : ℕ → List Call → List Outcome → List Outcome

@@ -13,7 +13,7 @@ use Rattle.reed_solomon.specs.Marks.{largest, areMarks, noMarks, DecodesMarked}
 use Rattle.reed_solomon.specs.declared.Decoded.{Decoded}
 use Rattle.reed_solomon.specs.declared.Decoded.the-variants.{Corrected, Uncorrectable, BlockLength, MarkValue}
 use Rattle.randomizer.specs.Packet.{derandomized}
-use Rattle.delay_branches.specs.Block.{fresh, blockOut, after}
+use Rattle.delay_branches.specs.Block.{fresh, blockOut, branchesAfter}
 use Rattle.delay_branches.specs.Branch as branch
 use Rattle.delay_branches.specs.declared.Branches.{Branches}
 use Rattle.delay_branches.specs.declared.Side.the-variants.{Receiving}
@@ -42,14 +42,14 @@ abbrev pub marksIn : Receiver → Branches
 marksIn s = branch.laid (s .marks) (s .deinterleaver .branches .positions)
 
 -- no mark is in the delays
-abbrev pub Unmarked : Receiver → Type 0
-Unmarked s = s .marks ≡ replicate 1122 0
+abbrev pub NoMarks : Receiver → Type 0
+NoMarks s = s .marks ≡ replicate 1122 0
 
 -- what documents 01 and 02 ask of the numbers of a state
-unfoldable pub inRange : Receiver → Bool
+unfoldable pub receiverInRange : Receiver → Bool
 unfolding countsInRange
-inRange s =
-    pick (branch.within Receiving (s .deinterleaver .branches .positions) 12)
+receiverInRange s =
+    pick (branch.positionsWithin Receiving (s .deinterleaver .branches .positions) 12)
     (pick (ltb (largest (s .marks)) 2)
     (pick (syncInRange (s .sync)) (countsInRange (s .counts)) false)
     false)
@@ -89,8 +89,8 @@ ofAccepted OutOfStep n = n
 unfoldable pub stateAfter : Receiver → List ℕ → List ℕ → List ℕ → Decoded → Receiver
 stateAfter s block marks left decoded =
     record {
-      deinterleaver = record { branches = after Receiving (s .deinterleaver .branches) block };
-      marks = after Receiving (marksIn s) marks .cells;
+      deinterleaver = record { branches = branchesAfter Receiving (s .deinterleaver .branches) block };
+      marks = branchesAfter Receiving (marksIn s) marks .cells;
       sync = stepOf s left decoded .sync;
       counts =
           counted (s .counts) (outcomeNumber (stepOf s left decoded .outcome))
@@ -107,9 +107,9 @@ outputAfter Waiting left output = output
 outputAfter OutOfStep left output = output
 
 -- the tests before the work, in the order of documents 01 and 02; 0 where none refuses
-abbrev pub refusal : Receiver → List ℕ → List ℕ → List ℕ → ℕ
-refusal s block marks output =
-    pick (inRange s)
+abbrev pub receiveRefusal : Receiver → List ℕ → List ℕ → List ℕ → ℕ
+receiveRefusal s block marks output =
+    pick (receiverInRange s)
     (pick (eqb (length block) 204)
     (pick (areMarks marks)
     (pick (ltb (length output) 188) 4 (pick (ltb (s .counts .taken) 4294967295) 0 7))
@@ -119,7 +119,7 @@ refusal s block marks output =
 
 -- a call that no test refuses
 pub record Ready (s : Receiver) (block marks output : List ℕ) : Type 0 where
-  pub range : inRange s ≡ true
+  pub range : receiverInRange s ≡ true
   pub size : length block ≡ 204
   pub enough : 188 ≤ length output
   pub marked : areMarks marks ≡ true
@@ -128,13 +128,13 @@ pub record Ready (s : Receiver) (block marks output : List ℕ) : Type 0 where
 -- the number of the answer, the state and the output after a call
 abbrev pub receiveNumber : Receiver → List ℕ → List ℕ → List ℕ → List ℕ → Decoded → ℕ
 receiveNumber s block marks output left decoded =
-    pick (eqb (refusal s block marks output) 0) (outcomeNumber (stepOf s left decoded .outcome)) (refusal s block marks output)
+    pick (eqb (receiveRefusal s block marks output) 0) (outcomeNumber (stepOf s left decoded .outcome)) (receiveRefusal s block marks output)
 
 abbrev pub receiveState : Receiver → List ℕ → List ℕ → List ℕ → List ℕ → Decoded → Receiver
-receiveState s block marks output left decoded = pick (eqb (refusal s block marks output) 0) (stateAfter s block marks left decoded) s
+receiveState s block marks output left decoded = pick (eqb (receiveRefusal s block marks output) 0) (stateAfter s block marks left decoded) s
 
 abbrev pub receiveOutput : Receiver → List ℕ → List ℕ → List ℕ → List ℕ → Decoded → List ℕ
-receiveOutput s block marks output left decoded = pick (eqb (refusal s block marks output) 0) (outputAfter (stepOf s left decoded .outcome) left output) output
+receiveOutput s block marks output left decoded = pick (eqb (receiveRefusal s block marks output) 0) (outputAfter (stepOf s left decoded .outcome) left output) output
 
 -- The block that the branches give decodes, with the marks that they give, to an outcome, and the call is this function of it.
 -- Decoding is total and unique, so the call is decided.

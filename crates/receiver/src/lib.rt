@@ -10,8 +10,8 @@ ghost use Rattle.group_sync.specs.Group.{syncInRange, PlaceOf};
 ghost use Rattle.reception_counts.specs.Counts.{countsInRange, outcomeNumber};
 ghost use Rattle.reed_solomon.specs.Marks.{noMarks, DecodesMarked};
 ghost use Rattle.delay_branches.specs.Branch as branch;
-ghost use Rattle.delay_branches.specs.Block.{blockOut, after};
-ghost use Rattle.receiver.specs.Receive.{freshReceiver, inRange, Unmarked, decodingOf, outputAfter, Ready, ReceivesMarked, Receives};
+ghost use Rattle.delay_branches.specs.Block.{blockOut, branchesAfter};
+ghost use Rattle.receiver.specs.Receive.{freshReceiver, receiverInRange, NoMarks, decodingOf, outputAfter, Ready, ReceivesMarked, Receives};
 use answer::Answer;
 use delay_branches::Branches;
 use delay_branches::Side;
@@ -74,13 +74,13 @@ fn deliver(outcome: Outcome, left: &[u8], output: &mut [u8]) -> Answer
 // Where no mark comes and none is in the cells, none leaves, and the cells stay.
 fn delay_marks(cells: &mut [u8], positions: [u8; 12], marks: &[u8], none: bool, output: &mut [u8])
     requires { ⌜
-        (branch.within Side.Receiving positions 12 ≡ true)
+        (branch.positionsWithin Side.Receiving positions 12 ≡ true)
         × (length (now cells) ≡ 1122)
         × (length (now marks) ≡ 204)
         × (now output ≡ noMarks)
         × (none ≡ true → (now cells ≡ replicate 1122 0) × (now marks ≡ noMarks)) ⌝ }
     ensures { λ _. ⌜
-        (now (cells .exit) ≡ after Side.Receiving (branch.laid (now (cells .entry)) positions) (now (marks .entry)) .cells)
+        (now (cells .exit) ≡ branchesAfter Side.Receiving (branch.laid (now (cells .entry)) positions) (now (marks .entry)) .cells)
         × (now (output .exit) ≡ blockOut Side.Receiving (branch.laid (now (cells .entry)) positions) (now (marks .entry))) ⌝ }
 {
     if none {
@@ -110,7 +110,7 @@ fn take_block(
 ) -> Received
     requires { ⌜
         Ready receiver (now block) (now marks) (now output)
-        × (none ≡ true → Unmarked receiver × (now marks ≡ noMarks)) ⌝ }
+        × (none ≡ true → NoMarks receiver × (now marks ≡ noMarks)) ⌝ }
     ensures { λ r. ⌜ ReceivesMarked receiver (now (block .entry)) (now (marks .entry)) (now (output .entry)) r (now (output .exit)) ⌝ }
 {
     let before = receiver.deinterleaver;
@@ -171,7 +171,7 @@ fn take_block(
 // By its parts, so that no state is copied.
 fn parts_in_range(positions: [u8; 12], most: u8, sync: GroupSync, counts: Counts) -> bool
     ensures { λ r. ⌜
-        r ≡ pick (branch.within Side.Receiving positions 12) (pick (ltb most 2) (pick (syncInRange sync) (countsInRange counts) false) false) false ⌝ }
+        r ≡ pick (branch.positionsWithin Side.Receiving positions 12) (pick (ltb most 2) (pick (syncInRange sync) (countsInRange counts) false) false) false ⌝ }
 {
     if !positions_within(Side::Receiving, positions) {
         return false;
@@ -210,7 +210,7 @@ impl Receiver {
 
     // Whether each number is in its range.
     pub fn in_range(self) -> bool
-        ensures { λ r. ⌜ r ≡ inRange self ⌝ }
+        ensures { λ r. ⌜ r ≡ receiverInRange self ⌝ }
     {
         let deinterleaver = self.deinterleaver;
         let branches = deinterleaver.branches;

@@ -23,16 +23,16 @@ use Rattle.reed_solomon.proofs.MarkedDistance.{without-marks}
 use Rattle.reed_solomon.proofs.Laws.{total, unique}
 use Rattle.interleaver.specs.Gathered.{placeIn, gathered}
 use Rattle.interleaver.proofs.Gathering.{gathered-same}
-use Rattle.recorded_block.specs.Block.{wholeBlocks, blockRefusal, outputWith, GivesBlock, Agree, partAt, SameBlock}
+use Rattle.recorded_block.specs.Block.{blockCount, blockRefusal, outputWith, GivesBlock, Agree, partAt, SameBlock}
 use Rattle.recorded_block.specs.declared.DecodedBlock.{DecodedBlock}
 
 -- ---- the tests
 
 module _ (bytes : List ℕ) (blocks p : ℕ) (output : List ℕ) where
-  pub not-its-count : (blocks ≡ wholeBlocks bytes → ⊥) → blockRefusal bytes blocks p output ≡ 5
+  pub not-its-count : (blocks ≡ blockCount bytes → ⊥) → blockRefusal bytes blocks p output ≡ 5
   not-its-count h = simp (ne-eqb _ _ h)
 
-  module _ (b : blocks ≡ wholeBlocks bytes) where
+  module _ (b : blocks ≡ blockCount bytes) where
     pub no-such-block : min blocks 4294967295 < p + 12 → blockRefusal bytes blocks p output ≡ 16
     no-such-block h = simp (eq-eqb _ _ b, lt-ltb _ _ h)
 
@@ -83,7 +83,7 @@ same-block a b blocks more p q output r s x y f g h k =
     }
 
 -- two recordings with the same number of whole blocks that agree in those 204 bytes give the same
-pub agreeing : (a b : List ℕ) (blocks p : ℕ) (output : List ℕ) (r s : DecodedBlock) (x y : List ℕ) → wholeBlocks a ≡ wholeBlocks b → Agree a b p
+pub agreeing : (a b : List ℕ) (blocks p : ℕ) (output : List ℕ) (r s : DecodedBlock) (x y : List ℕ) → blockCount a ≡ blockCount b → Agree a b p
     → GivesBlock a blocks p output r x → GivesBlock b blocks p output s y → SameBlock r s x y
 agreeing a b blocks p output r s x y e g h k =
     same-block a b blocks blocks p p output r s x y
@@ -95,21 +95,21 @@ agreeing a b blocks p output r s x y e g h k =
 -- Block p of a recording is block 0 of that part, so a file need not be read from its start. Where there is no such block, there is
 -- none in the part either.
 pub by-seeking : (bytes : List ℕ) (p : ℕ) (output : List ℕ) (r s : DecodedBlock) (x y : List ℕ) → p + 12 ≤ 4294967295
-    → GivesBlock bytes (wholeBlocks bytes) p output r x → GivesBlock (partAt bytes p) (wholeBlocks (partAt bytes p)) 0 output s y → SameBlock r s x y
+    → GivesBlock bytes (blockCount bytes) p output r x → GivesBlock (partAt bytes p) (blockCount (partAt bytes p)) 0 output s y → SameBlock r s x y
 by-seeking bytes p output r s x y m g k =
-    same-block bytes (partAt bytes p) (wholeBlocks bytes) (wholeBlocks (partAt bytes p)) p 0 output r s x y (by (decLt (length bytes) (204 * p + 2448)))
+    same-block bytes (partAt bytes p) (blockCount bytes) (blockCount (partAt bytes p)) p 0 output r s x y (by (decLt (length bytes) (204 * p + 2448)))
     (gathered-same bytes (partAt bytes p) p 0 there) g k
   where
     size : length (partAt bytes p) ≡ min 2448 (length bytes - 204 * p)
     size = length-take 2448 (drop (204 * p) bytes) ∙ ap (min 2448) (length-drop (204 * p) bytes)
 
-    by : Dec (length bytes < 204 * p + 2448) → blockRefusal bytes (wholeBlocks bytes) p output ≡ blockRefusal (partAt bytes p) (wholeBlocks (partAt bytes p)) 0 output
+    by : Dec (length bytes < 204 * p + 2448) → blockRefusal bytes (blockCount bytes) p output ≡ blockRefusal (partAt bytes p) (blockCount (partAt bytes p)) 0 output
     by (yes l) =
-        no-such-block bytes (wholeBlocks bytes) p output refl (omega arith)
-        ∙ sym (no-such-block (partAt bytes p) (wholeBlocks (partAt bytes p)) 0 output refl (omega (arith, size)))
+        no-such-block bytes (blockCount bytes) p output refl (omega arith)
+        ∙ sym (no-such-block (partAt bytes p) (blockCount (partAt bytes p)) 0 output refl (omega (arith, size)))
     by (no l) =
-        past-tests bytes (wholeBlocks bytes) p output refl (omega arith)
-        ∙ sym (past-tests (partAt bytes p) (wholeBlocks (partAt bytes p)) 0 output refl (omega (arith, size)))
+        past-tests bytes (blockCount bytes) p output refl (omega arith)
+        ∙ sym (past-tests (partAt bytes p) (blockCount (partAt bytes p)) 0 output refl (omega (arith, size)))
 
     there : (n : ℕ) → n < 204 → getD bytes (placeIn p n) 0 ≡ getD (partAt bytes p) (placeIn 0 n) 0
     there n l =

@@ -15,13 +15,13 @@ use Rattle.interleaver.specs.Gathered.{placeIn, gathered}
 use Rattle.recorded_block.specs.declared.DecodedBlock.{DecodedBlock}
 
 -- how many whole blocks a recording has
-abbrev pub wholeBlocks : List ℕ → ℕ
-wholeBlocks bytes = length bytes / 204
+abbrev pub blockCount : List ℕ → ℕ
+blockCount bytes = length bytes / 204
 
 -- the tests before the work, in the order of document 02; 0 where none refuses
 abbrev pub blockRefusal : List ℕ → ℕ → ℕ → List ℕ → ℕ
 blockRefusal bytes blocks p output =
-    pick (eqb blocks (wholeBlocks bytes)) (pick (ltb (min blocks 4294967295) (p + 12)) 16 (pick (ltb (length output) 204) 4 0)) 5
+    pick (eqb blocks (blockCount bytes)) (pick (ltb (min blocks 4294967295) (p + 12)) 16 (pick (ltb (length output) 204) 4 0)) 5
 
 -- the output after the work: a codeword is written to its front
 abbrev pub outputWith : Decoded → List ℕ → List ℕ → List ℕ

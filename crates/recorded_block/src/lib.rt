@@ -3,7 +3,7 @@ ghost use mathlib.Core.Path.{_≡_};
 ghost use Prim.Native.Nat.{_+_, _*_, _≤_, min};
 ghost use lib.ListN.{length};
 ghost use Rattle.interleaver.specs.Gathered.{gathered};
-ghost use Rattle.recorded_block.specs.Block.{wholeBlocks, GivesBlock};
+ghost use Rattle.recorded_block.specs.Block.{blockCount, GivesBlock};
 use answer::Answer;
 use reed_solomon::Changed;
 use reed_solomon::Decoded;
@@ -34,7 +34,7 @@ fn least(a: u64, b: u64) -> u64
 
 // How many whole blocks a recording has.
 pub fn whole_blocks(bytes: &[u8]) -> u64
-    ensures { λ r. ⌜ r ≡ wholeBlocks (now (bytes .entry)) ⌝ }
+    ensures { λ r. ⌜ r ≡ blockCount (now (bytes .entry)) ⌝ }
 {
     (bytes.len() / 204) as u64
 }
@@ -104,7 +104,7 @@ pub struct RecordingView<'a> {
 impl<'a> RecordingView<'a> {
     // A recording, with the number of its whole blocks.
     pub fn new(bytes: &'a [u8]) -> RecordingView<'a>
-        ensures { λ r. ⌜ (r .bytes ≡ bytes .entry) × (r .blocks ≡ wholeBlocks (now (bytes .entry))) ⌝ }
+        ensures { λ r. ⌜ (r .bytes ≡ bytes .entry) × (r .blocks ≡ blockCount (now (bytes .entry))) ⌝ }
     {
         let blocks = whole_blocks(bytes);
         RecordingView { bytes, blocks }

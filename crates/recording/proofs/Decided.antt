@@ -22,8 +22,8 @@ use Rattle.group_sync.specs.Group.{PlaceOf}
 use Rattle.group_sync.specs.declared.Outcome.{Outcome}
 use Rattle.group_sync.specs.declared.Outcome.the-variants.{Filling, Delivered, Lost, Waiting, OutOfStep}
 use Rattle.reception_counts.specs.Counts.{outcomeNumber}
-use Rattle.receiver.specs.Receive.{delayedBlock, delayedMarks, stepOf, stateAfter, outputAfter, refusal, Ready}
-use Rattle.receiver.specs.Run.{Call, Calls, answerOf, after, outputOf, afterCalls, OutputFits, blocksOf, packetsGiven}
+use Rattle.receiver.specs.Receive.{delayedBlock, delayedMarks, stepOf, stateAfter, outputAfter, receiveRefusal, Ready}
+use Rattle.receiver.specs.Run.{Call, DecodedCalls, answerOf, afterCall, outputOf, afterCalls, OutputFits, lentBlocks, packetsGiven}
 use Rattle.receiver.specs.declared.Receiver.{Receiver}
 use Rattle.receiver.proofs.Calls.{ready-number, ready-state, ready-output, left-length}
 use Rattle.interleaver.proofs.Blocks.{length-flatten}
@@ -51,7 +51,7 @@ given-refused : (n a : ℕ) (x y : List ℕ) → 0 < n → givenBy (pick (eqb n 
 given-refused n a x y h = let e = ne-eqb n 0 (λ e. omega arith) in simp e
 
 record Alike (s : Receiver) (c d : Call) : Type 0 where
-  pub state : after s c ≡ after s d
+  pub state : afterCall s c ≡ afterCall s d
   pub given : givenBy (answerOf s c) (outputOf s c) ≡ givenBy (answerOf s d) (outputOf s d)
 
 -- the output has no part in what is given
@@ -63,7 +63,7 @@ module _ (s : Receiver) (block marks left : List ℕ) (decoded : Decoded) (a b :
   abbrev second : Call
   second = record { block = block; marks = marks; output = b; left = left; decoded = decoded }
 
-  refusal-same : refusal s block marks a ≡ refusal s block marks b
+  refusal-same : receiveRefusal s block marks a ≡ receiveRefusal s block marks b
   refusal-same = simp (le-ltb _ _ p, le-ltb _ _ q)
 
   number-same : answerOf s first ≡ answerOf s second
@@ -84,7 +84,7 @@ module _ (s : Receiver) (block marks left : List ℕ) (decoded : Decoded) (a b :
           (left-length (delayedMarks s marks) (delayedBlock s block) left decoded d (length-out Receiving (s .deinterleaver .branches) block))
           ∙ sym (ap₂ givenBy (ready-number s block marks b z left decoded) (ready-output s block marks b z left decoded))
       by (inr f) =
-          given-refused (refusal s block marks a) (outcomeNumber (stepOf s left decoded .outcome)) (outputOf s first) (outputOf s second) (f .some)
+          given-refused (receiveRefusal s block marks a) (outcomeNumber (stepOf s left decoded .outcome)) (outputOf s first) (outputOf s second) (f .some)
           ∙ ap (λ (n : ℕ). givenBy n (outputOf s second)) number-same
 
 call-alike : (s : Receiver) (c d : Call) → c .block ≡ d .block → c .marks ≡ d .marks → OutputFits c → OutputFits d
@@ -108,19 +108,19 @@ record SameCalls (s : Receiver) (xs ys : List Call) : Type 0 where
 
 -- what is asked of the calls of a recording
 record Cut (s : Receiver) (bytes marks : List ℕ) (cs : List Call) (rest : List ℕ) : Type 0 where
-  pub whole : bytes ≡ flatten (blocksOf cs) ++ rest
-  pub sizes : All (Length 204) (blocksOf cs)
+  pub whole : bytes ≡ flatten (lentBlocks cs) ++ rest
+  pub sizes : All (Length 204) (lentBlocks cs)
   pub short : length rest < 204
   pub marked : MarkedBy marks cs
-  pub decodes : Calls s cs
+  pub decodes : DecodedCalls s cs
   pub output-fits : All OutputFits cs
 
-cut-more : (s : Receiver) (bytes marks : List ℕ) (c : Call) (cs : List Call) (rest : List ℕ) → Cut s bytes marks (c ∷ cs) rest → Cut (after s c) (drop 204 bytes) (drop 204 marks) cs rest
+cut-more : (s : Receiver) (bytes marks : List ℕ) (c : Call) (cs : List Call) (rest : List ℕ) → Cut s bytes marks (c ∷ cs) rest → Cut (afterCall s c) (drop 204 bytes) (drop 204 marks) cs rest
 unfolding flatten
 cut-more s bytes marks c cs rest k = record {
   whole =
-      ap (drop 204) (k .whole ∙ append-assoc (c .block) (flatten (blocksOf cs)) rest)
-      ∙ drop-at (c .block) (flatten (blocksOf cs) ++ rest) 204 (k .sizes .0);
+      ap (drop 204) (k .whole ∙ append-assoc (c .block) (flatten (lentBlocks cs)) rest)
+      ∙ drop-at (c .block) (flatten (lentBlocks cs) ++ rest) 204 (k .sizes .0);
   sizes = k .sizes .1;
   short = k .short;
   marked = k .marked .1;
@@ -131,13 +131,13 @@ cut-more s bytes marks c cs rest k = record {
 cut-block : (s : Receiver) (bytes marks : List ℕ) (c : Call) (cs : List Call) (rest : List ℕ) → Cut s bytes marks (c ∷ cs) rest → take 204 bytes ≡ c .block
 unfolding flatten
 cut-block s bytes marks c cs rest k =
-    ap (take 204) (k .whole ∙ append-assoc (c .block) (flatten (blocksOf cs)) rest)
-    ∙ take-at (c .block) (flatten (blocksOf cs) ++ rest) 204 (k .sizes .0)
+    ap (take 204) (k .whole ∙ append-assoc (c .block) (flatten (lentBlocks cs)) rest)
+    ∙ take-at (c .block) (flatten (lentBlocks cs) ++ rest) 204 (k .sizes .0)
 
 cut-length : (s : Receiver) (bytes marks : List ℕ) (cs : List Call) (rest : List ℕ) → Cut s bytes marks cs rest → length cs ≡ length bytes / 204
 cut-length s bytes marks cs rest k =
-    let w = flatten (blocksOf cs) in
-    omega (arith, length-flatten 204 (blocksOf cs) (k .sizes), blocks-count cs, ap length (k .whole), length-append w rest, k .short)
+    let w = flatten (lentBlocks cs) in
+    omega (arith, length-flatten 204 (lentBlocks cs) (k .sizes), blocks-count cs, ap length (k .whole), length-append w rest, k .short)
 
 cuts-same : (s : Receiver) (bytes marks : List ℕ) (xs ys : List Call) (r t : List ℕ) → Cut s bytes marks xs r → Cut s bytes marks ys t → SameCalls s xs ys
 cuts-same s bytes marks [] [] r t p q = record { given = refl; state = refl }
@@ -145,8 +145,8 @@ cuts-same s bytes marks [] (d ∷ ys) r t p q = absurd (let a = cut-length s byt
 cuts-same s bytes marks (c ∷ xs) [] r t p q = absurd (let a = cut-length s bytes marks (c ∷ xs) r p in let b = cut-length s bytes marks [] t q in omega arith)
 cuts-same s bytes marks (c ∷ xs) (d ∷ ys) r t p q =
     let e = call-alike s c d (sym (cut-block s bytes marks c xs r p) ∙ cut-block s bytes marks d ys t q) (p .marked .0 ∙ sym (q .marked .0)) (p .output-fits .0) (q .output-fits .0) (p .decodes .0) (q .decodes .0) in
-    let k : Cut (after s c) (drop 204 bytes) (drop 204 marks) ys t = subst (λ (m : Receiver). Cut m (drop 204 bytes) (drop 204 marks) ys t) (sym (e .state)) (cut-more s bytes marks d ys t q) in
-    let f = cuts-same (after s c) (drop 204 bytes) (drop 204 marks) xs ys r t (cut-more s bytes marks c xs r p) k in
+    let k : Cut (afterCall s c) (drop 204 bytes) (drop 204 marks) ys t = subst (λ (m : Receiver). Cut m (drop 204 bytes) (drop 204 marks) ys t) (sym (e .state)) (cut-more s bytes marks d ys t q) in
+    let f = cuts-same (afterCall s c) (drop 204 bytes) (drop 204 marks) xs ys r t (cut-more s bytes marks c xs r p) k in
     record {
       given =
           ap₂ (λ (x y : List (List ℕ)). x ++ y) (e .given) (f .given)
@@ -169,14 +169,14 @@ recording-unique {s} {bytes} {marks} a b =
 
 -- ---- each whole block is taken
 
-taken-calls : (s : Receiver) (cs : List Call) → Sound s → Calls s cs → All (Length 204) (blocksOf cs) → All (λ c. areMarks (c .marks) ≡ true) cs → All OutputFits cs → s .counts .taken + length cs ≤ 4294967295
+taken-calls : (s : Receiver) (cs : List Call) → Sound s → DecodedCalls s cs → All (Length 204) (lentBlocks cs) → All (λ c. areMarks (c .marks) ≡ true) cs → All OutputFits cs → s .counts .taken + length cs ≤ 4294967295
     → Sound (afterCalls s cs) × (afterCalls s cs .counts .taken ≡ s .counts .taken + length cs)
 unfolding stateAfter
 taken-calls s [] g d n m o h = (g, omega arith)
 taken-calls s (c ∷ cs) g d n m o h =
     let y : Ready s (c .block) (c .marks) (c .output) = record { range = sound-range s g; size = n .0; marked = m .0; enough = o .0; more = omega arith } in
-    let e : after s c .counts .taken ≡ s .counts .taken + 1 = ap (λ (m : Receiver). m .counts .taken) (ready-state s (c .block) (c .marks) (c .output) y (c .left) (c .decoded)) in
-    let r = taken-calls (after s c) cs (sound-call s c g (d .0)) (d .1) (n .1) (m .1) (o .1) (omega arith) in
+    let e : afterCall s c .counts .taken ≡ s .counts .taken + 1 = ap (λ (m : Receiver). m .counts .taken) (ready-state s (c .block) (c .marks) (c .output) y (c .left) (c .decoded)) in
+    let r = taken-calls (afterCall s c) cs (sound-call s c g (d .0)) (d .1) (n .1) (m .1) (o .1) (omega arith) in
     (r .0, omega (arith, r .1, e))
 
 pub recording-taken : {s : Receiver} {bytes : List ℕ} {packets : List (List ℕ)} {last : Receiver} → Sound s → Recording s bytes [] packets last
@@ -198,7 +198,7 @@ call-total : (s : Receiver) (bytes marks output left : List ℕ) (decoded : Deco
     → 204 ≤ length bytes → ((t : Receiver) → RecordingOf t (drop 204 bytes) (drop 204 marks)) → RecordingOf s bytes marks
 call-total s bytes marks output left decoded d o h f =
     let c : Call = record { block = take 204 bytes; marks = blockMarks marks; output = output; left = left; decoded = decoded } in
-    let r = f (after s c) in
+    let r = f (afterCall s c) in
     record {
       packets = givenBy (answerOf s c) (outputOf s c) ++ r .packets;
       last = r .last;

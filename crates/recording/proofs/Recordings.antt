@@ -26,14 +26,14 @@ use Rattle.group_sync.specs.declared.Outcome.{Outcome}
 use Rattle.group_sync.specs.declared.Outcome.the-variants.{Filling, Delivered, Lost, Waiting, OutOfStep}
 use Rattle.group_sync.proofs.Synchronization.{outcome-place}
 use Rattle.reception_counts.specs.Counts.{outcomeNumber}
-use Rattle.receiver.specs.Receive.{delayedBlock, delayedMarks, decodingOf, stepOf, outputAfter, refusal, Ready, ReceivesMarked}
-use Rattle.receiver.specs.Run.{Call, answerOf, after, outputOf, Plain, OutputFits, blocksOf}
+use Rattle.receiver.specs.Receive.{delayedBlock, delayedMarks, decodingOf, stepOf, outputAfter, receiveRefusal, Ready, ReceivesMarked}
+use Rattle.receiver.specs.Run.{Call, answerOf, afterCall, outputOf, Plain, OutputFits, lentBlocks}
 use Rattle.receiver.specs.declared.Receiver.{Receiver}
 use Rattle.receiver.specs.declared.Received.{Received}
 use Rattle.receiver.proofs.Calls.{state-range, ready-number, ready-output, left-length}
 use Rattle.receiver.proofs.Reached.{Refused, ready-or-refused}
 use Rattle.receiver.proofs.Outcomes.{packet-length}
-use Rattle.recording.specs.Recording.{blockMarks, MarkedBy, Recording, Takes, givenBytes}
+use Rattle.recording.specs.Recording.{blockMarks, MarkedBy, Recording, TakesRecording, givenBytes}
 
 -- ---- the marks of a block
 
@@ -100,19 +100,19 @@ module _ (s : Receiver) (c : Call) (d : DecodesMarked (delayedMarks s (c .marks)
           (outcome-filled (stepOf s (c .left) (c .decoded) .outcome) (c .left) (c .output) (step-place y)
           (left-length (delayedMarks s (c .marks)) (delayedBlock s (c .block)) (c .left) (c .decoded) d (length-out Receiving (s .deinterleaver .branches) (c .block))))
       by (inr f) =
-          refused-filled (refusal s (c .block) (c .marks) (c .output)) (outcomeNumber (stepOf s (c .left) (c .decoded) .outcome)) (c .output)
+          refused-filled (receiveRefusal s (c .block) (c .marks) (c .output)) (outcomeNumber (stepOf s (c .left) (c .decoded) .outcome)) (c .output)
           (outputAfter (stepOf s (c .left) (c .decoded) .outcome) (c .left) (c .output)) (f .some)
 
   -- a call on the first block, before those on the blocks after it
   pub recorded-more : (bytes marks : List ℕ) (packets : List (List ℕ)) (last : Receiver) → c .block ≡ take 204 bytes → c .marks ≡ blockMarks marks → 204 ≤ length bytes → OutputFits c
-      → Recording (after s c) (drop 204 bytes) (drop 204 marks) packets last → Recording s bytes marks (givenBy (answerOf s c) (outputOf s c) ++ packets) last
+      → Recording (afterCall s c) (drop 204 bytes) (drop 204 marks) packets last → Recording s bytes marks (givenBy (answerOf s c) (outputOf s c) ++ packets) last
   unfolding flatten
   recorded-more bytes marks packets last e m h o r = record {
     calls = c ∷ r .calls;
     rest = r .rest;
     whole =
         sym (take-append-drop 204 bytes) ∙ ap₂ (λ (a b : List ℕ). a ++ b) (sym e) (r .whole)
-        ∙ sym (append-assoc (c .block) (flatten (blocksOf (r .calls))) (r .rest));
+        ∙ sym (append-assoc (c .block) (flatten (lentBlocks (r .calls))) (r .rest));
     sizes = (ap length e ∙ length-take-le 204 bytes h, r .sizes);
     short = r .short;
     marked = (m, r .marked);
@@ -152,7 +152,7 @@ progress-start s bytes marks output h = record {
 }
 
 module _ {first : Receiver} {bytes marks output₀ output : List ℕ} {s : Receiver} {at count : ℕ} (p : Progress first bytes marks output₀ output s at count) where
-  pub progress-end : length bytes - at < 204 → Takes first bytes marks output₀ count s output
+  pub progress-end : length bytes - at < 204 → TakesRecording first bytes marks output₀ count s output
   unfolding flatten
   progress-end h =
       let d = length-drop at bytes in
@@ -226,7 +226,7 @@ module _ {first : Receiver} {bytes marks output₀ output : List ℕ} {s : Recei
                 ∙ sym (append-assoc (flatten (p .front)) (flatten g) (drop (count + n) output₀))
                 ∙ ap (λ (l : List ℕ). l ++ drop (count + n) output₀) (sym (flatten-join (p .front) g));
             further = λ packets last t.
-                let u : Recording (after s call) (drop 204 (drop at bytes)) (drop 204 (drop at marks)) packets last =
+                let u : Recording (afterCall s call) (drop 204 (drop at bytes)) (drop 204 (drop at marks)) packets last =
                 subst₂ (λ (a : Receiver) (b : List ℕ). Recording a b (drop 204 (drop at marks)) packets last) (kept .state) (sym (drop-drop 204 at bytes))
                 (subst (λ (m : List ℕ). Recording (r .receiver) (drop (at + 204) bytes) m packets last) (sym (drop-drop 204 at marks)) t) in
                 let v : Recording s (drop at bytes) (drop at marks) (givenBy (answerOf s call) (outputOf s call) ++ packets) last =

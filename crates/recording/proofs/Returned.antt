@@ -16,7 +16,7 @@ use Rattle.interleaver.specs.Stream.{interleaved}
 use Rattle.interleaver.proofs.Blocks.{length-flatten, All-take}
 use Rattle.interleaver.proofs.Streams.{length-delayed, delayed-lengths}
 use Rattle.receiver.specs.Receive.{freshReceiver}
-use Rattle.receiver.specs.Run.{Call, Calls, blocksOf, Plain, OutputFits}
+use Rattle.receiver.specs.Run.{Call, DecodedCalls, lentBlocks, Plain, OutputFits}
 use Rattle.receiver.specs.declared.Receiver.{Receiver}
 use Rattle.receiver.proofs.Reached.{sound-range, sound-fresh}
 use Rattle.receiver.proofs.Reception.{coded-size, stream-received}
@@ -53,9 +53,9 @@ module _ (packets : List (List ℕ)) (ws : All Packet packets) where
       ∙ ap (λ (n : ℕ). 204 * n) (length-delayed Sending (map encoded (randomizedStream packets)) ∙ coded-size packets ws)
 
   recorded-blocks : {s last : Receiver} {given : List (List ℕ)} (r : Recording s (sentBytes packets) [] given last)
-      → blocksOf (r .calls) ≡ interleaved (map encoded (randomizedStream packets))
+      → lentBlocks (r .calls) ≡ interleaved (map encoded (randomizedStream packets))
   unfolding sent
-  recorded-blocks r = same-blocks (blocksOf (r .calls)) sent (r .rest) (r .sizes) sent-sizes (r .short) (r .whole)
+  recorded-blocks r = same-blocks (lentBlocks (r .calls)) sent (r .rest) (r .sizes) sent-sizes (r .short) (r .whole)
 
   -- ---- the run
 
@@ -96,10 +96,10 @@ returned bytes output number count last exit p = record {
 -- calls of a fresh receiver on the blocks of a sender, as `stream-received` asks for them
 pub record History (packets : List (List ℕ)) : Type 0 where
   pub calls : List Call
-  pub lent : blocksOf calls ≡ interleaved (map encoded (randomizedStream packets))
+  pub lent : lentBlocks calls ≡ interleaved (map encoded (randomizedStream packets))
   pub plain : All Plain calls
   pub output-fits : All OutputFits calls
-  pub decodes : Calls freshReceiver calls
+  pub decodes : DecodedCalls freshReceiver calls
 
 pub history-exists : (packets : List (List ℕ)) → All Packet packets → History packets
 history-exists packets ws =

@@ -6,7 +6,7 @@ ghost use Prim.Native.Nat.{_+_, _*_, _/_, _≤_};
 ghost use lib.ListN.{length, take, drop};
 ghost use Rattle.answer.specs.Number.{numberOf};
 ghost use Rattle.receiver.specs.Receive.{freshReceiver, ReceivesMarked};
-ghost use Rattle.recording.specs.Recording.{givenBytes, blockMarks, marksFor, recordingNumber, Takes, Answers, ReceivesRecording, ReceivesMarkedRecording};
+ghost use Rattle.recording.specs.Recording.{givenBytes, blockMarks, marksFor, recordingNumber, TakesRecording, AnswersRecording, ReceivesRecording, ReceivesMarkedRecording};
 ghost use Rattle.recording.specs.Returned.{Returns};
 use answer::Answer;
 use receiver::Received;
@@ -74,7 +74,7 @@ fn receive_marked_blocks(receiver: Receiver, bytes: &[u8], marks: &[u8], output:
     requires { ⌜
         (188 * (length (now bytes) / 204) ≤ length (now output))
         × ((length (now marks) ≡ 0) ⊎ (length (now marks) ≡ length (now bytes))) ⌝ }
-    ensures { λ r. ⌜ Takes receiver (now (bytes .entry)) (now (marks .entry)) (now (output .entry)) (r .count) (r .receiver) (now (output .exit)) ⌝ }
+    ensures { λ r. ⌜ TakesRecording receiver (now (bytes .entry)) (now (marks .entry)) (now (output .entry)) (r .count) (r .receiver) (now (output .exit)) ⌝ }
 {
     let mut state = receiver;
     let mut at: usize = 0;
@@ -95,7 +95,7 @@ fn receive_marked_blocks(receiver: Receiver, bytes: &[u8], marks: &[u8], output:
 // The same with no mark for any byte.
 pub fn receive_blocks(receiver: Receiver, bytes: &[u8], output: &mut [u8]) -> Batch
     requires { ⌜ 188 * (length (now bytes) / 204) ≤ length (now output) ⌝ }
-    ensures { λ r. ⌜ Takes receiver (now (bytes .entry)) [] (now (output .entry)) (r .count) (r .receiver) (now (output .exit)) ⌝ }
+    ensures { λ r. ⌜ TakesRecording receiver (now (bytes .entry)) [] (now (output .entry)) (r .count) (r .receiver) (now (output .exit)) ⌝ }
 {
     let none = [0u8; 0];
     receive_marked_blocks(receiver, bytes, &none, output)
@@ -106,7 +106,7 @@ pub fn receive_blocks(receiver: Receiver, bytes: &[u8], output: &mut [u8]) -> Ba
 fn take_recording(receiver: Receiver, bytes: &[u8], marks: &[u8], output: &mut [u8]) -> Recorded
     requires { ⌜ (length (now marks) ≡ 0) ⊎ (length (now marks) ≡ length (now bytes)) ⌝ }
     ensures { λ r. ⌜
-        Answers receiver (now (bytes .entry)) (now (marks .entry)) (now (output .entry)) (recordingNumber receiver (now (bytes .entry)) (now (output .entry))) (numberOf (r .answer)) (r .count) (r .receiver) (now (output .exit)) ⌝ }
+        AnswersRecording receiver (now (bytes .entry)) (now (marks .entry)) (now (output .entry)) (recordingNumber receiver (now (bytes .entry)) (now (output .entry))) (numberOf (r .answer)) (r .count) (r .receiver) (now (output .exit)) ⌝ }
 {
     let counts = receiver.counts;
     let taken = counts.taken;

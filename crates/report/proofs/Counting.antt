@@ -13,7 +13,7 @@ use Rattle.report_lines.specs.Line.{lineText, Appended}
 use Rattle.report_lines.proofs.Lines.{joined-appended, restated}
 use Rattle.report.specs.declared.Bits.the-variants.{Number}
 use Rattle.report.specs.declared.Report.{Report}
-use Rattle.report.specs.Text.{row, formOf, fields, linesText, within, fits}
+use Rattle.report.specs.Text.{row, formOf, fields, linesText, numbersWithin, fits}
 use Rattle.report.proofs.LineRuns.{forty-bits, within-at}
 use Rattle.report.proofs.Fronts.{fitting, fitted}
 
@@ -44,14 +44,14 @@ fits-small r f =
 pub told-fits : (r : Report) (b : ℕ) → r .bits ≡ Number b → r .taken ≤ row 1 .limit → r .filling ≤ row 2 .limit → r .delivered ≤ row 3 .limit
     → r .lost ≤ row 4 .limit → r .waiting ≤ row 5 .limit → r .outofstep ≤ row 6 .limit → r .changed ≤ row 7 .limit → b ≤ row 8 .limit
     → r .rest ≤ row 9 .limit → fits r ≡ true
-unfolding row within
+unfolding row numbersWithin
 told-fits r b e p1 p2 p3 p4 p5 p6 p7 p8 p9 =
     fitted r (record { counts = counts; bits = rw e (le-leb _ _ p8); rest = p9 })
   where
     form : formOf (r .bits) ≤ row 0 .limit
     form = rw e (omega arith)
 
-    counts : within 8 (fields r) ≡ true
+    counts : numbersWithin 8 (fields r) ≡ true
     counts = simp (le-leb _ _ form, le-leb _ _ p1, le-leb _ _ p2, le-leb _ _ p3, le-leb _ _ p4, le-leb _ _ p5, le-leb _ _ p6, le-leb _ _ p7)
 
 -- ---- lines written

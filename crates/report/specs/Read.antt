@@ -17,7 +17,7 @@ blank = record { taken = 0; filling = 0; delivered = 0; lost = 0; waiting = 0; o
 
 -- The answer to a text t that is to begin with a report, and what comes after it. 0: t begins with the text of r. 18: it begins with that of a
 -- report whose sums are wrong. 17: it begins with that of no report, whatever its sums are.
-pub record Reads (t : List ℕ) (number : ℕ) (r : Report) (rest : List ℕ) : Type 0 where
+pub record ReadsReport (t : List ℕ) (number : ℕ) (r : Report) (rest : List ℕ) : Type 0 where
   pub done : number ≡ 0 → (fits r ≡ true) × (sums r ≡ true) × (t ≡ reportText r ++ rest)
   pub wrong : number ≡ 18 → (s : Report) × (fits s ≡ true) × (sums s ≡ false) × (t ≡ reportText s ++ rest)
   pub none : number ≡ 17 → (s : Report) (x : List ℕ) → fits s ≡ true → t ≡ reportText s ++ x → ⊥

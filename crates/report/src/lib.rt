@@ -7,8 +7,8 @@ ghost use lib.ListN.{length, drop};
 ghost use Rattle.answer.specs.Number.{numberOf};
 ghost use Rattle.report_lines.specs.Line.{lineText, Appended};
 ghost use Rattle.report_lines.specs.Reading.{LineIs};
-ghost use Rattle.report.specs.Text.{row, formOf, fields, linesText, bitsText, bitsWithin, within, reportText, fits, sums, writeNumber, writeLength, writeOutput};
-ghost use Rattle.report.specs.Read.{Reads, ReadsWhole};
+ghost use Rattle.report.specs.Text.{row, formOf, fields, linesText, bitsText, bitsWithin, numbersWithin, reportText, fits, sums, writeNumber, writeLength, writeOutput};
+ghost use Rattle.report.specs.Read.{ReadsReport, ReadsWhole};
 ghost use Rattle.report.specs.Move.{movable, movedBits, Moves};
 ghost use Rattle.report.specs.Steps.{RowsRead, BitsIs, Front};
 use answer::Answer;
@@ -243,7 +243,7 @@ pub struct ReportRead {
 pub fn read_front(text: &[u8], at: usize) -> ReportRead
     requires { ⌜ at ≤ length (now text) ⌝ }
     ensures { λ r. ⌜
-        Reads (drop at (now (text .entry))) (numberOf (r .answer)) (r .report) (drop (r .end) (now (text .entry)))
+        ReadsReport (drop at (now (text .entry))) (numberOf (r .answer)) (r .report) (drop (r .end) (now (text .entry)))
         × (r .end ≤ length (now (text .entry))) ⌝ }
 {
     let lines = read_lines(text, at);
@@ -354,7 +354,7 @@ fn compose(report: Report, text: &mut [u8]) -> usize
 
 // Whether the first eight numbers are within their limits.
 fn counts_fit(values: [u64; 8]) -> bool
-    ensures { λ r. ⌜ r ≡ within 8 values ⌝ }
+    ensures { λ r. ⌜ r ≡ numbersWithin 8 values ⌝ }
 {
     let mut i: usize = 0;
     while i < 8 {

@@ -12,7 +12,7 @@ use Rattle.soft_decision.specs.Cost.{softly, receivedOf}
 use Rattle.soft_decision.specs.declared.Received.{Received}
 use Rattle.soft_decision.proofs.Runs.{length-received}
 use Rattle.run_reader.specs.Cost.{differing, runCost, costsOf, Costed}
-use Rattle.run_reader.specs.Read.{runBits, valid, sound, answerNumber, Readable, BestRead, Answers, Reads, ReadsSoft, read}
+use Rattle.run_reader.specs.Read.{runBits, valid, sound, answerNumber, Readable, BestRead, AnswersRun, ReadsHard, ReadsSoft, read}
 use Rattle.run_reader.proofs.Decisions as hard
 use Rattle.run_reader.proofs.SoftDecisions as soft
 use Rattle.run_reader.proofs.Outcome.{Passed, passed, passes, readable}
@@ -27,7 +27,7 @@ module _ {R : Type 0} (cost : R → ℕ → ℕ) (rs : List R) {rate memory : �
 
   pub costs-read : {number after total count : ℕ} {left : List ℕ}
       → (number ≡ 0) × (BestRead (runCost (costsOf l) rate memory) (runBits rate (length l / 4)) memory output after total count left)
-      → Answers (answerNumber rate memory lists n pass (length output)) (runCost (map cost rs) rate memory) (runBits rate n) memory output number after total count left
+      → AnswersRun (answerNumber rate memory lists n pass (length output)) (runCost (map cost rs) rate memory) (runBits rate n) memory output number after total count left
   costs-read {after = after} {total} {count} {left} o =
       read (o .0) (passes p)
       (subst (λ (k : ℕ). BestRead (runCost (map cost rs) rate memory) (runBits rate k) memory output after total count left) size
@@ -57,7 +57,7 @@ module _ (rate memory : ℕ) (ss output : List ℕ) where
 
     pub hard-read : {number after total count : ℕ} {left : List ℕ}
         → (number ≡ 0) × (BestRead (runCost (costsOf (take k l)) rate memory) (runBits rate (length (take k l) / 4)) memory output after total count left)
-        → Reads rate memory ss output number after total count left
+        → ReadsHard rate memory ss output number after total count left
     hard-read o = costs-read differing ss p (take k l) (rw e (hard.written-costed ss l w long)) refl o
 
 -- ---- soft decisions

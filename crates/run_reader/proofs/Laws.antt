@@ -21,8 +21,8 @@ use Rattle.puncturing.specs.Step.{patternLength}
 use Rattle.inner_code.specs.Step.{symbolsOf, coderAfter}
 use Rattle.inner_code.proofs.Coder.{coder-memory}
 use Rattle.soft_decision.specs.Cost.{receivedOf}
-use Rattle.run_reader.specs.Cost.{coderAt, differ, differing, totalCost, hardCost, softCost}
-use Rattle.run_reader.specs.Read.{symbolsPerPattern, runBits, runLength, below, valid, sound, readNumber, softNumber, BestRead, Answers, Reads, refused, read}
+use Rattle.run_reader.specs.Cost.{coderAt, bitsDiffer, differing, totalCost, hardCost, softCost}
+use Rattle.run_reader.specs.Read.{symbolsPerPattern, runBits, runLength, below, valid, sound, readNumber, softNumber, BestRead, AnswersRun, ReadsHard, refused, read}
 use Rattle.run_reader.proofs.Serial.{flat}
 use Rattle.run_reader.proofs.Costs.{whole-bits}
 use Rattle.run_reader.proofs.Patterns.{run-symbols, sent-whole}
@@ -40,7 +40,7 @@ pub record SameRead (number number′ after after′ cost cost′ count count′
   pub outputs : left ≡ left′
 
 pub unique : {due : ℕ} {cost : List ℕ → ℕ} {n memory : ℕ} {output : List ℕ} {number number′ after after′ total total′ count count′ : ℕ} {left left′ : List ℕ}
-    → Answers due cost n memory output number after total count left → Answers due cost n memory output number′ after′ total′ count′ left′
+    → AnswersRun due cost n memory output number after total count left → AnswersRun due cost n memory output number′ after′ total′ count′ left′
     → SameRead number number′ after after′ total total′ count count′ left left′
 unique (refused e h a c k l) (refused e′ h′ a′ c′ k′ l′) =
     record { numbers = e ∙ sym e′; memories = a ∙ sym a′; costs = c ∙ sym c′; counts = k ∙ sym k′; outputs = l ∙ sym l′ }
@@ -65,7 +65,7 @@ pub record SomeAnswer (due : ℕ) (cost : List ℕ → ℕ) (n memory : ℕ) (ou
   pub total : ℕ
   pub count : ℕ
   pub left : List ℕ
-  pub answers : Answers due cost n memory output number after total count left
+  pub answers : AnswersRun due cost n memory output number after total count left
 
 some-answer : (due : ℕ) (cost : List ℕ → ℕ) (n memory : ℕ) (output : List ℕ) → (due ≡ 0 → SomeDecoded cost n memory) → SomeAnswer due cost n memory output
 some-answer due cost n memory output f = by (ℕ-discrete due 0)
@@ -119,7 +119,7 @@ pub record ReadBack (rate m : ℕ) (bits output : List ℕ) (number after cost c
 -- Demand 2, run by run: whole patterns of bits that a coder sends from the given memory, at most 1,632 and with room enough, are given back.
 pub unharmed : (rate m : ℕ) → rate < 5 → m < 64 → (bits : List ℕ) → Bits bits → length bits % patternLength rate ≡ 0 → length bits ≤ 1632
     → (symbols : List ℕ) → symbols ≡ symbolsOf (coderAt rate m) bits → (output : List ℕ) → length bits ≤ length output
-    → {number after cost count : ℕ} {left : List ℕ} → Reads rate m symbols output number after cost count left
+    → {number after cost count : ℕ} {left : List ℕ} → ReadsHard rate m symbols output number after cost count left
     → ReadBack rate m bits output number after cost count left
 unharmed rate m hr hm bits w e most symbols es output fits r =
     let q = sent-whole rate m hr hm bits w e symbols es in
@@ -129,7 +129,7 @@ unharmed rate m hr hm bits w e most symbols es output fits r =
     by z (q .1) r
   where
     by : readNumber rate m symbols output ≡ 0 → length bits ≡ runLength rate symbols → {number after cost count : ℕ} {left : List ℕ}
-        → Reads rate m symbols output number after cost count left → ReadBack rate m bits output number after cost count left
+        → ReadsHard rate m symbols output number after cost count left → ReadBack rate m bits output number after cost count left
     by z l (refused f h a c k x) = absurd (omega (arith, f, h, z))
     by z l (read n f o) =
         let b = own-best rate m hr hm w e symbols es (o .decoded) in
@@ -149,7 +149,7 @@ pub cost-least : {cost : List ℕ → ℕ} {n memory : ℕ} {output : List ℕ} 
 cost-least o sent w l = omega (arith, o .decoded .costs, o .decoded .best .least sent w l)
 
 -- and at most two for each symbol by hard decisions
-differ-le : (a b : ℕ) → differ a b ≤ 1
+differ-le : (a b : ℕ) → bitsDiffer a b ≤ 1
 differ-le a b = go (eqb a b)
   where
     go : (t : Bool) → pick {A = ℕ} t 0 1 ≤ 1
@@ -172,10 +172,10 @@ cost-most rate m symbols o =
     )
 
 -- from one list to another is no farther than by way of a third
-differ-triangle : (a b c : ℕ) → differ b c ≤ differ a b + differ a c
+differ-triangle : (a b c : ℕ) → bitsDiffer b c ≤ bitsDiffer a b + bitsDiffer a c
 differ-triangle a b c = go (eqb a b) (eqb a c) refl refl
   where
-    go : (t u : Bool) → eqb a b ≡ t → eqb a c ≡ u → differ b c ≤ pick t 0 1 + pick u 0 1
+    go : (t u : Bool) → eqb a b ≡ t → eqb a c ≡ u → bitsDiffer b c ≤ pick t 0 1 + pick u 0 1
     go true true e f = let q : b ≡ c = sym (eqb-true a b e) ∙ eqb-true a c f in rw (eq-eqb b c q) (omega arith)
     go true false e f = omega (arith, differ-le b c)
     go false true e f = omega (arith, differ-le b c)

@@ -17,7 +17,7 @@ use Rattle.common.specs.Choice.{pick}
 use Rattle.common.specs.Lists.{All}
 use Rattle.common.proofs.Choice.{both-true, flag-false, flag-true}
 use Rattle.depuncturing.specs.Steps.{kindAt, first, value, stepValue}
-use Rattle.run_reader.specs.Read.{symbolsPerPattern, runBits, below, answerNumber, Readable, Answers, refused}
+use Rattle.run_reader.specs.Read.{symbolsPerPattern, runBits, below, answerNumber, Readable, AnswersRun, refused}
 use Rattle.run_reader.specs.declared.Read.{Read}
 use Rattle.run_reader.proofs.Patterns.{some-symbols, symbols-few}
 use Rattle.puncturing.specs.Step.{patternLength}
@@ -217,7 +217,7 @@ few {rate} {n = n} p = omega (arith, symbols-few rate (p .known) n (p .whole), p
 -- what a refusal hands back
 pub refusal : {due : ℕ} {cost : List ℕ → ℕ} {n memory : ℕ} {output : List ℕ} (answer : Answer) (r : Read) → numberOf answer ≡ due → ¬ (numberOf answer ≡ 0)
     → (r .answer ≡ answer) × (r .memory ≡ memory) × (r .cost ≡ 0) × (r .count ≡ 0)
-    → Answers due cost n memory output (numberOf (r .answer)) (r .memory) (r .cost) (r .count) output
+    → AnswersRun due cost n memory output (numberOf (r .answer)) (r .memory) (r .cost) (r .count) output
 refusal answer r e h f =
     let a = ap numberOf (f .0) in
     refused (a ∙ e) (rw a (omega arith)) (f .1) (f .2) (f .3) refl

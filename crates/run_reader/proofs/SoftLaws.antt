@@ -20,13 +20,13 @@ use Rattle.trellis.proofs.Order.{bits-head}
 use Rattle.trellis.proofs.Laws.{scale, unique, decoded-unique}
 use Rattle.puncturing.specs.Step.{patternLength}
 use Rattle.inner_code.specs.Step.{symbolsOf}
-use Rattle.soft_decision.specs.Cost.{numberCosts, symbolCosts, decided, softly, receivedOf}
+use Rattle.soft_decision.specs.Cost.{numberCosts, symbolCosts, decidedAs, softly, receivedOf}
 use Rattle.soft_decision.specs.declared.BitCosts.{BitCosts}
 use Rattle.soft_decision.specs.declared.Received.{Received}
 use Rattle.soft_decision.specs.declared.Received.the-variants.{At, Lost}
 use Rattle.soft_decision.proofs.Numbers.{costs-nan, costs-one, costs-minus-one}
-use Rattle.run_reader.specs.Cost.{coderAt, differ, differing, totalCost, hardCost, softCost}
-use Rattle.run_reader.specs.Read.{runBits, runLength, below, valid, sound, readNumber, softNumber, BestRead, Reads, ReadsSoft, refused, read}
+use Rattle.run_reader.specs.Cost.{coderAt, bitsDiffer, differing, totalCost, hardCost, softCost}
+use Rattle.run_reader.specs.Read.{runBits, runLength, below, valid, sound, readNumber, softNumber, BestRead, ReadsHard, ReadsSoft, refused, read}
 use Rattle.run_reader.proofs.Serial.{flat}
 use Rattle.run_reader.proofs.Patterns.{run-whole}
 use Rattle.run_reader.proofs.Costs.{whole-bits}
@@ -77,11 +77,11 @@ lost-unsent (r ∷ before) after [] ys sent e = absurd (omega arith)
 lost-unsent (r ∷ before) after (x ∷ xs) ys sent e = ap (λ (t : ℕ). softly r x + t) (lost-unsent before after xs ys sent (omega arith))
 
 -- a NaN frees its own number, and that one alone
-pub nan-i : (q : Float) (sent : ℕ) → softly (At (record { i = nan; q = q })) sent ≡ decided (numberCosts q) (sent % 2)
+pub nan-i : (q : Float) (sent : ℕ) → softly (At (record { i = nan; q = q })) sent ≡ decidedAs (numberCosts q) (sent % 2)
 unfolding symbolCosts
 nan-i q sent = rw costs-nan (omega (arith, nothing (eqb (sent / 2) 0)))
 
-pub nan-q : (i : Float) (sent : ℕ) → softly (At (record { i = i; q = nan })) sent ≡ decided (numberCosts i) (sent / 2)
+pub nan-q : (i : Float) (sent : ℕ) → softly (At (record { i = i; q = nan })) sent ≡ decidedAs (numberCosts i) (sent / 2)
 unfolding symbolCosts
 nan-q i sent = rw costs-nan (omega (arith, nothing (eqb (sent % 2) 0)))
 
@@ -149,7 +149,7 @@ signalsQ symbols = map (λ s. signal (s % 2)) symbols
 abbrev pub noneLost : List ℕ → List ℕ
 noneLost symbols = map (λ s. 0) symbols
 
-seven : (b v : ℕ) → b < 2 → v < 2 → decided (numberCosts (signal b)) v ≡ 7 * differ b v
+seven : (b v : ℕ) → b < 2 → v < 2 → decidedAs (numberCosts (signal b)) v ≡ 7 * bitsDiffer b v
 unfolding signal
 seven zero zero hb hv = ap (λ (c : BitCosts). c .zero) costs-one
 seven zero (suc zero) hb hv = ap (λ (c : BitCosts). c .one) costs-one
@@ -212,7 +212,7 @@ module _ (rate m : ℕ) (rs output : List ℕ) (h : All (λ r. r < 4) rs) where
       seven-total rs (symbolsOf (coderAt rate m) ys) h (whole-bits rate m hr hm w (ap (λ (k : ℕ). k % patternLength rate) l ∙ run-whole rate hr (length rs)))
 
   -- Points of 1.0 and -1.0 only: the answer, the bits, the memory and the output of hard decisions, at seven times their number.
-  pub as-hard : {number number′ after after′ cost cost′ count count′ : ℕ} {left left′ : List ℕ} → Reads rate m rs output number after cost count left
+  pub as-hard : {number number′ after after′ cost cost′ count count′ : ℕ} {left left′ : List ℕ} → ReadsHard rate m rs output number after cost count left
       → ReadsSoft rate m (signalsI rs) (signalsQ rs) (noneLost rs) output number′ after′ cost′ count′ left′
       → SevenTimes number number′ after after′ cost cost′ count count′ left left′
   as-hard (refused e p a c k l) (refused e′ p′ a′ c′ k′ l′) =

@@ -18,7 +18,7 @@ use Rattle.inner_code.specs.Step.{symbolsOf}
 use Rattle.inner_code.specs.declared.InnerCoder.{InnerCoder}
 use Rattle.inner_code.proofs.Coder.{length-symbols, symbols-append, coder-memory}
 use Rattle.run_reader.specs.Cost.{coderAt}
-use Rattle.run_reader.specs.Read.{symbolsPerPattern, runLength, Reads}
+use Rattle.run_reader.specs.Read.{symbolsPerPattern, runLength, ReadsHard}
 use Rattle.run_reader.specs.Runs as runs
 use Rattle.run_reader.specs.Runs.{Run, Readings}
 use Rattle.run_reader.proofs.Patterns.{at-start, some-symbols, coder-whole, memory-in-range, run-whole}
@@ -122,7 +122,7 @@ module _ (rate : ℕ) (hr : rate < 5) where
         ∙ (ap (drop (length ss)) (sym cut) ∙ drop-at (symbolsOf (coderAt rate m) (take n bits)) _ (length ss) front-symbols)
 
     -- what reading it gives
-    pub read-front : n ≤ 1632 → (output : List ℕ) → n ≤ length output → {number after cost count : ℕ} {left : List ℕ} → Reads rate m ss output number after cost count left
+    pub read-front : n ≤ 1632 → (output : List ℕ) → n ≤ length output → {number after cost count : ℕ} {left : List ℕ} → ReadsHard rate m ss output number after cost count left
         → (take count left ≡ take n bits) × (cost ≡ 0) × (after ≡ memoryAfter m (take n bits))
     read-front most output long {count = count} {left = left} r =
         let b = unharmed rate m hr hm (take n bits) (take-bits n w) front-whole (omega (arith, front-length)) ss front-is output (omega (arith, front-length)) r in (

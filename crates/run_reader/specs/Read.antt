@@ -74,18 +74,18 @@ pub record BestRead (cost : List ℕ → ℕ) (n memory : ℕ) (output : List �
   pub written : left ≡ bits ++ drop n output
 
 -- what a call promises, where `due` is the number of its answer: a refusal has its number, and leaves output and memory as they were; else the run is read
-pub data Answers (due : ℕ) (cost : List ℕ → ℕ) (n memory : ℕ) (output : List ℕ) (number after total count : ℕ) (left : List ℕ) : Type 0 where
-  refused : number ≡ due → 0 < number → after ≡ memory → total ≡ 0 → count ≡ 0 → left ≡ output → Answers due cost n memory output number after total count left
-  read : number ≡ 0 → due ≡ 0 → BestRead cost n memory output after total count left → Answers due cost n memory output number after total count left
+pub data AnswersRun (due : ℕ) (cost : List ℕ → ℕ) (n memory : ℕ) (output : List ℕ) (number after total count : ℕ) (left : List ℕ) : Type 0 where
+  refused : number ≡ due → 0 < number → after ≡ memory → total ≡ 0 → count ≡ 0 → left ≡ output → AnswersRun due cost n memory output number after total count left
+  read : number ≡ 0 → due ≡ 0 → BestRead cost n memory output after total count left → AnswersRun due cost n memory output number after total count left
 
 -- reading by hard decisions: total is the number of I and Q bits that differ
-abbrev pub Reads : ℕ → ℕ → List ℕ → List ℕ → ℕ → ℕ → ℕ → ℕ → List ℕ → Type 0
-Reads rate memory symbols output = Answers (readNumber rate memory symbols output) (hardCost symbols rate memory) (runLength rate symbols) memory output
+abbrev pub ReadsHard : ℕ → ℕ → List ℕ → List ℕ → ℕ → ℕ → ℕ → ℕ → List ℕ → Type 0
+ReadsHard rate memory symbols output = AnswersRun (readNumber rate memory symbols output) (hardCost symbols rate memory) (runLength rate symbols) memory output
 
 -- reading by soft decisions: of each symbol the two numbers of its point, and its mark
 abbrev pub ReadsSoft : ℕ → ℕ → List Float → List Float → List ℕ → List ℕ → ℕ → ℕ → ℕ → ℕ → List ℕ → Type 0
 ReadsSoft rate memory is qs lost output =
-    Answers (softNumber rate memory is qs lost output) (softCost (receivedOf is qs lost) rate memory) (runBits rate (length is)) memory output
+    AnswersRun (softNumber rate memory is qs lost output) (softCost (receivedOf is qs lost) rate memory) (runBits rate (length is)) memory output
 
 -- ---- the core of both
 

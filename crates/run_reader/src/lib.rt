@@ -7,7 +7,7 @@ ghost use Rattle.answer.specs.Number.{numberOf};
 ghost use Rattle.common.specs.Choice.{pick};
 ghost use Rattle.common.specs.Lists.{All};
 ghost use Rattle.run_reader.specs.Cost.{runCost, costsOf};
-ghost use Rattle.run_reader.specs.Read.{symbolsPerPattern, runBits, below, sound, answerNumber, Readable, BestRead, Reads, ReadsSoft};
+ghost use Rattle.run_reader.specs.Read.{symbolsPerPattern, runBits, below, sound, answerNumber, Readable, BestRead, ReadsHard, ReadsSoft};
 ghost use Rattle.run_reader.specs.Decisions.{decisionCost};
 use answer::Answer;
 use depuncturing::spread_costs;
@@ -185,7 +185,7 @@ pub fn read_costs(rate: u8, memory: u8, costs: &[u8], output: &mut [u8]) -> Read
 // The cost is in how many I and Q bits the coding of the bits differs from the symbols. The memory handed back serves the run that follows.
 pub fn read_run(rate: u8, memory: u8, symbols: &[u8], output: &mut [u8]) -> Read
     ensures { λ r. ⌜
-        Reads rate memory (now (symbols .entry)) (now (output .entry)) (numberOf (r .answer)) (r .memory) (r .cost) (r .count) (now (output .exit)) ⌝ }
+        ReadsHard rate memory (now (symbols .entry)) (now (output .entry)) (numberOf (r .answer)) (r .memory) (r .cost) (r .count) (now (output .exit)) ⌝ }
 {
     let valid = is_below(4, symbols);
     let answer = answer_due(rate, memory, true, symbols.len(), valid, output.len());

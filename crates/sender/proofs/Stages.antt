@@ -15,7 +15,7 @@ use Rattle.reed_solomon.proofs.LongDivision.{check-remainder}
 use Rattle.randomizer.specs.Packet.{randomized, randomizeOutput}
 use Rattle.randomizer.proofs.Laws.{length-randomized, randomize-done}
 use Rattle.delay_branches.specs.Branch as branch
-use Rattle.delay_branches.specs.Block.{after}
+use Rattle.delay_branches.specs.Block.{branchesAfter}
 use Rattle.delay_branches.specs.declared.Side.the-variants.{Sending}
 use Rattle.delay_branches.specs.declared.Branches.{Branches}
 use Rattle.delay_branches.proofs.Blocks.{length-out}
@@ -27,36 +27,36 @@ use Rattle.inner_code.specs.Encode as inner
 use Rattle.inner_code.specs.declared.InnerCoder.{InnerCoder}
 use Rattle.inner_code.proofs.Coder as range
 use Rattle.sender.specs.Input.{isInput, packetFor, sentNumber}
-use Rattle.sender.specs.Send.{inRange, codedPacket, sentBlock, sentSymbols, sentCount, senderAfter, isSent, refusal, Sends}
+use Rattle.sender.specs.Send.{senderInRange, codedPacket, sentBlock, sentSymbols, sentCount, senderAfter, isSent, sendRefusal, Sends}
 use Rattle.sender.specs.declared.Sender.{Sender}
 
 -- what the test of the ranges tells
 pub record InRange (t : ℕ → Mode) (s : Sender) : Type 0 where
   pub place : s .place ≤ 7
-  pub branches : branch.inRange Sending (s .interleaver .branches) ≡ true
+  pub branches : branch.branchesInRange Sending (s .interleaver .branches) ≡ true
   pub coder : coder.inRangeBy (t (s .coder .rate)) (s .coder) ≡ true
 
 module _ (t : ℕ → Mode) (s : Sender) where
-  pub in-range : inRange t s ≡ true → InRange t s
+  pub in-range : senderInRange t s ≡ true → InRange t s
   in-range e = by (ltb 7 (s .place)) refl e
     where
       by : (b : Bool) → ltb 7 (s .place) ≡ b
-          → pick b false (pick (branch.inRange Sending (s .interleaver .branches)) (coder.inRangeBy (t (s .coder .rate)) (s .coder)) false) ≡ true → InRange t s
+          → pick b false (pick (branch.branchesInRange Sending (s .interleaver .branches)) (coder.inRangeBy (t (s .coder .rate)) (s .coder)) false) ≡ true → InRange t s
       by true f e = false-true e
       by false f e = let b = both-true _ _ e in record { place = ltb-false _ _ f; branches = b .0; coder = b .1 }
 
-  pub range-test : InRange t s → inRange t s ≡ true
+  pub range-test : InRange t s → senderInRange t s ≡ true
   range-test g = simp (le-ltb _ _ (g .place), g .branches, g .coder)
 
 -- ---- what a call promises, by the number of its answer
 
 module _ (t : ℕ → Mode) (s : Sender) (input output : List ℕ) where
-  pub refused : (n : ℕ) → refusal t s input output ≡ n → eqb n 0 ≡ false → Sends t s input output n 0 s output
+  pub refused : (n : ℕ) → sendRefusal t s input output ≡ n → eqb n 0 ≡ false → Sends t s input output n 0 s output
   refused n e f =
-      let z : eqb (refusal t s input output) 0 ≡ false = ap (λ (k : ℕ). eqb k 0) e ∙ f in
+      let z : eqb (sendRefusal t s input output) 0 ≡ false = ap (λ (k : ℕ). eqb k 0) e ∙ f in
       record { answered = simp z (sym e); counted = simp z; sender = simp z; written = simp z }
 
-  pub answered : refusal t s input output ≡ 0 → {packet : List ℕ} → packet ≡ packetFor input → {number count : ℕ} {next : Sender} {left : List ℕ}
+  pub answered : sendRefusal t s input output ≡ 0 → {packet : List ℕ} → packet ≡ packetFor input → {number count : ℕ} {next : Sender} {left : List ℕ}
       → number ≡ sentNumber input → count ≡ sentCount t s → next ≡ senderAfter t s packet
       → left ≡ sentSymbols t s packet ++ drop (sentCount t s) output → Sends t s input output number count next left
   answered e p n k a l = record {
@@ -79,7 +79,7 @@ fits true true true false count n k e f = let l = f refl in omega arith
 pub count-fits : {t : ℕ → Mode} {s : Sender} {input output : List ℕ} {number count : ℕ} {next : Sender} {left : List ℕ}
     → Sends t s input output number count next left → count ≤ length output
 count-fits {t} {s} {input} {output} {number} {count} m =
-    fits (inRange t s) (isSent t s) (isInput input) (ltb (length output) (sentCount t s)) count (sentCount t s) (length output) (m .counted) (λ z. ltb-false _ _ z)
+    fits (senderInRange t s) (isSent t s) (isInput input) (ltb (length output) (sentCount t s)) count (sentCount t s) (length output) (m .counted) (λ z. ltb-false _ _ z)
 
 -- ---- the stages
 
@@ -104,7 +104,7 @@ module _ {t : ℕ → Mode} (s : Sender) (packet : List ℕ) (g : InRange t s) (
 
   pub interleaving : (d r m : List ℕ) (b : Branches) → length d ≡ 204 → m ≡ codedPacket s packet
       → b ≡ passBranches Sending (s .interleaver .branches) m d → r ≡ passOutput Sending (s .interleaver .branches) m d
-      → (b ≡ after Sending (s .interleaver .branches) (codedPacket s packet)) × (r ≡ sentBlock s packet)
+      → (b ≡ branchesAfter Sending (s .interleaver .branches) (codedPacket s packet)) × (r ≡ sentBlock s packet)
   unfolding sentBlock
   interleaving d r m b n f e h = (
     e ∙ ap (λ (l : List ℕ). passBranches Sending (s .interleaver .branches) l d) f
@@ -126,8 +126,8 @@ module _ {t : ℕ → Mode} (s : Sender) (packet : List ℕ) (g : InRange t s) (
 -- the last stage, in the modes of the product
 module _ (s : Sender) (packet : List ℕ) (g : InRange modeOf s) (p : length packet ≡ 188) where
   pub modulating : isSent modeOf s ≡ true → (output r m : List ℕ) (number count : ℕ) (c : InnerCoder) → sentCount modeOf s ≤ length output → m ≡ sentBlock s packet
-      → number ≡ inner.encodeNumber (s .coder) m output → count ≡ inner.encodeCount (s .coder) m output
-      → c ≡ inner.encodeCoder (s .coder) m output → r ≡ inner.encodeOutput (s .coder) m output
+      → number ≡ inner.innerEncodeNumber (s .coder) m output → count ≡ inner.encodeCount (s .coder) m output
+      → c ≡ inner.encodeCoder (s .coder) m output → r ≡ inner.innerEncodeOutput (s .coder) m output
       → (number ≡ 0) × (count ≡ sentCount modeOf s) × (c ≡ inner.blockCoder (s .coder) (sentBlock s packet))
       × (r ≡ sentSymbols modeOf s packet ++ drop (sentCount modeOf s) output)
   unfolding sentSymbols
@@ -136,14 +136,14 @@ module _ (s : Sender) (packet : List ℕ) (g : InRange modeOf s) (p : length pac
       = symbol-count s packet g p (range.formed (s .coder) (range.in-range (s .coder) (g .coder))) in
       let k : length (inner.blockSymbols (s .coder) (sentBlock s packet)) ≤ length output = rw n h in
       let b = length-block s packet g p in
-      let done : inner.encodeNumber (s .coder) (sentBlock s packet) output ≡ 0 = simp (g .coder, q, eq-eqb _ _ b, le-ltb _ _ k) in (
-        en ∙ ap (λ (l : List ℕ). inner.encodeNumber (s .coder) l output) f ∙ done,
+      let done : inner.innerEncodeNumber (s .coder) (sentBlock s packet) output ≡ 0 = simp (g .coder, q, eq-eqb _ _ b, le-ltb _ _ k) in (
+        en ∙ ap (λ (l : List ℕ). inner.innerEncodeNumber (s .coder) l output) f ∙ done,
         ec ∙ ap (λ (l : List ℕ). inner.encodeCount (s .coder) l output) f
             ∙ ap (λ (j : ℕ). pick (eqb j 0) (length (inner.blockSymbols (s .coder) (sentBlock s packet))) 0) done
             ∙ n,
         es ∙ ap (λ (l : List ℕ). inner.encodeCoder (s .coder) l output) f
             ∙ ap (λ (j : ℕ). pick (eqb j 0) (inner.blockCoder (s .coder) (sentBlock s packet)) (s .coder)) done,
-        er ∙ ap (λ (l : List ℕ). inner.encodeOutput (s .coder) l output) f
+        er ∙ ap (λ (l : List ℕ). inner.innerEncodeOutput (s .coder) l output) f
             ∙ ap (λ (j : ℕ). pick (eqb j 0) (inner.blockSymbols (s .coder) (sentBlock s packet) ++ drop (length (inner.blockSymbols (s .coder) (sentBlock s packet))) output) output) done
             ∙ ap (λ (j : ℕ). inner.blockSymbols (s .coder) (sentBlock s packet) ++ drop j output) n,
       )

@@ -6,8 +6,9 @@ ghost use Prim.Native.Nat.{_+_, _%_, _<_, _≤_};
 ghost use lib.ListN.{length, getD, drop};
 ghost use Rattle.answer.specs.Number.{numberOf};
 ghost use Rattle.puncturing.specs.Mode.{modeOf};
+ghost use Rattle.inner_code.specs.Encode.{newNumber};
 ghost use Rattle.sender.specs.Input.{isInput, isSynced, nullPacket};
-ghost use Rattle.sender.specs.Send.{freshSender, newNumber, inRange, sentSymbols, sentCount, senderAfter, isSent, Sends};
+ghost use Rattle.sender.specs.Send.{freshSender, senderInRange, sentSymbols, sentCount, senderAfter, isSent, Sends};
 use answer::Answer;
 use inner_code::InnerCoder;
 use interleaver::Interleaver;
@@ -64,7 +65,7 @@ impl Sender {
 
     // Whether each number is in its range.
     pub fn in_range(self) -> bool
-        ensures { λ r. ⌜ r ≡ inRange modeOf self ⌝ }
+        ensures { λ r. ⌜ r ≡ senderInRange modeOf self ⌝ }
     {
         let place = self.place;
         if place > 7 {
@@ -160,7 +161,7 @@ fn null_packet() -> [u8; Sender::PACKET_LENGTH]
 
 // Sends a packet with a sender that is in range, in a mode that is sent, and room enough.
 fn transmit(sender: Sender, packet: &[u8], output: &mut [u8]) -> Sent
-    requires { ⌜ (inRange modeOf sender ≡ true) × (isSent modeOf sender ≡ true) × (length (now packet) ≡ 188) × (getD (now packet) 0 0 ≡ 0x47) × (sentCount modeOf sender ≤ length (now output)) ⌝ }
+    requires { ⌜ (senderInRange modeOf sender ≡ true) × (isSent modeOf sender ≡ true) × (length (now packet) ≡ 188) × (getD (now packet) 0 0 ≡ 0x47) × (sentCount modeOf sender ≤ length (now output)) ⌝ }
     ensures { λ r. ⌜
         (numberOf (r .answer) ≡ 0)
         × (r .count ≡ sentCount modeOf sender)

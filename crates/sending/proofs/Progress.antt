@@ -13,7 +13,7 @@ use lib.Seq.{take-all, take-at, drop-at, drop-drop, drop-cons, set-at, take-appe
 use Rattle.puncturing.specs.Mode.{modeOf}
 use Rattle.inner_code.proofs.Coder as range
 use Rattle.sender.specs.Input.{isInput, packetFor, packetsFor, sentNumber}
-use Rattle.sender.specs.Send.{inRange, isSent, sentSymbols, sentCount, senderAfter, Sends}
+use Rattle.sender.specs.Send.{senderInRange, isSent, sentSymbols, sentCount, senderAfter, Sends}
 use Rattle.sender.specs.Calls.{callsSymbols, callsSender}
 use Rattle.sender.specs.declared.Sender.{Sender}
 use Rattle.sender.proofs.Inputs.{input-test, packet-size}
@@ -23,12 +23,12 @@ use Rattle.sender.proofs.History.{Answered, input-sent}
 use Rattle.sender.proofs.Counts.{most-symbols}
 use Rattle.transmission.specs.Run.{packetsOf}
 use Rattle.transmission.proofs.Buffers.{packets-more}
-use Rattle.sending.specs.Sending.{padded, heldBytes, restOf, wholePackets, wholeCount, fedSymbols, fedAnswers, OutputFits, FeedsAll}
+use Rattle.sending.specs.Sending.{padded, heldBytes, packetRest, wholePackets, wholeCount, fedSymbols, fedAnswers, OutputsFit, FeedsAll}
 use Rattle.sending.specs.declared.Sending.{Sending}
 use Rattle.sending.proofs.Pieces.{rest-few, rest-more, packets-few}
 
 -- a sender in range whose arrays are whole
-pub ready-of : (s : Sender) → length (s .interleaver .branches .cells) ≡ 1122 → length (s .interleaver .branches .positions) ≡ 12 → inRange modeOf s ≡ true → isSent modeOf s ≡ true → Ready modeOf s
+pub ready-of : (s : Sender) → length (s .interleaver .branches .cells) ≡ 1122 → length (s .interleaver .branches .positions) ≡ 12 → senderInRange modeOf s ≡ true → isSent modeOf s ≡ true → Ready modeOf s
 ready-of s n m e q =
     let g = in-range modeOf s e in
     let c = range.in-range (s .coder) (g .coder) in
@@ -58,7 +58,7 @@ pub record Progress (w : Sending) (piece output₀ answers₀ output answers : L
   pub symbols : front ++ flatten (callsSymbols modeOf s (packetsFor (packetsOf (leftOf w piece held at)))) ≡ fedSymbols w piece
   pub numbers : told ++ map sentNumber (packetsOf (leftOf w piece held at)) ≡ fedAnswers w piece
   pub sender : callsSender modeOf s (packetsFor (packetsOf (leftOf w piece held at))) ≡ callsSender modeOf (w .sender) (packetsFor (wholePackets w piece))
-  pub rest : restOf (leftOf w piece held at) ≡ restOf (heldBytes w ++ piece)
+  pub rest : packetRest (leftOf w piece held at) ≡ packetRest (heldBytes w ++ piece)
   pub total : packets + (held + (length piece - at)) / 188 ≡ wholeCount w piece
   pub few : count ≤ 1632 * packets
 
@@ -83,7 +83,7 @@ progress-start w piece output answers g h = record {
 }
 
 module _ {w : Sending} {piece output₀ answers₀ output answers : List ℕ} {s : Sender} {held at count packets : ℕ} (size : length (w .pending) ≡ 188)
-    (output-fits : OutputFits w piece output₀ answers₀) (p : Progress w piece output₀ answers₀ output answers s held at count packets) where
+    (output-fits : OutputsFit w piece output₀ answers₀) (p : Progress w piece output₀ answers₀ output answers s held at count packets) where
   held-size : length (take held (w .pending)) ≡ held
   held-size = length-take-le held (w .pending) (omega (arith, p .short))
 
@@ -127,15 +127,15 @@ module _ {w : Sending} {piece output₀ answers₀ output answers : List ℕ} {s
     unfolding callsSender
     last-sender = ap (λ (l : List (List ℕ)). callsSender modeOf s (packetsFor l)) (sym none-left) ∙ p .sender
 
-    last-rest : leftOf w piece held at ≡ restOf (heldBytes w ++ piece)
+    last-rest : leftOf w piece held at ≡ packetRest (heldBytes w ++ piece)
     last-rest = sym (rest-few (leftOf w piece held at) few-left) ∙ p .rest
 
     pub progress-end : (pending : List ℕ) → pending ≡ padded (take held (w .pending) ++ take (length piece - at) (drop at piece))
         → FeedsAll w piece output₀ answers₀ 0 count packets (record { sender = s; pending = pending; held = held + (length piece - at) }) output answers
     progress-end pending e =
-        let l : take held (w .pending) ++ take (length piece - at) (drop at piece) ≡ restOf (heldBytes w ++ piece)
+        let l : take held (w .pending) ++ take (length piece - at) (drop at piece) ≡ packetRest (heldBytes w ++ piece)
         = ap (λ (x : List ℕ). take held (w .pending) ++ x) (take-all (length piece - at) (drop at piece) (omega (arith, length-drop at piece))) ∙ last-rest in
-        let n : held + (length piece - at) ≡ length (restOf (heldBytes w ++ piece)) = sym left-size ∙ ap length last-rest in
+        let n : held + (length piece - at) ≡ length (packetRest (heldBytes w ++ piece)) = sym left-size ∙ ap length last-rest in
         record {
           done = refl;
           counted = sym (p .counted) ∙ ap length all-symbols;
@@ -277,7 +277,7 @@ module _ {w : Sending} {piece output₀ answers₀ output answers : List ℕ} {s
                 ap (λ (x : Sender). callsSender modeOf x (packetsFor (packetsOf (leftOf w piece 0 (at + (188 - held)))))) e
                 ∙ ap (λ (l : List (List ℕ)). callsSender modeOf s (packetsFor l)) (sym cut-packet)
                 ∙ p .sender;
-            rest = ap restOf (sym later) ∙ sym (rest-more (leftOf w piece held at) enough) ∙ p .rest;
+            rest = ap packetRest (sym later) ∙ sym (rest-more (leftOf w piece held at) enough) ∙ p .rest;
             total = omega (arith, p .total, p .short, h);
             few = omega (arith, p .few, sent-count, few-symbols);
           }

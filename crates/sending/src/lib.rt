@@ -5,8 +5,9 @@ ghost use Prim.Native.Nat.{_+_, _/_, _<_, _≤_};
 ghost use lib.ListN.{length, take};
 ghost use Rattle.answer.specs.Number.{numberOf};
 ghost use Rattle.puncturing.specs.Mode.{modeOf};
-ghost use Rattle.sender.specs.Send.{newNumber, Sends};
-ghost use Rattle.sending.specs.Sending.{padded, freshSending, sendingInRange, OutputFits, FeedsAll, Feeds};
+ghost use Rattle.inner_code.specs.Encode.{newNumber};
+ghost use Rattle.sender.specs.Send.{Sends};
+ghost use Rattle.sending.specs.Sending.{padded, freshSending, sendingInRange, OutputsFit, FeedsAll, FeedsSending};
 use answer::Answer;
 use sender::Sender;
 
@@ -67,7 +68,7 @@ impl Sending {
     // Sends the packets that are whole with a piece: writes their symbols, and a byte with the number of its answer for each, 0 or 15.
     pub fn feed(self, piece: &[u8], output: &mut [u8], answers: &mut [u8]) -> Fed
         ensures { λ r. ⌜
-            Feeds self (now (piece .entry)) (now (output .entry)) (now (answers .entry))
+            FeedsSending self (now (piece .entry)) (now (output .entry)) (now (answers .entry))
             (numberOf (r .answer)) (r .count) (r .packets) (r .sending) (now (output .exit)) (now (answers .exit)) ⌝ }
     {
         if !self.in_range() {
@@ -152,7 +153,7 @@ fn send_joined(
 
 // Sends the packets that are whole with a piece, and holds the bytes after them, with a sending that is in range and room enough.
 fn send_whole(sending: Sending, piece: &[u8], output: &mut [u8], answers: &mut [u8]) -> Fed
-    requires { ⌜ OutputFits sending (now piece) (now output) (now answers) ⌝ }
+    requires { ⌜ OutputsFit sending (now piece) (now output) (now answers) ⌝ }
     ensures { λ r. ⌜
         FeedsAll sending (now (piece .entry)) (now (output .entry)) (now (answers .entry))
         (numberOf (r .answer)) (r .count) (r .packets) (r .sending) (now (output .exit)) (now (answers .exit)) ⌝ }

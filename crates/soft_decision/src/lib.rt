@@ -4,7 +4,7 @@ ghost use mathlib.Core.Path.{_≡_};
 ghost use Prim.Native.Nat.{ℕ, _+_, _*_, _<_, _≤_};
 ghost use lib.Ieee.{le};
 ghost use lib.ListN.{length, getD};
-ghost use Rattle.soft_decision.specs.Level.{count, levelOf};
+ghost use Rattle.soft_decision.specs.Level.{indicator, levelOf};
 ghost use Rattle.soft_decision.specs.Cost.{numberCosts, symbolCosts};
 ghost use Rattle.soft_decision.specs.Steps.{symbolAt, costsAlong, putCosts};
 
@@ -42,7 +42,7 @@ pub struct SymbolCosts {
 
 // 1 where the threshold is at or below x, else 0.
 fn reaches(threshold: f32, x: f32) -> u8
-    ensures { λ r. ⌜ (r ≡ count (le threshold x)) × (r ≤ 1) ⌝ }
+    ensures { λ r. ⌜ (r ≡ indicator (le threshold x)) × (r ≤ 1) ⌝ }
 {
     (threshold <= x) as u8
 }

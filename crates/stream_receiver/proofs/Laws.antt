@@ -12,7 +12,7 @@ use Rattle.interleaver.proofs.Blocks.{flatten-join}
 use Rattle.receiver.specs.Receive.{freshReceiver}
 use Rattle.receiver.specs.declared.Receiver.{Receiver}
 use Rattle.receiver.proofs.Reached.{Sound, sound-range, sound-fresh}
-use Rattle.recording.specs.Recording.{restOf, Recording, Takes}
+use Rattle.recording.specs.Recording.{restOf, Recording, TakesRecording}
 use Rattle.recording.proofs.Joins.{recording-join, recording-few}
 use Rattle.recording.proofs.Decided.{recording-taken}
 use Rattle.stream_receiver.specs.Feed.{holding, heldBytes, freshStream, streamInRange, capacityOf, TakesPiece}
@@ -75,7 +75,7 @@ reception-none = record {
 
 -- ---- one piece more
 
-takes-out : {s last : Receiver} {bytes marks output exit : List ℕ} {count : ℕ} (t : Takes s bytes marks output count last exit) → take count exit ≡ flatten (t .packets)
+takes-out : {s last : Receiver} {bytes marks output exit : List ℕ} {count : ℕ} (t : TakesRecording s bytes marks output count last exit) → take count exit ≡ flatten (t .packets)
 takes-out {s} {last} {bytes} {marks} {output} {exit} {count} t = ap (take count) (t .written) ∙ take-at (flatten (t .packets)) (drop count output) count (sym (t .counted))
 
 rest-join : (a b : List ℕ) → restOf (restOf a ++ b) ≡ restOf (a ++ b)

@@ -5,8 +5,8 @@ ghost use Prim.Native.Nat.{_+_, _-_, _*_, _/_, _%_, _≤_, _<_};
 ghost use lib.ListN.{length, take};
 ghost use Rattle.answer.specs.Number.{numberOf};
 ghost use Rattle.common.specs.Choice.{pick};
-ghost use Rattle.recording.specs.Recording.{Takes};
-ghost use Rattle.stream_receiver.specs.Feed.{freshStream, streamInRange, capacityOf, padded, heldBytes, TakesPiece, Feeds};
+ghost use Rattle.recording.specs.Recording.{TakesRecording};
+ghost use Rattle.stream_receiver.specs.Feed.{freshStream, streamInRange, capacityOf, padded, heldBytes, TakesPiece, FeedsReceiver};
 ghost use Rattle.stream_receiver.specs.Reporting.{reportOf, Reports};
 use answer::Answer;
 use receiver::Receiver;
@@ -75,7 +75,7 @@ fn finish_block(stream: StreamReceiver, filler: &[u8], output: &mut [u8]) -> Bat
         × (length (now filler) ≡ (204 - stream .held) % 204)
         × (188 * ((stream .held + length (now filler)) / 204) ≤ length (now output)) ⌝ }
     ensures { λ r. ⌜
-        Takes (stream .receiver) (heldBytes stream ++ now (filler .entry)) [] (now (output .entry)) (r .count) (r .receiver) (now (output .exit)) ⌝ }
+        TakesRecording (stream .receiver) (heldBytes stream ++ now (filler .entry)) [] (now (output .entry)) (r .count) (r .receiver) (now (output .exit)) ⌝ }
 {
     let receiver = stream.receiver;
     let pending = stream.pending;
@@ -210,7 +210,7 @@ impl StreamReceiver {
 
     // Takes a piece of the received bytes, of any length, and writes the packets of the blocks that are whole then.
     pub fn feed(self, piece: &[u8], output: &mut [u8]) -> Fed
-        ensures { λ r. ⌜ Feeds self (now (piece .entry)) (now (output .entry)) (numberOf (r .answer)) (r .count) (r .stream) (now (output .exit)) ⌝ }
+        ensures { λ r. ⌜ FeedsReceiver self (now (piece .entry)) (now (output .entry)) (numberOf (r .answer)) (r .count) (r .stream) (now (output .exit)) ⌝ }
     {
         let held = self.held;
         if !self.in_range() {

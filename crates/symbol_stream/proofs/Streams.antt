@@ -19,7 +19,7 @@ use Rattle.puncturing.specs.Mode.{modeOf}
 use Rattle.puncturing.specs.Step.{patternLength}
 use Rattle.run_reader.specs.Cost.{runCost, costsOf}
 use Rattle.run_reader.specs.Read.{symbolsPerPattern, runBits, Readable, BestRead}
-use Rattle.symbol_stream.specs.Stream.{runPatterns, keptPatterns, fullSymbols, keptSymbols, keptBits, fullCosts, keptCosts, heldOf, FullRead, Ready, Feeds, gathered, read, Closes}
+use Rattle.symbol_stream.specs.Stream.{runPatterns, keptPatterns, fullSymbols, keptSymbols, keptBits, fullCosts, keptCosts, heldOf, FullRead, StreamReady, FeedsSymbols, gathered, read, Closes}
 
 -- ---- the memory after bits, one after the other
 
@@ -154,7 +154,7 @@ module _ (rate m : ℕ) (hr : rate < 5) (hm : m < 64) (l output : List ℕ) (siz
 
 -- ---- feeding a piece
 
-module _ (s : SymbolStream) (g : Ready s) (piece : List ℕ) (w : All (λ x. x ≤ 7) piece) (fours : length piece % 4 ≡ 0) where
+module _ (s : SymbolStream) (g : StreamReady s) (piece : List ℕ) (w : All (λ x. x ≤ 7) piece) (fours : length piece % 4 ≡ 0) where
   abbrev h : List ℕ
   h = heldOf s
 
@@ -174,7 +174,7 @@ module _ (s : SymbolStream) (g : Ready s) (piece : List ℕ) (w : All (λ x. x �
 
   pub gathers : (output H : List ℕ) → length piece < fullCosts (s .rate) - s .count → H ≡ h ++ piece ++ drop (s .count + length piece) (s .held)
       → let next : SymbolStream = record { rate = s .rate; memory = s .memory; held = H; count = s .count + length piece } in
-      (Feeds s piece output next (length piece) 0 output) × (Ready next)
+      (FeedsSymbols s piece output next (length piece) 0 output) × (StreamReady next)
   gathers output H l eH =
       let b = behind piece H (s .count + length piece) refl eH in
       let n = numbers (s .rate) (g .known) in (
@@ -233,7 +233,7 @@ module _ (s : SymbolStream) (g : Ready s) (piece : List ℕ) (w : All (λ x. x �
 
       pub reads : (output exit : List ℕ) (after kept : ℕ) → kept ≡ keptBits (s .rate) → FullRead (s .rate) (s .memory) (take (full - 0) H) output after exit
           → let next : SymbolStream = record { rate = s .rate; memory = after; held = N; count = full - from } in
-          (Feeds s piece output next (full - s .count) kept exit) × (Ready next)
+          (FeedsSymbols s piece output next (full - s .count) kept exit) × (StreamReady next)
       reads output exit after kept ek f =
           let n = numbers (s .rate) (g .known) in
           let z : full - s .count - 0 ≡ full - s .count = omega arith in (
@@ -258,7 +258,7 @@ module _ (s : SymbolStream) (g : Ready s) (piece : List ℕ) (w : All (λ x. x �
           )
 
 -- the room for what is put
-pub placed-fits : (s : SymbolStream) → Ready s → (piece : List ℕ) → (full : ℕ) → full ≡ fullCosts (s .rate) → full - s .count ≤ length piece
+pub placed-fits : (s : SymbolStream) → StreamReady s → (piece : List ℕ) → (full : ℕ) → full ≡ fullCosts (s .rate) → full - s .count ≤ length piece
     → s .count + length (take (full - s .count - 0) piece) ≤ length (s .held)
 placed-fits s g piece full e enough =
     omega (
@@ -278,7 +278,7 @@ pub mod-le : (n k : ℕ) → n % k ≤ n
 mod-le n k = omega (arith, mod-add-div n k)
 
 -- of so many symbols as are held those that make whole patterns
-module _ (s : SymbolStream) (g : Ready s) (k : ℕ) (e : k ≡ symbolsPerPattern (s .rate)) where
+module _ (s : SymbolStream) (g : StreamReady s) (k : ℕ) (e : k ≡ symbolsPerPattern (s .rate)) where
   abbrev n : ℕ
   n = s .count / 4
 

@@ -8,7 +8,7 @@ ghost use lib.ListN.{length};
 ghost use Rattle.common.specs.Lists.{All};
 ghost use Rattle.convolutional_code.specs.Code.{memoryAfter};
 ghost use Rattle.convolutional_code.specs.Bits.{Bits};
-ghost use Rattle.symbol_stream.specs.Stream.{fullCosts, keptCosts, keptBits, FullRead, Ready, Holds, Feeds, Closes};
+ghost use Rattle.symbol_stream.specs.Stream.{fullCosts, keptCosts, keptBits, FullRead, StreamReady, StreamHolds, FeedsSymbols, Closes};
 use common::put;
 use convolutional_code::next_memory;
 use run_reader::read_costs;
@@ -92,7 +92,7 @@ fn read_full(rate: u8, memory: u8, costs: &[u8], output: &mut [u8]) -> u8
 // A stream of which nothing has come.
 pub fn open(rate: u8) -> SymbolStream
     requires { ⌜ rate < 5 ⌝ }
-    ensures { λ r. ⌜ (Ready r) × (Holds r rate 0 []) ⌝ }
+    ensures { λ r. ⌜ (StreamReady r) × (StreamHolds r rate 0 []) ⌝ }
 {
     SymbolStream {
         rate,
@@ -105,8 +105,8 @@ pub fn open(rate: u8) -> SymbolStream
 // Takes the costs of symbols of a piece: as many as make a longest run with those that are held, or all. Where they make one, it is read into the
 // output, and the bits that are decided stand at its front.
 pub fn feed(stream: SymbolStream, piece: &[u8], output: &mut [u8]) -> Fed
-    requires { ⌜ (Ready stream) × (All (λ c. c ≤ 7) (now piece)) × (length (now piece) % 4 ≡ 0) × (1632 ≤ length (now output)) ⌝ }
-    ensures { λ r. ⌜ (Feeds stream (now (piece .entry)) (now (output .entry)) (r .stream) (r .taken) (r .count) (now (output .exit))) × (Ready (r .stream)) ⌝ }
+    requires { ⌜ (StreamReady stream) × (All (λ c. c ≤ 7) (now piece)) × (length (now piece) % 4 ≡ 0) × (1632 ≤ length (now output)) ⌝ }
+    ensures { λ r. ⌜ (FeedsSymbols stream (now (piece .entry)) (now (output .entry)) (r .stream) (r .taken) (r .count) (now (output .exit))) × (StreamReady (r .stream)) ⌝ }
 {
     let rate = stream.rate;
     let memory = stream.memory;
@@ -146,7 +146,7 @@ pub fn feed(stream: SymbolStream, piece: &[u8], output: &mut [u8]) -> Fed
 
 // The end of a stream: reads the whole patterns that are held into the output.
 pub fn close(stream: SymbolStream, output: &mut [u8]) -> Closed
-    requires { ⌜ (Ready stream) × (1632 ≤ length (now output)) ⌝ }
+    requires { ⌜ (StreamReady stream) × (1632 ≤ length (now output)) ⌝ }
     ensures { λ r. ⌜ Closes stream (now (output .entry)) (r .count) (r .rest) (now (output .exit)) ⌝ }
 {
     let rate = stream.rate;

@@ -49,7 +49,7 @@ runOutput rate bytes output =
     pick (eqb (runRefusal rate bytes output) 0) (runSymbols rate bytes ++ drop (length (runSymbols rate bytes)) output) output
 
 -- what a run promises
-pub record Runs (rate : ℕ) (bytes output : List ℕ) (number count : ℕ) (left : List ℕ) : Type 0 where
+pub record SendsRun (rate : ℕ) (bytes output : List ℕ) (number count : ℕ) (left : List ℕ) : Type 0 where
   pub answered : number ≡ runNumber rate bytes output
   pub counted : count ≡ runCount rate bytes output
   pub written : left ≡ runOutput rate bytes output

@@ -7,7 +7,7 @@ ghost use lib.ListN.{length, drop};
 ghost use Rattle.answer.specs.Number.{numberOf};
 ghost use Rattle.puncturing.specs.Mode.{blockBits};
 ghost use Rattle.puncturing.specs.Step.{symbolsIn};
-ghost use Rattle.transmission.specs.Run.{packetsOf, synced, runSymbols, Sendable, Runs};
+ghost use Rattle.transmission.specs.Run.{packetsOf, synced, runSymbols, Sendable, SendsRun};
 use answer::Answer;
 use inner_code::InnerCoder;
 use puncturing::is_sent;
@@ -89,7 +89,7 @@ fn send_packets(rate: u8, packets: &[u8], output: &mut [u8]) -> usize
 // Sends a whole list of packets with a fresh sender: writes the symbols that EN 300 421 gives for them, with a null packet
 // in place of each that does not begin with the sync byte. Nothing is written unless all of them can be sent.
 pub fn send_run(rate: u8, packets: &[u8], output: &mut [u8]) -> Run
-    ensures { λ r. ⌜ Runs rate (now (packets .entry)) (now (output .entry)) (numberOf (r .answer)) (r .count) (now (output .exit)) ⌝ }
+    ensures { λ r. ⌜ SendsRun rate (now (packets .entry)) (now (output .entry)) (numberOf (r .answer)) (r .count) (now (output .exit)) ⌝ }
 {
     if !is_sent(rate) {
         return Run {

@@ -15,7 +15,7 @@ use lib.Seq.{getD-set-same, getD-set-other, drop-cons, drop-set-lt, drop-length}
 use Rattle.common.specs.Choice.{pick}
 use Rattle.common.proofs.Computed as computed
 use Rattle.trellis.specs.Best.{Decoded}
-use Rattle.trellis.specs.Metric.{Costs, costFrom, far, from, via, choice, metric, choices, path, survivor, Ends}
+use Rattle.trellis.specs.Metric.{Costs, costFrom, far, from, via, choice, metric, choices, path, survivor, FirstLeast}
 use Rattle.trellis.proofs.Paths.{choice-lt, Answer, answer}
 use Rattle.trellis.proofs.Spread.{metric-le, spread}
 use Rattle.viterbi_decoder.specs.Step.{at, stepCosts, Small}
@@ -220,7 +220,7 @@ trace-lane rows k r d output all h l hr w e =
 -- ---- the whole run
 
 module _ {F : Costs} {m n : ℕ} {ms : List ℕ} {o : ℕ} {rows : List (List ℕ)} (f : Forward F m n ms o rows) where
-  ends-same : (os : List ℕ) → ((s : ℕ) → s < 64 → at os s ≡ held ms s) → {s : ℕ} → Ends (at os) 64 s → Ends (metric F m n) 64 s
+  ends-same : (os : List ℕ) → ((s : ℕ) → s < 64 → at os s ≡ held ms s) → {s : ℕ} → FirstLeast (at os) 64 s → FirstLeast (metric F m n) 64 s
   ends-same os eo {s} e =
       record {
         small = e .small;
@@ -231,7 +231,7 @@ module _ {F : Costs} {m n : ℕ} {ms : List ℕ} {o : ℕ} {rows : List (List �
       below : (t : ℕ) → t < s → t < 64
       below t h = omega (arith, e .small)
 
-  pub decoded : ((k s b : ℕ) → F k s b ≤ 14) → m < 64 → (os : List ℕ) → ((s : ℕ) → s < 64 → at os s ≡ held ms s) → {s : ℕ} → Ends (at os) 64 s → (l : ℕ) → l ≡ lane s
+  pub decoded : ((k s b : ℕ) → F k s b ≤ 14) → m < 64 → (os : List ℕ) → ((s : ℕ) → s < 64 → at os s ≡ held ms s) → {s : ℕ} → FirstLeast (at os) 64 s → (l : ℕ) → l ≡ lane s
       → Decoded (costFrom F 0 m) n m (reverse (path (table rows) n (lane l))) (at os s + o) s
   decoded h hm os eo {s} e l el =
       let back : lane l ≡ s = ap lane el ∙ lane-lane s (e .small) in

@@ -7,7 +7,7 @@ ghost use lib.Dec.{eqb};
 ghost use lib.ListN.{length};
 ghost use Rattle.common.specs.Choice.{pick};
 ghost use Rattle.trellis.specs.Best.{Decoded};
-ghost use Rattle.trellis.specs.Metric.{far, costFrom, path, Ends};
+ghost use Rattle.trellis.specs.Metric.{far, costFrom, path, FirstLeast};
 ghost use Rattle.viterbi_decoder.specs.Step.{at, decided, stepCost, stepCosts, Small};
 ghost use Rattle.viterbi_decoder.specs.Lanes.{lane, held, Tables, CostRows, lesser as lesserOf, second as secondOf, weightOf, packedByte, wordOf, decision as decisionOf, Stepped, Forward, table};
 
@@ -318,7 +318,7 @@ fn ordered(metrics: &[u8; 64]) -> [u8; 64]
 
 // The first of the memories with the least metric.
 fn first_least(metrics: &[u8; 64]) -> usize
-    ensures { λ r. ⌜ Ends (at (now (metrics .entry))) 64 r ⌝ }
+    ensures { λ r. ⌜ FirstLeast (at (now (metrics .entry))) 64 r ⌝ }
 {
     let mut best = 0;
     let mut s = 1;

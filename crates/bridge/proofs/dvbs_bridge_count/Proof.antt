@@ -6,7 +6,7 @@ use Prim.Native.Nat.{ℕ, _+_, _*_}
 use native.Mathlib.Omega.{arith}
 use borrow.Author.Tests.{eq-eqb, ne-eqb, lt-ltb, le-ltb, not-true, not-false}
 use lib.ListN.{drop}
-use Rattle.receiver.specs.Receive.{inRange}
+use Rattle.receiver.specs.Receive.{receiverInRange}
 use Rattle.bridge.specs.State.{stateOf}
 use Rattle.bridge.proofs.Copies.{front}
 use Rattle.bridge.proofs.States.{count-bytes}
@@ -36,8 +36,8 @@ number-requires-3 : tie.Need-number-requires-3
 number-requires-3 c κs = search needs
 
 -- the range test is of the state that is read
-ranged : (c : tie.After-in-range) → inRange (stateOf (c .before .before .before .before .before .before .args .state .now)) ≡ c .in-range .result
-ranged c = ap inRange (sym (c .before .read-state .ensures)) ∙ sym (c .in-range .ensures)
+ranged : (c : tie.After-in-range) → receiverInRange (stateOf (c .before .before .before .before .before .before .args .state .now)) ≡ c .in-range .result
+ranged c = ap receiverInRange (sym (c .before .read-state .ensures)) ∙ sym (c .in-range .ensures)
 
 returns-3 : tie.Need-returns-3
 returns-3 c =

@@ -9,7 +9,7 @@ use borrow.Author.Tests.{lt-ltb}
 use lib.ListN.{length, take}
 use lib.Seq.{getD-take}
 use Rattle.delay_branches.specs.Branch.{turned}
-use Rattle.delay_branches.specs.Block.{advanced}
+use Rattle.delay_branches.specs.Block.{positionAdvanced}
 use Rattle.delay_branches.specs.Column.{column}
 use Rattle.delay_branches.proofs.Columns.{Placing, placing-none, placing-more, placing-all, length-column, getD-column}
 use Rattle.delay_branches.proofs.Rings.{nextOf, length-leaving, advanced-next, Turning, turning-none, turning-out, turning-more, turning-all}
@@ -17,11 +17,11 @@ use Rattle.delay_branches.proofs.exchange_row.Statement.{statement}
 use Rattle.delay_branches.proofs.exchange_row.Tie as tie
 
 -- the position does not come round
-straight : (size p k : ℕ) → p + k < size → advanced size p k ≡ p + k
+straight : (size p k : ℕ) → p + k < size → positionAdvanced size p k ≡ p + k
 straight size p k h = simp (lt-ltb (p + k) size h)
 
 abbrev Inv-loop : tie.InvT-loop
-Inv-loop cells₀ position j block output₀ k₀ cells output k = (k ≤ 17) × Turning cells₀ position (column j block) cells (advanced (length cells₀) position k) k × Placing j (take 17 (turned position cells₀ ++ column j block)) output₀ output k
+Inv-loop cells₀ position j block output₀ k₀ cells output k = (k ≤ 17) × Turning cells₀ position (column j block) cells (positionAdvanced (length cells₀) position k) k × Placing j (take 17 (turned position cells₀ ++ column j block)) output₀ output k
 
 abbrev μ-loop : tie.MeasureT-loop
 μ-loop cells₀ position j block output₀ k₀ cells output k = 17 - k
@@ -30,7 +30,7 @@ loop-holds : tie.Need-loop-holds Inv-loop μ-loop
 loop-holds c =
     let s = c .before .before .before in
     let a = s .args in
-    let e : advanced (length (a .cells .now)) (a .position) 0 ≡ a .position = straight (length (a .cells .now)) (a .position) 0 (omega arith) ∙ omega arith in
+    let e : positionAdvanced (length (a .cells .now)) (a .position) 0 ≡ a .position = straight (length (a .cells .now)) (a .position) 0 (omega arith) ∙ omega arith in
     (omega arith, rw e (turning-none _ _ _ (omega arith)), placing-none _ _ _)
 
 mul-n : tie.Need-mul-n Inv-loop μ-loop

@@ -5,14 +5,14 @@ use Prim.Native.Nat.{_≤_}
 use native.Mathlib.Omega.{arith}
 use lib.ListN.{length}
 use lib.Seq.{length-take-le}
-use Rattle.dvbs_send.specs.Turn.{Ready}
+use Rattle.dvbs_send.specs.Turn.{Buffers}
 use borrow.Author.Needs.{needs}
 use Rattle.dvbs_send.proofs.send_all.Statement.{statement}
 use Rattle.dvbs_send.proofs.send_all.Tie as tie
 
 abbrev Inv-loop : tie.InvT-loop
 Inv-loop buffer₀ symbols₀ answers₀ sending₀ packets₀ turns₀ t13 t14 buffer symbols answers sending packets turns =
-    Ready sending buffer symbols answers
+    Buffers sending buffer symbols answers
 
 abbrev μ-loop : tie.MeasureT-loop
 μ-loop buffer₀ symbols₀ answers₀ sending₀ packets₀ turns₀ t13 t14 buffer symbols answers sending packets turns = turns

@@ -10,7 +10,7 @@ use lib.ListN.{set}
 use Rattle.common.specs.Choice.{pick}
 use Rattle.answer.specs.Number.{numberOf}
 use Rattle.receiver.specs.Receive.{freshReceiver}
-use Rattle.recording.specs.Recording.{Answers, recordingNumber}
+use Rattle.recording.specs.Recording.{AnswersRecording, recordingNumber}
 use Rattle.exports.specs.ReceiveRun.{receiveRunNumber, untold, refused}
 use Rattle.exports.proofs.Runs.{run-exported}
 use borrow.Author.Needs.{needs}
@@ -57,7 +57,7 @@ returns-3 c =
     = sym (ap (λ (t : Bool). pick t 4 (recordingNumber freshReceiver (a .blocks .now) (a .output .now))) (le-ltb _ _ (c .before .before .before .before .before .before .before .before .before .before .before .if2 .left))) in
     run-exported (a .blocks .now) [] (a .output .now) (k .last .1 .0) (a .counts .now) (p .last .1 .0) (a .answer .now) (p .last .1 .1 .0) _ _ (numberOf (k .result .answer)) (k .result .count) (k .result .receiver) (c .before .before .before .before .before .before .before .before .before .before .before .before .if1 .left)
     (p .ensures .0) (p .ensures .1) (p .ensures .2)
-    (subst (λ (n : ℕ). Answers freshReceiver (a .blocks .now) [] (a .output .now) n (numberOf (k .result .answer)) (k .result .count) (k .result .receiver) (k .last .1 .0)) e (k .ensures .0))
+    (subst (λ (n : ℕ). AnswersRecording freshReceiver (a .blocks .now) [] (a .output .now) n (numberOf (k .result .answer)) (k .result .count) (k .result .receiver) (k .last .1 .0)) e (k .ensures .0))
 
 pub dvbs-receive-run-spec : {M : Type 1} → statement M
 dvbs-receive-run-spec =

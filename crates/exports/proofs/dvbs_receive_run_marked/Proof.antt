@@ -9,7 +9,7 @@ use lib.ListN.{set}
 use Rattle.answer.specs.Number.{numberOf}
 use Rattle.receiver.specs.Receive.{freshReceiver}
 use Rattle.receiver.proofs.Reached.{sound-range, sound-fresh}
-use Rattle.recording.specs.Recording.{Answers, marksFor, markedNumber}
+use Rattle.recording.specs.Recording.{AnswersRecording, marksFor, markedNumber}
 use Rattle.exports.specs.ReceiveRun.{markedRunNumber, untold, refused}
 use Rattle.exports.proofs.Runs.{run-exported}
 use borrow.Author.Needs.{needs}
@@ -74,7 +74,7 @@ returns-4 c =
     = simp (sound-range freshReceiver sound-fresh, marked (c .before .before .before .before .before .before .before .before .before .before .before .before), le-ltb _ _ (c .before .before .before .before .before .before .before .before .before .before .before .if3 .left)) in
     run-exported (a .blocks .now) (a .marks .now) (a .output .now) (k .last .1 .1 .0) (a .counts .now) (p .last .1 .0) (a .answer .now) (p .last .1 .1 .0) _ _ (numberOf (k .result .answer)) (k .result .count) (k .result .receiver) (c .before .before .before .before .before .before .before .before .before .before .before .before .before .before .if1 .left)
     (p .ensures .0) (p .ensures .1) (p .ensures .2)
-    (subst (λ (n : ℕ). Answers freshReceiver (a .blocks .now) (a .marks .now) (a .output .now) n (numberOf (k .result .answer)) (k .result .count) (k .result .receiver) (k .last .1 .1 .0)) e (k .ensures))
+    (subst (λ (n : ℕ). AnswersRecording freshReceiver (a .blocks .now) (a .marks .now) (a .output .now) n (numberOf (k .result .answer)) (k .result .count) (k .result .receiver) (k .last .1 .1 .0)) e (k .ensures))
 
 pub dvbs-receive-run-marked-spec : {M : Type 1} → statement M
 dvbs-receive-run-marked-spec =

@@ -6,7 +6,7 @@ use Prim.Native.Nat.{ℕ, _+_, min}
 use borrow.Author.Tests.{eq-eqb, ne-eqb}
 use lib.Dec.{eqb, ltb}
 use Rattle.common.specs.Choice.{pick}
-use Rattle.recorded_block.specs.Block.{wholeBlocks}
+use Rattle.recorded_block.specs.Block.{blockCount}
 use Rattle.exports.specs.RecordingBlock.{no-count, called}
 use borrow.Author.Needs.{needs}
 use Rattle.exports.proofs.dvbs_recording_block.Statement.{statement}
@@ -32,7 +32,7 @@ returns c =
     let g = c .before .before .decoded-block .ensures in
     let a = c .before .before .before .before .before .before .before .before .args in
     no-count (c .before .before .before .before .if1 .taken)
-    (c .number .ensures ∙ g .number ∙ refused (eqb (a .blocks) (wholeBlocks (a .recording .now))) (ltb (min (a .blocks) 4294967295) (a .p + 12)) _) refl refl
+    (c .number .ensures ∙ g .number ∙ refused (eqb (a .blocks) (blockCount (a .recording .now))) (ltb (min (a .blocks) 4294967295) (a .p + 12)) _) refl refl
 
 decoded-block-requires-2 : tie.Need-decoded-block-requires-2
 decoded-block-requires-2 c κs = search needs

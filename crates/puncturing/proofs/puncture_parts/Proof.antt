@@ -8,7 +8,7 @@ use lib.ListN.{length, length-append}
 use Rattle.common.specs.Lists.{placed}
 use Rattle.common.proofs.Outputs.{placed-three}
 use Rattle.puncturing.specs.Step.{patternLength}
-use Rattle.puncturing.specs.Run.{sentSymbols, heldBehind, patternsSymbols, iBits, qBits}
+use Rattle.puncturing.specs.Run.{puncturedSymbols, heldBehind, patternsSymbols, iBits, qBits}
 use Rattle.puncturing.specs.declared.Progress.{Progress}
 use Rattle.puncturing.proofs.Parts.{length-patterns, parts-symbols, parts-place, parts-held}
 use borrow.Author.Needs.{needs}
@@ -17,14 +17,14 @@ use Rattle.puncturing.proofs.puncture_parts.Tie as tie
 
 -- the symbols of the three parts
 abbrev head-symbols : tie.Start → List ℕ
-head-symbols a = sentSymbols (a .args .rate) (a .args .place) (a .args .held) (a .args .coded .now) 0 (a .args .head - 0)
+head-symbols a = puncturedSymbols (a .args .rate) (a .args .place) (a .args .held) (a .args .coded .now) 0 (a .args .head - 0)
 
 abbrev whole-symbols : tie.Start → List ℕ
 whole-symbols a =
     patternsSymbols (iBits (a .args .rate)) (qBits (a .args .rate)) (a .args .coded .now) (patternLength (a .args .rate)) (a .args .head) (a .args .turns)
 
 abbrev tail-symbols : tie.Start → List ℕ
-tail-symbols a = sentSymbols (a .args .rate) 0 0 (a .args .coded .now) (a .args .tail) (1632 - a .args .tail)
+tail-symbols a = puncturedSymbols (a .args .rate) 0 0 (a .args .coded .now) (a .args .tail) (1632 - a .args .tail)
 
 module _ (a : tie.Start) where
   everything : a .args .head + (a .args .turns * patternLength (a .args .rate) + (1632 - a .args .tail)) ≡ 1632
@@ -33,14 +33,14 @@ module _ (a : tie.Start) where
   none-off : a .args .head ≡ a .args .head - 0
   none-off = omega arith
 
-  three : sentSymbols (a .args .rate) (a .args .place) (a .args .held) (a .args .coded .now) 0 1632 ≡ head-symbols a ++ whole-symbols a ++ tail-symbols a
+  three : puncturedSymbols (a .args .rate) (a .args .place) (a .args .held) (a .args .coded .now) 0 1632 ≡ head-symbols a ++ whole-symbols a ++ tail-symbols a
   three =
       parts-symbols (a .args .rate) (a .args .coded .now) (a .pre .0) (a .pre .3) (a .args .place) (a .args .held) (a .args .head) (a .args .turns)
       (1632 - a .args .tail) (a .pre .1) (a .pre .2) (a .pre .5) everything
       ∙ (λ i.
-      sentSymbols (a .args .rate) (a .args .place) (a .args .held) (a .args .coded .now) 0 (none-off i)
+      puncturedSymbols (a .args .rate) (a .args .place) (a .args .held) (a .args .coded .now) 0 (none-off i)
       ++ whole-symbols a
-      ++ sentSymbols (a .args .rate) 0 0 (a .args .coded .now) (sym (a .pre .6) i) (1632 - a .args .tail))
+      ++ puncturedSymbols (a .args .rate) 0 0 (a .args .coded .now) (sym (a .pre .6) i) (1632 - a .args .tail))
 
   fits : length (head-symbols a ++ whole-symbols a ++ tail-symbols a) ≤ length (a .args .output .now)
   fits = subst (λ (s : List ℕ). length s ≤ length (a .args .output .now)) three (a .pre .8)
@@ -104,7 +104,7 @@ returns c =
     (1632 - a .args .tail) (g .1) (g .2) (g .5) (everything a)
     ∙ ap (λ (n : ℕ). heldBehind (a .args .rate) 0 0 (a .args .coded .now) n (1632 - a .args .tail)) (sym (g .6))
     in
-    let total : 0 + length (sentSymbols (a .args .rate) (a .args .place) (a .args .held) (a .args .coded .now) 0 1632)
+    let total : 0 + length (puncturedSymbols (a .args .rate) (a .args .place) (a .args .held) (a .args .coded .now) 0 1632)
     ≡ w .result + length (tail-symbols a)
     =
     let e = ap length (three a) in

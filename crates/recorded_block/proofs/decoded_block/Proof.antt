@@ -7,7 +7,7 @@ use native.Mathlib.Omega.{arith}
 use Rattle.reed_solomon.specs.Decode.{Decodes, decodedNumber, changedBy}
 use Rattle.reed_solomon.specs.declared.Decoded.{Decoded}
 use Rattle.interleaver.specs.Gathered.{gathered}
-use Rattle.recorded_block.specs.Block.{wholeBlocks, blockRefusal, outputWith}
+use Rattle.recorded_block.specs.Block.{blockCount, blockRefusal, outputWith}
 use Rattle.recorded_block.proofs.Blocks.{not-its-count, no-such-block, output-short, no-refusal, refused-with, given-block, put-front}
 use borrow.Author.Needs.{needs}
 use Rattle.recorded_block.proofs.decoded_block.Statement.{statement}
@@ -23,7 +23,7 @@ returns c =
     (not-its-count (a .bytes .now) (a .blocks) (a .p) (a .output .now) (λ e. c .if1 .taken (e ∙ sym (c .before .whole-blocks .ensures)))) (omega arith) refl refl
 
 -- past the first test
-its-count : (c : tie.Else1) → let a = c .before .before .before .before .args in a .blocks ≡ wholeBlocks (a .bytes .now)
+its-count : (c : tie.Else1) → let a = c .before .before .before .before .args in a .blocks ≡ blockCount (a .bytes .now)
 its-count c = c .if1 .left ∙ c .before .whole-blocks .ensures
 
 -- past the second

@@ -8,7 +8,7 @@ use borrow.Author.Tests.{eq-eqb, ne-eqb, lt-ltb, le-ltb, not-true, not-false, eq
 use lib.ListN.{length, replicate}
 use Rattle.reed_solomon.specs.Marks.{areMarks}
 use Rattle.reed_solomon.proofs.Marks.{marks-of, largest-none, largest-most}
-use Rattle.receiver.specs.Receive.{inRange}
+use Rattle.receiver.specs.Receive.{receiverInRange}
 use Rattle.receiver.proofs.Calls.{parts-range, refused-call, state-range}
 use borrow.Author.Needs.{needs}
 use Rattle.receiver.proofs.Receiver.receive_marked.Statement.{statement}
@@ -18,10 +18,10 @@ sum-none : (a b : ℕ) → a + b ≡ 0 → (a ≡ 0) × (b ≡ 0)
 sum-none a b e = (omega arith, omega arith)
 
 -- the test of the state, past it, the marks in the delays, and past the test of the marks that come
-range : (c : tie.After-parts-in-range) → c .parts-in-range .result ≡ inRange (c .before .before .before .before .before .before .before .before .before .before .before .before .args .self)
+range : (c : tie.After-parts-in-range) → c .parts-in-range .result ≡ receiverInRange (c .before .before .before .before .before .before .before .before .before .before .before .before .args .self)
 range c = parts-range (c .before .before .before .before .before .before .before .before .before .before .before .before .args .self) _ _ (c .before .largest-mark .ensures) (c .parts-in-range .ensures)
 
-good : (c : tie.Else1) → inRange (c .before .before .before .before .before .before .before .before .before .before .before .before .before .args .self) ≡ true
+good : (c : tie.Else1) → receiverInRange (c .before .before .before .before .before .before .before .before .before .before .before .before .before .args .self) ≡ true
 good c = sym (range (c .before)) ∙ not-false _ (c .if1 .left)
 
 held : (c : tie.Start) → length (c .args .self .marks) ≡ 1122

@@ -8,7 +8,7 @@ use lib.ListN.{length, getD}
 use Rattle.puncturing.specs.Mode.{modeOf}
 use Rattle.inner_code.specs.Encode.{symbolCount}
 use Rattle.sender.specs.Input.{isInput, isSynced, packetFor}
-use Rattle.sender.specs.Send.{inRange, isSent, refusal}
+use Rattle.sender.specs.Send.{senderInRange, isSent, sendRefusal}
 use Rattle.sender.proofs.Inputs.{packet-kept, packet-replaced, packet-size, packet-sync}
 use Rattle.sender.proofs.Stages.{refused, answered}
 use borrow.Author.Needs.{needs}
@@ -24,7 +24,7 @@ returns c =
     refused modeOf (a .args .self) (a .args .input .now) (a .args .output .now) 5 (simp (sym (c .before .in-range .ensures) ∙ not-true _ (c .if1 .taken))) refl
 
 -- past the first test
-good : (c : tie.Else1) → inRange modeOf (c .before .before .before .before .args .self) ≡ true
+good : (c : tie.Else1) → senderInRange modeOf (c .before .before .before .before .args .self) ≡ true
 good c = sym (c .before .in-range .ensures) ∙ not-false _ (c .if1 .left)
 
 is-sent-requires : tie.Need-is-sent-requires
@@ -59,7 +59,7 @@ symbol-count-requires c κs = search needs
 
 -- what the first three tell
 module _ (c : tie.Else3) where
-  ranged : inRange modeOf (c .before .before .before .before .before .before .before .before .before .args .self) ≡ true
+  ranged : senderInRange modeOf (c .before .before .before .before .before .before .before .before .before .args .self) ≡ true
   ranged = good (c .before .before .before .before .before)
 
   on : isSent modeOf (c .before .before .before .before .before .before .before .before .before .args .self) ≡ true
@@ -76,7 +76,7 @@ returns-4 c =
 long : (c : tie.Else4) → let a = c .before .before .before .before .before .before .before .before .before .before .before .args in symbolCount (a .self .coder) ≤ length (a .output .now)
 long c = rw (c .before .symbol-count .ensures) at (c .if4 .left)
 
-taken : (c : tie.Else4) → let a = c .before .before .before .before .before .before .before .before .before .before .before .args in refusal modeOf (a .self) (a .input .now) (a .output .now) ≡ 0
+taken : (c : tie.Else4) → let a = c .before .before .before .before .before .before .before .before .before .before .before .args in sendRefusal modeOf (a .self) (a .input .now) (a .output .now) ≡ 0
 taken c = let e = c .before .before in simp (ranged e, on e, sized e, le-ltb _ _ (long c))
 
 is-synced-requires : tie.Need-is-synced-requires

@@ -8,14 +8,14 @@ use native.Mathlib.Omega.{arith}
 use borrow.Author.Tests.{lt-ltb, le-ltb, not-true, not-false}
 use Rattle.puncturing.specs.Mode.{modeOf}
 use Rattle.sender.specs.Send.{isSent}
-use Rattle.sending.specs.Sending.{sendingInRange, feedNumber, OutputFits, Feeds, refused, fed}
+use Rattle.sending.specs.Sending.{sendingInRange, sendingFeedNumber, OutputsFit, FeedsSending, refused, fed}
 use Rattle.sending.specs.declared.Sending.{Sending}
 use Rattle.sending.proofs.Pieces.{sending-range}
 use borrow.Author.Needs.{needs}
 use Rattle.sending.proofs.Sending.feed.Statement.{statement}
 use Rattle.sending.proofs.Sending.feed.Tie as tie
 
-refuse : (w : Sending) (piece output answers : List ℕ) (n : ℕ) → feedNumber w piece output answers ≡ n → 0 < n → Feeds w piece output answers n 0 0 w output answers
+refuse : (w : Sending) (piece output answers : List ℕ) (n : ℕ) → sendingFeedNumber w piece output answers ≡ n → 0 < n → FeedsSending w piece output answers n 0 0 w output answers
 refuse w piece output answers n e h = refused (sym e) (λ z. omega arith)
 
 in-range-requires : tie.Need-in-range-requires
@@ -69,7 +69,7 @@ returns-4 c =
 -- past the others
 output-fits : (c : tie.Else4)
     → let a = c .before .before .before .before .before .before .before .before .before .before .before .before .args in
-    OutputFits (a .self) (a .piece .now) (a .output .now) (a .answers .now)
+    OutputsFit (a .self) (a .piece .now) (a .output .now) (a .answers .now)
 output-fits c =
     let n = c .before .before in
     record {
