@@ -122,6 +122,7 @@ pub fresh-came : CameTo [] freshSeason
 fresh-came = going refl (omega arith) unread-none
 
 feedings-came : (ps : List (List ℕ)) {bytes : List ℕ} {s last : Season} → CameTo bytes s → SeasonFeedings s ps last → CameTo (bytes ++ flatten ps) last
+unfolding flatten
 feedings-came [] {bytes} {s} c e = subst (CameTo (bytes ++ [])) e (subst (λ (b : List ℕ). CameTo b s) (sym (append-nil bytes)) c)
 feedings-came (p ∷ ps) {bytes} {s} {last} c d =
     subst (λ (b : List ℕ). CameTo b last) (append-assoc bytes p (flatten ps)) (feedings-came ps (d .1 .fed bytes c) (d .2))

@@ -120,11 +120,11 @@ pub struct Season {
 }
 
 // Reads the reports of a text that stands after those counted.
-fn count_rest(countedReport: [u64; 7], text: &[u8]) -> SeasonRead
-    requires { ⌜ BegunAt countedReport (now text) ⌝ }
-    ensures { λ r. ⌜ CountsRest countedReport (now (text .entry)) r ⌝ }
+fn count_rest(counted: [u64; 7], text: &[u8]) -> SeasonRead
+    requires { ⌜ BegunAt counted (now text) ⌝ }
+    ensures { λ r. ⌜ CountsRest counted (now (text .entry)) r ⌝ }
 {
-    let mut totals = countedReport;
+    let mut totals = counted;
     let mut at: usize = 0;
     while at < text.len() {
         if totals[0] == MOST {
