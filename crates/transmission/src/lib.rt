@@ -40,7 +40,7 @@ fn is_synced(packets: &[u8]) -> bool
 // Whether there is too little space for the symbols of so many packets.
 fn is_short(rate: u8, packets: usize, space: usize) -> bool
     requires { ⌜ rate < 6 ⌝ }
-    ensures { λ r. ⌜ r ≡ ltb output (symbolsIn rate 0 (blockBits rate * packets)) ⌝ }
+    ensures { λ r. ⌜ r ≡ ltb space (symbolsIn rate 0 (blockBits rate * packets)) ⌝ }
 {
     let lengths = InnerCoder::PATTERN_LENGTHS;
     let length = lengths[rate as usize] as u16;
