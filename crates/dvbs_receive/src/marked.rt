@@ -1,47 +1,12 @@
 // A pass with marks: received bytes from one file and their marks from another, a block at a time, so that a live feed's packets come out
 // when their blocks are whole.
 ghost use Prim.Native.Nat.{_≤_};
-ghost use lib.ListN.{length};
 use libc::STDERR_FILENO;
 use libc::STDOUT_FILENO;
 use pass::Pass;
 use receiver::Receiver;
 use reception_counts::Counts;
 use stream_receiver::StreamReceiver;
-
-// How much of a buffer was filled.
-struct Part {
-    length: usize,
-    failed: bool,
-}
-
-// Reads until the buffer is full, the input ends or a read fails.
-fn fill(fd: i32, buffer: &mut [u8]) -> Part
-    ensures { λ r. ⌜ r .length ≤ length (now (buffer .entry)) ⌝ }
-{
-    let mut done: usize = 0;
-    while done < buffer.len() {
-        let got = libc::read(fd, &mut buffer[done..]);
-        if got < 0 {
-            return Part {
-                length: done,
-                failed: true,
-            };
-        }
-        let n = io::count(got, &buffer[done..]);
-        if n == 0 {
-            return Part {
-                length: done,
-                failed: false,
-            };
-        }
-        done += n;
-    }
-    Part {
-        length: done,
-        failed: false,
-    }
-}
 
 // The report of so many blocks, and of the bytes after them.
 fn report(receiver: Receiver, blocks: u64, rest: usize)
@@ -81,7 +46,7 @@ pub fn receive_files(fd: i32, marks_fd: i32) {
         let mut block = [0u8; 204];
         let mut marks = [0u8; 204];
         let mut output = [0u8; 188];
-        let part = fill(fd, &mut block);
+        let part = input_pieces::fill(fd, &mut block);
         if part.failed {
             os::fail(b"pass");
             return;
@@ -90,7 +55,7 @@ pub fn receive_files(fd: i32, marks_fd: i32) {
             report(receiver, blocks, part.length);
             return;
         }
-        let marked = fill(marks_fd, &mut marks);
+        let marked = input_pieces::fill(marks_fd, &mut marks);
         if marked.failed {
             os::fail(b"marks");
             return;

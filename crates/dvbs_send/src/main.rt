@@ -7,14 +7,15 @@ ghost use Prim.Native.Nat.{_≤_};
 ghost use lib.ListN.{length};
 ghost use Rattle.sending.specs.Sending.{canSend};
 ghost use Rattle.dvbs_send.specs.Turn.{Buffers, Turns};
+use input_pieces::Piece;
 use libc::STDERR_FILENO;
 use libc::STDIN_FILENO;
 use libc::STDOUT_FILENO;
 use sending::Sending;
 
-// What `read` answered, how many symbols and packets came of it, and the sending after it.
+// The piece that was read, how many symbols and packets came of it, and the sending after it.
 struct Turn {
-    got: isize,
+    piece: Piece,
     count: usize,
     packets: usize,
     sending: Sending,
@@ -57,12 +58,13 @@ fn next_turn(sending: Sending, buffer: &mut [u8], symbols: &mut [u8], answers: &
     ensures { λ r. ⌜
         Turns sending (now (buffer .exit)) (now (symbols .entry)) (now (answers .entry)) r (now (symbols .exit)) (now (answers .exit)) ⌝ }
 {
-    let got = libc::read(STDIN_FILENO, buffer);
-    let n = io::count(got, buffer);
+    let most = buffer.len();
+    let piece = input_pieces::read_piece(STDIN_FILENO, buffer, most);
+    let n = piece.length;
     let fed = sending.feed(&buffer[..n], symbols, answers);
     let next = fed.sending;
     Turn {
-        got,
+        piece,
         count: fed.count,
         packets: fed.packets,
         sending: next,
@@ -86,7 +88,8 @@ fn send_all(sending: Sending, buffer: &mut [u8], symbols: &mut [u8], answers: &m
     let mut turns = u64::MAX;
     while turns > 0 {
         let turn = next_turn(sending, buffer, symbols, answers);
-        let got = turn.got;
+        let piece = turn.piece;
+        let got = piece.got;
         let count = turn.count;
         let whole = turn.packets;
         let next = turn.sending;

@@ -1,4 +1,4 @@
-// One read of a program's input: a piece of any length, at the front of a buffer.
+// Reading a program's input: one read, a piece of any length at the front of a buffer; and reads until a buffer is full.
 // Inner: its functions may require what the crates above have tested. docs/ARCHITECTURE.md names the public surface.
 ghost use Prim.Native.Nat.{_≤_};
 ghost use lib.ListN.{length};
@@ -20,4 +20,38 @@ pub fn read_piece(fd: i32, buffer: &mut [u8], most: usize) -> Piece
     let got = libc::read(fd, &mut buffer[0..most]);
     let length = io::count(got, &buffer[..most]);
     Piece { got, length }
+}
+
+// How much of a buffer was filled, and whether a read failed.
+pub struct Part {
+    pub length: usize,
+    pub failed: bool,
+}
+
+// Reads until the buffer is full, the input ends or a read fails.
+pub fn fill(fd: i32, buffer: &mut [u8]) -> Part
+    ensures { λ r. ⌜ r .length ≤ length (now (buffer .entry)) ⌝ }
+{
+    let mut done: usize = 0;
+    while done < buffer.len() {
+        let got = libc::read(fd, &mut buffer[done..]);
+        if got < 0 {
+            return Part {
+                length: done,
+                failed: true,
+            };
+        }
+        let n = io::count(got, &buffer[done..]);
+        if n == 0 {
+            return Part {
+                length: done,
+                failed: false,
+            };
+        }
+        done += n;
+    }
+    Part {
+        length: done,
+        failed: false,
+    }
 }

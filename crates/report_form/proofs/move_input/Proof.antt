@@ -7,11 +7,11 @@ use borrow.Author.Needs.{needs}
 use Rattle.report_form.proofs.move_input.Statement.{statement}
 use Rattle.report_form.proofs.move_input.Tie as tie
 
-slice-aggregate-read-input : tie.Need-slice-aggregate-read-input
-slice-aggregate-read-input c = search needs
+slice-aggregate-fill : tie.Need-slice-aggregate-fill
+slice-aggregate-fill c = search needs
 
-read-input-requires : tie.Need-read-input-requires
-read-input-requires c κs = search needs
+fill-requires : tie.Need-fill-requires
+fill-requires c κs = search needs
 
 slice-aggregate-fail : tie.Need-slice-aggregate-fail
 slice-aggregate-fail c = search needs
@@ -27,8 +27,8 @@ array-share-prefix-buffer c = search needs
 
 slice-aggregate-write-moved : tie.Need-slice-aggregate-write-moved
 slice-aggregate-write-moved c =
-    let r = c .before .before .before .read-input in
-    sym (length-take-le (r .result .length) (r .last .0) (omega (arith, r .ensures)))
+    let r = c .before .before .before .fill in
+    sym (length-take-le (r .result .length) (r .last .1 .0) (omega (arith, r .ensures, r .kept .1 .0)))
 
 write-moved-requires : tie.Need-write-moved-requires
 write-moved-requires c κs = search needs
@@ -40,8 +40,8 @@ pub move-input-spec : {M : Type 1} → statement M
 move-input-spec =
     tie.close
     (tie.spec
-    slice-aggregate-read-input
-    read-input-requires
+    slice-aggregate-fill
+    fill-requires
     slice-aggregate-fail
     fail-requires
     returns

@@ -1,11 +1,11 @@
--- `dvbs_receive::marked::fill` meets its contract, and ends: each read that moves something leaves fewer bytes.
+-- `input_pieces::fill` meets its contract, and ends: each read that moves something leaves fewer bytes.
 -- Assumes nothing.
 use mathlib.Core.Path.{_≡_}
 use Prim.Native.Nat.{_-_, _≤_}
 use lib.ListN.{length}
 use borrow.Author.Needs.{needs}
-use Rattle.dvbs_receive.proofs.marked.fill.Statement.{statement}
-use Rattle.dvbs_receive.proofs.marked.fill.Tie as tie
+use Rattle.input_pieces.proofs.fill.Statement.{statement}
+use Rattle.input_pieces.proofs.fill.Tie as tie
 
 abbrev Inv-loop : tie.InvT-loop
 Inv-loop fd buffer₀ done₀ buffer done = (done ≤ length buffer) × (length buffer ≡ length buffer₀)
