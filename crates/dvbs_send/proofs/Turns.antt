@@ -1,32 +1,34 @@
 -- One turn: the buffers are long enough for what a piece can make whole, so that it is fed.
 -- Assumes nothing.
-use mathlib.Core.Path.{_≡_, ap, subst}
+use mathlib.Core.Path.{_≡_, ap}
 use mathlib.Core.Bool.{true}
 use mathlib.Core.List.{List}
 use Prim.Native.Nat.{ℕ}
 use native.Mathlib.Omega.{arith}
-use lib.IntN.{ℤ}
 use lib.ListN.{length, take, drop, length-take, length-append}
-use Rattle.io.specs.Counts.{clamped}
+use Rattle.input_pieces.specs.Read.{ReadsPiece}
+use Rattle.input_pieces.specs.declared.Piece.{Piece}
 use Rattle.sending.specs.Sending.{canSend, fedSymbols, OutputsFit, FeedsAll, FeedsSending}
 use Rattle.sending.specs.declared.Sending.{Sending}
 use Rattle.sending.proofs.Pieces.{sending-range, sending-sent}
 use Rattle.sending.proofs.Laws.{feeds-all, fed-range}
 use Rattle.dvbs_send.specs.Turn.{Turns}
 
-pub turns : (w : Sending) (buffer symbols answers : List ℕ) {got : ℤ} {n number count packets : ℕ} {next : Sending} {left told : List ℕ}
+pub turns : (w : Sending) (before buffer symbols answers : List ℕ) {piece : Piece} {number count packets : ℕ} {next : Sending} {left told : List ℕ}
     → length (w .sender .interleaver .branches .cells) ≡ 1122 → length (w .sender .interleaver .branches .positions) ≡ 12 → canSend w ≡ true
-    → length buffer ≡ 47940 → length symbols ≡ 416160 → length answers ≡ 255 → n ≡ clamped got (length buffer)
-    → FeedsSending w (take n buffer) symbols answers number count packets next left told
-    → Turns w buffer symbols answers (record { got = got; count = count; packets = packets; sending = next }) left told
-turns w buffer symbols answers {got} {n} {number} {count} {packets} {next} {left} {told} cells positions range b r a e f =
+    → length buffer ≡ 47940 → length symbols ≡ 416160 → length answers ≡ 255 → ReadsPiece (length before) before buffer piece
+    → FeedsSending w (take (piece .length) buffer) symbols answers number count packets next left told
+    → Turns w before buffer symbols answers (record { piece = piece; count = count; packets = packets; sending = next }) left told
+turns w before buffer symbols answers {piece} {number} {count} {packets} {next} {left} {told} cells positions range b r a e f =
+    let n = piece .length in
     let q = sending-sent w range in
     let h = sending-range w (q .0) .1 in
     let l = length-take n buffer in
     let g : OutputsFit w (take n buffer) symbols answers = record { range = q .0; sent = q .1; symbols = omega arith; answers-fit = omega arith } in
     let all = feeds-all f g in
     record {
-      fed = subst (λ (k : ℕ). FeedsAll w (take k buffer) symbols answers 0 count packets next left told) e all;
+      read = e;
+      fed = all;
       range = fed-range cells positions range all;
       count-fits = omega (arith, ap length (all .written), length-append (fedSymbols w (take n buffer)) (drop count symbols), all .counted);
       packets-fit = omega (arith, all .whole, g .answers-fit);

@@ -1,11 +1,11 @@
--- One turn of the program: what `read` answered is how many bytes at the front of the buffer are fed, and what feeding them gives is left.
+-- One turn of the program: the bytes that a read brought, at the front of the buffer, are fed, and what feeding them gives is left.
 -- Assumes nothing.
 use mathlib.Core.Path.{_≡_}
 use mathlib.Core.Bool.{true}
 use mathlib.Core.List.{List}
 use Prim.Native.Nat.{ℕ, _≤_}
 use lib.ListN.{length, take}
-use Rattle.io.specs.Counts.{clamped}
+use Rattle.input_pieces.specs.Read.{ReadsPiece}
 use Rattle.sending.specs.Sending.{canSend, FeedsAll}
 use Rattle.sending.specs.declared.Sending.{Sending}
 use Rattle.dvbs_send.specs.declared.Turn.{Turn}
@@ -17,9 +17,10 @@ pub record Buffers (w : Sending) (buffer symbols answers : List ℕ) : Type 0 wh
   pub output : length symbols ≡ 416160
   pub numbers : length answers ≡ 255
 
--- The buffer after the read, the symbols and the answers before and after it. Where `read` failed, no byte is fed.
-pub record Turns (w : Sending) (buffer symbols answers : List ℕ) (r : Turn) (left told : List ℕ) : Type 0 where
-  pub fed : FeedsAll w (take (clamped (r .got) (length buffer)) buffer) symbols answers 0 (r .count) (r .packets) (r .sending) left told
+-- The buffer before and after the read, and the symbols and the answers before and after the feeding. Where the read failed, no byte is fed.
+pub record Turns (w : Sending) (before buffer symbols answers : List ℕ) (r : Turn) (left told : List ℕ) : Type 0 where
+  pub read : ReadsPiece (length before) before buffer (r .piece)
+  pub fed : FeedsAll w (take (r .piece .length) buffer) symbols answers 0 (r .count) (r .packets) (r .sending) left told
   pub range : canSend (r .sending) ≡ true
   pub count-fits : r .count ≤ length left
   pub packets-fit : r .packets ≤ length answers

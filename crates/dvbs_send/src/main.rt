@@ -56,7 +56,7 @@ fn report_rest(rest: usize) {
 fn next_turn(sending: Sending, buffer: &mut [u8], symbols: &mut [u8], answers: &mut [u8]) -> Turn
     requires { ⌜ Buffers sending (now buffer) (now symbols) (now answers) ⌝ }
     ensures { λ r. ⌜
-        Turns sending (now (buffer .exit)) (now (symbols .entry)) (now (answers .entry)) r (now (symbols .exit)) (now (answers .exit)) ⌝ }
+        Turns sending (now (buffer .entry)) (now (buffer .exit)) (now (symbols .entry)) (now (answers .entry)) r (now (symbols .exit)) (now (answers .exit)) ⌝ }
 {
     let most = buffer.len();
     let piece = input_pieces::read_piece(STDIN_FILENO, buffer, most);

@@ -61,7 +61,7 @@ returns-2 : tie.Need-returns-2 Inv-loop μ-loop
 returns-2 c = search needs
 
 write-symbols-requires : tie.Need-write-symbols-requires Inv-loop μ-loop
-write-symbols-requires c κs = c .before .before .before .before .before .before .before .before .before .before .before .next-turn .ensures .count-fits
+write-symbols-requires c κs = c .before .before .before .before .before .before .before .before .before .before .before .before .next-turn .ensures .count-fits
 
 slice-aggregate-fail-2 : tie.Need-slice-aggregate-fail-2 Inv-loop μ-loop
 slice-aggregate-fail-2 c = search needs
@@ -71,21 +71,21 @@ fail-requires-2 c κs = search needs
 
 same-length-7 : tie.Need-same-length-7 Inv-loop μ-loop
 same-length-7 c =
-    let t = c .before .before .before .before .before .before .before .before .before .before .before .before .before .before .before in
+    let t = c .before .before .before .before .before .before .before .before .before .before .before .before .before .before .before .before in
     let l = t .before .before .before .before .before in
     let s = l .before .before .before .before in
     omega (arith, t .next-turn .kept .1 .0, l .loop .inv .piece, s .pre .piece)
 
 same-length-8 : tie.Need-same-length-8 Inv-loop μ-loop
 same-length-8 c =
-    let t = c .before .before .before .before .before .before .before .before .before .before .before .before .before .before .before in
+    let t = c .before .before .before .before .before .before .before .before .before .before .before .before .before .before .before .before in
     let l = t .before .before .before .before .before in
     let s = l .before .before .before .before in
     omega (arith, t .next-turn .kept .1 .1 .0, l .loop .inv .output, s .pre .output)
 
 same-length-9 : tie.Need-same-length-9 Inv-loop μ-loop
 same-length-9 c =
-    let t = c .before .before .before .before .before .before .before .before .before .before .before .before .before .before .before in
+    let t = c .before .before .before .before .before .before .before .before .before .before .before .before .before .before .before .before in
     let l = t .before .before .before .before .before in
     let s = l .before .before .before .before in
     omega (arith, t .next-turn .kept .1 .1 .1 .0, l .loop .inv .numbers, s .pre .numbers)
@@ -94,10 +94,10 @@ returns-3 : tie.Need-returns-3 Inv-loop μ-loop
 returns-3 c = search needs
 
 slice-reshare-prefix-report-answers : tie.Need-slice-reshare-prefix-report-answers Inv-loop μ-loop
-slice-reshare-prefix-report-answers c = packets-whole (c .before .before .before .before .before .before .before .before .before .before .before .before .before)
+slice-reshare-prefix-report-answers c = packets-whole (c .before .before .before .before .before .before .before .before .before .before .before .before .before .before)
 
 slice-aggregate-report-answers : tie.Need-slice-aggregate-report-answers Inv-loop μ-loop
-slice-aggregate-report-answers c = sym (length-take-le _ _ (packets-whole (c .before .before .before .before .before .before .before .before .before .before .before .before .before .before)))
+slice-aggregate-report-answers c = sym (length-take-le _ _ (packets-whole (c .before .before .before .before .before .before .before .before .before .before .before .before .before .before .before)))
 
 report-answers-requires : tie.Need-report-answers-requires Inv-loop μ-loop
 report-answers-requires c κs = search needs
@@ -113,7 +113,7 @@ loop-less c = search needs
 
 loop-again : tie.Need-loop-again Inv-loop μ-loop
 loop-again c =
-    let t = c .before .before .before .before .before .before .before .before .before .before .before .before .before .before .before .before in
+    let t = c .before .before .before .before .before .before .before .before .before .before .before .before .before .before .before .before .before in
     let l = t .before .before .before .before .before .loop .inv in
     record {
       range = t .next-turn .ensures .range;
