@@ -4,5 +4,6 @@ pub mod Lists
 pub mod Entries
 pub mod Written
 pub mod Outputs
+pub mod Padded
 pub mod Each
 pub mod Xor

@@ -2,8 +2,8 @@
 -- Assumes nothing.
 use mathlib.Core.Path.{_≡_}
 use mathlib.Core.List.{List, [], _∷_, _++_}
-use Prim.Native.Nat.{ℕ, zero, suc, _+_, _<_}
-use lib.ListN.{length, getD, take, drop}
+use Prim.Native.Nat.{ℕ, zero, suc, _+_, _-_, _<_}
+use lib.ListN.{length, getD, take, drop, replicate}
 
 -- what holds of each member of a list
 abbrev pub All : {A : Type 0} → (A → Type 0) → List A → Type 0
@@ -34,3 +34,7 @@ listOf (suc n) f = listOf n f ++ f n ∷ []
 -- an output with a list at a place of it, and all else as it was
 abbrev pub placed : List ℕ → ℕ → List ℕ → List ℕ
 placed output at s = take at output ++ s ++ drop (at + length s) output
+
+-- bytes at the front of an array of so many, and zeros after them
+abbrev pub padded : ℕ → List ℕ → List ℕ
+padded size bytes = bytes ++ replicate (size - length bytes) 0

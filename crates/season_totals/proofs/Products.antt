@@ -9,12 +9,27 @@ use borrow.Author.Tests.{lt-ltb, le-ltb}
 use lib.Dec.{ltb}
 
 -- a product of halves
-pub half-product : {x y : ℕ} → x < 4294967296 → y < 4294967296 → x * y ≤ 18446744065119617025
+half-product : {x y : ℕ} → x < 4294967296 → y < 4294967296 → x * y ≤ 18446744065119617025
 half-product {x} {y} h k =
     let u : x ≤ 4294967295 = omega arith in
     let w : y ≤ 4294967295 = omega arith in
     let m : x * y ≤ 4294967295 * 4294967295 = mul-le-mul u w in
     omega arith
+
+-- the four products of the halves of two numbers
+pub record Halves (a b : ℕ) : Type 0 where
+  pub low : a % 4294967296 * (b % 4294967296) ≤ 18446744065119617025
+  pub middle : a / 4294967296 * (b % 4294967296) ≤ 18446744065119617025
+  pub other : a % 4294967296 * (b / 4294967296) ≤ 18446744065119617025
+  pub high : a / 4294967296 * (b / 4294967296) ≤ 18446744065119617025
+
+pub halves : (a b : ℕ) → a < 18446744073709551616 → b < 18446744073709551616 → Halves a b
+halves a b h k =
+    let p : a % 4294967296 < 4294967296 = omega arith in
+    let q : a / 4294967296 < 4294967296 = omega arith in
+    let r : b % 4294967296 < 4294967296 = omega arith in
+    let s : b / 4294967296 < 4294967296 = omega arith in
+    record { low = half-product p r; middle = half-product q r; other = half-product p s; high = half-product q s }
 
 -- a product by halves
 by-halves : (x y u v k : ℕ) → (k * x + y) * (k * u + v) ≡ k * (k * (x * u)) + k * (x * v) + k * (y * u) + y * v

@@ -1,4 +1,4 @@
--- Bytes cut into packets: the packets and the rest of two lists of bytes, one after the other; bytes held at the front of an array.
+-- Bytes cut into packets: the packets and the rest of two lists of bytes, one after the other.
 -- Assumes nothing.
 use mathlib.Core.Path.{_≡_, refl, ap, ap₂, sym, _∙_}
 use mathlib.Core.Bool.{true}
@@ -8,16 +8,15 @@ use native.Mathlib.Nat.{zero-add}
 use native.Mathlib.Omega.{arith}
 use borrow.Author.Tests.{ltb-true}
 use lib.Dec.{ltb}
-use lib.ListN.{length, take, drop, replicate, length-append, length-drop, length-replicate, replicate-append-replicate}
+use lib.ListN.{length, take, drop, length-append, length-drop}
 use lib.Seq.{drop-at, take-append-le, drop-append-le, drop-drop}
 use Rattle.common.proofs.Choice.{both-true}
-use Rattle.common.proofs.Lists.{put-after}
 use Rattle.randomizer.specs.Stream.{inPackets}
 use Rattle.puncturing.specs.Mode.{modeOf}
 use Rattle.sender.specs.Send.{senderInRange, isSent}
 use Rattle.transmission.specs.Run.{packetsOf}
 use Rattle.transmission.proofs.Buffers.{packets-more}
-use Rattle.sending.specs.Sending.{padded, sendingInRange, canSend, packetRest}
+use Rattle.sending.specs.Sending.{sendingInRange, canSend, packetRest}
 use Rattle.sending.specs.declared.Sending.{Sending}
 
 -- ---- the rest of some bytes
@@ -75,35 +74,6 @@ cut-from (suc n) a b e =
 
 pub cut : (a b : List ℕ) → Cut a b
 cut a b = cut-from (length a / 188) a b refl
-
--- ---- bytes at the front of an array
-
-abbrev zeros : ℕ → List ℕ
-zeros n = replicate n 0
-
-drop-zeros : (k n : ℕ) → k ≤ n → drop k (zeros n) ≡ zeros (n - k)
-drop-zeros k n h =
-    let z : ℕ = 0 in
-    let m : k + (n - k) ≡ n = omega arith in
-    sym (ap (λ (j : ℕ). drop k (zeros j)) m)
-    ∙ sym (ap (drop k) (replicate-append-replicate k (n - k) z))
-    ∙ drop-at (zeros k) (zeros (n - k)) k (length-replicate k z)
-
--- two lists put into zeros
-pub joined-zeros : (a b first second : List ℕ) (n : ℕ) → length a ≡ n → n + length b ≤ 188
-    → first ≡ take 0 (zeros 188) ++ a ++ drop (0 + length a) (zeros 188)
-    → second ≡ take n first ++ b ++ drop (n + length b) first
-    → second ≡ padded (a ++ b)
-joined-zeros a b first second n e h p q =
-    let z = zeros 188 in
-    let l : length (a ++ b) ≡ n + length b = length-append a b ∙ ap (λ (k : ℕ). k + length b) e in
-    let f : first ≡ a ++ drop n z = p ∙ ap (λ (k : ℕ). a ++ drop k z) (zero-add (length a) ∙ e) in
-    q ∙ ap (λ (x : List ℕ). take n x ++ b ++ drop (n + length b) x) f
-    ∙ put-after a b z n e
-    ∙ ap (λ (x : List ℕ). (a ++ b) ++ x) (drop-zeros (n + length b) 188 h ∙ ap (λ (k : ℕ). zeros (188 - k)) (sym l))
-
-pub padded-full : (bytes : List ℕ) → length bytes ≡ 188 → padded bytes ≡ bytes
-padded-full bytes e = let z : 188 - length bytes ≡ 0 = omega arith in ap (λ (k : ℕ). bytes ++ zeros k) z ∙ append-nil bytes
 
 -- ---- a sending in range
 

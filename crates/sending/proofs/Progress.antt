@@ -10,6 +10,7 @@ use native.Mathlib.Numerals.{add-one}
 use borrow.Rule.Slice.PartMut.{putMid, midOf}
 use lib.ListN.{length, getD, take, drop, set, length-append, length-drop, drop-of-length-le}
 use lib.Seq.{take-all, take-at, drop-at, drop-drop, drop-cons, set-at, take-append-add, drop-append-add, length-take-le}
+use Rattle.common.specs.Lists.{padded}
 use Rattle.puncturing.specs.Mode.{modeOf}
 use Rattle.inner_code.proofs.Coder as range
 use Rattle.sender.specs.Input.{isInput, packetFor, packetsFor, sentNumber}
@@ -23,7 +24,7 @@ use Rattle.sender.proofs.History.{Answered, input-sent}
 use Rattle.sender.proofs.Counts.{most-symbols}
 use Rattle.transmission.specs.Run.{packetsOf}
 use Rattle.transmission.proofs.Buffers.{packets-more}
-use Rattle.sending.specs.Sending.{padded, heldBytes, packetRest, wholePackets, wholeCount, fedSymbols, fedAnswers, OutputsFit, FeedsAll}
+use Rattle.sending.specs.Sending.{heldBytes, packetRest, wholePackets, wholeCount, fedSymbols, fedAnswers, OutputsFit, FeedsAll}
 use Rattle.sending.specs.declared.Sending.{Sending}
 use Rattle.sending.proofs.Pieces.{rest-few, rest-more, packets-few}
 
@@ -130,7 +131,7 @@ module _ {w : Sending} {piece output₀ answers₀ output answers : List ℕ} {s
     last-rest : leftOf w piece held at ≡ packetRest (heldBytes w ++ piece)
     last-rest = sym (rest-few (leftOf w piece held at) few-left) ∙ p .rest
 
-    pub progress-end : (pending : List ℕ) → pending ≡ padded (take held (w .pending) ++ take (length piece - at) (drop at piece))
+    pub progress-end : (pending : List ℕ) → pending ≡ padded 188 (take held (w .pending) ++ take (length piece - at) (drop at piece))
         → FeedsAll w piece output₀ answers₀ 0 count packets (record { sender = s; pending = pending; held = held + (length piece - at) }) output answers
     progress-end pending e =
         let l : take held (w .pending) ++ take (length piece - at) (drop at piece) ≡ packetRest (heldBytes w ++ piece)
@@ -140,7 +141,7 @@ module _ {w : Sending} {piece output₀ answers₀ output answers : List ℕ} {s
           done = refl;
           counted = sym (p .counted) ∙ ap length all-symbols;
           whole = omega (arith, p .total, p .short);
-          sending = λ i. record { sender = last-sender i; pending = (e ∙ ap padded l) i; held = n i };
+          sending = λ i. record { sender = last-sender i; pending = (e ∙ ap (padded 188) l) i; held = n i };
           written = p .written ∙ ap (λ (x : List ℕ). x ++ drop count output₀) all-symbols;
           answers-written = p .answered ∙ ap (λ (x : List ℕ). x ++ drop packets answers₀) all-told;
         }

@@ -7,6 +7,7 @@ use Prim.Native.Nat.{ℕ, _+_, _-_, _/_, _%_, _≤_}
 use lib.Dec.{ltb}
 use lib.ListN.{length, take, drop, replicate}
 use Rattle.common.specs.Choice.{pick}
+use Rattle.common.specs.Lists.{padded}
 use Rattle.puncturing.specs.Mode.{modeOf}
 use Rattle.sender.specs.Input.{packetsFor, sentNumber}
 use Rattle.sender.specs.Send.{freshSender, senderInRange, isSent}
@@ -15,13 +16,9 @@ use Rattle.sender.specs.declared.Sender.{Sender}
 use Rattle.transmission.specs.Run.{packetsOf}
 use Rattle.sending.specs.declared.Sending.{Sending}
 
--- bytes at the front of an array of 188, and zeros after them
-abbrev pub padded : List ℕ → List ℕ
-padded bytes = bytes ++ replicate (188 - length bytes) 0
-
 -- a sender, and the bytes of a packet that is not whole yet
 abbrev pub holding : Sender → List ℕ → Sending
-holding s bytes = record { sender = s; pending = padded bytes; held = length bytes }
+holding s bytes = record { sender = s; pending = padded 188 bytes; held = length bytes }
 
 abbrev pub heldBytes : Sending → List ℕ
 heldBytes w = take (w .held) (w .pending)

@@ -4,10 +4,11 @@ ghost use mathlib.Core.List.{_++_};
 ghost use Prim.Native.Nat.{_+_, _/_, _<_, _≤_};
 ghost use lib.ListN.{length, take};
 ghost use Rattle.answer.specs.Number.{numberOf};
+ghost use Rattle.common.specs.Lists.{padded};
 ghost use Rattle.puncturing.specs.Mode.{modeOf};
 ghost use Rattle.inner_code.specs.Encode.{newNumber};
 ghost use Rattle.sender.specs.Send.{Sends};
-ghost use Rattle.sending.specs.Sending.{padded, freshSending, sendingInRange, OutputsFit, FeedsAll, FeedsSending};
+ghost use Rattle.sending.specs.Sending.{freshSending, sendingInRange, OutputsFit, FeedsAll, FeedsSending};
 use answer::Answer;
 use sender::Sender;
 
@@ -127,7 +128,7 @@ fn joined(
     more: &[u8],
 ) -> [u8; Sender::PACKET_LENGTH]
     requires { ⌜ held + length (now more) ≤ 188 ⌝ }
-    ensures { λ r. ⌜ r ≡ padded (take held pending ++ now (more .entry)) ⌝ }
+    ensures { λ r. ⌜ r ≡ padded 188 (take held pending ++ now (more .entry)) ⌝ }
 {
     let mut bytes = [0u8; Sender::PACKET_LENGTH];
     common::put(&pending[..held], 0, &mut bytes);

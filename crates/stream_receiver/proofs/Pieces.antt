@@ -9,39 +9,18 @@ use native.Mathlib.Omega.{arith}
 use mathlib.Core.Bool.{true}
 use borrow.Author.Tests.{ltb-true}
 use lib.Dec.{ltb}
-use lib.ListN.{length, take, drop, replicate, length-append, length-drop, length-replicate, replicate-append-replicate, take-append-drop, drop-of-length-le}
+use lib.ListN.{length, take, drop, length-append, length-drop, take-append-drop, drop-of-length-le}
 use borrow.Rule.Slice.PartMut.{putMid, midOf}
 use lib.Seq.{take-all, drop-at, length-take-le, drop-append-add}
 use Rattle.common.proofs.Choice.{both-true}
-use Rattle.common.proofs.Lists.{put-after}
+use Rattle.common.specs.Lists.{padded}
+use Rattle.common.proofs.Padded.{padded-full}
 use Rattle.receiver.specs.Receive.{receiverInRange}
 use Rattle.recording.specs.Recording.{restOf, TakesRecording}
 use Rattle.recording.proofs.Joins.{takes-join, takes-few, takes-count, takes-length}
 use Rattle.receiver.specs.declared.Receiver.{Receiver}
-use Rattle.stream_receiver.specs.Feed.{padded, holding, heldBytes, streamInRange, TakesPiece}
+use Rattle.stream_receiver.specs.Feed.{holding, heldBytes, streamInRange, TakesPiece}
 use Rattle.stream_receiver.specs.declared.StreamReceiver.{StreamReceiver}
-
-abbrev zeros : ℕ → List ℕ
-zeros n = replicate n 0
-
-drop-zeros : (k n : ℕ) → k ≤ n → drop k (zeros n) ≡ zeros (n - k)
-drop-zeros k n h =
-    let z : ℕ = 0 in
-    let m : k + (n - k) ≡ n = omega arith in
-    sym (ap (λ (j : ℕ). drop k (zeros j)) m) ∙ sym (ap (drop k) (replicate-append-replicate k (n - k) z))
-    ∙ drop-at (zeros k) (zeros (n - k)) k (length-replicate k z)
-
--- two lists put into zeros
-pub joined-zeros : (a b first second : List ℕ) (n : ℕ) → length a ≡ n → n + length b ≤ 204
-    → first ≡ take 0 (zeros 204) ++ a ++ drop (0 + length a) (zeros 204)
-    → second ≡ take n first ++ b ++ drop (n + length b) first
-    → second ≡ padded (a ++ b)
-joined-zeros a b first second n e h p q =
-    let z = zeros 204 in
-    let l : length (a ++ b) ≡ n + length b = length-append a b ∙ ap (λ (k : ℕ). k + length b) e in
-    let f : first ≡ a ++ drop n z = p ∙ ap (λ (k : ℕ). a ++ drop k z) (zero-add (length a) ∙ e) in
-    q ∙ ap (λ (x : List ℕ). take n x ++ b ++ drop (n + length b) x) f ∙ put-after a b z n e
-    ∙ ap (λ (x : List ℕ). (a ++ b) ++ x) (drop-zeros (n + length b) 204 h ∙ ap (λ (k : ℕ). zeros (204 - k)) (sym l))
 
 -- ---- the ranges
 
@@ -52,12 +31,7 @@ stream-range i e =
 
 -- ---- an array with bytes at its front
 
-padded-full : (bytes : List ℕ) → length bytes ≡ 204 → padded bytes ≡ bytes
-padded-full bytes e =
-    let z : 204 - length bytes ≡ 0 = omega arith in
-    ap (λ (k : ℕ). bytes ++ zeros k) z ∙ append-nil bytes
-
-kept-state : (s : Receiver) (rest : List ℕ) {array : List ℕ} {n : ℕ} → array ≡ padded rest → n ≡ length rest
+kept-state : (s : Receiver) (rest : List ℕ) {array : List ℕ} {n : ℕ} → array ≡ padded 204 rest → n ≡ length rest
     → _≡_ {A = StreamReceiver} (record { receiver = s; pending = array; held = n }) (holding s rest)
 kept-state s rest p e = ap₂ (λ (x : List ℕ) (k : ℕ). record { receiver = s; pending = x; held = k }) p e
 
@@ -99,13 +73,13 @@ module _ (i : StreamReceiver) (size : length (i .pending) ≡ 204) (small : i .h
 
   -- the block that the bytes held begin
   pub finish-block : (filler : List ℕ) {block output exit : List ℕ} {count : ℕ} {last : Receiver} → length filler ≡ (204 - i .held) % 204 → (i .held ≡ 0 → ⊥)
-      → block ≡ padded (heldBytes i ++ filler) → TakesRecording (i .receiver) block [] output count last exit
+      → block ≡ padded 204 (heldBytes i ++ filler) → TakesRecording (i .receiver) block [] output count last exit
       → TakesRecording (i .receiver) (heldBytes i ++ filler) [] output count last exit
   finish-block filler {block} {output} {exit} {count} {last} e z p t =
-      subst (λ (x : List ℕ). TakesRecording (i .receiver) x [] output count last exit) (p ∙ padded-full (heldBytes i ++ filler) (omega (arith, length-came filler))) t
+      subst (λ (x : List ℕ). TakesRecording (i .receiver) x [] output count last exit) (p ∙ padded-full 204 (heldBytes i ++ filler) (omega (arith, length-came filler))) t
 
   -- no block is whole yet
-  pub keep-piece : (piece output array : List ℕ) → i .held + length piece < 204 → array ≡ padded (heldBytes i ++ piece)
+  pub keep-piece : (piece output array : List ℕ) → i .held + length piece < 204 → array ≡ padded 204 (heldBytes i ++ piece)
       → TakesPiece i piece output 0 (record { receiver = i .receiver; pending = array; held = i .held + length piece }) output
   keep-piece piece output array h p =
       let came = heldBytes i ++ piece in
@@ -114,7 +88,7 @@ module _ (i : StreamReceiver) (size : length (i .pending) ≡ 204) (small : i .h
       let r : restOf came ≡ came = ap (λ (k : ℕ). drop k came) z in
       record {
         takes = takes-few (i .receiver) came [] output (omega arith);
-        kept = kept-state (i .receiver) (restOf came) (p ∙ ap padded (sym r)) (sym (ap length r ∙ l));
+        kept = kept-state (i .receiver) (restOf came) (p ∙ ap (padded 204) (sym r)) (sym (ap length r ∙ l));
       }
 
   -- a piece that completes at least one block
@@ -180,7 +154,7 @@ module _ (i : StreamReceiver) (size : length (i .pending) ≡ 204) (small : i .h
         count-within = omega (arith, takes-count g, rest-fits, first-within, first-length, length-take-le (length exit - m) (drop m exit) (omega (arith, length-drop m exit)))
 
         pub take-pieces : (array : List ℕ) (rest end : ℕ) → rest ≡ (length piece - start) % 204 → end ≡ length piece - rest
-            → array ≡ padded (take 0 (i .pending) ++ take (length piece - end) (drop end piece))
+            → array ≡ padded 204 (take 0 (i .pending) ++ take (length piece - end) (drop end piece))
             → TakesPiece i piece output (m + n) (record { receiver = last; pending = array; held = rest }) (putMid m (length exit - m) exit exit′)
         unfolding first
         take-pieces array rest end p q a =
@@ -200,6 +174,6 @@ module _ (i : StreamReceiver) (size : length (i .pending) ≡ 204) (small : i .h
                   subst₂ (λ (x y : List ℕ). TakesRecording (i .receiver) x [] output (m + n) last y) came-split (sym (ap (λ (l : List ℕ). take m exit ++ l) w))
                   (takes-join b f t);
               kept =
-                  kept-state last (restOf came) (a ∙ ap padded (sym tail))
+                  kept-state last (restOf came) (a ∙ ap (padded 204) (sym tail))
                   (sym (ap length (rest-piece end d) ∙ omega (arith, length-drop end piece, start-within)));
             }

@@ -7,18 +7,15 @@ use Prim.Native.Nat.{ℕ, _+_, _-_, _*_, _/_, _<_}
 use lib.Dec.{ltb}
 use lib.ListN.{length, take, replicate}
 use Rattle.common.specs.Choice.{pick}
+use Rattle.common.specs.Lists.{padded}
 use Rattle.receiver.specs.Receive.{freshReceiver, receiverInRange}
 use Rattle.receiver.specs.declared.Receiver.{Receiver}
 use Rattle.recording.specs.Recording.{restOf, TakesRecording}
 use Rattle.stream_receiver.specs.declared.StreamReceiver.{StreamReceiver}
 
--- bytes at the front of an array of 204, and 0 after them
-abbrev pub padded : List ℕ → List ℕ
-padded bytes = bytes ++ replicate (204 - length bytes) 0
-
 -- a receiver, and the bytes of a block that is not whole yet
 abbrev pub holding : Receiver → List ℕ → StreamReceiver
-holding s bytes = record { receiver = s; pending = padded bytes; held = length bytes }
+holding s bytes = record { receiver = s; pending = padded 204 bytes; held = length bytes }
 
 abbrev pub heldBytes : StreamReceiver → List ℕ
 heldBytes i = take (i .held) (i .pending)

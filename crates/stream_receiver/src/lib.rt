@@ -5,8 +5,9 @@ ghost use Prim.Native.Nat.{_+_, _-_, _*_, _/_, _%_, _≤_, _<_};
 ghost use lib.ListN.{length, take};
 ghost use Rattle.answer.specs.Number.{numberOf};
 ghost use Rattle.common.specs.Choice.{pick};
+ghost use Rattle.common.specs.Lists.{padded};
 ghost use Rattle.recording.specs.Recording.{TakesRecording};
-ghost use Rattle.stream_receiver.specs.Feed.{freshStream, streamInRange, capacityOf, padded, heldBytes, TakesPiece, FeedsReceiver};
+ghost use Rattle.stream_receiver.specs.Feed.{freshStream, streamInRange, capacityOf, heldBytes, TakesPiece, FeedsReceiver};
 ghost use Rattle.stream_receiver.specs.Reporting.{reportOf, Reports};
 use answer::Answer;
 use receiver::Receiver;
@@ -52,7 +53,7 @@ fn whole_blocks(held: usize, length: usize) -> usize
 // The first bytes of an array, and those of a piece after them.
 fn joined(pending: [u8; 204], held: usize, piece: &[u8]) -> [u8; 204]
     requires { ⌜ held + length (now piece) ≤ 204 ⌝ }
-    ensures { λ r. ⌜ r ≡ padded (take held pending ++ now (piece .entry)) ⌝ }
+    ensures { λ r. ⌜ r ≡ padded 204 (take held pending ++ now (piece .entry)) ⌝ }
 {
     let mut bytes = [0u8; 204];
     common::put(&pending[..held], 0, &mut bytes);

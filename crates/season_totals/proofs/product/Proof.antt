@@ -1,94 +1,55 @@
 -- `season_totals::product` meets its contract.
 -- Assumes nothing.
-use Prim.Native.Nat.{_+_, _*_, _/_, _%_, _<_}
+use Prim.Native.Nat.{ℕ, _+_, _*_, _/_, _%_, _<_}
 use native.Mathlib.Omega.{arith}
-use Rattle.season_totals.proofs.Products.{half-product, product-halves, high-fits}
+use Rattle.season_totals.proofs.Products.{Halves, halves, product-halves, high-fits}
 use borrow.Author.Needs.{needs}
 use Rattle.season_totals.proofs.product.Statement.{statement}
 use Rattle.season_totals.proofs.product.Tie as tie
 
+-- the products of the halves of the two numbers
+bounds : (c : tie.Start) → Halves (c .args .a) (c .args .b)
+bounds c = halves (c .args .a) (c .args .b) (omega arith) (omega arith)
+
 mul-low : tie.Need-mul-low
-mul-low c =
-    let a : c .args .a < 18446744073709551616 = omega arith in
-    let b : c .args .b < 18446744073709551616 = omega arith in
-    let p = half-product {x = c .args .a % 4294967296} {y = c .args .b % 4294967296} (omega arith) (omega arith) in
-    let q = half-product {x = c .args .a / 4294967296} {y = c .args .b % 4294967296} (omega arith) (omega arith) in
-    let r = half-product {x = c .args .a % 4294967296} {y = c .args .b / 4294967296} (omega arith) (omega arith) in
-    let s = half-product {x = c .args .a / 4294967296} {y = c .args .b / 4294967296} (omega arith) (omega arith) in
-    omega arith
+mul-low c = let h = bounds c in omega (arith, h .low)
 
 mul-middle : tie.Need-mul-middle
-mul-middle c =
-    let a : c .args .a < 18446744073709551616 = omega arith in
-    let b : c .args .b < 18446744073709551616 = omega arith in
-    let p = half-product {x = c .args .a % 4294967296} {y = c .args .b % 4294967296} (omega arith) (omega arith) in
-    let q = half-product {x = c .args .a / 4294967296} {y = c .args .b % 4294967296} (omega arith) (omega arith) in
-    let r = half-product {x = c .args .a % 4294967296} {y = c .args .b / 4294967296} (omega arith) (omega arith) in
-    let s = half-product {x = c .args .a / 4294967296} {y = c .args .b / 4294967296} (omega arith) (omega arith) in
-    omega arith
+mul-middle c = let h = bounds c in omega (arith, h .middle)
 
 add-middle : tie.Need-add-middle
-add-middle c =
-    let a : c .args .a < 18446744073709551616 = omega arith in
-    let b : c .args .b < 18446744073709551616 = omega arith in
-    let p = half-product {x = c .args .a % 4294967296} {y = c .args .b % 4294967296} (omega arith) (omega arith) in
-    let q = half-product {x = c .args .a / 4294967296} {y = c .args .b % 4294967296} (omega arith) (omega arith) in
-    let r = half-product {x = c .args .a % 4294967296} {y = c .args .b / 4294967296} (omega arith) (omega arith) in
-    let s = half-product {x = c .args .a / 4294967296} {y = c .args .b / 4294967296} (omega arith) (omega arith) in
-    omega arith
+add-middle c = let h = bounds c in omega (arith, h .low, h .middle)
 
 mul-other : tie.Need-mul-other
-mul-other c =
-    let a : c .args .a < 18446744073709551616 = omega arith in
-    let b : c .args .b < 18446744073709551616 = omega arith in
-    let p = half-product {x = c .args .a % 4294967296} {y = c .args .b % 4294967296} (omega arith) (omega arith) in
-    let q = half-product {x = c .args .a / 4294967296} {y = c .args .b % 4294967296} (omega arith) (omega arith) in
-    let r = half-product {x = c .args .a % 4294967296} {y = c .args .b / 4294967296} (omega arith) (omega arith) in
-    let s = half-product {x = c .args .a / 4294967296} {y = c .args .b / 4294967296} (omega arith) (omega arith) in
-    omega arith
+mul-other c = let h = bounds c in omega (arith, h .other)
 
 add-other : tie.Need-add-other
-add-other c =
-    let a : c .args .a < 18446744073709551616 = omega arith in
-    let b : c .args .b < 18446744073709551616 = omega arith in
-    let p = half-product {x = c .args .a % 4294967296} {y = c .args .b % 4294967296} (omega arith) (omega arith) in
-    let q = half-product {x = c .args .a / 4294967296} {y = c .args .b % 4294967296} (omega arith) (omega arith) in
-    let r = half-product {x = c .args .a % 4294967296} {y = c .args .b / 4294967296} (omega arith) (omega arith) in
-    let s = half-product {x = c .args .a / 4294967296} {y = c .args .b / 4294967296} (omega arith) (omega arith) in
-    omega arith
+add-other c = let h = bounds c in omega (arith, h .other)
 
 mul-high : tie.Need-mul-high
-mul-high c =
-    let a : c .args .a < 18446744073709551616 = omega arith in
-    let b : c .args .b < 18446744073709551616 = omega arith in
-    let p = half-product {x = c .args .a % 4294967296} {y = c .args .b % 4294967296} (omega arith) (omega arith) in
-    let q = half-product {x = c .args .a / 4294967296} {y = c .args .b % 4294967296} (omega arith) (omega arith) in
-    let r = half-product {x = c .args .a % 4294967296} {y = c .args .b / 4294967296} (omega arith) (omega arith) in
-    let s = half-product {x = c .args .a / 4294967296} {y = c .args .b / 4294967296} (omega arith) (omega arith) in
-    omega arith
+mul-high c = let h = bounds c in omega (arith, h .high)
+
+-- the sums of the middle: of the first product and the low one, and of the second and the lower half of that
+abbrev middle : ℕ → ℕ → ℕ
+middle a b = a / 4294967296 * (b % 4294967296) + a % 4294967296 * (b % 4294967296) / 4294967296
+
+middle-fits : (a b : ℕ) → Halves a b → middle a b < 18446744073709551616
+middle-fits a b h = omega (arith, h .low, h .middle)
 
 add-high : tie.Need-add-high
 add-high c =
-    let a : c .args .a < 18446744073709551616 = omega arith in
-    let b : c .args .b < 18446744073709551616 = omega arith in
-    let p = half-product {x = c .args .a % 4294967296} {y = c .args .b % 4294967296} (omega arith) (omega arith) in
-    let q = half-product {x = c .args .a / 4294967296} {y = c .args .b % 4294967296} (omega arith) (omega arith) in
-    let r = half-product {x = c .args .a % 4294967296} {y = c .args .b / 4294967296} (omega arith) (omega arith) in
-    let s = half-product {x = c .args .a / 4294967296} {y = c .args .b / 4294967296} (omega arith) (omega arith) in
-    let m : c .args .a / 4294967296 * (c .args .b % 4294967296) + c .args .a % 4294967296 * (c .args .b % 4294967296) / 4294967296 < 18446744073709551616 = omega arith in
-    record { fits = let z = high-fits (c .args .a / 4294967296 * (c .args .b / 4294967296)) (c .args .a / 4294967296 * (c .args .b % 4294967296) + c .args .a % 4294967296 * (c .args .b % 4294967296) / 4294967296) 0 s m (omega arith) in omega (arith, z) }
+    let h = bounds c in
+    let z = high-fits (c .args .a / 4294967296 * (c .args .b / 4294967296)) (middle (c .args .a) (c .args .b)) 0 (h .high) (middle-fits (c .args .a) (c .args .b) h) (omega arith) in
+    record { fits = omega (arith, z) }
 
 add-high-2 : tie.Need-add-high-2
 add-high-2 c =
-    let a : c .args .a < 18446744073709551616 = omega arith in
-    let b : c .args .b < 18446744073709551616 = omega arith in
-    let p = half-product {x = c .args .a % 4294967296} {y = c .args .b % 4294967296} (omega arith) (omega arith) in
-    let q = half-product {x = c .args .a / 4294967296} {y = c .args .b % 4294967296} (omega arith) (omega arith) in
-    let r = half-product {x = c .args .a % 4294967296} {y = c .args .b / 4294967296} (omega arith) (omega arith) in
-    let s = half-product {x = c .args .a / 4294967296} {y = c .args .b / 4294967296} (omega arith) (omega arith) in
-    let m : c .args .a / 4294967296 * (c .args .b % 4294967296) + c .args .a % 4294967296 * (c .args .b % 4294967296) / 4294967296 < 18446744073709551616 = omega arith in
-    let o : c .args .a % 4294967296 * (c .args .b / 4294967296) + (c .args .a / 4294967296 * (c .args .b % 4294967296) + c .args .a % 4294967296 * (c .args .b % 4294967296) / 4294967296) % 4294967296 < 18446744073709551616 = omega arith in
-    record { fits = high-fits (c .args .a / 4294967296 * (c .args .b / 4294967296)) (c .args .a / 4294967296 * (c .args .b % 4294967296) + c .args .a % 4294967296 * (c .args .b % 4294967296) / 4294967296) (c .args .a % 4294967296 * (c .args .b / 4294967296) + (c .args .a / 4294967296 * (c .args .b % 4294967296) + c .args .a % 4294967296 * (c .args .b % 4294967296) / 4294967296) % 4294967296) s m o }
+    let h = bounds c in
+    let m = middle (c .args .a) (c .args .b) in
+    let o : c .args .a % 4294967296 * (c .args .b / 4294967296) + m % 4294967296 < 18446744073709551616 = omega (arith, h .other) in
+    record {
+      fits = high-fits (c .args .a / 4294967296 * (c .args .b / 4294967296)) m (c .args .a % 4294967296 * (c .args .b / 4294967296) + m % 4294967296) (h .high) (middle-fits (c .args .a) (c .args .b) h) o;
+    }
 
 mul-t14 : tie.Need-mul-t14
 mul-t14 c = search needs

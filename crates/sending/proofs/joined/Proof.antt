@@ -4,7 +4,7 @@ use mathlib.Core.Path.{_≡_, sym}
 use native.Mathlib.Omega.{arith}
 use lib.ListN.{length, take}
 use lib.Seq.{length-take-le}
-use Rattle.sending.proofs.Pieces.{joined-zeros}
+use Rattle.common.proofs.Padded.{padded-two}
 use borrow.Author.Needs.{needs}
 use Rattle.sending.proofs.joined.Statement.{statement}
 use Rattle.sending.proofs.joined.Tie as tie
@@ -34,7 +34,7 @@ put-requires-2 c κs = search needs
 returns : tie.Need-returns
 returns c =
     let s = c .before .before .before .before .before .before .before .before in
-    joined-zeros (take (s .args .held) (s .args .t1)) (s .args .more .now) (c .before .before .before .before .put .last .1 .1 .0) (c .before .put2 .last .1 .1 .0)
+    padded-two 188 (take (s .args .held) (s .args .t1)) (s .args .more .now) (c .before .before .before .before .put .last .1 .1 .0) (c .before .put2 .last .1 .1 .0)
     (s .args .held) (front s) (s .pre) (c .before .before .before .before .put .ensures) (c .before .put2 .ensures)
 
 pub joined-spec : {M : Type 1} → statement M

@@ -9,7 +9,7 @@ use lib.Seq.{length-take-le}
 use Rattle.answer.specs.Number.{numberOf}
 use Rattle.puncturing.specs.Mode.{modeOf}
 use Rattle.sender.specs.Send.{Sends}
-use Rattle.sending.proofs.Pieces.{padded-full}
+use Rattle.common.proofs.Padded.{padded-full}
 use borrow.Author.Needs.{needs}
 use Rattle.sending.proofs.send_joined.Statement.{statement}
 use Rattle.sending.proofs.send_joined.Tie as tie
@@ -36,7 +36,7 @@ returns c =
     let r = c .before .before .send in
     let front = take (s .args .held) (s .args .pending) in
     let more = s .args .more .now in
-    let size = padded-full (front ++ more)
+    let size = padded-full 188 (front ++ more)
     (length-append front more ∙ omega (arith, s .pre, length-take-le (s .args .held) (s .args .pending) (omega (arith, s .pre, pending-size s)))) in
     subst (λ (l : List ℕ). Sends modeOf (s .args .sender) l (s .args .output .now) (numberOf (r .result .answer)) (r .result .count) (r .result .sender) (r .last .1 .1 .0))
     (c .before .before .before .before .before .joined .ensures ∙ size) (r .ensures)

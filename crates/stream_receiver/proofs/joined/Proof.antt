@@ -4,7 +4,7 @@ use mathlib.Core.Path.{sym}
 use native.Mathlib.Omega.{arith}
 use lib.ListN.{take}
 use lib.Seq.{length-take-le}
-use Rattle.stream_receiver.proofs.Pieces.{joined-zeros}
+use Rattle.common.proofs.Padded.{padded-two}
 use borrow.Author.Needs.{needs}
 use Rattle.stream_receiver.proofs.joined.Statement.{statement}
 use Rattle.stream_receiver.proofs.joined.Tie as tie
@@ -34,7 +34,7 @@ put-requires-2 c κs = search needs
 returns : tie.Need-returns
 returns c =
     let s = c .before .before .before .before .before .before .before .before in
-    joined-zeros (take (s .args .held) (s .args .t1)) (s .args .piece .now) (c .before .before .before .before .put .last .1 .1 .0) (c .before .put2 .last .1 .1 .0) (s .args .held) (length-take-le (s .args .held) (s .args .t1) (omega (arith, s .pre, s .good .0 .1 .0 .1))) (s .pre)
+    padded-two 204 (take (s .args .held) (s .args .t1)) (s .args .piece .now) (c .before .before .before .before .put .last .1 .1 .0) (c .before .put2 .last .1 .1 .0) (s .args .held) (length-take-le (s .args .held) (s .args .t1) (omega (arith, s .pre, s .good .0 .1 .0 .1))) (s .pre)
     (c .before .before .before .before .put .ensures) (c .before .put2 .ensures)
 
 pub joined-spec : {M : Type 1} → statement M
