@@ -21,6 +21,8 @@ use Rattle.delay_branches.specs.declared.Side.the-variants.{Sending}
 use Rattle.interleaver.proofs.Blocks.{length-flatten}
 use Rattle.interleaver.proofs.Streams.{length-delayed, delayed-lengths, delayed-bytes}
 use Rattle.convolutional_code.proofs.Bits.{length-bits}
+use Rattle.bit_packing.specs.Packing.{packedBytes}
+use Rattle.bit_packing.proofs.Bytes.{bytes-back}
 use Rattle.puncturing.specs.Mode.{modeOf}
 use Rattle.puncturing.specs.Step.{patternLength}
 use Rattle.puncturing.proofs.Steps.{some-bits}
@@ -32,9 +34,9 @@ use Rattle.sender.proofs.Inputs.{packets-sent}
 use Rattle.receiver.proofs.Decoding.{sent-length, sent-bytes}
 use Rattle.receiver.proofs.Reception.{blocks-count, coded-size, begun-anywhere}
 use Rattle.receiver.proofs.Promised.{kept-calls}
-use Rattle.end_to_end.specs.Blocks.{sentBits, packedBytes, blocksIn}
+use Rattle.end_to_end.specs.Blocks.{sentBits, blocksIn}
 use Rattle.end_to_end.specs.Link.{Link, blocksInBits, Arrived}
-use Rattle.end_to_end.proofs.Blocks.{bytes-back, blocks-back}
+use Rattle.end_to_end.proofs.Blocks.{blocks-back}
 use Rattle.end_to_end.proofs.Sent.{sent-front, front-within, front-last}
 
 -- ---- the interleaved blocks are of bytes

@@ -6,6 +6,7 @@ use mathlib.Core.List.{List, _++_, flatten}
 use Prim.Native.Nat.{ℕ, _-_, _*_, _/_, _≤_, _<_}
 use lib.ListN.{length, take, replicate}
 use Rattle.common.specs.Lists.{All}
+use Rattle.bit_packing.specs.Packing.{packedBytes}
 use Rattle.puncturing.specs.Mode.{modeOf}
 use Rattle.puncturing.specs.Step.{patternLength}
 use Rattle.run_reader.specs.Read.{symbolsPerPattern}
@@ -18,7 +19,7 @@ use Rattle.sender.specs.declared.Sender.{Sender}
 use Rattle.receiver.specs.Receive.{freshReceiver}
 use Rattle.receiver.specs.Kept.{Kept}
 use Rattle.receiver.specs.declared.Receiver.{Receiver}
-use Rattle.end_to_end.specs.Blocks.{packedBytes, blocksIn}
+use Rattle.end_to_end.specs.Blocks.{blocksIn}
 
 pub record Link (rate : ℕ) (inputs : List (List ℕ)) : Type 0 where
   -- a fresh sender is given the inputs, call after call, and these are its symbols
