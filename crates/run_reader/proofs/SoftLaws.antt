@@ -24,12 +24,13 @@ use Rattle.soft_decision.specs.declared.Point.{Point}
 use Rattle.soft_decision.specs.declared.Received.{Received}
 use Rattle.soft_decision.specs.declared.Received.the-variants.{At, Lost}
 use Rattle.soft_decision.proofs.Numbers.{costs-nan, costs-one, costs-minus-one}
+use Rattle.run_reader.specs.Clear as clear
+use Rattle.run_reader.specs.Clear.{Clear, AllClear}
 use Rattle.run_reader.specs.Cost.{coderAt, bitsDiffer, differing, totalCost, hardCost, softCost}
 use Rattle.run_reader.specs.Read.{runBits, runLength, below, valid, sound, readNumber, softNumber, BestRead, ReadsHard, ReadsSoft, refused, read}
 use Rattle.run_reader.proofs.Serial.{flat}
 use Rattle.run_reader.proofs.Costs.{sent-bits}
-use Rattle.run_reader.proofs.Unharmed as clear
-use Rattle.run_reader.proofs.Unharmed.{Clear, AllClear, differing-clear}
+use Rattle.run_reader.proofs.Unharmed.{differing-clear}
 use Rattle.run_reader.proofs.Outcome.{passed}
 use Rattle.run_reader.proofs.SoftDecisions.{decided-small, soft}
 use Rattle.run_reader.proofs.Laws.{all-valid, total-le}

@@ -25,6 +25,7 @@ use Rattle.puncturing.proofs.Places.{tested-at}
 use Rattle.puncturing.proofs.Steps.{some-bits}
 use Rattle.depuncturing.specs.Steps.{kind, kindCost, kindAt, first, puncturedCosts}
 use Rattle.inner_code.specs.Step.{symbolsOf}
+use Rattle.run_reader.specs.Clear.{Clear, AllClear, none, more}
 use Rattle.run_reader.specs.Cost.{coderAt, bitsDiffer, differing, totalCost, runCost, hardCost}
 use Rattle.run_reader.proofs.Serial.{flat}
 use Rattle.run_reader.specs.Read.{symbolsPerPattern, runLength}
@@ -146,16 +147,6 @@ own-best rate m hr hm {bits} w e ss es {best} d =
     (b, d .costs ∙ (ap (hardCost ss rate m) b ∙ z), d .ends ∙ ap (memoryAfter m) b)
 
 -- ---- clear decisions of any kind
-
--- what was received is clear about the symbol that was sent: that one costs nothing, and every other one something
-pub record Clear {R : Type 0} (cost : R → ℕ → ℕ) (r : R) (sent : ℕ) : Type 0 where
-  pub free-sent : cost r sent ≡ 0
-  pub only : (other : ℕ) → other < 4 → cost r other ≡ 0 → other ≡ sent
-
--- so is all that was received, symbol by symbol
-pub data AllClear {R : Type 0} (cost : R → ℕ → ℕ) : List R → List ℕ → Type 0 where
-  none : AllClear cost [] []
-  more : {r : R} {s : ℕ} {rs : List R} {ss : List ℕ} → Clear cost r s → AllClear cost rs ss → AllClear cost (r ∷ rs) (s ∷ ss)
 
 pub clear-length : {R : Type 0} {cost : R → ℕ → ℕ} {rs : List R} {ss : List ℕ} → AllClear cost rs ss → length rs ≡ length ss
 clear-length none = refl

@@ -6,7 +6,7 @@ use Prim.Native.Nat.{ℕ, _+_, _*_, _/_, _%_, _<_, _≤_}
 use Prim.{tt}
 use native.Mathlib.Nat.{mul-add, mul-mod-right, mul-div-right, mul-add-div, mul-add-mod-self-left, div-eq-of-lt, mod-eq-of-lt}
 use native.Mathlib.Omega.{arith}
-use lib.ListN.{length, take, drop, length-append, length-drop, take-append-drop}
+use lib.ListN.{length, take, drop, length-append, length-take, length-drop, take-append-drop}
 use lib.Seq.{take-take, take-add, take-at, length-take-le, drop-drop}
 use Rattle.common.specs.Lists.{All}
 use Rattle.convolutional_code.specs.Bits.{Bits}
@@ -17,11 +17,12 @@ use Rattle.inner_code.proofs.Coder.{length-symbols}
 use Rattle.trellis.specs.Best.{Decoded}
 use Rattle.soft_decision.specs.Cost.{softly, receivedOf}
 use Rattle.soft_decision.specs.declared.Received.{Received}
+use Rattle.run_reader.specs.Clear.{AllClear}
 use Rattle.run_reader.specs.Cost.{coderAt, differing, runCost, Costed}
 use Rattle.run_reader.specs.Read.{symbolsPerPattern, runBits, runLength}
 use Rattle.run_reader.proofs.Patterns.{at-start, some-symbols, memory-in-range, run-whole}
 use Rattle.run_reader.proofs.Costs.{sent-small}
-use Rattle.run_reader.proofs.Unharmed.{AllClear, clear-length, clear-take, clear-drop, hard-clear, clear-best}
+use Rattle.run_reader.proofs.Unharmed.{clear-length, clear-take, clear-drop, hard-clear, clear-best}
 use Rattle.run_reader.proofs.SoftLaws.{signalsI, signalsQ, noneLost, signals-clear}
 use Rattle.run_reader.proofs.Streams.{take-bits, drop-bits, symbols-divided, rest-few, fits, front-is, back-is, memory-append}
 use Rattle.symbol_stream.specs.Stream.{keptPatterns, fullSymbols, keptSymbols, keptBits, Decided, few, run, Closes}
@@ -133,6 +134,7 @@ stream-given-back cost rate hr m hm bits w {ss = ss} {last = last} rest g e (run
 -- counted, and in no bit.
 pub record WholeStream (rate : ℕ) (bits : List ℕ) (came : ℕ) (out : List ℕ) (rest : ℕ) : Type 0 where
   pub given : out ≡ take (runBits rate came) bits
+  pub within : runBits rate came ≤ length bits
   pub behind : rest ≡ came % symbolsPerPattern rate
 
 -- of what was decided, and what the end of the stream gives
@@ -172,6 +174,7 @@ decided-whole cost rate hr bits w rs left ss unread g e {out} {last} d {output} 
     let far : length out + N ≡ runBits rate (length rs) = omega (arith, b .out-length, nk, mul-add p (b .patterns) (end .whole), ap (λ (j : ℕ). p * j) q) in
     record {
       given = ap₂ (λ (x y : List ℕ). x ++ y) (b .given) t ∙ (sym (take-add (length out) N bits) ∙ ap (λ (j : ℕ). take j bits) far);
+      within = omega (arith, far, nf, length-drop (length out) bits, ap length (b .given), length-take (length out) bits);
       behind = sym (ap (λ (j : ℕ). j % s) whole ∙ (mul-add-mod-self-left s (b .patterns + end .whole) rest ∙ mod-eq-of-lt (end .few)));
     }
 
