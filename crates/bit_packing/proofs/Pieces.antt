@@ -164,6 +164,11 @@ packing-done {carried} {bits} {i = i} g h =
       carries = rw e at (g .carries);
     }
 
+-- the bytes that are told stand in the output
+pub packs-fit : {carried piece output exit : List ℕ} {carry held count : ℕ} → Packs carried piece output carry held count exit → count ≤ length exit
+packs-fit {carried} {piece} {output} {count = count} w =
+    omega (arith, ap length (w .written), length-append (packedBytes (carried ++ piece)) (drop count output), length-bytes (carried ++ piece), w .counted)
+
 -- ---- calls one after the other
 
 -- Whatever pieces the bits came in, the bytes are those of all of them, and the bits after the last whole byte are carried.
