@@ -1,4 +1,4 @@
--- Demand 2 from end to end, as one statement: packets, symbols, runs, bits, bytes, blocks, packets.
+-- Demand 2 from end to end, as one statement: packets, symbols, runs or a stream, bits, bytes, blocks, packets.
 -- Assumes nothing.
 use mathlib.Core.Path.{_≡_, sym, ap, _∙_, subst}
 use mathlib.Core.Bool.{true}
@@ -7,7 +7,7 @@ use Prim.Native.Nat.{ℕ, zero, suc, _+_, _-_, _*_, _/_, _%_, _≤_, _<_}
 use Prim.{tt}
 use native.Mathlib.Nat.{div-add-mod, mod-lt}
 use native.Mathlib.Omega.{arith}
-use lib.ListN.{length, take, replicate, length-map}
+use lib.ListN.{length, take, replicate, length-map, length-append}
 use lib.Seq.{length-take-le}
 use Rattle.common.specs.Lists.{All, Bytes, Length, ByteEntries}
 use Rattle.common.proofs.Lists.{All-map}
@@ -20,22 +20,37 @@ use Rattle.randomizer.proofs.Whole.{packet-lengths, randomized-stream}
 use Rattle.delay_branches.specs.declared.Side.the-variants.{Sending}
 use Rattle.interleaver.proofs.Blocks.{length-flatten}
 use Rattle.interleaver.proofs.Streams.{length-delayed, delayed-lengths, delayed-bytes}
-use Rattle.convolutional_code.proofs.Bits.{length-bits}
+use Rattle.convolutional_code.specs.Bits.{Bits}
+use Rattle.convolutional_code.proofs.Bits.{length-bits, bits-bits}
+use Rattle.bit_packing.specs.Packing.{packedBytes}
+use Rattle.bit_packing.proofs.Bytes.{bytes-back}
+use Rattle.bit_packing.proofs.Pieces.{every-packing}
 use Rattle.puncturing.specs.Mode.{modeOf}
 use Rattle.puncturing.specs.Step.{patternLength}
 use Rattle.puncturing.proofs.Steps.{some-bits}
 use Rattle.puncturing.proofs.Places.{up, length-le}
-use Rattle.run_reader.specs.Read.{runLength}
+use Rattle.inner_code.specs.Step.{symbolsOf}
+use Rattle.run_reader.specs.Cost.{coderAt}
+use Rattle.run_reader.specs.Read.{symbolsPerPattern, runBits, runLength}
+use Rattle.run_reader.proofs.Unharmed.{clear-length}
+use Rattle.symbol_stream.proofs.Unharmed.{stream-whole, last-pattern}
 use Rattle.sender.specs.Standard.{interleavedBlocks}
 use Rattle.sender.specs.Input.{Input, packetFor, packetsFor}
 use Rattle.sender.proofs.Inputs.{packets-sent}
+use Rattle.receiver.specs.Receive.{freshReceiver}
+use Rattle.receiver.specs.Kept.{Kept}
+use Rattle.receiver.specs.declared.Receiver.{Receiver}
 use Rattle.receiver.proofs.Decoding.{sent-length, sent-bytes}
 use Rattle.receiver.proofs.Reception.{blocks-count, coded-size, begun-anywhere}
 use Rattle.receiver.proofs.Promised.{kept-calls}
-use Rattle.end_to_end.specs.Blocks.{sentBits, packedBytes, blocksIn}
-use Rattle.end_to_end.specs.Link.{Link, blocksInBits, Arrived}
-use Rattle.end_to_end.proofs.Blocks.{bytes-back, blocks-back}
-use Rattle.end_to_end.proofs.Sent.{sent-front, front-within, front-last}
+use Rattle.end_to_end.specs.Blocks.{sentBits, blocksIn}
+use Rattle.end_to_end.specs.Link.{Link, StreamLink, blocksInBits, BroughtBack, Arrived, StreamArrived}
+use Rattle.end_to_end.proofs.Blocks.{blocks-back}
+use Rattle.end_to_end.proofs.Sent.{sent-coded, sent-front, front-within, front-last}
+
+sent-binary : (packets : List (List ℕ)) → Bits (sentBits packets)
+unfolding sentBits
+sent-binary packets = bits-bits (flatten (interleavedBlocks packets))
 
 -- ---- the interleaved blocks are of bytes
 
@@ -94,38 +109,77 @@ module _ (packets : List (List ℕ)) (ws : All Packet packets) where
 
 -- ---- the theorem
 
-pub arrived : (rate : ℕ) → rate < 5 → modeOf rate .sent ≡ true → (inputs : List (List ℕ)) → All Input inputs → All Bytes inputs → length inputs ≤ 4294967295 → (l : Link rate inputs)
-    → Arrived rate inputs l
-unfolding interleavedBlocks
-arrived rate hr q inputs g bs limit l =
-    let packets = packetsFor inputs in
-    let ws = packets-sent inputs g bs in
-    let count : length packets ≡ length inputs = length-map inputs packetFor in
-    let far = runLength rate (flatten (l .runs)) in
-    let front = sent-front rate hr q g (l .sent) (l .runs) (l .whole) (l .unread) (l .cut) (l .read) in
-    let within = front-within rate hr q g (l .sent) (l .runs) (l .whole) (l .unread) (l .cut) in
-    let read : length (l .bits) ≡ far = ap length (front .0) ∙ length-take-le far (sentBits packets) within in
-    let n = blocksInBits (length (l .bits)) in
-    let blocks : blocksIn (packedBytes (l .bits)) ≡ take n (interleavedBlocks packets) =
-    ap (λ (x : List ℕ). blocksIn (packedBytes x)) (front .0) ∙ front-blocks packets ws far within
-    ∙ ap (λ (k : ℕ). take (blocksInBits k) (interleavedBlocks packets)) (sym read) in
-    let few : n ≤ length packets = omega (arith, read, within, bit-count packets ws) in
-    let m = kept-calls (l .received) in
-    let calls : length (m .calls) ≡ n =
-    sym (blocks-count (m .calls)) ∙ ap length (m .lent ∙ blocks) ∙ length-take-le n (interleavedBlocks packets) (omega (arith, interleaved-count packets ws)) in
-    let r = begun-anywhere packets ws 0 (m .calls) (omega arith) (omega arith)
-    (m .lent ∙ blocks ∙ ap (λ (k : ℕ). take k (interleavedBlocks packets)) (sym calls)) (m .plain) (m .output-fits) (m .decodes) in
-    let e : length (m .calls) - 11 - 0 ≡ n - 11 = omega arith in
-    record {
-      no-cost = front .1;
-      blocks = blocks;
-      within = omega arith;
-      answered = sym (m .answered) ∙ r .answered ∙ ap (λ (k : ℕ). take k (replicate 11 9 ++ replicate k 0)) calls;
-      packets = sym (m .given) ∙ r .given ∙ ap (λ (k : ℕ). take k packets) e;
-      to-the-last = λ short.
-          read ∙ front-last rate hr q g (l .sent) (l .runs) (l .whole) (l .unread) (l .cut) short
-          ∙ ap (λ (k : ℕ). patternLength rate * (k / patternLength rate)) (bit-count packets ws ∙ ap (λ (k : ℕ). 1632 * k) count);
-    }
+-- whatever was read, where it is the bits that were sent as far as it goes
+module _ (inputs : List (List ℕ)) (g : All Input inputs) (bs : All Bytes inputs) (limit : length inputs ≤ 4294967295) where
+  abbrev packets : List (List ℕ)
+  packets = packetsFor inputs
+
+  ws : All Packet packets
+  ws = packets-sent inputs g bs
+
+  sent-length-is : length (sentBits packets) ≡ 1632 * length inputs
+  sent-length-is = bit-count packets ws ∙ ap (λ (k : ℕ). 1632 * k) (length-map inputs packetFor)
+
+  brought-back : (bits : List ℕ) (far : ℕ) → bits ≡ take far (sentBits packets) → far ≤ length (sentBits packets) → {numbers : List ℕ} {given : List (List ℕ)} {receiver : Receiver}
+      → Kept freshReceiver (blocksIn (packedBytes bits)) numbers given receiver → BroughtBack inputs (length bits) (blocksIn (packedBytes bits)) numbers given
+  unfolding interleavedBlocks
+  brought-back bits far front within received =
+      let count : length packets ≡ length inputs = length-map inputs packetFor in
+      let read : length bits ≡ far = ap length front ∙ length-take-le far (sentBits packets) within in
+      let n = blocksInBits (length bits) in
+      let blocks : blocksIn (packedBytes bits) ≡ take n (interleavedBlocks packets) =
+      ap (λ (x : List ℕ). blocksIn (packedBytes x)) front ∙ front-blocks packets ws far within
+      ∙ ap (λ (k : ℕ). take (blocksInBits k) (interleavedBlocks packets)) (sym read) in
+      let few : n ≤ length packets = omega (arith, read, within, bit-count packets ws) in
+      let m = kept-calls received in
+      let calls : length (m .calls) ≡ n =
+      sym (blocks-count (m .calls)) ∙ ap length (m .lent ∙ blocks) ∙ length-take-le n (interleavedBlocks packets) (omega (arith, interleaved-count packets ws)) in
+      let r = begun-anywhere packets ws 0 (m .calls) (omega arith) (omega arith)
+      (m .lent ∙ blocks ∙ ap (λ (k : ℕ). take k (interleavedBlocks packets)) (sym calls)) (m .plain) (m .output-fits) (m .decodes) in
+      let e : length (m .calls) - 11 - 0 ≡ n - 11 = omega arith in
+      record {
+        blocks-sent = blocks;
+        within = omega arith;
+        answered = sym (m .answered) ∙ r .answered ∙ ap (λ (k : ℕ). take k (replicate 11 9 ++ replicate k 0)) calls;
+        packets = sym (m .given) ∙ r .given ∙ ap (λ (k : ℕ). take k packets) e;
+      }
+
+  module _ (rate : ℕ) (hr : rate < 5) (q : modeOf rate .sent ≡ true) where
+    -- by runs
+    pub arrived : (l : Link rate inputs) → Arrived rate inputs l
+    arrived l =
+        let far = runLength rate (flatten (l .runs)) in
+        let front = sent-front rate hr q g (l .sent) (l .runs) (l .whole) (l .unread) (l .cut) (l .read) in
+        let within = front-within rate hr q g (l .sent) (l .runs) (l .whole) (l .unread) (l .cut) in
+        record {
+          no-cost = front .1;
+          back = brought-back (l .bits) far (front .0) within (l .received);
+          to-the-last = λ short.
+              ap length (front .0) ∙ length-take-le far (sentBits packets) within
+              ∙ front-last rate hr q g (l .sent) (l .runs) (l .whole) (l .unread) (l .cut) short
+              ∙ ap (λ (k : ℕ). patternLength rate * (k / patternLength rate)) sent-length-is;
+        }
+
+    -- by a stream
+    pub stream-arrived : {R : Type 0} (cost : R → ℕ → ℕ) (l : StreamLink cost rate inputs) → StreamArrived cost rate inputs l
+    stream-arrived cost l =
+        let coded = sent-coded rate hr q g (l .sent) in
+        let w = stream-whole cost rate (sentBits packets) (sent-binary packets) (l .points) (l .came) (l .unread) (l .clear) (l .cut ∙ coded) (l .fed) (l .costed) (l .closed) in
+        let bits : List ℕ = l .decided ++ take (l .count) (l .exit) in
+        let n : length (l .points) ≡ length (l .came) = clear-length (l .clear) in
+        let p : packedBytes bits ≡ l .bytes = sym (every-packing (l .packed) .0) in
+        record {
+          back =
+              subst (λ (x : List ℕ). BroughtBack inputs (length bits) (blocksIn x) (l .numbers) (l .given)) p
+              (brought-back bits (runBits rate (length (l .points))) (w .given) (w .within)
+              (subst (λ (x : List ℕ). Kept freshReceiver (blocksIn x) (l .numbers) (l .given) (l .receiver)) (sym p) (l .received)));
+          behind = w .behind ∙ ap (λ (k : ℕ). k % symbolsPerPattern rate) n;
+          to-the-last = λ all-came.
+              let all : length (l .came) ≡ length (symbolsOf (coderAt rate 0) (sentBits packets)) = omega (arith, length-append (l .came) (l .unread), ap length (l .cut ∙ coded)) in
+              ap length (w .given) ∙ length-take-le (runBits rate (length (l .points))) (sentBits packets) (w .within)
+              ∙ ap (runBits rate) (n ∙ all) ∙ last-pattern rate hr (sentBits packets) (sent-binary packets)
+              ∙ ap (λ (k : ℕ). patternLength rate * (k / patternLength rate)) sent-length-is;
+        }
 
 -- ---- how many blocks that is
 

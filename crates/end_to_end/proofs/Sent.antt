@@ -39,7 +39,15 @@ runs-whole rate (r ∷ rs) g =
     ∙ (sym (mod-add-mod (length r) s (length (flatten rs)))
     ∙ (ap (λ (n : ℕ). (n + length (flatten rs)) % s) (g .0 .whole) ∙ (ap (λ (n : ℕ). n % s) (zero-add (length (flatten rs))) ∙ runs-whole rate rs (g .1))))
 
--- ---- the theorem, of a fresh sender that was given any inputs, with null packets put in
+-- the symbols of a fresh sender that was given any inputs are the coding of the bits of the blocks, with null packets put in
+pub sent-coded : (rate : ℕ) → rate < 5 → modeOf rate .sent ≡ true → {inputs : List (List ℕ)} {symbols : List ℕ} {last : Sender} → All Input inputs
+    → SendCalls modeOf (freshSender rate) inputs symbols last → symbols ≡ symbolsOf (coderAt rate 0) (sentBits (packetsFor inputs))
+unfolding onAir sentBits
+sent-coded rate hr q {inputs} g c =
+    let bytes : List ℕ = flatten (interleavedBlocks (packetsFor inputs)) in
+    sent-on-air (modeOf rate) (well-formed rate (up rate hr)) q modeOf rate refl g c .0 ∙ (stream-qpsk rate hr bytes ∙ sym (symbols-fresh rate hr (bits-bits bytes)))
+
+-- ---- the theorem, of such a sender
 
 module _ (rate : ℕ) (hr : rate < 5) (q : modeOf rate .sent ≡ true) {inputs : List (List ℕ)} {symbols : List ℕ} {last : Sender} (g : All Input inputs)
     (c : SendCalls modeOf (freshSender rate) inputs symbols last) (rs : List (List ℕ)) (runs : All (Run rate) rs) (rest : List ℕ) (e : flatten rs ++ rest ≡ symbols) where
@@ -47,8 +55,8 @@ module _ (rate : ℕ) (hr : rate < 5) (q : modeOf rate .sent ≡ true) {inputs :
   bytes = flatten (interleavedBlocks (packetsFor inputs))
 
   coded : flatten rs ++ rest ≡ symbolsOf (coderAt rate 0) (bitsOf bytes)
-  unfolding onAir
-  coded = e ∙ (sent-on-air (modeOf rate) (well-formed rate (up rate hr)) q modeOf rate refl g c .0 ∙ (stream-qpsk rate hr bytes ∙ sym (symbols-fresh rate hr (bits-bits bytes))))
+  unfolding sentBits
+  coded = e ∙ sent-coded rate hr q g c
 
   -- the bits of the interleaved blocks, as far as the runs go
   pub sent-front : {out : List ℕ} {cost memory : ℕ} → Readings rate 0 rs out cost memory

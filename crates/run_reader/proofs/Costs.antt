@@ -3,12 +3,14 @@
 use mathlib.Core.Path.{_≡_, refl, sym, _∙_, ap, ap₂, subst}
 use mathlib.Core.List.{List, [], _∷_, _++_, map, append-nil}
 use Prim.Native.Nat.{ℕ, zero, suc, _+_, _*_, _/_, _%_, _<_}
+use Prim.{tt}
 use native.Mathlib.Omega.{arith}
 use native.Mathlib.Nat.{mod-add-mod, zero-mod}
 use native.Mathlib.Numerals.{add-one}
 use lib.ListN.{length, getD, length-map}
+use Rattle.common.specs.Lists.{All}
 use Rattle.common.proofs.Lists.{length-listOf, getD-listOf}
-use Rattle.convolutional_code.specs.Bits.{Bits}
+use Rattle.convolutional_code.specs.Bits.{Bits, none, more}
 use Rattle.convolutional_code.specs.Code.{tapsX, tapsY, nextMemory, coded}
 use Rattle.trellis.specs.Metric.{costFrom}
 use Rattle.puncturing.specs.Step.{patternLength, nextPlace}
@@ -28,6 +30,10 @@ none-holding : (r h : ℕ) → r < 5 → holding r 0 h ≡ []
 unfolding holding
 none-holding r h l = rw (none-held r l)
 
+bits-front : (a b : List ℕ) → Bits (a ++ b) → Bits a
+bits-front [] b w = none
+bits-front (x ∷ a) b (more h w) = more h (bits-front a b w)
+
 -- the I and Q bits of the symbols of whole patterns are the stream
 whole-stream : (rate m : ℕ) {bits : List ℕ} → rate < 5 → m < 64 → Bits bits → length bits % patternLength rate ≡ 0
     → stream rate 0 m bits ≡ flat (symbolsOf (coderAt rate m) bits)
@@ -38,10 +44,23 @@ whole-stream rate m {bits} hr hm w e =
     sym (ap (λ (l : List ℕ). l ++ stream rate 0 m bits) (none-holding rate 0 hr))
     ∙ (stream-symbols c (at-start rate m hr hm) hr w ∙ (ap (λ (l : List ℕ). flat (symbolsOf c bits) ++ l) q ∙ append-nil (flat (symbolsOf c bits))))
 
--- so each of its symbols is one of four
-pub whole-bits : (rate m : ℕ) {bits : List ℕ} → rate < 5 → m < 64 → Bits bits → length bits % patternLength rate ≡ 0
-    → Bits (flat (symbolsOf (coderAt rate m) bits))
-whole-bits rate m {bits} hr hm w e = subst Bits (whole-stream rate m hr hm w e) (stream-bits rate 0 m bits)
+-- I and Q of every symbol are bits, also behind the last whole pattern
+pub sent-bits : (rate m : ℕ) {bits : List ℕ} → rate < 5 → m < 64 → Bits bits → Bits (flat (symbolsOf (coderAt rate m) bits))
+sent-bits rate m {bits} hr hm w =
+    let c : InnerCoder = coderAt rate m in
+    bits-front (flat (symbolsOf c bits)) (holding rate (coderAfter c bits .place) (coderAfter c bits .held))
+    (subst Bits (sym (ap (λ (l : List ℕ). l ++ stream rate 0 m bits) (none-holding rate 0 hr)) ∙ stream-symbols c (at-start rate m hr hm) hr w) (stream-bits rate 0 m bits))
+
+-- so each symbol is one of four
+pub sent-small : (rate m : ℕ) {bits : List ℕ} → rate < 5 → m < 64 → Bits bits → All (λ s. s < 4) (symbolsOf (coderAt rate m) bits)
+sent-small rate m {bits} hr hm w = small (symbolsOf (coderAt rate m) bits) (sent-bits rate m hr hm w)
+  where
+    four : (s : ℕ) → s / 2 < 2 → s < 4
+    four s h = omega arith
+
+    small : (ss : List ℕ) → Bits (flat ss) → All (λ s. s < 4) ss
+    small [] v = tt
+    small (s ∷ ss) v = (four s (bits-head v), small ss (bits-tail (bits-tail v)))
 
 -- ---- the costs
 
@@ -101,7 +120,7 @@ pub run-is : (costs : List (ℕ → ℕ)) (c : ℕ → ℕ → ℕ) → Splits c
     → runCost costs rate m bits ≡ costFrom (puncturedCosts rate c) 0 m bits
 unfolding first
 run-is costs c h rate m {bits} hr hm w e l =
-    total-symbols costs c 0 (symbolsOf (coderAt rate m) bits) h (whole-bits rate m hr hm w e) l
+    total-symbols costs c 0 (symbolsOf (coderAt rate m) bits) h (sent-bits rate m hr hm w) l
     ∙ (ap (total c 0) (sym (whole-stream rate m hr hm w e))
     ∙ (ap (λ (p : ℕ). total c 0 (stream rate p m bits)) (sym (zero-mod (patternLength rate))) ∙ bridge rate c 0 m bits))
 

@@ -12,9 +12,8 @@ use lib.Dec.{eqb}
 use lib.Ieee.{Float}
 use lib.ListN.{length, drop}
 use Rattle.common.specs.Choice.{pick}
+use Rattle.common.specs.Lists.{All}
 use Rattle.convolutional_code.specs.Bits.{Bits}
-use Rattle.convolutional_code.proofs.Bits.{bits-tail}
-use Rattle.trellis.proofs.Order.{bits-head}
 use Rattle.trellis.proofs.Ends.{SomeDecoded}
 use Rattle.trellis.proofs.Laws.{decoded-unique}
 use Rattle.puncturing.specs.Step.{patternLength}
@@ -23,8 +22,7 @@ use Rattle.inner_code.proofs.Coder.{coder-memory}
 use Rattle.soft_decision.specs.Cost.{receivedOf}
 use Rattle.run_reader.specs.Cost.{coderAt, bitsDiffer, differing, totalCost, hardCost, softCost}
 use Rattle.run_reader.specs.Read.{symbolsPerPattern, runBits, runLength, below, valid, sound, readNumber, softNumber, BestRead, AnswersRun, ReadsHard, refused, read}
-use Rattle.run_reader.proofs.Serial.{flat}
-use Rattle.run_reader.proofs.Costs.{whole-bits}
+use Rattle.run_reader.proofs.Costs.{sent-small}
 use Rattle.run_reader.proofs.Patterns.{run-symbols, sent-whole}
 use Rattle.run_reader.proofs.Unharmed.{hard-decoded, own-best}
 use Rattle.run_reader.proofs.SoftDecisions.{sound-lists, soft-decoded}
@@ -100,13 +98,10 @@ total-soft rate memory is qs lost output =
 
 -- ---- an unharmed run
 
-four : (s : ℕ) → s / 2 < 2 → s < 4
-four s h = omega arith
-
-valid-sent : (ss : List ℕ) → Bits (flat ss) → valid ss ≡ true
+pub all-valid : (ss : List ℕ) → All (λ s. s < 4) ss → valid ss ≡ true
 unfolding below
-valid-sent [] w = refl
-valid-sent (s ∷ ss) w = rw (lt-ltb s 4 (four s (bits-head w))) (valid-sent ss (bits-tail (bits-tail w)))
+all-valid [] h = refl
+all-valid (s ∷ ss) h = rw (lt-ltb s 4 (h .0)) (all-valid ss (h .1))
 
 -- what reading the coding of some bits gives: the answer 0, these bits, the coder's own memory after them, and no difference
 pub record ReadBack (rate m : ℕ) (bits output : List ℕ) (number after cost count : ℕ) (left : List ℕ) : Type 0 where
@@ -123,7 +118,7 @@ pub unharmed : (rate m : ℕ) → rate < 5 → m < 64 → (bits : List ℕ) → 
     → ReadBack rate m bits output number after cost count left
 unharmed rate m hr hm bits w e most symbols es output fits r =
     let q = sent-whole rate m hr hm bits w e symbols es in
-    let v : valid symbols ≡ true = valid-sent symbols (subst (λ (l : List ℕ). Bits (flat l)) (sym es) (whole-bits rate m hr hm w e)) in
+    let v : valid symbols ≡ true = all-valid symbols (subst (All (λ s. s < 4)) (sym es) (sent-small rate m hr hm w)) in
     let z : readNumber rate m symbols output ≡ 0 =
     passes (record { known = hr; in-range = hm; lists-pass = refl; whole = q .0; most = rw (sym (q .1)) most; symbols-pass = v; fits = rw (sym (q .1)) fits }) in
     by z (q .1) r

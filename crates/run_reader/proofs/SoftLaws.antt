@@ -6,7 +6,7 @@ use mathlib.Core.List.{List, [], _∷_, _++_, map}
 use Prim.Native.Nat.{ℕ, zero, suc, _+_, _*_, _/_, _%_, _^_, _<_, _≤_}
 use native.Mathlib.Nat.{div-div-eq-div-mul, pow-suc, mul-comm}
 use native.Mathlib.Omega.{arith}
-use borrow.Author.Tests.{lt-ltb, eq-eqb}
+use borrow.Author.Tests.{eq-eqb}
 use lib.Dec.{eqb}
 use lib.Ieee.{Float, nan, ofBits, binary32}
 use lib.ListN.{length, getD, drop, replicate, length-map, length-replicate}
@@ -18,21 +18,22 @@ use Rattle.convolutional_code.proofs.Bits.{bits-tail}
 use Rattle.trellis.specs.Best.{ZeroAtLast, Best, Decoded}
 use Rattle.trellis.proofs.Order.{bits-head}
 use Rattle.trellis.proofs.Laws.{scale, unique, decoded-unique}
-use Rattle.puncturing.specs.Step.{patternLength}
 use Rattle.inner_code.specs.Step.{symbolsOf}
-use Rattle.soft_decision.specs.Cost.{numberCosts, symbolCosts, decidedAs, softly, receivedOf}
-use Rattle.soft_decision.specs.declared.BitCosts.{BitCosts}
+use Rattle.soft_decision.specs.Cost.{byLevel, numberCosts, symbolCosts, decidedAs, softly, receivedOf}
+use Rattle.soft_decision.specs.declared.Point.{Point}
 use Rattle.soft_decision.specs.declared.Received.{Received}
 use Rattle.soft_decision.specs.declared.Received.the-variants.{At, Lost}
 use Rattle.soft_decision.proofs.Numbers.{costs-nan, costs-one, costs-minus-one}
+use Rattle.run_reader.specs.Clear as clear
+use Rattle.run_reader.specs.Clear.{Clear, AllClear}
 use Rattle.run_reader.specs.Cost.{coderAt, bitsDiffer, differing, totalCost, hardCost, softCost}
 use Rattle.run_reader.specs.Read.{runBits, runLength, below, valid, sound, readNumber, softNumber, BestRead, ReadsHard, ReadsSoft, refused, read}
 use Rattle.run_reader.proofs.Serial.{flat}
-use Rattle.run_reader.proofs.Patterns.{run-whole}
-use Rattle.run_reader.proofs.Costs.{whole-bits}
+use Rattle.run_reader.proofs.Costs.{sent-bits}
+use Rattle.run_reader.proofs.Unharmed.{differing-clear}
 use Rattle.run_reader.proofs.Outcome.{passed}
 use Rattle.run_reader.proofs.SoftDecisions.{decided-small, soft}
-use Rattle.run_reader.proofs.Laws.{total-le}
+use Rattle.run_reader.proofs.Laws.{all-valid, total-le}
 
 -- ---- what a run can cost
 
@@ -134,7 +135,7 @@ all-lost rate m is qs lost h o =
     let e : o .bits ≡ replicate n 0 = unique cost n (o .bits) (replicate n 0) (o .decoded .best) (zeros-best cost n free) in
     (e, o .decoded .costs ∙ free (o .bits), o .decoded .ends ∙ (ap (memoryAfter m) e ∙ zeros-memory m n))
 
--- ---- points of 1.0 and -1.0
+-- ---- points that are sure of their bits, and those of 1.0 and -1.0 among them
 
 -- the number that is sent for a bit: 1.0 for 0, and -1.0 for 1
 unfoldable pub signal : ℕ → Float
@@ -149,20 +150,51 @@ signalsQ symbols = map (λ s. signal (s % 2)) symbols
 abbrev pub noneLost : List ℕ → List ℕ
 noneLost symbols = map (λ s. 0) symbols
 
-seven : (b v : ℕ) → b < 2 → v < 2 → decidedAs (numberCosts (signal b)) v ≡ 7 * bitsDiffer b v
+-- a number that is sure of a bit: at level 7 of 0, and at level 0 of 1; a NaN is of none
+abbrev pub Sure : Float → ℕ → Type 0
+Sure x b = numberCosts x ≡ byLevel (pick (eqb b 0) 7 0)
+
+signal-sure : (b : ℕ) → b < 2 → Sure (signal b) b
 unfolding signal
-seven zero zero hb hv = ap (λ (c : BitCosts). c .zero) costs-one
-seven zero (suc zero) hb hv = ap (λ (c : BitCosts). c .one) costs-one
-seven (suc zero) zero hb hv = ap (λ (c : BitCosts). c .zero) costs-minus-one
-seven (suc zero) (suc zero) hb hv = ap (λ (c : BitCosts). c .one) costs-minus-one
+signal-sure zero h = costs-one
+signal-sure (suc zero) h = costs-minus-one
+signal-sure (suc (suc b)) h = absurd (omega arith)
+
+seven : (b v : ℕ) → b < 2 → v < 2 → decidedAs (byLevel (pick (eqb b 0) 7 0)) v ≡ 7 * bitsDiffer b v
+seven zero zero hb hv = refl
+seven zero (suc zero) hb hv = refl
+seven (suc zero) zero hb hv = refl
+seven (suc zero) (suc zero) hb hv = refl
 seven zero (suc (suc v)) hb hv = absurd (omega arith)
 seven (suc zero) (suc (suc v)) hb hv = absurd (omega arith)
 seven (suc (suc b)) v hb hv = absurd (omega arith)
 
-seven-symbol : (r s : ℕ) → r < 4 → s / 2 < 2 → softly (At (record { i = signal (r / 2); q = signal (r % 2) })) s ≡ 7 * differing r s
+-- a point that is sure of both bits of a symbol costs seven times what the hard decision does
+sure-symbol : (p : Point) (r : ℕ) → r < 4 → Sure (p .i) (r / 2) → Sure (p .q) (r % 2) → (s : ℕ) → s / 2 < 2 → softly (At p) s ≡ 7 * differing r s
 unfolding symbolCosts
-seven-symbol r s hr hs =
-    omega (arith, seven (r / 2) (s / 2) (omega arith) hs, seven (r % 2) (s % 2) (omega arith) (omega arith))
+sure-symbol p r hr i q s hs = rw (i, q) (omega (arith, seven (r / 2) (s / 2) (omega arith) hs, seven (r % 2) (s % 2) (omega arith) (omega arith)))
+
+-- so it is clear about it
+pub sure-clear : (p : Point) (r : ℕ) → r < 4 → Sure (p .i) (r / 2) → Sure (p .q) (r % 2) → Clear softly (At p) r
+sure-clear p r hr i q =
+    let times = sure-symbol p r hr i q in
+    let d = differing-clear r in
+    record {
+      free-sent = omega (arith, times r (omega arith), d .free-sent);
+      only = λ t h z. d .only t h (omega (arith, times t (omega arith)));
+    }
+
+signals-symbol : (r s : ℕ) → r < 4 → s / 2 < 2 → softly (At (record { i = signal (r / 2); q = signal (r % 2) })) s ≡ 7 * differing r s
+signals-symbol r s hr hs =
+    sure-symbol (record { i = signal (r / 2); q = signal (r % 2) }) r hr (signal-sure (r / 2) (omega arith)) (signal-sure (r % 2) (omega arith)) s hs
+
+-- the points of symbols are clear about them
+pub signals-clear : (ss : List ℕ) → All (λ s. s < 4) ss → AllClear softly (receivedOf (signalsI ss) (signalsQ ss) (noneLost ss)) ss
+unfolding receivedOf
+signals-clear [] h = clear.none
+signals-clear (s ∷ ss) h =
+    clear.more (sure-clear (record { i = signal (s / 2); q = signal (s % 2) }) s (h .0) (signal-sure (s / 2) (omega (arith, h .0))) (signal-sure (s % 2) (omega arith)))
+    (signals-clear ss (h .1))
 
 seven-total : (rs ss : List ℕ) → All (λ r. r < 4) rs → Bits (flat ss)
     → totalCost (map softly (receivedOf (signalsI rs) (signalsQ rs) (noneLost rs))) ss ≡ 7 * totalCost (map differing rs) ss
@@ -170,17 +202,12 @@ unfolding receivedOf totalCost
 seven-total [] ss h w = refl
 seven-total (r ∷ rs) [] h w = refl
 seven-total (r ∷ rs) (s ∷ ss) h w =
-    omega (arith, seven-symbol r s (h .0) (bits-head w), seven-total rs ss (h .1) (bits-tail (bits-tail w)))
+    omega (arith, signals-symbol r s (h .0) (bits-head w), seven-total rs ss (h .1) (bits-tail (bits-tail w)))
 
 marks-below : (rs : List ℕ) → below 2 (noneLost rs) ≡ true
 unfolding below
 marks-below [] = refl
 marks-below (r ∷ rs) = marks-below rs
-
-all-valid : (rs : List ℕ) → All (λ r. r < 4) rs → valid rs ≡ true
-unfolding below
-all-valid [] h = refl
-all-valid (r ∷ rs) h = rw (lt-ltb r 4 (h .0)) (all-valid rs (h .1))
 
 -- what both calls give, one against the other
 pub record SevenTimes (number number′ after after′ cost cost′ count count′ : ℕ) (left left′ : List ℕ) : Type 0 where
@@ -209,7 +236,7 @@ module _ (rate m : ℕ) (rs output : List ℕ) (h : All (λ r. r < 4) rs) where
   seven-times : m < 64 → rate < 5 → (ys : List ℕ) → Bits ys → length ys ≡ runLength rate rs
       → softCost (receivedOf (signalsI rs) (signalsQ rs) (noneLost rs)) rate m ys ≡ 7 * hardCost rs rate m ys
   seven-times hm hr ys w l =
-      seven-total rs (symbolsOf (coderAt rate m) ys) h (whole-bits rate m hr hm w (ap (λ (k : ℕ). k % patternLength rate) l ∙ run-whole rate hr (length rs)))
+      seven-total rs (symbolsOf (coderAt rate m) ys) h (sent-bits rate m hr hm w)
 
   -- Points of 1.0 and -1.0 only: the answer, the bits, the memory and the output of hard decisions, at seven times their number.
   pub as-hard : {number number′ after after′ cost cost′ count count′ : ℕ} {left left′ : List ℕ} → ReadsHard rate m rs output number after cost count left

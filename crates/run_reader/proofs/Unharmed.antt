@@ -1,4 +1,4 @@
--- Hard decisions as costs of the steps; a run that was not harmed has one best sequence, its own bits.
+-- Hard decisions as costs of the steps; a run that was not harmed has one best sequence, its own bits, by hard decisions and by any that are as clear.
 -- Assumes nothing.
 use mathlib.Core.Bool.{Bool, true, false}
 use mathlib.Core.Path.{_≡_, refl, sym, _∙_, ap}
@@ -8,26 +8,29 @@ use native.Mathlib.Omega.{arith}
 use native.Mathlib.Nat.{mod-lt}
 use borrow.Author.Tests.{eqb-true, eq-eqb}
 use lib.Dec.{eqb, ltb, ltb→lt}
-use lib.ListN.{length, getD, length-map}
+use lib.ListN.{length, getD, take, drop, length-map}
 use Rattle.common.specs.Choice.{pick}
 use Rattle.common.proofs.Lists.{getD-map-in}
 use Rattle.convolutional_code.specs.Bits.{Bits}
 use Rattle.convolutional_code.specs.Code.{tapsX, tapsY, coded, memoryAfter}
 use Rattle.trellis.specs.Metric.{costFrom}
 use Rattle.trellis.specs.Best.{Best, Decoded}
+use Rattle.convolutional_code.proofs.Bits.{bits-tail}
 use Rattle.trellis.proofs.Ends.{SomeDecoded}
 use Rattle.trellis.proofs.Laws.{Apart, free, best-same}
+use Rattle.trellis.proofs.Order.{bits-head}
 use Rattle.puncturing.specs.Mode.{modeOf}
 use Rattle.puncturing.specs.Step.{patternLength}
 use Rattle.puncturing.proofs.Places.{tested-at}
 use Rattle.puncturing.proofs.Steps.{some-bits}
 use Rattle.depuncturing.specs.Steps.{kind, kindCost, kindAt, first, puncturedCosts}
 use Rattle.inner_code.specs.Step.{symbolsOf}
-use Rattle.run_reader.specs.Cost.{coderAt, bitsDiffer, differing, totalCost, hardCost}
+use Rattle.run_reader.specs.Clear.{Clear, AllClear, none, more}
+use Rattle.run_reader.specs.Cost.{coderAt, bitsDiffer, differing, totalCost, runCost, hardCost}
 use Rattle.run_reader.proofs.Serial.{flat}
 use Rattle.run_reader.specs.Read.{symbolsPerPattern, runLength}
-use Rattle.run_reader.proofs.Patterns.{sent-whole}
-use Rattle.run_reader.proofs.Costs.{Splits}
+use Rattle.run_reader.proofs.Patterns.{run-whole, run-symbols, sent-whole}
+use Rattle.run_reader.proofs.Costs.{Splits, sent-bits}
 use Rattle.run_reader.proofs.Existence.{steps-cost, some-best}
 
 -- ---- hard costs
@@ -142,3 +145,72 @@ own-best rate m hr hm {bits} w e ss es {best} d =
     let z : hardCost ss rate m bits ≡ 0 = ap (totalCost (map differing ss)) (sym es) ∙ same-free ss in
     let b : best ≡ bits = free-best rate m hr hm ss (q .0) bits best w (q .1) z (d .best) in
     (b, d .costs ∙ (ap (hardCost ss rate m) b ∙ z), d .ends ∙ ap (memoryAfter m) b)
+
+-- ---- clear decisions of any kind
+
+pub clear-length : {R : Type 0} {cost : R → ℕ → ℕ} {rs : List R} {ss : List ℕ} → AllClear cost rs ss → length rs ≡ length ss
+clear-length none = refl
+clear-length (more c g) = ap suc (clear-length g)
+
+pub clear-take : {R : Type 0} {cost : R → ℕ → ℕ} {rs : List R} {ss : List ℕ} (k : ℕ) → AllClear cost rs ss → AllClear cost (take k rs) (take k ss)
+clear-take zero g = none
+clear-take (suc k) none = none
+clear-take (suc k) (more c g) = more c (clear-take k g)
+
+pub clear-drop : {R : Type 0} {cost : R → ℕ → ℕ} {rs : List R} {ss : List ℕ} (k : ℕ) → AllClear cost rs ss → AllClear cost (drop k rs) (drop k ss)
+clear-drop zero g = g
+clear-drop (suc k) none = none
+clear-drop (suc k) (more c g) = clear-drop k g
+
+-- hard decisions are clear
+pub differing-clear : (s : ℕ) → Clear differing s s
+differing-clear s = record { free-sent = omega (arith, differ-same (s / 2), differ-same (s % 2)); only = only }
+  where
+    same : (s t : ℕ) → s / 2 ≡ t / 2 → s % 2 ≡ t % 2 → t ≡ s
+    same s t a b = omega arith
+
+    only : (t : ℕ) → t < 4 → differing s t ≡ 0 → t ≡ s
+    only t h z = same s t (differ-zero (s / 2) (t / 2) (omega arith)) (differ-zero (s % 2) (t % 2) (omega arith))
+
+pub hard-clear : (ss : List ℕ) → AllClear differing ss ss
+hard-clear [] = none
+hard-clear (s ∷ ss) = more (differing-clear s) (hard-clear ss)
+
+-- the symbols sent cost nothing, and only they
+clear-free : {R : Type 0} {cost : R → ℕ → ℕ} {rs : List R} {ss : List ℕ} → AllClear cost rs ss → totalCost (map cost rs) ss ≡ 0
+unfolding totalCost
+clear-free none = refl
+clear-free (more c g) = omega (arith, c .free-sent, clear-free g)
+
+clear-only : {R : Type 0} {cost : R → ℕ → ℕ} {rs : List R} {ss : List ℕ} → AllClear cost rs ss → (xs : List ℕ) → length xs ≡ length ss → Bits (flat xs)
+    → totalCost (map cost rs) xs ≡ 0 → xs ≡ ss
+unfolding totalCost
+clear-only none [] l w z = refl
+clear-only none (x ∷ xs) l w z = absurd (omega arith)
+clear-only (more c g) [] l w z = absurd (omega arith)
+clear-only (more {s = s} {ss = ss} c g) (x ∷ xs) l w z =
+    let i : x / 2 < 2 = bits-head w in
+    let a : x ≡ s = c .only x (omega arith) (omega arith) in
+    let b : xs ≡ ss = clear-only g xs (omega arith) (bits-tail (bits-tail w)) (omega arith) in
+    cc
+
+-- so a sequence is the best one where its coding was received clearly
+pub clear-best : {R : Type 0} (cost : R → ℕ → ℕ) (rate m : ℕ) → rate < 5 → m < 64 → {bits : List ℕ} → Bits bits → length bits % patternLength rate ≡ 0
+    → (rs : List R) (ss : List ℕ) → ss ≡ symbolsOf (coderAt rate m) bits → AllClear cost rs ss
+    → {best : List ℕ} {total after : ℕ} → Decoded (runCost (map cost rs) rate m) (runLength rate ss) m best total after
+    → (best ≡ bits) × (total ≡ 0) × (after ≡ memoryAfter m bits)
+clear-best cost rate m hr hm {bits} w e rs ss es g {best} d =
+    let q = sent-whole rate m hr hm bits w e ss es in
+    let v : Bits best = d .best .binary in
+    let l : length best ≡ runLength rate ss = d .best .size in
+    let f : length best % patternLength rate ≡ 0 = ap (λ (k : ℕ). k % patternLength rate) l ∙ run-whole rate hr (length ss) in
+    let z : runCost (map cost rs) rate m bits ≡ 0 = ap (totalCost (map cost rs)) (sym es) ∙ clear-free g in
+    let y : runCost (map cost rs) rate m best ≡ 0 = omega (arith, d .best .least bits w (q .1)) in
+    let c : symbolsOf (coderAt rate m) best ≡ ss =
+    clear-only g (symbolsOf (coderAt rate m) best) (run-symbols rate hr (length ss) (q .0) m hm best v l) (sent-bits rate m hr hm v) y in
+    -- both sequences have the coding that was sent, and hard decisions on it have one best sequence
+    let h = hard-decoded rate m hr hm ss (q .0) in
+    let a = own-best rate m hr hm w e ss es (h .decoded) in
+    let b = own-best rate m hr hm v f ss (sym c) (h .decoded) in
+    let r : best ≡ bits = sym (b .0) ∙ a .0 in
+    (r, d .costs ∙ y, d .ends ∙ ap (memoryAfter m) r)

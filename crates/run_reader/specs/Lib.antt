@@ -1,3 +1,4 @@
+pub mod Clear
 pub mod Cost
 pub mod Decisions
 pub mod Read

@@ -2,16 +2,18 @@
 -- Assumes nothing.
 use mathlib.Core.Path.{_≡_, refl, sym, ap, subst, _∙_}
 use mathlib.Core.List.{List, _++_}
-use Prim.Native.Nat.{ℕ, _+_, _*_, _-_, _%_, _≤_, _<_}
+use Prim.Native.Nat.{ℕ, _+_, _*_, _/_, _-_, _%_, _≤_, _<_}
 use native.Mathlib.Omega.{arith}
 use lib.ListN.{length, take, drop, length-append, length-take, length-drop}
-use lib.Seq.{length-take-le, take-length, take-add}
-use Rattle.symbol_stream.specs.Stream.{StreamReady, FeedsSymbols, gathered, read, heldOf, Closes}
+use lib.Seq.{length-take-le, take-length, take-append-le, take-at, take-add}
+use Rattle.convolutional_code.specs.Bits.{Bits, none}
+use Rattle.symbol_stream.specs.Stream.{fullSymbols, StreamReady, FeedsSymbols, gathered, read, heldOf, Closes}
 use Rattle.symbol_stream.specs.History.{Took}
 use Rattle.symbol_stream.specs.declared.SymbolStream.{SymbolStream}
-use Rattle.symbol_stream.proofs.Streams.{numbers, short-run}
+use Rattle.symbol_stream.proofs.Streams.{numbers, short-run, kept-le}
 use Rattle.symbol_stream.proofs.Histories.{took-none, took-more, taken-fours}
-use Rattle.run_reader.specs.Read.{symbolsPerPattern}
+use Rattle.run_reader.specs.Read.{symbolsPerPattern, runBits}
+use Rattle.run_reader.proofs.Streams.{take-bits}
 
 -- a piece that is not empty is taken in part at least, and the bits that are decided stand in the output
 taken-some : {s next : SymbolStream} {piece output exit : List ℕ} {taken count : ℕ} → StreamReady s → FeedsSymbols s piece output next taken count exit → 0 < length piece
@@ -32,6 +34,23 @@ closed-few {s} g c =
       c .bits .counted,
       short-run (s .rate) (symbolsPerPattern (s .rate) * c .whole) (omega (arith, c .split, g .below, numbers (s .rate) (g .known) .full-costs)),
     )
+
+-- ---- what is decided is bits
+
+pub fed-bits : {s next : SymbolStream} {piece output exit : List ℕ} {taken count : ℕ} → StreamReady s → FeedsSymbols s piece output next taken count exit → Bits (take count exit)
+fed-bits {exit = exit} g (gathered l et ec ex h) = subst (λ (k : ℕ). Bits (take k exit)) (sym ec) none
+fed-bits {s} {output = output} {exit} {count = count} g (read costs es le size ec after f h) =
+    let rate = s .rate in
+    let n = numbers rate (g .known) in
+    let o = f .out in
+    let q : length costs / 4 ≡ fullSymbols rate = omega (arith, n .full-costs) in
+    let most : count ≤ length (o .bits) = omega (arith, kept-le rate (g .known), o .decoded .best .size, ap (runBits rate) q) in
+    rw (o .written, take-append-le count (o .bits) (drop (runBits rate (length costs / 4)) output) most) (take-bits count (o .decoded .best .binary))
+
+pub closed-bits : {s : SymbolStream} {output exit : List ℕ} {count rest : ℕ} → Closes s output count rest exit → Bits (take count exit)
+closed-bits {count = count} c =
+    let o = c .bits in
+    rw (o .written, take-at (o .bits) _ count (o .decoded .best .size ∙ sym (o .counted))) (o .decoded .best .binary)
 
 -- ---- the loop over costs
 

@@ -1,11 +1,15 @@
 // A program's pass over received symbols: their costs are fed to a stream, and the bits that are decided are written as bytes.
 // Inner: its functions may require what the crates above have tested. docs/ARCHITECTURE.md names the public surface.
 ghost use mathlib.Core.Path.{_≡_};
+ghost use mathlib.Core.List.{_++_};
 ghost use Prim.Native.Nat.{_%_, _<_, _≤_};
 ghost use lib.ListN.{length};
 ghost use Rattle.common.specs.Lists.{All};
+ghost use Rattle.convolutional_code.specs.Bits.{Bits};
+ghost use Rattle.bit_packing.specs.Packing.{bitsAfter, carriedBits};
 ghost use Rattle.symbol_stream.specs.History.{Took};
 ghost use Rattle.symbol_pass.specs.Going.{Going};
+use bit_packing::pack;
 use libc::STDERR_FILENO;
 use libc::STDOUT_FILENO;
 use symbol_stream::SymbolStream;
@@ -75,40 +79,23 @@ pub fn stopped(reading: Reading) -> Reading
     last
 }
 
-// A byte with its bits moved up by one, and a bit behind them.
-fn shifted(byte: u8, bit: u8) -> u8 {
-    std::num::wrapping_add_u8(std::num::wrapping_add_u8(byte, byte), bit)
-}
-
 fn either(a: bool, b: bool) -> bool {
     if a { true } else { b }
 }
 
 // Writes bits as bytes. Those that make no whole byte are carried.
 fn write_bits(writer: Writer, bits: &[u8]) -> Writer
-    requires { ⌜ (writer .bits < 8) × (length (now bits) ≤ 1632) ⌝ }
-    ensures { λ r. ⌜ r .bits < 8 ⌝ }
+    requires { ⌜ (writer .bits < 8) × (length (now bits) ≤ 1632) × (Bits (now bits)) ⌝ }
+    ensures { λ r. ⌜ (r .bits < 8) × (carriedBits (r .carry) (r .bits) ≡ bitsAfter (carriedBits (writer .carry) (writer .bits) ++ now (bits .entry))) ⌝ }
 {
-    let mut packed = [0u8; 205];
+    let mut bytes = [0u8; 205];
     let failed = writer.failed;
-    let mut carry = writer.carry;
-    let mut n = writer.bits;
-    let mut k: usize = 0;
-    let mut i: usize = 0;
-    while i < bits.len() {
-        carry = shifted(carry, bits[i]);
-        n += 1;
-        if n == 8 {
-            packed[k] = carry;
-            k += 1;
-            n = 0;
-        }
-        i += 1;
-    }
-    let written = io::write_all(STDOUT_FILENO, &packed[..k]);
+    let packed = pack(writer.carry, writer.bits, bits, &mut bytes);
+    let count = packed.count;
+    let written = io::write_all(STDOUT_FILENO, &bytes[..count]);
     Writer {
-        carry,
-        bits: n,
+        carry: packed.carry,
+        bits: packed.held,
         failed: either(failed, !written),
     }
 }

@@ -7,7 +7,7 @@ use borrow.Author.Needs.{needs}
 use lib.ListN.{length, drop, length-take}
 use lib.Seq.{length-take-le}
 use Rattle.symbol_stream.proofs.Streams.{all-take, all-drop}
-use Rattle.symbol_pass.proofs.Pieces.{Feeding, feeding-none, piece-fours, fed-some, feeding-more, feeding-all}
+use Rattle.symbol_pass.proofs.Pieces.{Feeding, fed-bits, feeding-none, piece-fours, fed-some, feeding-more, feeding-all}
 use Rattle.symbol_pass.proofs.feed_costs.Statement.{statement}
 use Rattle.symbol_pass.proofs.feed_costs.Tie as tie
 
@@ -46,7 +46,7 @@ slice-aggregate-write-bits : tie.Need-slice-aggregate-write-bits Inv-loop μ-loo
 slice-aggregate-write-bits c = sym (length-take-le _ _ (omega (arith, fed-some (c .before .before .before .before .before .before .before .before .before .before .before .before .before .pre .2) (c .before .before .before .before .before .before .before .loop-test .taken) (c .before .before .before .before .before .before .before .before .loop .inv .0) (c .before .before .before .before .feed .ensures .0) .2, c .before .before .before .before .before .before .before .before .loop .inv .2, c .before .before .before .before .before .before .before .before .before .before .before .before .before .pre .3, c .before .before .before .before .feed .kept)))
 
 write-bits-requires : tie.Need-write-bits-requires Inv-loop μ-loop
-write-bits-requires c κs = (c .before .before .before .before .before .before .before .before .loop .inv .1, omega (arith, length-take (c .before .before .before .before .feed .result .count) (c .before .before .before .before .feed .last .1 .1 .0), fed-some (c .before .before .before .before .before .before .before .before .before .before .before .before .before .pre .2) (c .before .before .before .before .before .before .before .loop-test .taken) (c .before .before .before .before .before .before .before .before .loop .inv .0) (c .before .before .before .before .feed .ensures .0) .2))
+write-bits-requires c κs = (c .before .before .before .before .before .before .before .before .loop .inv .1, omega (arith, length-take (c .before .before .before .before .feed .result .count) (c .before .before .before .before .feed .last .1 .1 .0), fed-some (c .before .before .before .before .before .before .before .before .before .before .before .before .before .pre .2) (c .before .before .before .before .before .before .before .loop-test .taken) (c .before .before .before .before .before .before .before .before .loop .inv .0) (c .before .before .before .before .feed .ensures .0) .2), fed-bits (c .before .before .before .before .before .before .before .before .loop .inv .0 .ready) (c .before .before .before .before .feed .ensures .0))
 
 add-at : tie.Need-add-at Inv-loop μ-loop
 add-at c = omega (arith, fed-some (c .before .before .before .before .before .before .before .before .before .before .before .before .before .before .pre .2) (c .before .before .before .before .before .before .before .before .loop-test .taken) (c .before .before .before .before .before .before .before .before .before .loop .inv .0) (c .before .before .before .before .before .feed .ensures .0) .1)
@@ -59,7 +59,7 @@ loop-again c =
     let a = c .before .before .before .before .before .before .before .before .before .before .before .before .before .before in
     let l = c .before .before .before .before .before .before .before .before .before .loop in
     let f = c .before .before .before .before .before .feed in
-    (feeding-more (a .pre .2) (c .before .before .before .before .before .before .before .before .loop-test .taken) (l .inv .0) (f .ensures .0) (omega (arith, l .inv .2, a .pre .3)) (f .ensures .1), c .write-bits .ensures, omega (arith, l .inv .2, f .kept))
+    (feeding-more (a .pre .2) (c .before .before .before .before .before .before .before .before .loop-test .taken) (l .inv .0) (f .ensures .0) (omega (arith, l .inv .2, a .pre .3)) (f .ensures .1), c .write-bits .ensures .0, omega (arith, l .inv .2, f .kept))
 
 wrapping-add-u64-requires : tie.Need-wrapping-add-u64-requires Inv-loop μ-loop
 wrapping-add-u64-requires c κs = search needs

@@ -4,7 +4,7 @@ use mathlib.Core.Path.{sym}
 use native.Mathlib.Omega.{arith}
 use lib.ListN.{length-take}
 use lib.Seq.{length-take-le}
-use Rattle.symbol_pass.proofs.Pieces.{closed-few}
+use Rattle.symbol_pass.proofs.Pieces.{closed-few, closed-bits}
 use borrow.Author.Needs.{needs}
 use Rattle.symbol_pass.proofs.finish.Statement.{statement}
 use Rattle.symbol_pass.proofs.finish.Tie as tie
@@ -19,7 +19,7 @@ slice-aggregate-write-bits : tie.Need-slice-aggregate-write-bits
 slice-aggregate-write-bits c = sym (length-take-le _ _ (omega (arith, closed-few (c .before .before .before .before .before .before .before .before .pre .0 .ready) (c .before .before .before .close .ensures), c .before .before .before .before .before .before .before .before .pre .1, c .before .before .before .close .kept)))
 
 write-bits-requires : tie.Need-write-bits-requires
-write-bits-requires c κs = (c .before .before .before .before .before .before .before .before .pre .0 .few, omega (arith, length-take (c .before .before .before .close .result .count) (c .before .before .before .close .last .1 .0), closed-few (c .before .before .before .before .before .before .before .before .pre .0 .ready) (c .before .before .before .close .ensures)))
+write-bits-requires c κs = (c .before .before .before .before .before .before .before .before .pre .0 .few, omega (arith, length-take (c .before .before .before .close .result .count) (c .before .before .before .close .last .1 .0), closed-few (c .before .before .before .before .before .before .before .before .pre .0 .ready) (c .before .before .before .close .ensures)), closed-bits (c .before .before .before .close .ensures))
 
 slice-aggregate-fail : tie.Need-slice-aggregate-fail
 slice-aggregate-fail c = search needs

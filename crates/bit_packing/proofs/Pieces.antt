@@ -1,0 +1,188 @@
+-- The loop of packing, one bit a turn; and calls one after the other: whatever pieces the bits came in, the bytes are those of all of them.
+-- Assumes nothing.
+use mathlib.Core.Path.{_≡_, refl, sym, ap, ap₂, _∙_}
+use mathlib.Core.List.{List, [], _∷_, _++_, append-nil, append-assoc}
+use Prim.Native.Nat.{ℕ, suc, _+_, _-_, _*_, _/_, _%_, _≤_, _<_}
+use Prim.{tt}
+use native.Mathlib.Numerals.{add-one}
+use native.Mathlib.Omega.{arith}
+use lib.ListN.{length, getD, take, drop, set, length-append, length-drop}
+use lib.Seq.{take-suc, take-at, take-all, take-length, length-take-le, drop-append-le, drop-drop, drop-cons, append-snoc, set-at}
+use Rattle.convolutional_code.specs.Bits.{bitsOf}
+use Rattle.convolutional_code.proofs.Bits.{length-bits}
+use Rattle.bit_packing.specs.Packing.{packedBytes, bitsAfter, carriedBits, Packs, Packings, none, packing}
+use Rattle.bit_packing.proofs.Bytes.{length-bytes, bytes-back, packed-few, after-few, packed-pieces, after-pieces}
+
+-- ---- the bits that are carried
+
+pub carried-length : (carry n : ℕ) → n ≤ 8 → length (carriedBits carry n) ≡ n
+unfolding carriedBits
+carried-length carry n h = omega (arith, length-drop (8 - n) (bitsOf (carry ∷ [])), length-bits (carry ∷ []))
+
+-- a bit behind the last seven of a byte
+shifted : (carry bit : ℕ) → bit < 2 → bitsOf ((carry % 128 * 2 + bit) ∷ []) ≡ drop 1 (bitsOf (carry ∷ [])) ++ bit ∷ []
+unfolding bitsOf
+shifted c b h = rw (at7, at6, at5, at4, at3, at2, at1, at0)
+  where
+    at7 : (c % 128 * 2 + b) / 128 % 2 ≡ c / 64 % 2
+    at7 = omega arith
+
+    at6 : (c % 128 * 2 + b) / 64 % 2 ≡ c / 32 % 2
+    at6 = omega arith
+
+    at5 : (c % 128 * 2 + b) / 32 % 2 ≡ c / 16 % 2
+    at5 = omega arith
+
+    at4 : (c % 128 * 2 + b) / 16 % 2 ≡ c / 8 % 2
+    at4 = omega arith
+
+    at3 : (c % 128 * 2 + b) / 8 % 2 ≡ c / 4 % 2
+    at3 = omega arith
+
+    at2 : (c % 128 * 2 + b) / 4 % 2 ≡ c / 2 % 2
+    at2 = omega arith
+
+    at1 : (c % 128 * 2 + b) / 2 % 2 ≡ c % 2
+    at1 = omega arith
+
+    at0 : (c % 128 * 2 + b) % 2 ≡ b
+    at0 = omega arith
+
+carried-more : (carry n bit : ℕ) → n < 8 → bit < 2 → carriedBits (carry % 128 * 2 + bit) (n + 1) ≡ carriedBits carry n ++ bit ∷ []
+unfolding carriedBits
+carried-more carry n bit h b =
+    let k : ℕ = 8 - (n + 1) in
+    let l : List ℕ = drop 1 (bitsOf (carry ∷ [])) in
+    let e : 1 + k ≡ 8 - n = omega arith in
+    ap (drop k) (shifted carry bit b)
+    ∙ drop-append-le k l (bit ∷ []) (omega (arith, length-drop 1 (bitsOf (carry ∷ [])), length-bits (carry ∷ [])))
+    ∙ ap (λ (x : List ℕ). x ++ bit ∷ []) (drop-drop k 1 (bitsOf (carry ∷ [])) ∙ ap (λ (j : ℕ). drop j (bitsOf (carry ∷ []))) e)
+
+-- eight bits that are carried are a byte
+carried-whole : (carry : ℕ) → carry < 256 → packedBytes (carriedBits carry 8) ≡ carry ∷ []
+unfolding carriedBits
+carried-whole carry h =
+    let n = length-bits (carry ∷ []) in
+    ap packedBytes (sym (take-length (bitsOf (carry ∷ [])))) ∙ bytes-back (carry ∷ []) (h, tt) (length (bitsOf (carry ∷ []))) (omega arith)
+    ∙ ap (λ (k : ℕ). take (k / 8) (carry ∷ [])) n
+
+-- and behind it nothing is left
+none-left : (carry : ℕ) → bitsAfter (carriedBits carry 8) ≡ carriedBits carry 0
+unfolding carriedBits bitsAfter bitsOf
+none-left carry = refl
+
+-- ---- one bit a turn
+
+-- so many bits of the piece were taken, and so many bytes packed
+pub record Packing (carried bits output₀ output : List ℕ) (byte n k i : ℕ) : Type 0 where
+  pub most : i ≤ length bits
+  pub few : n < 8
+  pub counted : 8 * k + n ≡ length carried + i
+  pub written : output ≡ packedBytes (carried ++ take i bits) ++ drop k output₀
+  pub carries : carriedBits byte n ≡ bitsAfter (carried ++ take i bits)
+
+pub packing-start : (carry held : ℕ) (bits output : List ℕ) → held < 8 → Packing (carriedBits carry held) bits output output carry held 0 0
+packing-start carry held bits output h =
+    let c : List ℕ = carriedBits carry held in
+    let l : length c ≡ held = carried-length carry held (omega arith) in
+    let e : c ++ [] ≡ c = append-nil c in
+    record {
+      most = omega arith;
+      few = h;
+      counted = omega arith;
+      written = rw (e, packed-few c (omega arith));
+      carries = rw (e, after-few c (omega arith));
+    }
+
+module _ {carried bits output₀ output : List ℕ} {byte n k i : ℕ} (g : Packing carried bits output₀ output byte n k i) (here : i < length bits) (bit : getD bits i 0 < 2) where
+  abbrev b : ℕ
+  b = getD bits i 0
+
+  abbrev all : List ℕ
+  all = carried ++ take i bits
+
+  abbrev next : ℕ
+  next = byte % 128 * 2 + b
+
+  one-more : carried ++ take (i + 1) bits ≡ all ++ b ∷ []
+  one-more = ap (λ (j : ℕ). carried ++ take j bits) (add-one i) ∙ ap (λ (x : List ℕ). carried ++ x) (take-suc bits i 0 here) ∙ sym (append-assoc carried (take i bits) (b ∷ []))
+
+  held-more : bitsAfter all ++ b ∷ [] ≡ carriedBits next (n + 1)
+  held-more = ap (λ (x : List ℕ). x ++ b ∷ []) (sym (g .carries)) ∙ sym (carried-more byte n b (g .few) bit)
+
+  bytes-more : packedBytes (carried ++ take (i + 1) bits) ≡ packedBytes all ++ packedBytes (carriedBits next (n + 1))
+  bytes-more = ap packedBytes one-more ∙ packed-pieces all (b ∷ []) ∙ ap (λ (x : List ℕ). packedBytes all ++ packedBytes x) held-more
+
+  rest-more : bitsAfter (carried ++ take (i + 1) bits) ≡ bitsAfter (carriedBits next (n + 1))
+  rest-more = ap bitsAfter one-more ∙ after-pieces all (b ∷ []) ∙ ap bitsAfter held-more
+
+  -- a bit that fills no byte
+  pub packing-held : n + 1 < 8 → Packing carried bits output₀ output next (n + 1) k (i + 1)
+  packing-held h =
+      let l = carried-length next (n + 1) (omega arith) in
+      record {
+        most = omega arith;
+        few = h;
+        counted = omega (arith, g .counted);
+        written = g .written ∙ ap (λ (x : List ℕ). x ++ drop k output₀) (sym (bytes-more ∙ ap (λ (x : List ℕ). packedBytes all ++ x) (packed-few (carriedBits next (n + 1)) (omega arith)) ∙ append-nil (packedBytes all)));
+        carries = sym (rest-more ∙ after-few (carriedBits next (n + 1)) (omega arith));
+      }
+
+  all-length : length all ≡ 8 * k + n
+  all-length = omega (arith, length-append carried (take i bits), length-take-le i bits (omega arith), g .counted)
+
+  bytes-length : length (packedBytes all) ≡ k
+  bytes-length = omega (arith, length-bytes all, all-length, g .few)
+
+  -- the eighth bit of a byte, which is written
+  pub packing-whole : n + 1 ≡ 8 → k < length output₀ → next < 256 → Packing carried bits output₀ (set output k next) next 0 (k + 1) (i + 1)
+  packing-whole h fits small = record {
+    most = omega arith;
+    few = omega arith;
+    counted = omega (arith, g .counted);
+    written =
+        ap (λ (x : List ℕ). set x k next) (g .written ∙ ap (λ (x : List ℕ). packedBytes all ++ x) (drop-cons output₀ k 0 fits))
+        ∙ set-at (packedBytes all) (getD output₀ k 0) (drop (suc k) output₀) next k bytes-length
+        ∙ sym (append-snoc (packedBytes all) next (drop (suc k) output₀))
+        ∙ ap₂ (λ (x : List ℕ) (j : ℕ). x ++ drop j output₀) (sym (bytes-more ∙ ap (λ (x : List ℕ). packedBytes all ++ x) (ap (λ (j : ℕ). packedBytes (carriedBits next j)) h ∙ carried-whole next small))) (sym (add-one k));
+    carries = sym (rest-more ∙ ap (λ (j : ℕ). bitsAfter (carriedBits next j)) h ∙ none-left next);
+  }
+
+-- by whatever names the arms of the loop join
+pub packing-as : {carried bits output₀ output output′ : List ℕ} {byte n n′ k k′ i : ℕ} → output′ ≡ output → n′ ≡ n → k′ ≡ k
+    → Packing carried bits output₀ output byte n k i → Packing carried bits output₀ output′ byte n′ k′ i
+packing-as a b c g = rw (a, b, c) g
+
+pub packing-done : {carried bits output₀ output : List ℕ} {byte n k i : ℕ} → Packing carried bits output₀ output byte n k i → length bits ≤ i
+    → Packs carried bits output₀ byte n k output
+packing-done {carried} {bits} {i = i} g h =
+    let e : take i bits ≡ bits = take-all i bits h in
+    record {
+      counted = omega (arith, g .counted, g .few, g .most, length-append carried bits);
+      written = rw e at (g .written);
+      few = g .few;
+      carries = rw e at (g .carries);
+    }
+
+-- the bytes that are told stand in the output
+pub packs-fit : {carried piece output exit : List ℕ} {carry held count : ℕ} → Packs carried piece output carry held count exit → count ≤ length exit
+packs-fit {carried} {piece} {output} {count = count} w =
+    omega (arith, ap length (w .written), length-append (packedBytes (carried ++ piece)) (drop count output), length-bytes (carried ++ piece), w .counted)
+
+-- ---- calls one after the other
+
+-- Whatever pieces the bits came in, the bytes are those of all of them, and the bits after the last whole byte are carried.
+pub every-packing : {bits bytes : List ℕ} {carry held : ℕ} → Packings bits bytes carry held → (bytes ≡ packedBytes bits) × (carriedBits carry held ≡ bitsAfter bits)
+unfolding carriedBits
+every-packing none = (sym (packed-few [] (omega arith)), sym (after-few [] (omega arith)))
+every-packing (packing {bits} {bytes} {before} {held} {count = count} piece output exit p w) =
+    let g = every-packing p in
+    let rest : List ℕ = bitsAfter bits ++ piece in
+    let e : carriedBits before held ++ piece ≡ rest = ap (λ (x : List ℕ). x ++ piece) (g .1) in
+    let n : length (packedBytes (carriedBits before held ++ piece)) ≡ count = length-bytes (carriedBits before held ++ piece) ∙ sym (w .counted) in
+    let front : take count exit ≡ packedBytes rest = ap (take count) (w .written) ∙ take-at (packedBytes (carriedBits before held ++ piece)) (drop count output) count n ∙ ap packedBytes e in
+    (ap₂ (λ (x y : List ℕ). x ++ y) (g .0) front ∙ sym (packed-pieces bits piece), w .carries ∙ ap bitsAfter e ∙ sym (after-pieces bits piece))
+
+-- so any two ways of cutting them give the same bytes
+pub any-pieces : {bits bytes bytes′ : List ℕ} {carry carry′ held held′ : ℕ} → Packings bits bytes carry held → Packings bits bytes′ carry′ held′ → bytes ≡ bytes′
+any-pieces p q = every-packing p .0 ∙ sym (every-packing q .0)

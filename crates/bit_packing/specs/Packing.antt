@@ -1,0 +1,43 @@
+-- Bits packed into bytes, the first on top: of a whole list, and of a list that comes in pieces.
+-- Clauses: document 01, "Inner code".
+-- Assumes nothing.
+use mathlib.Core.Path.{_≡_}
+use mathlib.Core.List.{List, [], _∷_, _++_}
+use Prim.Native.Nat.{ℕ, _+_, _-_, _*_, _/_, _<_}
+use lib.ListN.{length, getD, take, drop}
+use Rattle.common.specs.Lists.{listOf}
+use Rattle.convolutional_code.specs.Bits.{bitsOf}
+
+-- eight bits as a byte, the first of them on top
+abbrev pub byteOf : (ℕ → ℕ) → ℕ
+byteOf bit = 128 * bit 0 + 64 * bit 1 + 32 * bit 2 + 16 * bit 3 + 8 * bit 4 + 4 * bit 5 + 2 * bit 6 + bit 7
+
+-- the bytes of a list of bits; bits at its end that fill no byte are in none
+unfoldable pub packedBytes : List ℕ → List ℕ
+unfolding listOf
+packedBytes bits = listOf (length bits / 8) (λ i. byteOf (λ j. getD bits (8 * i + j) 0))
+
+-- the bits after the last whole byte
+unfoldable pub bitsAfter : List ℕ → List ℕ
+bitsAfter bits = drop (8 * (length bits / 8)) bits
+
+-- ---- in pieces
+
+-- the bits that are carried as a byte: the last n of its eight, the top one first
+unfoldable pub carriedBits : ℕ → ℕ → List ℕ
+unfolding bitsOf
+carriedBits carry n = drop (8 - n) (bitsOf (carry ∷ []))
+
+-- What packing the bits that were carried and then those of a piece gives: the bytes of them all, at the front of the output and with all behind them
+-- as it was, and the bits after the last whole byte are carried.
+pub record Packs (carried piece output : List ℕ) (carry held count : ℕ) (exit : List ℕ) : Type 0 where
+  pub counted : count ≡ length (carried ++ piece) / 8
+  pub written : exit ≡ packedBytes (carried ++ piece) ++ drop count output
+  pub few : held < 8
+  pub carries : carriedBits carry held ≡ bitsAfter (carried ++ piece)
+
+-- Calls one after the other, the first with nothing carried: the bits that came, and the bytes that were packed, one piece after the other.
+pub data Packings : List ℕ → List ℕ → ℕ → ℕ → Type 0 where
+  none : {carry : ℕ} → Packings [] [] carry 0
+  packing : {bits bytes : List ℕ} {before held carry count : ℕ} {after : ℕ} (piece output exit : List ℕ) → Packings bits bytes before held
+      → Packs (carriedBits before held) piece output carry after count exit → Packings (bits ++ piece) (bytes ++ take count exit) carry after
