@@ -29,7 +29,7 @@ REQUIRED = [4.5, 5.0, 5.5, 6.0]
 WANTED = 2e-4
 # A gain before the reader that suits its eight levels better than 1.0; src/channel.rs says why.
 GAIN = [0.6, 0.7, 0.8, 0.9]
-PACKETS = 4912  # some 8 million bits
+PACKETS = 4910  # some 8 million bits, whole patterns at every rate
 POINTS = f"{WORK}/points"
 SYMBOLS = f"{WORK}/symbols"
 COSTS = f"{WORK}/costs"
