@@ -10,7 +10,7 @@ set -eu
 here=$(cd "$(dirname "$0")" && pwd)
 . "$here/../library.sh"
 . "$here/tools.sh"
-status=0 compared=
+status=0 compared= failed=
 
 with_libfec() {
     $cc -O2 "$here/libfec.c" -o "$build/libfec" -L"$EXPORTS_DIR" -lexports ${EXPORTS_LIBS:-} -lfec 2> "$build/libfec.log"
@@ -26,8 +26,9 @@ fi
 if with_gnuradio || { install gnuradio && with_gnuradio; }; then
     $cc -O2 "$here/stages.c" -o "$build/stages" -L"$EXPORTS_DIR" -lexports ${EXPORTS_LIBS:-}
     # GNU Radio's remarks on its own buffers go to a log.
-    "$python" "$here/gnuradio_chain.py" "$build/stages" > "$build/gnuradio.out" 2> "$build/gnuradio.log" || status=1
-    grep -v '^buffer_double_mapped' "$build/gnuradio.out" || { tail -5 "$build/gnuradio.log"; status=1; }
+    "$python" "$here/gnuradio_chain.py" "$build/stages" > "$build/gnuradio.out" 2> "$build/gnuradio.log" || failed=1
+    grep -v '^buffer_double_mapped' "$build/gnuradio.out" || failed=1
+    if [ -n "$failed" ]; then tail -5 "$build/gnuradio.log" | cut -c 1-500; status=1; fi
     compared="$compared GNU-Radio"
 else
     echo "GNU Radio: not there (Debian: gnuradio), skipped"
