@@ -3,8 +3,9 @@
  *   bench list                      the kernels and their sides, and how many
  *                                   blocks a call takes
  *   bench count KERNEL SIDE CALLS   makes so many calls (for callgrind)
- *   bench table COUNTS              times all, and prints one table; COUNTS is a
- *                                   file of lines "KERNEL SIDE INSTRUCTIONS"
+ *   bench table COUNTS              times all, and prints two tables, by kernels and
+ *                                   by the stages of the link; COUNTS is a file of
+ *                                   lines "KERNEL SIDE INSTRUCTIONS"
  */
 #define _POSIX_C_SOURCE 200809L
 #include "../include/dvbs.h"
@@ -19,13 +20,11 @@
 #ifdef HAVE_LIBFEC
 #include <fec.h>
 static void *fec, *viterbi;
-static uint8_t soft[2 * 1632]; /* libfec's order: Y, then X; 0 for a sure 0, 255 for a sure 1 */
 #endif
 
 #ifdef HAVE_VOLK
 #include <volk/volk.h>
 /* GNU Radio's decoder: VOLK's kernel for constraint length 7, and the way back as GNU Radio's cc_decoder does it. */
-static uint8_t volk_soft[2 * 1632] __attribute__((aligned(64)));
 static uint8_t volk_branches[64] __attribute__((aligned(64))), volk_metrics[2][64] __attribute__((aligned(64)));
 static uint8_t volk_decisions[8 * 1632] __attribute__((aligned(64)));
 #endif
@@ -52,6 +51,11 @@ static uint8_t runs[5][1632]; /* the symbols of a longest run at each rate, whos
 static float points_i[5][1632], points_q[5][1632]; /* the same as received points, with noise */
 static uint8_t lost[1632];                         /* one symbol in sixteen is lost */
 static const int run_symbols[5] = {1632, 1224, 1088, 978, 932}, run_bits[5] = {1632, 1632, 1632, 1630, 1631};
+static const int kept_bits[5] = {1531, 1528, 1530, 1525, 1526}; /* of a run, in a stream that is read in runs that overlap */
+#if defined HAVE_LIBFEC || defined HAVE_VOLK
+/* For libfec and VOLK: X and Y of each bit, 0 for a sure 0, 255 for a sure 1 and 128 for one not known. The first are those of the run at 1/2. */
+static uint8_t soft_hard[2 * 1632] __attribute__((aligned(64))), soft[2 * 1632] __attribute__((aligned(64)));
+#endif
 static volatile uint64_t sink;
 
 static uint64_t state = 300421;
@@ -131,28 +135,27 @@ static void prepare(void)
         PLAIN(inner_code)((uint8_t)rate, bytes, 204, output, sizeof output);
         memcpy(runs[rate], output, (size_t)run_symbols[rate]);
         for (int i = 0; i < run_symbols[rate]; i++) {
-            points_i[rate][i] = (runs[rate][i] & 2 ? -1.0f : 1.0f) + ((float)random_byte() - 127.5f) / 128;
-            points_q[rate][i] = (runs[rate][i] & 1 ? -1.0f : 1.0f) + ((float)random_byte() - 127.5f) / 128;
+            points_i[rate][i] = (runs[rate][i] & 2 ? -1.0f : 1.0f) + ((float)random_byte() - 127.5f) / 256;
+            points_q[rate][i] = (runs[rate][i] & 1 ? -1.0f : 1.0f) + ((float)random_byte() - 127.5f) / 256;
         }
     }
     for (int i = 0; i < 1632; i++)
         lost[i] = random_byte() % 16 == 0;
     memset(output, 0xa5, sizeof output);
-#ifdef HAVE_LIBFEC
+#if defined HAVE_LIBFEC || defined HAVE_VOLK
     for (int i = 0; i < 1632; i++) {
-        soft[2 * i] = runs[0][i] & 1 ? 255 : 0;
-        soft[2 * i + 1] = runs[0][i] >> 1 ? 255 : 0;
+        soft_hard[2 * i] = runs[0][i] >> 1 ? 255 : 0;
+        soft_hard[2 * i + 1] = runs[0][i] & 1 ? 255 : 0;
     }
+#endif
+#ifdef HAVE_LIBFEC
+    set_viterbi27_polynomial((int[]){V27POLYB, V27POLYA});
     viterbi = create_viterbi27(1632);
     fec = init_rs_char(8, 0x11d, 0, 1, 16, 51);
 #endif
 #ifdef HAVE_VOLK
     /* The generators with the newest bit first: 171 and 133 octal, turned round. */
     static const int generators[2] = {0117, 0155};
-    for (int i = 0; i < 1632; i++) {
-        volk_soft[2 * i] = runs[0][i] >> 1 ? 255 : 0;
-        volk_soft[2 * i + 1] = runs[0][i] & 1 ? 255 : 0;
-    }
     for (int s = 0; s < 32; s++)
         for (int g = 0; g < 2; g++)
             volk_branches[32 * g + s] = __builtin_parity((unsigned)(2 * s & generators[g])) ? 255 : 0;
@@ -251,6 +254,70 @@ static void send(const struct kernel *k, int side, int n)
                                                                 output, sizeof output, answer, 1);
 }
 
+#ifdef HAVE_LIBFEC
+static void read_by_libfec(const uint8_t *symbols)
+{
+    uint8_t packed[204] = {0};
+    init_viterbi27(viterbi, 0);
+    update_viterbi27_blk(viterbi, (uint8_t *)symbols, 1632);
+    chainback_viterbi27(viterbi, packed, 1626, 0);
+    for (int i = 0; i < 1632; i++)
+        output[i] = packed[i / 8] >> (7 - i % 8) & 1;
+}
+#endif
+
+#ifdef HAVE_VOLK
+static void read_by_volk(const uint8_t *symbols)
+{
+    memset(volk_metrics[0], 63, 64);
+    volk_metrics[0][0] = 0;
+    memset(volk_decisions, 0, sizeof volk_decisions);
+    volk_8u_x4_conv_k7_r2_8u(volk_metrics[1], volk_metrics[0], (uint8_t *)symbols, volk_decisions, 1626, 6, volk_branches);
+    unsigned state = 0;
+    for (int i = 1632; i-- > 0;) {
+        uint32_t words[2];
+        memcpy(words, volk_decisions + 8 * i, 8);
+        output[i] = state & 1;
+        state = state >> 1 | (words[state / 32] >> state % 32 & 1) << 5;
+    }
+}
+#endif
+
+#if defined HAVE_LIBFEC || defined HAVE_VOLK
+/* A number as libfec and VOLK take it, on the scale of GNU Radio's decoder: 48 for 1.0. */
+static uint8_t softened(float x)
+{
+    x = 128.5f - 48 * x;
+    x = x > 0 ? x : 0;
+    return (uint8_t)(int)(x < 255 ? x : 255);
+}
+
+/* The points of a run at 1/2 or 3/4. In loops that the compiler makes vectors of. */
+static void soften(int rate)
+{
+    static uint8_t i[1632], q[1632];
+    int symbols = run_symbols[rate];
+    for (int n = 0; n < symbols; n++)
+        i[n] = softened(points_i[rate][n]);
+    for (int n = 0; n < symbols; n++)
+        q[n] = softened(points_q[rate][n]);
+    for (int n = 0; n < symbols; n++) {
+        i[n] = lost[n] ? 128 : i[n];
+        q[n] = lost[n] ? 128 : q[n];
+    }
+    if (rate == 0)
+        for (int n = 0; n < 1632; n++)
+            soft[2 * n] = i[n], soft[2 * n + 1] = q[n];
+    else /* X2 and Y3 of three bits are not sent */
+        for (int n = 0; n < 544; n++) {
+            uint8_t *three = soft + 6 * n;
+            three[0] = i[2 * n], three[1] = q[2 * n];
+            three[2] = 128, three[3] = i[2 * n + 1];
+            three[4] = q[2 * n + 1], three[5] = 128;
+        }
+}
+#endif
+
 static void read_run(const struct kernel *k, int side, int n)
 {
     int rate = k->argument;
@@ -259,29 +326,12 @@ static void read_run(const struct kernel *k, int side, int n)
         sink += (side == LIBRARY ? dvbs_read_run : PLAIN(read_run))((uint8_t)rate, 0, runs[rate], (size_t)run_symbols[rate], output,
                                                                     (size_t)run_bits[rate], result, 6);
 #ifdef HAVE_LIBFEC
-    else if (side == LIBFEC) {
-        uint8_t packed[204] = {0};
-        init_viterbi27(viterbi, 0);
-        update_viterbi27_blk(viterbi, soft, 1632);
-        chainback_viterbi27(viterbi, packed, 1626, 0);
-        for (int i = 0; i < 1632; i++)
-            output[i] = packed[i / 8] >> (7 - i % 8) & 1;
-    }
+    else if (side == LIBFEC)
+        read_by_libfec(soft_hard);
 #endif
 #ifdef HAVE_VOLK
-    else if (side == VOLK) {
-        memset(volk_metrics[0], 63, 64);
-        volk_metrics[0][0] = 0;
-        memset(volk_decisions, 0, sizeof volk_decisions);
-        volk_8u_x4_conv_k7_r2_8u(volk_metrics[1], volk_metrics[0], volk_soft, volk_decisions, 1626, 6, volk_branches);
-        unsigned state = 0;
-        for (int i = 1632; i-- > 0;) {
-            uint32_t words[2];
-            memcpy(words, volk_decisions + 8 * i, 8);
-            output[i] = state & 1;
-            state = state >> 1 | (words[state / 32] >> state % 32 & 1) << 5;
-        }
-    }
+    else if (side == VOLK)
+        read_by_volk(soft_hard);
 #endif
     sink += output[0];
 }
@@ -291,8 +341,17 @@ static void read_soft_run(const struct kernel *k, int side, int n)
     int rate = k->argument;
     size_t symbols = (size_t)run_symbols[rate];
     (void)n;
-    sink += (side == LIBRARY ? dvbs_read_soft_run : PLAIN(read_soft_run))((uint8_t)rate, 0, points_i[rate], symbols, points_q[rate], symbols,
-                                                                          lost, symbols, output, (size_t)run_bits[rate], result, 6);
+    if (side == LIBRARY || side == PLAIN_C)
+        sink += (side == LIBRARY ? dvbs_read_soft_run : PLAIN(read_soft_run))((uint8_t)rate, 0, points_i[rate], symbols, points_q[rate], symbols,
+                                                                              lost, symbols, output, (size_t)run_bits[rate], result, 6);
+#ifdef HAVE_LIBFEC
+    else if (side == LIBFEC)
+        soften(rate), read_by_libfec(soft);
+#endif
+#ifdef HAVE_VOLK
+    else if (side == VOLK)
+        soften(rate), read_by_volk(soft);
+#endif
     sink += output[0];
 }
 
@@ -350,14 +409,42 @@ static const struct kernel kernels[] = {
     {"read_3_4", "read 1,632 bits, 3/4", 1, TWO, 2, read_run},
     {"read_5_6", "read 1,630 bits, 5/6", 1, TWO, 3, read_run},
     {"read_7_8", "read 1,631 bits, 7/8", 1, TWO, 4, read_run},
-    {"read_soft_1_2", "read 1,632 softly, 1/2", 1, TWO, 0, read_soft_run},
-    {"read_soft_3_4", "read 1,632 softly, 3/4", 1, TWO, 2, read_soft_run},
+    {"read_soft_1_2", "read 1,632 softly, 1/2", 1, FOUR, 0, read_soft_run},
+    {"read_soft_3_4", "read 1,632 softly, 3/4", 1, FOUR, 2, read_soft_run},
     {"receive_clean", "receive a block, clean", RUN, TWO, 0, receive},
     {"receive_harmed", "receive a block, harmed", RUN, TWO, 1, receive},
-    {"bridge_clean", "through the bridge, clean", RUN, TWO, 0, bridge},
-    {"bridge_harmed", "through the bridge, harmed", RUN, TWO, 1, bridge},
+    {"bridge_clean", "bridge, a clean block", RUN, TWO, 0, bridge},
+    {"bridge_harmed", "bridge, a harmed block", RUN, TWO, 1, bridge},
 };
 enum { KERNELS = sizeof kernels / sizeof *kernels };
+
+/* The stages of the link, each the sum of kernels. */
+static const struct {
+    const char *what, *kernels[3];
+} stages[] = {
+    {"energy dispersal", {"randomize"}},
+    {"outer coder", {"rs_encode"}},
+    {"interleaver", {"interleave"}},
+    {"inner coder, 1/2", {"inner_code_1_2"}},
+    {"inner coder, 3/4", {"inner_code_3_4"}},
+    {"sender, 1/2", {"send_1_2"}},
+    {"sender, 3/4", {"send_3_4"}},
+    {"inner decoder, hard, 1/2", {"read_1_2"}},
+    {"inner decoder, soft, 1/2", {"read_soft_1_2"}},
+    {"inner decoder, hard, 3/4", {"read_3_4"}},
+    {"inner decoder, soft, 3/4", {"read_soft_3_4"}},
+    {"outer decoder, clean", {"rs_decode_0"}},
+    {"outer decoder, 4 errors", {"rs_decode_4"}},
+    {"receiver, clean", {"receive_clean"}},
+    {"receiver, harmed", {"receive_harmed"}},
+    {"bridge, clean", {"bridge_clean"}},
+    {"bridge, harmed", {"bridge_harmed"}},
+    {"whole link, soft, 1/2", {"send_1_2", "read_soft_1_2", "receive_clean"}},
+    {"whole link, hard, 3/4", {"send_3_4", "read_3_4", "receive_clean"}},
+    {"whole link, soft, 3/4", {"send_3_4", "read_soft_3_4", "receive_clean"}},
+    {"the same, harmed", {"send_3_4", "read_soft_3_4", "receive_harmed"}},
+};
+enum { STAGES = sizeof stages / sizeof *stages };
 
 static int has(const struct kernel *k, int side)
 {
@@ -417,10 +504,59 @@ static void cell(int there, const char *format, double value)
         printf("          -");
 }
 
+static int index_of(const char *name)
+{
+    int i = 0;
+    while (strcmp(name, kernels[i].name))
+        i++;
+    return i;
+}
+
+/* The useful bits, those of transport packets, that one figure of a kernel is for. */
+static double useful_bits(const struct kernel *k)
+{
+    int reads = k->call == read_run || k->call == read_soft_run;
+    return reads ? kept_bits[k->argument] * 188.0 / 204 : 188 * 8;
+}
+
+/* What a stage takes for a useful bit, 0 where a kernel of it was not measured. */
+static double per_bit(int stage, int side, double figures[KERNELS][SIDES])
+{
+    double sum = 0;
+    for (int n = 0; n < 3 && stages[stage].kernels[n]; n++) {
+        int i = index_of(stages[stage].kernels[n]);
+        if (figures[i][side] == 0)
+            return 0;
+        sum += figures[i][side] / useful_bits(&kernels[i]);
+    }
+    return sum;
+}
+
+static void stage_table(double instructions[KERNELS][SIDES], double times[KERNELS][SIDES])
+{
+    printf("\nThe stages of the link, from the figures above. Useful bits are those of transport packets. The inner decoders read\n"
+           "runs that overlap: of a run %d bits are kept at 1/2 and %d at 3/4, which is taken so for every side.\n\n",
+           kept_bits[0], kept_bits[2]);
+    printf("%-25s|         Mbit/s of useful bits               |         instructions for a useful bit\n", "");
+    printf("%-25s|    library    plain C     libfec       VOLK |    library    plain C     libfec       VOLK\n", "stage");
+    for (int i = 0; i < STAGES; i++) {
+        printf("%-25s|", stages[i].what);
+        for (int s = 0; s < SIDES; s++) {
+            double t = per_bit(i, s, times), rate = t > 0 ? 1e3 / t : 0;
+            cell(t > 0, rate < 100 ? "%11.1f" : "%11.0f", rate);
+        }
+        printf(" |");
+        for (int s = 0; s < SIDES; s++) {
+            double n = per_bit(i, s, instructions);
+            cell(n > 0, n < 1 ? "%11.2f" : "%11.1f", n);
+        }
+        printf("\n");
+    }
+}
+
 static int table(const char *counts_file)
 {
-    double instructions[KERNELS][SIDES];
-    memset(instructions, 0, sizeof instructions);
+    static double instructions[KERNELS][SIDES], times[KERNELS][SIDES];
     FILE *f = fopen(counts_file, "r");
     char name[64], side_name[64];
     double value;
@@ -450,7 +586,7 @@ static int table(const char *counts_file)
             bad = 1;
             continue;
         }
-        double best[SIDES] = {0};
+        double *best = times[i];
         int calls[SIDES];
         for (int s = 0; s < SIDES; s++) {
             calls[s] = 1;
@@ -478,6 +614,7 @@ static int table(const char *counts_file)
         printf("\n");
         fflush(stdout);
     }
+    stage_table(instructions, times);
     return bad;
 }
 

@@ -1,6 +1,6 @@
 #!/bin/bash
-# Builds the library and its peers, counts instructions with callgrind, takes times side by side, prints one table,
-# and draws it: docs/performance.svg. What is built, and the table, stay in target/bench.
+# Builds the library and its peers, counts instructions with callgrind, takes times side by side, prints a table of kernels and
+# one of the stages of the link, and draws the first: docs/performance.svg. What is built, and the tables, stay in target/bench.
 # libfec, VOLK and valgrind come from Debian where they are missing; what cannot be had is said and skipped. CC may name another
 # compiler.
 set -euo pipefail
@@ -42,7 +42,7 @@ else
     echo "VOLK is missing (Debian: libvolk2-dev); its columns are skipped"
 fi
 "$cc" -std=gnu11 -O3 -Wall -Wextra -c bench/plain.c -o "$build/plain.o"
-"$cc" -std=gnu11 -O2 -Wall -Wextra "${flags[@]}" bench/bench.c "$build/plain.o" -Ltarget/staticlib -lexports -lbridge -lkernels "${peers[@]}" -o "$build/bench"
+"$cc" -std=gnu11 -O3 -Wall -Wextra "${flags[@]}" bench/bench.c "$build/plain.o" -Ltarget/staticlib -lexports -lbridge -lkernels "${peers[@]}" -o "$build/bench"
 
 # Instructions of one block: the difference of two runs that differ only in how many calls they make, so that the
 # preparation falls out.

@@ -9,14 +9,8 @@
 set -eu
 here=$(cd "$(dirname "$0")" && pwd)
 . "$here/../library.sh"
-status=0 compared=
-
-install() {
-    command -v apt-get > /dev/null || return 1
-    echo "installing $1"
-    { apt-get install -y --no-install-recommends "$1" || { apt-get update && apt-get install -y --no-install-recommends "$1"; }; } \
-        > "$build/install-$1.log" 2>&1
-}
+. "$here/tools.sh"
+status=0 compared= failed=
 
 with_libfec() {
     $cc -O2 "$here/libfec.c" -o "$build/libfec" -L"$EXPORTS_DIR" -lexports ${EXPORTS_LIBS:-} -lfec 2> "$build/libfec.log"
@@ -29,19 +23,12 @@ else
     echo "libfec: not there (Debian: libfec-dev), skipped; see $build/libfec.log"
 fi
 
-with_gnuradio() {
-    for python in python3 /usr/bin/python3; do
-        if "$python" -c 'from gnuradio import dtv' 2> /dev/null; then
-            return 0
-        fi
-    done
-    return 1
-}
 if with_gnuradio || { install gnuradio && with_gnuradio; }; then
     $cc -O2 "$here/stages.c" -o "$build/stages" -L"$EXPORTS_DIR" -lexports ${EXPORTS_LIBS:-}
     # GNU Radio's remarks on its own buffers go to a log.
-    "$python" "$here/gnuradio_chain.py" "$build/stages" > "$build/gnuradio.out" 2> "$build/gnuradio.log" || status=1
-    grep -v '^buffer_double_mapped' "$build/gnuradio.out" || { tail -5 "$build/gnuradio.log"; status=1; }
+    "$python" "$here/gnuradio_chain.py" "$build/stages" > "$build/gnuradio.out" 2> "$build/gnuradio.log" || failed=1
+    grep -v '^buffer_double_mapped' "$build/gnuradio.out" || failed=1
+    if [ -n "$failed" ]; then tail -5 "$build/gnuradio.log" | cut -c 1-500; status=1; fi
     compared="$compared GNU-Radio"
 else
     echo "GNU Radio: not there (Debian: gnuradio), skipped"

@@ -94,7 +94,8 @@ for rate in range(len(RATES)):
     compare(f"our symbols at {RATES[rate]} through its Viterbi decoder", interleaved, theirs, 1, "bytes", PACKETS * 204)
 
 # Soft decisions. gr-trellis takes what each symbol of the mother code would cost at each step, and gives bits of least cost; where several tie, any.
-PATTERNS = [("1", "1"), ("1010", "1111"), ("101", "110"), ("10101", "11010"), ("1000101", "1111010")]
+# The rates that are read: 7/8 too.
+PATTERNS = [("1/2", "1", "1"), ("2/3", "1010", "1111"), ("3/4", "101", "110"), ("5/6", "10101", "11010"), ("7/8", "1000101", "1111010")]
 RUNS = 60
 
 
@@ -109,7 +110,7 @@ def soft_costs(points, lost):
     return np.where(free, 0, 7 - level), np.where(free, 0, level)
 
 
-for rate, (keep_x, keep_y) in enumerate(PATTERNS):
+for rate, (name, keep_x, keep_y) in enumerate(PATTERNS):
     length = 1632 // len(keep_x) * len(keep_x)
     keep = np.array([[x == "1", y == "1"] for x, y in zip(keep_x, keep_y)])
     keep = np.tile(keep, (length // len(keep_x), 1))
@@ -150,6 +151,6 @@ for rate, (keep_x, keep_y) in enumerate(PATTERNS):
         ties += told == its and bool(np.any(ours[run, :length] != theirs[run]))
     wrong += len(theirs) != RUNS
     different += wrong
-    print(f"GNU Radio, soft decisions at {RATES[rate]}: {RUNS} runs compared, {wrong} different (other bits of the same cost in {ties})", flush=True)
+    print(f"GNU Radio, soft decisions at {name}: {RUNS} runs compared, {wrong} different (other bits of the same cost in {ties})", flush=True)
 
 sys.exit(different != 0)
