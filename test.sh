@@ -34,6 +34,9 @@ tool c++ g++
 tool cargo cargo
 tool rustc rustc
 
+# What takes seconds comes first.
+bash docs/crates.sh | quietly cmp - docs/crates.svg
+
 # rt waits for the whole of a batch. With four at a time two processors are seldom left idle by the longest one.
 export RT_JOBS=${RT_JOBS:-4}
 # Its last line is held back: where something failed, no line of this script reads as if all had passed.
