@@ -1,5 +1,5 @@
 #!/bin/bash
-# The tests: the Rattle gate, then what stands beside the crates: the exported functions against the second coder and
+# The tests: what is made from the crates by scripts; the Rattle gate; then what stands beside the crates: the exported functions against the second coder and
 # decoder of reference/, the programs on inputs in pieces, on pass reports and with marks, the commands of README.md, and the usage lines of the programs.
 # The gate's line `N passed, 0 failed` comes last, and only where all of it passed.
 set -euo pipefail
@@ -36,6 +36,8 @@ tool rustc rustc
 
 # What takes seconds comes first.
 bash docs/crates.sh | quietly cmp - docs/crates.svg
+bash tests/believed.sh | quietly diff docs/BELIEVED.md -
+grep -qF "$(grep -o '[0-9,]* definitions in [0-9]* files, [0-9,]* lines' docs/BELIEVED.md)" docs/TRUST.md || fail "docs/TRUST.md: the sum of docs/BELIEVED.md"
 
 # rt waits for the whole of a batch. With four at a time two processors are seldom left idle by the longest one.
 export RT_JOBS=${RT_JOBS:-4}

@@ -6,9 +6,10 @@
 #   item ITEM LINE LINES     where it begins, and how many lines it has, without comments
 #   sign ITEM ITEM           the first cites the second in its signature, or in its fields, constructors or contract
 #   body ITEM ITEM           the same in its clauses
+#   local ITEM ITEM          it has the other's name for a variable, and does not seem to cite it
 #   import FILE LINE NAME    an imported name that the file does not use
-# A word cites what the file declares or imports under it, also where a variable has that name. So a use may be seen that is none,
-# but none is missed.
+# A word cites what the file declares or imports under it. The scope of a variable is taken to be the rest of the clause or signature:
+# where that is too wide, a citation is printed as local.
 
 # file_of MODULE: the file of a module of the project. A module of the kit, or one made from the code, has none here.
 function file_of(module) {
@@ -79,15 +80,51 @@ function declare(name) {
     note_parts(name)
 }
 
+# bind TEXT: its words are variables from here to the end of the clause, or of the module whose header or open line this is.
+function bind(text,    n, i) {
+    n = words_of(text)
+    for (i = 1; i <= n; i++)
+        if (part == "module")
+            in_module[depth] = in_module[depth] " " words[i]
+        else
+            variable[words[i]] = 1
+}
+
+# bind_all LINE: what follows a bracket and stands before a colon, a λ before its dot, a let.
+function bind_all(line) {
+    gsub(/∀ \{/, "(", line)
+    while (match(line, /[({][^(){}:]* : |λ [^.(]*\.|let [^ ]+ [=:]/)) {
+        bound = substr(line, RSTART, RLENGTH)
+        line = substr(line, RSTART + RLENGTH)
+        sub(/^λ|^let| [=:] ?$|\.$/, "", bound)
+        sub(/ : $/, "", bound)
+        bind(bound)
+    }
+}
+
+# new_clause: no variables but those of the modules around it.
+function new_clause(    d, n, i, list) {
+    split("", variable)
+    for (d = 1; d <= depth; d++) {
+        n = split(in_module[d], list, " ")
+        for (i = 1; i <= n; i++)
+            variable[list[i]] = 1
+    }
+}
+
 # take LINE PART: the line is of this part of the item.
 function take(line, part,    n, i) {
     lines[item]++
     n = words_of(line)
     for (i = 1; i <= n; i++)
-        if (!((item, part, words[i]) in said)) {
-            said[item, part, words[i]] = 1
-            text[item] = text[item] part " " words[i] "\n"
-        }
+        cite_later(words[i] in variable ? "local" : part == "module" ? "sign" : part, words[i])
+}
+
+function cite_later(part, word) {
+    if (!((item, part, word) in said)) {
+        said[item, part, word] = 1
+        text[item] = text[item] part " " word "\n"
+    }
 }
 
 FNR == 1 { depth = indent = header = contract = 0; item = part = "" }
@@ -126,30 +163,57 @@ FILENAME ~ /\.rt$/ {
     sub(/^(abbrev|unfoldable) /, "", rest)
     sub(/^pub /, "", rest)
     split(rest, first, " ")
+    declares = rest ~ /^[^ ]+ (\{[^}]*\} )?: /
     if (header || at > indent) {
-        if (kind && at == indent + 2 && $0 ~ / : /)
-            for (i = words_of(substr($0, 1, index($0, " : "))); i > 0; i--)
-                member[kind, FILENAME, words[i]] = item
-    } else if (first[1] == "module") {
-        declare("module@" FNR)
-        outer[depth + 1] = indent
-        scope[++depth] = item
-        indent = at + 2
-        header = 1
-        part = "sign"
-        kind = ""
-    } else if (first[1] == "open" && depth) {
-        item = scope[depth]
+        # A field, a constructor, or what a where declares.
+        if (declares && !header) {
+            before = substr(rest, 1, index(rest, " : "))
+            if (kind && at == indent + 2)
+                for (i = words_of(before); i > 0; i--)
+                    member[kind, FILENAME, words[i]] = item
+            if (kind != "data")
+                bind(before)
+        }
     } else {
+        new_clause()
         kind = first[1] ~ /^(record|data)$/ && first[2] != "{" ? first[1] : ""
-        if (kind || first[1] == "ruleset")
+        if (first[1] == "module") {
+            declare("module@" FNR)
+            outer[depth + 1] = indent
+            scope[++depth] = item
+            in_module[depth] = ""
+            indent = at + 2
+            header = 1
+            part = "module"
+        } else if (first[1] == "open" && depth) {
+            item = scope[depth]
+            part = "module"
+            bound = rest
+            sub(/.*using/, "", bound)
+            gsub(/[^(), ]+ as /, "", bound)
+            gsub(/_/, " ", bound)
+            bind(bound)
+        } else if (kind || first[1] == "ruleset") {
             declare(first[2])
-        else if (rest ~ /^[^ ]+ (\{[^}]*\} )?: /)
+            part = kind ? "sign" : "body"
+        } else if (declares) {
             declare(first[1])
-        else if ((FILENAME ":" first[1]) in line_of)
-            item = FILENAME ":" first[1]
-        part = kind || rest ~ /^[^ ]+ (\{[^}]*\} )?: / ? "sign" : "body"
+            part = "sign"
+        } else {
+            part = "body"
+            if ((FILENAME ":" first[1]) in line_of)
+                item = FILENAME ":" first[1]
+            # What stands in a pattern is a constructor or a variable.
+            if (first[1] != "unfolding" && match($0, / =( |$)/)) {
+                for (i = words_of(substr($0, 1, RSTART)); i > 0; i--)
+                    if (words[i] != first[1])
+                        cite_later("pattern", words[i])
+                bound = substr($0, at + length(first[1]) + 1, RSTART - at - length(first[1]))
+                bind(bound)
+            }
+        }
     }
+    bind_all($0)
     take($0, part)
     if (header && /where$/)
         header = 0
@@ -170,6 +234,13 @@ function meant(from, word,    k, name) {
     return (from ":" name) in line_of ? from ":" name : ("data", from, name) in member ? member["data", from, name] : member["record", from, name]
 }
 
+function constructor(from, word,    k) {
+    if (("data", from, word) in member)
+        return 1
+    k = brought[from, word]
+    return k && ("data", import_from[k], import_name[k]) in member
+}
+
 function cite(from, part, to) {
     if (to != "" && to != from && !((from, part, to) in drawn)) {
         drawn[from, part, to] = 1
@@ -180,6 +251,8 @@ function cite(from, part, to) {
 # cite_word ITEM PART WORD: what it cites, by itself, through a module, or as a part of operators.
 function cite_word(from, part, word,    at, path, n, i, j, pieces, names) {
     at = file[from]
+    if (part == "pattern")
+        part = constructor(at, word) ? "body" : "local"
     if (split(word, path, ".") > 1 && (at, path[1]) in brought && import_name[brought[at, path[1]]] == "") {
         meant(at, path[1])
         cite(from, part, (import_from[brought[at, path[1]]] ":" path[2]) in line_of ? import_from[brought[at, path[1]]] ":" path[2] : "")

@@ -34,7 +34,7 @@ sed 's/^/have\t/' "$work/files" | cat - "$work/items" "$work/cited" | awk -F '\t
         if (name[$2] ~ /^(pub )?fn / || $2 ~ /\/Proof\.antt:[^:]*-spec$/)
             live($2)
     }
-    $1 == "sign" || $1 == "body" { uses[$2] = uses[$2] $3 "\n" }
+    $1 == "sign" || $1 == "body" || $1 == "local" { uses[$2] = uses[$2] $3 "\n" }
     $1 == "import" { report($2 ":" $3 ": imports " $4 ", and does not use it") }
     $1 == "file" && !($2 in have) && $2 !~ /NAME/ { report($3 ": there is no " $2) }
     $1 == "cited" {
