@@ -27,7 +27,7 @@ surface() {
 # clauses: what a file names in its comments.
 clauses() {
     find crates -name '*.antt' | sort | xargs awk '/^ *-- / {
-        while (match($0, /EN 30[01] [0-9]+(, [0-9]+(\.[0-9]+)+|, tables? [0-9]+)?|[Dd]ocument 0[12](, ("[^"]*"|P[0-9]+)( and ("[^"]*"|P[0-9]+))*)?/)) {
+        while (match($0, /EN 30[01] [0-9]+(, [0-9]+(\.[0-9]+)+|, tables? [0-9]+( and [0-9]+)?)?|[Dd]ocument 0[12](, ("[^"]*"|P[0-9]+)( and ("[^"]*"|P[0-9]+))*)?/)) {
             clause = substr($0, RSTART, RLENGTH)
             sub(/^D/, "d", clause)
             $0 = substr($0, RSTART + RLENGTH)

@@ -92,12 +92,10 @@ function bind(text,    n, i) {
 
 # bind_all LINE: what follows a bracket and stands before a colon, a λ before its dot, a let.
 function bind_all(line) {
-    gsub(/∀ \{/, "(", line)
     while (match(line, /[({][^(){}:]* : |λ [^.(]*\.|let [^ ]+ [=:]/)) {
         bound = substr(line, RSTART, RLENGTH)
         line = substr(line, RSTART + RLENGTH)
-        sub(/^λ|^let| [=:] ?$|\.$/, "", bound)
-        sub(/ : $/, "", bound)
+        gsub(/^λ|^let| [=:] ?$|\.$/, "", bound)
         bind(bound)
     }
 }
@@ -127,7 +125,11 @@ function cite_later(part, word) {
     }
 }
 
-FNR == 1 { depth = indent = header = contract = 0; item = part = "" }
+FNR == 1 {
+    depth = indent = header = contract = 0
+    item = part = ""
+    new_clause()
+}
 
 /^(ghost )?use / {
     if (FILENAME ~ /antt$/ || /^ghost/)
