@@ -47,7 +47,7 @@ static int places[3][POOL][16]; /* of the marked bytes, for libfec */
 #endif
 static uint8_t factors[FACTORS];
 static uint8_t coded_run[RUN * 204], clean_stream[RUN * 204], harmed_stream[RUN * 204];
-static uint8_t room[RUN * 1632], block[204], answer[2], counts[64], result[6];
+static uint8_t output[RUN * 1632], block[204], answer[2], counts[64], result[6];
 static uint8_t runs[5][1632]; /* the symbols of a longest run at each rate, whose last six bits are 0 */
 static float points_i[5][1632], points_q[5][1632]; /* the same as received points, with noise */
 static uint8_t lost[1632];                         /* one symbol in sixteen is lost */
@@ -128,8 +128,8 @@ static void prepare(void)
         uint8_t bytes[204];
         memcpy(bytes, clean_stream, 204);
         bytes[203] = 0;
-        PLAIN(inner_code)((uint8_t)rate, bytes, 204, room, sizeof room);
-        memcpy(runs[rate], room, (size_t)run_symbols[rate]);
+        PLAIN(inner_code)((uint8_t)rate, bytes, 204, output, sizeof output);
+        memcpy(runs[rate], output, (size_t)run_symbols[rate]);
         for (int i = 0; i < run_symbols[rate]; i++) {
             points_i[rate][i] = (runs[rate][i] & 2 ? -1.0f : 1.0f) + ((float)random_byte() - 127.5f) / 128;
             points_q[rate][i] = (runs[rate][i] & 1 ? -1.0f : 1.0f) + ((float)random_byte() - 127.5f) / 128;
@@ -137,7 +137,7 @@ static void prepare(void)
     }
     for (int i = 0; i < 1632; i++)
         lost[i] = random_byte() % 16 == 0;
-    memset(room, 0xa5, sizeof room);
+    memset(output, 0xa5, sizeof output);
 #ifdef HAVE_LIBFEC
     for (int i = 0; i < 1632; i++) {
         soft[2 * i] = runs[0][i] & 1 ? 255 : 0;
@@ -180,16 +180,16 @@ static void encode(const struct kernel *k, int side, int n)
     const uint8_t *d = data[n % POOL];
     (void)k;
     if (side == LIBRARY)
-        sink += dvbs_rs_encode(d, 188, room, 204);
+        sink += dvbs_rs_encode(d, 188, output, 204);
     else if (side == PLAIN_C)
-        sink += PLAIN(rs_encode)(d, 188, room, 204);
+        sink += PLAIN(rs_encode)(d, 188, output, 204);
 #ifdef HAVE_LIBFEC
     else {
-        memcpy(room, d, 188);
-        encode_rs_char(fec, room, room + 188);
+        memcpy(output, d, 188);
+        encode_rs_char(fec, output, output + 188);
     }
 #endif
-    sink += room[203];
+    sink += output[203];
 }
 
 static void decode(const struct kernel *k, int side, int n)
@@ -226,29 +226,29 @@ static void randomize(const struct kernel *k, int side, int n)
 {
     const uint8_t *p = packets + 188 * (n % RUN);
     (void)k;
-    sink += (side == LIBRARY ? dvbs_randomize : PLAIN(randomize))((uint8_t)(n % 8), p, 188, room, 188);
-    sink += room[187];
+    sink += (side == LIBRARY ? dvbs_randomize : PLAIN(randomize))((uint8_t)(n % 8), p, 188, output, 188);
+    sink += output[187];
 }
 
 static void interleave(const struct kernel *k, int side, int n)
 {
     (void)k, (void)n;
-    (side == LIBRARY ? kernel_interleave : PLAIN(interleave))(coded_run, sizeof coded_run, room, sizeof room);
-    sink += room[203];
+    (side == LIBRARY ? kernel_interleave : PLAIN(interleave))(coded_run, sizeof coded_run, output, sizeof output);
+    sink += output[203];
 }
 
 static void inner_code(const struct kernel *k, int side, int n)
 {
     (void)n;
     sink += (side == LIBRARY ? kernel_inner_code : PLAIN(inner_code))((uint8_t)k->argument, clean_stream, sizeof clean_stream,
-                                                                      room, sizeof room);
+                                                                      output, sizeof output);
 }
 
 static void send(const struct kernel *k, int side, int n)
 {
     (void)n;
     sink += (side == LIBRARY ? dvbs_send_run : PLAIN(send_run))((uint8_t)k->argument, packets, sizeof packets,
-                                                                room, sizeof room, answer, 1);
+                                                                output, sizeof output, answer, 1);
 }
 
 static void read_run(const struct kernel *k, int side, int n)
@@ -256,7 +256,7 @@ static void read_run(const struct kernel *k, int side, int n)
     int rate = k->argument;
     (void)n;
     if (side == LIBRARY || side == PLAIN_C)
-        sink += (side == LIBRARY ? dvbs_read_run : PLAIN(read_run))((uint8_t)rate, 0, runs[rate], (size_t)run_symbols[rate], room,
+        sink += (side == LIBRARY ? dvbs_read_run : PLAIN(read_run))((uint8_t)rate, 0, runs[rate], (size_t)run_symbols[rate], output,
                                                                     (size_t)run_bits[rate], result, 6);
 #ifdef HAVE_LIBFEC
     else if (side == LIBFEC) {
@@ -265,7 +265,7 @@ static void read_run(const struct kernel *k, int side, int n)
         update_viterbi27_blk(viterbi, soft, 1632);
         chainback_viterbi27(viterbi, packed, 1626, 0);
         for (int i = 0; i < 1632; i++)
-            room[i] = packed[i / 8] >> (7 - i % 8) & 1;
+            output[i] = packed[i / 8] >> (7 - i % 8) & 1;
     }
 #endif
 #ifdef HAVE_VOLK
@@ -278,12 +278,12 @@ static void read_run(const struct kernel *k, int side, int n)
         for (int i = 1632; i-- > 0;) {
             uint32_t words[2];
             memcpy(words, volk_decisions + 8 * i, 8);
-            room[i] = state & 1;
+            output[i] = state & 1;
             state = state >> 1 | (words[state / 32] >> state % 32 & 1) << 5;
         }
     }
 #endif
-    sink += room[0];
+    sink += output[0];
 }
 
 static void read_soft_run(const struct kernel *k, int side, int n)
@@ -292,15 +292,15 @@ static void read_soft_run(const struct kernel *k, int side, int n)
     size_t symbols = (size_t)run_symbols[rate];
     (void)n;
     sink += (side == LIBRARY ? dvbs_read_soft_run : PLAIN(read_soft_run))((uint8_t)rate, 0, points_i[rate], symbols, points_q[rate], symbols,
-                                                                          lost, symbols, room, (size_t)run_bits[rate], result, 6);
-    sink += room[0];
+                                                                          lost, symbols, output, (size_t)run_bits[rate], result, 6);
+    sink += output[0];
 }
 
 static void receive(const struct kernel *k, int side, int n)
 {
     const uint8_t *stream = k->argument ? harmed_stream : clean_stream;
     (void)n;
-    sink += (side == LIBRARY ? dvbs_receive_run : PLAIN(receive_run))(stream, sizeof clean_stream, room, sizeof room, counts, sizeof counts,
+    sink += (side == LIBRARY ? dvbs_receive_run : PLAIN(receive_run))(stream, sizeof clean_stream, output, sizeof output, counts, sizeof counts,
                                                                       answer, 1);
 }
 
@@ -316,7 +316,7 @@ static void bridge(const struct kernel *k, int side, int n)
     size_t written = 0;
     dvbs_bridge_fresh(kept, sizeof kept);
     for (int p = 0; p < RUN; p++)
-        if (dvbs_bridge_take(kept, sizeof kept, stream + 204 * p, 204, room + written, 188) == 0)
+        if (dvbs_bridge_take(kept, sizeof kept, stream + 204 * p, 204, output + written, 188) == 0)
             written += 188;
     sink += written;
 }
@@ -390,20 +390,20 @@ static double time_of(const struct kernel *k, int side, int calls)
 /* The sides agree on what they are timed on. */
 static int agree(const struct kernel *k)
 {
-    static uint8_t kept[sizeof room];
+    static uint8_t kept[sizeof output];
     uint8_t kept_block[204];
     int calls = k->blocks == 1 ? POOL : 1;
-    size_t used = k->blocks == 1 ? 1632 : sizeof room;
+    size_t used = k->blocks == 1 ? 1632 : sizeof output;
     for (int n = 0; n < calls; n++)
         for (int side = 0; side < SIDES; side++) {
             if (!has(k, side))
                 continue;
-            memset(room, 0xa5, used);
+            memset(output, 0xa5, used);
             memset(block, 0, sizeof block);
             k->call(k, side, n);
             if (side == LIBRARY)
-                memcpy(kept, room, used), memcpy(kept_block, block, 204);
-            else if (memcmp(kept, room, used) || memcmp(kept_block, block, 204))
+                memcpy(kept, output, used), memcpy(kept_block, block, 204);
+            else if (memcmp(kept, output, used) || memcmp(kept_block, block, 204))
                 return 0;
         }
     return 1;
@@ -435,7 +435,7 @@ static int table(const char *counts_file)
     printf("Each figure is for one block: one packet in the randomizer and in sending, one longest run in reading,\n"
            "and in the field product sixteen lanes times one factor.\n"
            "Interleaver, inner coder, sending, receiving: one call on %d blocks from a fresh state, divided.\n"
-           "Data is random. Rooms are not cleared: they are lent as the call before left them. A block to be\n"
+           "Data is random. Output buffers are not cleared: they are lent as the call before left them. A block to be\n"
            "decoded is copied in afresh before every call, inside the measure, on every side.\n"
            "Plain C is built at -O3, libfec and VOLK as their packages have them. Times: best of %d, the sides taking turns.\n"
            "Ratio: the library's time to the peer's.\n\n",

@@ -57,15 +57,15 @@ __attribute__((constructor)) static void fill_tables(void)
     memcpy(null_packet, "\x47\x1f\xff\x10", 4);
 }
 
-static void mask(unsigned place, uint8_t first, const uint8_t *packet, uint8_t *room)
+static void mask(unsigned place, uint8_t first, const uint8_t *packet, uint8_t *output)
 {
     const uint8_t *m = prbs + PACKET * place;
-    room[0] = first;
+    output[0] = first;
     for (int n = 1; n < PACKET; n++)
-        room[n] = packet[n] ^ m[n];
+        output[n] = packet[n] ^ m[n];
 }
 
-uint8_t PLAIN(randomize)(uint8_t place, const uint8_t *packet, size_t packet_len, uint8_t *room, size_t room_len)
+uint8_t PLAIN(randomize)(uint8_t place, const uint8_t *packet, size_t packet_len, uint8_t *output, size_t output_len)
 {
     if (place >= GROUP)
         return 5;
@@ -73,21 +73,21 @@ uint8_t PLAIN(randomize)(uint8_t place, const uint8_t *packet, size_t packet_len
         return 1;
     if (packet[0] != 0x47)
         return 2;
-    if (room_len < PACKET)
+    if (output_len < PACKET)
         return 4;
-    mask(place, place ? 0x47 : 0xb8, packet, room);
+    mask(place, place ? 0x47 : 0xb8, packet, output);
     return 0;
 }
 
-uint8_t PLAIN(derandomize)(uint8_t place, const uint8_t *packet, size_t packet_len, uint8_t *room, size_t room_len)
+uint8_t PLAIN(derandomize)(uint8_t place, const uint8_t *packet, size_t packet_len, uint8_t *output, size_t output_len)
 {
     if (place >= GROUP)
         return 5;
     if (packet_len != PACKET)
         return 1;
-    if (room_len < PACKET)
+    if (output_len < PACKET)
         return 4;
-    mask(place, 0x47, packet, room);
+    mask(place, 0x47, packet, output);
     return 0;
 }
 
@@ -102,16 +102,16 @@ static void check_bytes(const uint8_t *data, uint8_t *rest)
     }
 }
 
-uint8_t PLAIN(rs_encode)(const uint8_t *data, size_t data_len, uint8_t *room, size_t room_len)
+uint8_t PLAIN(rs_encode)(const uint8_t *data, size_t data_len, uint8_t *output, size_t output_len)
 {
     if (data_len != PACKET)
         return 1;
-    if (room_len < BLOCK)
+    if (output_len < BLOCK)
         return 4;
     uint8_t rest[CHECK];
     check_bytes(data, rest);
-    memcpy(room, data, PACKET);
-    memcpy(room + PACKET, rest, CHECK);
+    memcpy(output, data, PACKET);
+    memcpy(output + PACKET, rest, CHECK);
     return 0;
 }
 
@@ -140,7 +140,7 @@ static int are_marks(const uint8_t *marks, size_t count)
 }
 
 /* Bytes changed, or -1 and the block as it was. The bits changed are added. Bytes with a mark of 1 are erasures; marks may be NULL. */
-static int repair(uint8_t *block, const uint8_t *marks, int *bits)
+static int correct(uint8_t *block, const uint8_t *marks, int *bits)
 {
     /* The erasure locator: the product of 1 + X x over the marked places X. */
     uint8_t erasures[CHECK + 1] = {1};
@@ -242,7 +242,7 @@ uint8_t PLAIN(rs_decode)(uint8_t *block, size_t block_len, uint8_t *count, size_
         return 3;
     if (count_len < 2)
         return 4;
-    int bits = 0, changed = repair(block, NULL, &bits);
+    int bits = 0, changed = correct(block, NULL, &bits);
     if (changed < 0)
         return 8;
     count[0] = (uint8_t)changed;
@@ -258,7 +258,7 @@ uint8_t PLAIN(rs_decode_marked)(uint8_t *block, size_t block_len, const uint8_t 
         return 20;
     if (count_len < 2)
         return 4;
-    int bits = 0, changed = repair(block, marks, &bits);
+    int bits = 0, changed = correct(block, marks, &bits);
     if (changed < 0)
         return 8;
     count[0] = (uint8_t)changed;
@@ -308,7 +308,7 @@ struct inner {
     unsigned memory;
 };
 
-static size_t inner_code(struct inner *c, const uint8_t *bytes, int count, uint8_t *room)
+static size_t inner_code(struct inner *c, const uint8_t *bytes, int count, uint8_t *output)
 {
     size_t written = 0;
     for (int n = 0; n < count; n++)
@@ -322,20 +322,20 @@ static size_t inner_code(struct inner *c, const uint8_t *bytes, int count, uint8
                 if (c->held < 0)
                     c->held = (int)(xy >> 1);
                 else
-                    room[written++] = (uint8_t)(2 * c->held + (int)(xy >> 1)), c->held = -1;
+                    output[written++] = (uint8_t)(2 * c->held + (int)(xy >> 1)), c->held = -1;
             }
             if (sent & 1) {
                 if (c->held < 0)
                     c->held = (int)(xy & 1);
                 else
-                    room[written++] = (uint8_t)(2 * c->held + (int)(xy & 1)), c->held = -1;
+                    output[written++] = (uint8_t)(2 * c->held + (int)(xy & 1)), c->held = -1;
             }
         }
     return written;
 }
 
 /* 16QAM 3/4 of EN 301 210: of three bytes the first is coded, beside the bit pairs of the others. */
-static size_t code_16qam(struct inner *c, const uint8_t *bytes, int count, uint8_t *room)
+static size_t code_16qam(struct inner *c, const uint8_t *bytes, int count, uint8_t *output)
 {
     size_t written = 0;
     for (int n = 0; n + 3 <= count; n += 3) {
@@ -344,15 +344,15 @@ static size_t code_16qam(struct inner *c, const uint8_t *bytes, int count, uint8
             unsigned window = c->memory | (bytes[n] >> k & 1u) << 6;
             unsigned xy = xy_table[window];
             c->memory = window >> 1;
-            room[written++] = (uint8_t)(4 * (beside >> 2 * k & 3) + 2 * (xy & 1) + (xy >> 1));
+            output[written++] = (uint8_t)(4 * (beside >> 2 * k & 3) + 2 * (xy & 1) + (xy >> 1));
         }
     }
     return written;
 }
 
-static size_t code(struct inner *c, const uint8_t *bytes, int count, uint8_t *room)
+static size_t code(struct inner *c, const uint8_t *bytes, int count, uint8_t *output)
 {
-    return c->rate == 5 ? code_16qam(c, bytes, count, room) : inner_code(c, bytes, count, room);
+    return c->rate == 5 ? code_16qam(c, bytes, count, output) : inner_code(c, bytes, count, output);
 }
 
 /* Symbols of so many bits from a fresh coder. */
@@ -367,7 +367,7 @@ static uint64_t symbols_of(int rate, uint64_t bits)
     return out / 2;
 }
 
-uint64_t PLAIN(send_run)(uint8_t rate, const uint8_t *packets, size_t packets_len, uint8_t *room, size_t room_len,
+uint64_t PLAIN(send_run)(uint8_t rate, const uint8_t *packets, size_t packets_len, uint8_t *output, size_t output_len,
                          uint8_t *answer, size_t answer_len)
 {
     if (answer_len < 1)
@@ -378,7 +378,7 @@ uint64_t PLAIN(send_run)(uint8_t rate, const uint8_t *packets, size_t packets_le
     if (packets_len % PACKET)
         return answer[0] = 1, 0;
     size_t count = packets_len / PACKET;
-    if (room_len < symbols_of(rate, 8ull * BLOCK * count))
+    if (output_len < symbols_of(rate, 8ull * BLOCK * count))
         return answer[0] = 4, 0;
     struct branches branches;
     memset(&branches, 0, sizeof branches);
@@ -392,17 +392,17 @@ uint64_t PLAIN(send_run)(uint8_t rate, const uint8_t *packets, size_t packets_le
         mask(p % GROUP, p % GROUP ? 0x47 : 0xb8, packet, block);
         check_bytes(block, block + PACKET);
         pass(&branches, 0, block, out);
-        written += code(&inner, out, BLOCK, room + written);
+        written += code(&inner, out, BLOCK, output + written);
     }
     return written;
 }
 
 /* A run with a mark for each byte; marks may be NULL. */
-static uint64_t receive(const uint8_t *blocks, const uint8_t *marks, size_t blocks_len, uint8_t *room, size_t room_len,
+static uint64_t receive(const uint8_t *blocks, const uint8_t *marks, size_t blocks_len, uint8_t *output, size_t output_len,
                         uint8_t *counts, size_t counts_len, uint8_t *answer)
 {
     size_t count = blocks_len / BLOCK;
-    answer[0] = counts_len < 64 || room_len < PACKET * count ? 4 : 0;
+    answer[0] = counts_len < 64 || output_len < PACKET * count ? 4 : 0;
     if (answer[0])
         return 0;
     enum { TAKEN, FILLING, DELIVERED, LOST, WAITING, OUTOFSTEP, CHANGED, BITS };
@@ -421,7 +421,7 @@ static uint64_t receive(const uint8_t *blocks, const uint8_t *marks, size_t bloc
             tally[FILLING]++;
             continue;
         }
-        int bits = 0, changed = repair(block, marks ? marked : NULL, &bits);
+        int bits = 0, changed = correct(block, marks ? marked : NULL, &bits);
         if (changed < 0) {
             tally[LOST]++;
             if (place >= 0)
@@ -443,7 +443,7 @@ static uint64_t receive(const uint8_t *blocks, const uint8_t *marks, size_t bloc
             continue;
         }
         missed = 0;
-        mask((unsigned)place, 0x47, block, room + written);
+        mask((unsigned)place, 0x47, block, output + written);
         written += PACKET;
         tally[DELIVERED]++;
         place = (place + 1) % GROUP;
@@ -454,14 +454,14 @@ static uint64_t receive(const uint8_t *blocks, const uint8_t *marks, size_t bloc
     return written;
 }
 
-uint64_t PLAIN(receive_run)(const uint8_t *blocks, size_t blocks_len, uint8_t *room, size_t room_len,
+uint64_t PLAIN(receive_run)(const uint8_t *blocks, size_t blocks_len, uint8_t *output, size_t output_len,
                             uint8_t *counts, size_t counts_len, uint8_t *answer, size_t answer_len)
 {
-    return answer_len < 1 ? 0 : receive(blocks, NULL, blocks_len, room, room_len, counts, counts_len, answer);
+    return answer_len < 1 ? 0 : receive(blocks, NULL, blocks_len, output, output_len, counts, counts_len, answer);
 }
 
-uint64_t PLAIN(receive_run_marked)(const uint8_t *blocks, size_t blocks_len, const uint8_t *marks, size_t marks_len, uint8_t *room,
-                                   size_t room_len, uint8_t *counts, size_t counts_len, uint8_t *answer, size_t answer_len)
+uint64_t PLAIN(receive_run_marked)(const uint8_t *blocks, size_t blocks_len, const uint8_t *marks, size_t marks_len, uint8_t *output,
+                                   size_t output_len, uint8_t *counts, size_t counts_len, uint8_t *answer, size_t answer_len)
 {
     if (answer_len < 1)
         return 0;
@@ -469,26 +469,26 @@ uint64_t PLAIN(receive_run_marked)(const uint8_t *blocks, size_t blocks_len, con
         answer[0] = 20;
         return 0;
     }
-    return receive(blocks, marks, blocks_len, room, room_len, counts, counts_len, answer);
+    return receive(blocks, marks, blocks_len, output, output_len, counts, counts_len, answer);
 }
 
 uint8_t PLAIN(recording_block)(const uint8_t *recording, size_t recording_len, uint64_t blocks, uint64_t p,
-                               uint8_t *room, size_t room_len, uint8_t *count, size_t count_len)
+                               uint8_t *output, size_t output_len, uint8_t *count, size_t count_len)
 {
     uint64_t most = blocks < 4294967295 ? blocks : 4294967295;
     if (blocks != recording_len / BLOCK)
         return 5;
     if (most < 12 || p > most - 12)
         return 16;
-    if (room_len < BLOCK || count_len < 2)
+    if (output_len < BLOCK || count_len < 2)
         return 4;
     uint8_t block[BLOCK];
     for (size_t n = 0; n < BLOCK; n++)
         block[n] = recording[BLOCK * (p + n % 12) + n];
-    int bits = 0, changed = repair(block, NULL, &bits);
+    int bits = 0, changed = correct(block, NULL, &bits);
     if (changed < 0)
         return 8;
-    memcpy(room, block, BLOCK);
+    memcpy(output, block, BLOCK);
     count[0] = (uint8_t)changed;
     count[1] = (uint8_t)bits;
     return 0;
@@ -507,24 +507,24 @@ void PLAIN(scale)(uint8_t *lanes, size_t lanes_len, const uint8_t *factors, size
     memcpy(lanes, lane, sizeof lane);
 }
 
-void PLAIN(interleave)(const uint8_t *blocks, size_t blocks_len, uint8_t *room, size_t room_len)
+void PLAIN(interleave)(const uint8_t *blocks, size_t blocks_len, uint8_t *output, size_t output_len)
 {
     struct branches branches;
-    if (room_len < blocks_len)
+    if (output_len < blocks_len)
         return;
     memset(&branches, 0, sizeof branches);
     for (size_t n = 0; blocks_len - n >= BLOCK; n += BLOCK)
-        pass(&branches, 0, blocks + n, room + n);
+        pass(&branches, 0, blocks + n, output + n);
 }
 
-uint64_t PLAIN(inner_code)(uint8_t rate, const uint8_t *blocks, size_t blocks_len, uint8_t *room, size_t room_len)
+uint64_t PLAIN(inner_code)(uint8_t rate, const uint8_t *blocks, size_t blocks_len, uint8_t *output, size_t output_len)
 {
-    if (rate > 5 || room_len / 8 < blocks_len)
+    if (rate > 5 || output_len / 8 < blocks_len)
         return 0;
     struct inner inner = {rate, 0, -1, 0};
     uint64_t written = 0;
     for (size_t n = 0; blocks_len - n >= BLOCK; n += BLOCK)
-        written += code(&inner, blocks + n, BLOCK, room + written);
+        written += code(&inner, blocks + n, BLOCK, output + written);
     return written;
 }
 
@@ -539,7 +539,7 @@ static const struct {
 static uint8_t costs[2 * 1632][2];
 
 /* The bits that cost the least, and the result. */
-static uint64_t decode(uint8_t rate, uint8_t memory, size_t count, uint8_t *room, uint8_t *result)
+static uint64_t decode(uint8_t rate, uint8_t memory, size_t count, uint8_t *output, uint8_t *result)
 {
     uint32_t metric[64], next[64];
     static uint8_t oldest[1632][64];
@@ -573,13 +573,13 @@ static uint64_t decode(uint8_t rate, uint8_t memory, size_t count, uint8_t *room
     for (int i = 0; i < 4; i++)
         result[2 + i] = (uint8_t)(metric[s] >> 8 * i);
     for (size_t k = count; k-- > 0;) {
-        room[k] = (uint8_t)(s >> 5);
+        output[k] = (uint8_t)(s >> 5);
         s = (s & 31) << 1 | oldest[k][s];
     }
     return count;
 }
 
-uint64_t PLAIN(read_run)(uint8_t rate, uint8_t memory, const uint8_t *symbols, size_t symbols_len, uint8_t *room, size_t room_len,
+uint64_t PLAIN(read_run)(uint8_t rate, uint8_t memory, const uint8_t *symbols, size_t symbols_len, uint8_t *output, size_t output_len,
                          uint8_t *result, size_t result_len)
 {
     if (result_len < 6)
@@ -598,7 +598,7 @@ uint64_t PLAIN(read_run)(uint8_t rate, uint8_t memory, const uint8_t *symbols, s
     for (size_t i = 0; i < symbols_len; i++)
         if (symbols[i] > 3)
             return result[0] = 14, 0;
-    if (room_len < count)
+    if (output_len < count)
         return result[0] = 4, 0;
     for (size_t i = 0; i < symbols_len; i++) {
         costs[2 * i][0] = symbols[i] >> 1;
@@ -606,7 +606,7 @@ uint64_t PLAIN(read_run)(uint8_t rate, uint8_t memory, const uint8_t *symbols, s
         costs[2 * i + 1][0] = symbols[i] & 1;
         costs[2 * i + 1][1] = !(symbols[i] & 1);
     }
-    return decode(rate, memory, count, room, result);
+    return decode(rate, memory, count, output, result);
 }
 
 /* ---- the same by soft decisions ---- */
@@ -627,7 +627,7 @@ static void soft_costs(float x, int lost, uint8_t cost[2])
 }
 
 uint64_t PLAIN(read_soft_run)(uint8_t rate, uint8_t memory, const float *i, size_t i_len, const float *q, size_t q_len,
-                              const uint8_t *lost, size_t lost_len, uint8_t *room, size_t room_len, uint8_t *result,
+                              const uint8_t *lost, size_t lost_len, uint8_t *output, size_t output_len, uint8_t *result,
                               size_t result_len)
 {
     if (result_len < 6)
@@ -648,11 +648,11 @@ uint64_t PLAIN(read_soft_run)(uint8_t rate, uint8_t memory, const float *i, size
     size_t count = i_len / patterns[rate].symbols * patterns[rate].bits;
     if (count > 1632)
         return result[0] = 13, 0;
-    if (room_len < count)
+    if (output_len < count)
         return result[0] = 4, 0;
     for (size_t k = 0; k < i_len; k++) {
         soft_costs(i[k], lost[k], costs[2 * k]);
         soft_costs(q[k], lost[k], costs[2 * k + 1]);
     }
-    return decode(rate, memory, count, room, result);
+    return decode(rate, memory, count, output, result);
 }

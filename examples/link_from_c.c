@@ -1,4 +1,4 @@
-/* The outer code from C: codes a message, harms eight bytes of the codeword and repairs them, then harms nine. */
+/* The outer code from C: codes a message, harms eight bytes of the codeword and corrects them, then harms nine. */
 #include "dvbs.h"
 
 #include <stdio.h>

@@ -1,9 +1,9 @@
-//! The outer code from Rust: codes a message, harms eight bytes of the codeword and repairs them, then harms nine.
+//! The outer code from Rust: codes a message, harms eight bytes of the codeword and corrects them, then harms nine.
 
 /// Two of the functions that `include/dvbs.h` declares. A slice is a pointer and its length.
 mod c {
     extern "C" {
-        pub fn dvbs_rs_encode(data: *const u8, data_len: usize, room: *mut u8, room_len: usize) -> u8;
+        pub fn dvbs_rs_encode(data: *const u8, data_len: usize, output: *mut u8, output_len: usize) -> u8;
         pub fn dvbs_rs_decode(block: *mut u8, block_len: usize, count: *mut u8, count_len: usize) -> u8;
     }
 }
@@ -11,8 +11,8 @@ mod c {
 // The functions test what they are lent. What a safe wrapper owes them: true lengths, and slices that do not overlap.
 // Every Rust slice has the first, and no two that are lent as `&mut` lack the second.
 
-fn rs_encode(message: &[u8], room: &mut [u8]) -> u8 {
-    unsafe { c::dvbs_rs_encode(message.as_ptr(), message.len(), room.as_mut_ptr(), room.len()) }
+fn rs_encode(message: &[u8], output: &mut [u8]) -> u8 {
+    unsafe { c::dvbs_rs_encode(message.as_ptr(), message.len(), output.as_mut_ptr(), output.len()) }
 }
 
 fn rs_decode(block: &mut [u8], count: &mut [u8]) -> u8 {

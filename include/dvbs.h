@@ -5,7 +5,7 @@
  * so any length and any bytes may come; what the caller owes is that lengths are
  * true and that buffers of one call do not overlap. Nothing is kept between
  * calls. After a refusal the buffers are as they were, but for a byte lent to
- * take the answer or the result, and room beyond what is given is never written.
+ * take the answer or the result, and output beyond what is given is never written.
  *
  * Answers:
  *   0  done
@@ -45,14 +45,14 @@ enum { DVBS_PACKET = 188, DVBS_BLOCK = 204, DVBS_COUNTS = 64, DVBS_RESULT = 6 };
  * it is sent, 188 bytes; and the packet that was sent so. The second takes any
  * first byte, and writes 47 hex there. Returns the answer. */
 uint8_t dvbs_randomize(uint8_t place, const uint8_t *packet, size_t packet_len,
-                       uint8_t *room, size_t room_len);
+                       uint8_t *output, size_t output_len);
 uint8_t dvbs_derandomize(uint8_t place, const uint8_t *packet, size_t packet_len,
-                         uint8_t *room, size_t room_len);
+                         uint8_t *output, size_t output_len);
 
 /* Outer coder, RS(204,188): the 188 bytes of a message and its 16 check bytes.
  * Returns the answer. */
 uint8_t dvbs_rs_encode(const uint8_t *data, size_t data_len,
-                       uint8_t *room, size_t room_len);
+                       uint8_t *output, size_t output_len);
 
 /* Outer decoder: leaves the codeword within eight bytes of the block in its
  * place. Returns the answer; where it is 0, count[0] is how many bytes were
@@ -82,7 +82,7 @@ uint8_t dvbs_rs_decode_marked(uint8_t *block, size_t block_len,
  * Lengths are tested before anything is sent. Where no byte is lent for the
  * answer: returns 0, writes nothing. */
 uint64_t dvbs_send_run(uint8_t mode, const uint8_t *packets, size_t packets_len,
-                       uint8_t *room, size_t room_len,
+                       uint8_t *output, size_t output_len,
                        uint8_t *answer, size_t answer_len);
 
 /* Reads a run of symbols, 2 I + Q each, which begins with a puncturing pattern;
@@ -97,7 +97,7 @@ uint64_t dvbs_send_run(uint8_t mode, const uint8_t *packets, size_t packets_len,
  * writes nothing. */
 uint64_t dvbs_read_run(uint8_t rate, uint8_t memory,
                        const uint8_t *symbols, size_t symbols_len,
-                       uint8_t *room, size_t room_len,
+                       uint8_t *output, size_t output_len,
                        uint8_t *result, size_t result_len);
 
 /* The same by soft decisions. Of each symbol come the numbers I and Q of the
@@ -111,7 +111,7 @@ uint64_t dvbs_read_soft_run(uint8_t rate, uint8_t memory,
                             const float *i, size_t i_len,
                             const float *q, size_t q_len,
                             const uint8_t *lost, size_t lost_len,
-                            uint8_t *room, size_t room_len,
+                            uint8_t *output, size_t output_len,
                             uint8_t *result, size_t result_len);
 
 /* What a fresh receiver gives for the whole blocks of a recording; bytes after
@@ -119,12 +119,12 @@ uint64_t dvbs_read_soft_run(uint8_t rate, uint8_t memory,
  * written; answer[0] is the answer, by which a refused run is told from one that
  * gave no packet yet. counts: taken, filling, delivered, lost, waiting,
  * outofstep, changed, bits, eight bytes each, lowest first. Lend 188 bytes for
- * each whole block. Where counts is shorter than 64 bytes, or the room is too
+ * each whole block. Where counts is shorter than 64 bytes, or the output is too
  * short for that: 4. More than 4,294,967,295 blocks: 7. In both cases nothing
  * else is written, and 0 is returned. Where no byte is lent for the answer:
  * returns 0, writes nothing. */
 uint64_t dvbs_receive_run(const uint8_t *blocks, size_t blocks_len,
-                          uint8_t *room, size_t room_len,
+                          uint8_t *output, size_t output_len,
                           uint8_t *counts, size_t counts_len,
                           uint8_t *answer, size_t answer_len);
 
@@ -135,22 +135,22 @@ uint64_t dvbs_receive_run(const uint8_t *blocks, size_t blocks_len,
  * not such: 20, before 4. */
 uint64_t dvbs_receive_run_marked(const uint8_t *blocks, size_t blocks_len,
                                  const uint8_t *marks, size_t marks_len,
-                                 uint8_t *room, size_t room_len,
+                                 uint8_t *output, size_t output_len,
                                  uint8_t *counts, size_t counts_len,
                                  uint8_t *answer, size_t answer_len);
 
-/* Block p of a recording, repaired, p from 0: the 204 bytes, the counts and the
- * answer 8 that a fresh receiver's repair has at its call p + 12. A view of the
+/* Block p of a recording, corrected, p from 0: the 204 bytes, the counts and the
+ * answer 8 that a fresh receiver's outer decoder has at its call p + 12. A view of the
  * recording is given as its two parts: blocks must be the number of its whole
  * blocks, recording_len / 204, otherwise 5. 16 where p + 12 is above that or
- * above 4,294,967,295. Returns the answer; where it is 0, room has the block,
+ * above 4,294,967,295. Returns the answer; where it is 0, output has the block,
  * count[0] how many bytes were changed and count[1] how many bits, otherwise both
- * are left. Lend 204 bytes of room and two bytes for the counts, otherwise 4.
+ * are left. Lend 204 bytes of output and two bytes for the counts, otherwise 4.
  * Only 204 bytes of the recording are looked at, among the 2,448 from byte 204 p
  * on. */
 uint8_t dvbs_recording_block(const uint8_t *recording, size_t recording_len,
                              uint64_t blocks, uint64_t p,
-                             uint8_t *room, size_t room_len,
+                             uint8_t *output, size_t output_len,
                              uint8_t *count, size_t count_len);
 
 #ifdef __cplusplus

@@ -6,7 +6,7 @@
  * them, and nothing is kept elsewhere. A buffer is a pointer and its length. The
  * functions test what they are lent, so any length and any bytes may come; what
  * the caller owes is that lengths are true and that buffers of one call do not
- * overlap. Room beyond what is given is never written. The functions bring no
+ * overlap. Output beyond what is given is never written. The functions bring no
  * marks of doubtful bytes; marks that a state holds act.
  *
  * Answers:
@@ -68,17 +68,17 @@ enum {
 uint8_t dvbs_bridge_fresh(uint8_t *state, size_t state_len);
 
 /* Takes one block of 204 interleaved bytes, and writes the packet that it
- * completes to the front of the room, of which 188 bytes are lent. Refused in the
- * order 22, 5, 3, 4, 7; else 0, 8, 9, 10 or 11, and the room is written on 0
+ * completes to the front of the output, of which 188 bytes are lent. Refused in the
+ * order 22, 5, 3, 4, 7; else 0, 8, 9, 10 or 11, and the output is written on 0
  * alone. */
 uint8_t dvbs_bridge_take(uint8_t *state, size_t state_len,
                          const uint8_t *block, size_t block_len,
-                         uint8_t *room, size_t room_len);
+                         uint8_t *output, size_t output_len);
 
-/* Writes a count to the first eight bytes of the room, the lowest byte first.
+/* Writes a count to the first eight bytes of the output, the lowest byte first.
  * Refused in the order 22, 23, 5, 4; else 0. */
 uint8_t dvbs_bridge_count(const uint8_t *state, size_t state_len, uint8_t number,
-                          uint8_t *room, size_t room_len);
+                          uint8_t *output, size_t output_len);
 
 #ifdef __cplusplus
 }

@@ -23,12 +23,12 @@ static void fail(const char *what)
 
 static void read_all(void)
 {
-    size_t room = 1 << 20;
-    in = malloc(room);
-    for (size_t n; in && (n = fread(in + in_len, 1, room - in_len, stdin)) > 0;) {
+    size_t output = 1 << 20;
+    in = malloc(output);
+    for (size_t n; in && (n = fread(in + in_len, 1, output - in_len, stdin)) > 0;) {
         in_len += n;
-        if (in_len == room)
-            in = realloc(in, room *= 2);
+        if (in_len == output)
+            in = realloc(in, output *= 2);
     }
     out = malloc(16 * in_len + 4096);
     if (!in || !out)

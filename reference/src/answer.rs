@@ -7,7 +7,7 @@ pub enum Answer {
     PacketLength = 1,
     SyncByte = 2,
     BlockLength = 3,
-    ShortRoom = 4,
+    ShortOutput = 4,
     StateRange = 5,
     UnknownRate = 6,
     Full = 7,

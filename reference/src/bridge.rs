@@ -131,12 +131,12 @@ pub mod expected {
         Answer::Done.number()
     }
 
-    pub fn take(state: &mut [u8], block: &[u8], room: &mut [u8]) -> u8 {
-        take_marked(state, block, &[0; BLOCK_LENGTH], room)
+    pub fn take(state: &mut [u8], block: &[u8], output: &mut [u8]) -> u8 {
+        take_marked(state, block, &[0; BLOCK_LENGTH], output)
     }
 
     /// A block with marks, which the bridge does not take: a state with marks in its delays comes from elsewhere.
-    pub fn take_marked(state: &mut [u8], block: &[u8], marks: &[u8], room: &mut [u8]) -> u8 {
+    pub fn take_marked(state: &mut [u8], block: &[u8], marks: &[u8], output: &mut [u8]) -> u8 {
         if state.len() != STATE_LENGTH {
             return Answer::StateLength.number();
         }
@@ -144,9 +144,9 @@ pub mod expected {
             return Answer::StateRange.number();
         };
         let before = receiver.counts.taken;
-        let answer = receiver.receive_marked(block, marks, room);
+        let answer = receiver.receive_marked(block, marks, output);
         if receiver.counts.taken > before {
-            assert!(block.len() == BLOCK_LENGTH && room.len() >= PACKET_LENGTH);
+            assert!(block.len() == BLOCK_LENGTH && output.len() >= PACKET_LENGTH);
             for (branch, position) in positions.iter_mut().enumerate().take(BRANCHES - 1) {
                 *position = (*position + DEPTH) % cells_in(branch);
             }
@@ -155,7 +155,7 @@ pub mod expected {
         answer.number()
     }
 
-    pub fn count(state: &[u8], number: u8, room: &mut [u8]) -> u8 {
+    pub fn count(state: &[u8], number: u8, output: &mut [u8]) -> u8 {
         if state.len() != STATE_LENGTH {
             return Answer::StateLength.number();
         }
@@ -165,10 +165,10 @@ pub mod expected {
         let Some((receiver, _)) = read(state) else {
             return Answer::StateRange.number();
         };
-        if room.len() < 8 {
-            return Answer::ShortRoom.number();
+        if output.len() < 8 {
+            return Answer::ShortOutput.number();
         }
-        room[..8].copy_from_slice(&receiver.counts.in_order()[number as usize].to_le_bytes());
+        output[..8].copy_from_slice(&receiver.counts.in_order()[number as usize].to_le_bytes());
         Answer::Done.number()
     }
 }
@@ -184,15 +184,15 @@ pub mod library {
                 state_len: usize,
                 block: *const u8,
                 block_len: usize,
-                room: *mut u8,
-                room_len: usize,
+                output: *mut u8,
+                output_len: usize,
             ) -> u8;
             pub fn dvbs_bridge_count(
                 state: *const u8,
                 state_len: usize,
                 number: u8,
-                room: *mut u8,
-                room_len: usize,
+                output: *mut u8,
+                output_len: usize,
             ) -> u8;
         }
     }
@@ -203,21 +203,21 @@ pub mod library {
         unsafe { c::dvbs_bridge_fresh(state.as_mut_ptr(), state.len()) }
     }
 
-    pub fn take(state: &mut [u8], block: &[u8], room: &mut [u8]) -> u8 {
+    pub fn take(state: &mut [u8], block: &[u8], output: &mut [u8]) -> u8 {
         unsafe {
             c::dvbs_bridge_take(
                 state.as_mut_ptr(),
                 state.len(),
                 block.as_ptr(),
                 block.len(),
-                room.as_mut_ptr(),
-                room.len(),
+                output.as_mut_ptr(),
+                output.len(),
             )
         }
     }
 
-    pub fn count(state: &[u8], number: u8, room: &mut [u8]) -> u8 {
-        unsafe { c::dvbs_bridge_count(state.as_ptr(), state.len(), number, room.as_mut_ptr(), room.len()) }
+    pub fn count(state: &[u8], number: u8, output: &mut [u8]) -> u8 {
+        unsafe { c::dvbs_bridge_count(state.as_ptr(), state.len(), number, output.as_mut_ptr(), output.len()) }
     }
 }
 

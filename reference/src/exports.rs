@@ -16,16 +16,16 @@ pub mod expected {
     use crate::sender::Sender;
     use crate::{randomizer, recording, reed_solomon, BLOCK_LENGTH, PACKET_LENGTH};
 
-    pub fn randomize(place: u8, packet: &[u8], room: &mut [u8]) -> u8 {
-        randomizer::randomize(place, packet, room).number()
+    pub fn randomize(place: u8, packet: &[u8], output: &mut [u8]) -> u8 {
+        randomizer::randomize(place, packet, output).number()
     }
 
-    pub fn derandomize(place: u8, packet: &[u8], room: &mut [u8]) -> u8 {
-        randomizer::derandomize(place, packet, room).number()
+    pub fn derandomize(place: u8, packet: &[u8], output: &mut [u8]) -> u8 {
+        randomizer::derandomize(place, packet, output).number()
     }
 
-    pub fn rs_encode(data: &[u8], room: &mut [u8]) -> u8 {
-        reed_solomon::encode(data, room).number()
+    pub fn rs_encode(data: &[u8], output: &mut [u8]) -> u8 {
+        reed_solomon::encode(data, output).number()
     }
 
     /// A block that is not 204 bytes is 3, then a count shorter than 2 is 4.
@@ -36,7 +36,7 @@ pub mod expected {
             return Answer::BlockLength.number();
         }
         if count.len() < 2 {
-            return Answer::ShortRoom.number();
+            return Answer::ShortOutput.number();
         }
         let (answer, changed) = reed_solomon::decode(block);
         if answer == Answer::Done {
@@ -55,7 +55,7 @@ pub mod expected {
             return Answer::MarkValue.number();
         }
         if count.len() < 2 {
-            return Answer::ShortRoom.number();
+            return Answer::ShortOutput.number();
         }
         let (answer, changed) = reed_solomon::decode_marked(block, marks);
         if answer == Answer::Done {
@@ -67,7 +67,7 @@ pub mod expected {
 
     /// The whole run is tested first; a refused run writes nothing. The answer is 15
     /// where a null packet was put in.
-    pub fn send_run(rate: u8, packets: &[u8], room: &mut [u8], answer: &mut [u8]) -> u64 {
+    pub fn send_run(rate: u8, packets: &[u8], output: &mut [u8], answer: &mut [u8]) -> u64 {
         if answer.is_empty() {
             return 0;
         }
@@ -81,8 +81,8 @@ pub mod expected {
         let whole = packets.len() / PACKET_LENGTH;
         let refusal = if packets.len() % PACKET_LENGTH != 0 {
             Some(Answer::PacketLength)
-        } else if room.len() < sender.symbols_due(whole) {
-            Some(Answer::ShortRoom)
+        } else if output.len() < sender.symbols_due(whole) {
+            Some(Answer::ShortOutput)
         } else {
             None
         };
@@ -93,7 +93,7 @@ pub mod expected {
         let mut written = 0;
         answer[0] = Answer::Done.number();
         for packet in packets.chunks(PACKET_LENGTH) {
-            let (said, symbols) = sender.send(packet, &mut room[written..]);
+            let (said, symbols) = sender.send(packet, &mut output[written..]);
             written += symbols;
             if said == Answer::NullPacket {
                 answer[0] = said.number();
@@ -105,11 +105,11 @@ pub mod expected {
     /// The answer, the memory after the run and the number of differing bits go
     /// to the first six bytes of the result. Where they are too few, nothing is
     /// done; a refused run leaves the memory as it was, and the number is 0.
-    pub fn read_run(rate: u8, memory: u8, symbols: &[u8], room: &mut [u8], result: &mut [u8]) -> u64 {
+    pub fn read_run(rate: u8, memory: u8, symbols: &[u8], output: &mut [u8], result: &mut [u8]) -> u64 {
         if result.len() < RESULT_LENGTH {
             return 0;
         }
-        put_run(inner_decoder::read_run(rate, memory, symbols, room.len()), memory, room, result)
+        put_run(inner_decoder::read_run(rate, memory, symbols, output.len()), memory, output, result)
     }
 
     /// The same by soft decisions.
@@ -119,19 +119,19 @@ pub mod expected {
         i: &[f32],
         q: &[f32],
         lost: &[u8],
-        room: &mut [u8],
+        output: &mut [u8],
         result: &mut [u8],
     ) -> u64 {
         if result.len() < RESULT_LENGTH {
             return 0;
         }
-        put_run(inner_decoder::read_soft_run(rate, memory, i, q, lost, room.len()), memory, room, result)
+        put_run(inner_decoder::read_soft_run(rate, memory, i, q, lost, output.len()), memory, output, result)
     }
 
-    fn put_run(read: Result<inner_decoder::Run, Answer>, memory: u8, room: &mut [u8], result: &mut [u8]) -> u64 {
+    fn put_run(read: Result<inner_decoder::Run, Answer>, memory: u8, output: &mut [u8], result: &mut [u8]) -> u64 {
         match read {
             Ok(run) => {
-                room[..run.bits.len()].copy_from_slice(&run.bits);
+                output[..run.bits.len()].copy_from_slice(&run.bits);
                 result[0] = Answer::Done.number();
                 result[1] = run.memory;
                 result[2..RESULT_LENGTH].copy_from_slice(&run.cost.to_le_bytes());
@@ -149,12 +149,12 @@ pub mod expected {
     /// A rest of the recording shorter than a block is left alone. Where no
     /// byte is lent for the answer, nothing is done. Short room for the counts
     /// or for 188 bytes for each whole block is 4, and only that is written.
-    pub fn receive_run(blocks: &[u8], room: &mut [u8], counts: &mut [u8], answer: &mut [u8]) -> u64 {
-        receive_run_marked(blocks, &vec![0; blocks.len()], room, counts, answer)
+    pub fn receive_run(blocks: &[u8], output: &mut [u8], counts: &mut [u8], answer: &mut [u8]) -> u64 {
+        receive_run_marked(blocks, &vec![0; blocks.len()], output, counts, answer)
     }
 
     /// The same with a mark for each byte; marks that are not such are 20, before 4.
-    pub fn receive_run_marked(blocks: &[u8], marks: &[u8], room: &mut [u8], counts: &mut [u8], answer: &mut [u8]) -> u64 {
+    pub fn receive_run_marked(blocks: &[u8], marks: &[u8], output: &mut [u8], counts: &mut [u8], answer: &mut [u8]) -> u64 {
         if answer.is_empty() {
             return 0;
         }
@@ -163,14 +163,14 @@ pub mod expected {
             return 0;
         }
         let whole = blocks.len() / BLOCK_LENGTH;
-        if counts.len() < COUNTS_LENGTH || room.len() < PACKET_LENGTH * whole {
-            answer[0] = Answer::ShortRoom.number();
+        if counts.len() < COUNTS_LENGTH || output.len() < PACKET_LENGTH * whole {
+            answer[0] = Answer::ShortOutput.number();
             return 0;
         }
         let mut receiver = Receiver::fresh();
         let mut written = 0;
         for (block, marked) in blocks.chunks_exact(BLOCK_LENGTH).zip(marks.chunks(BLOCK_LENGTH)) {
-            if receiver.receive_marked(block, marked, &mut room[written..]) == Answer::Done {
+            if receiver.receive_marked(block, marked, &mut output[written..]) == Answer::Done {
                 written += PACKET_LENGTH;
             }
         }
@@ -184,10 +184,10 @@ pub mod expected {
     /// Fewer than two bytes for the count are room too short: 4, after 5 and 16.
     /// The count, changed bytes and changed bits, is written only where the answer
     /// is 0.
-    pub fn recording_block(recorded: &[u8], blocks: u64, p: u64, room: &mut [u8], count: &mut [u8]) -> u8 {
+    pub fn recording_block(recorded: &[u8], blocks: u64, p: u64, output: &mut [u8], count: &mut [u8]) -> u8 {
         let none: &mut [u8] = &mut [];
-        let room = if count.len() < 2 { none } else { room };
-        let (answer, changed) = recording::repaired_block(recorded, blocks, p, room);
+        let output = if count.len() < 2 { none } else { output };
+        let (answer, changed) = recording::decoded_block(recorded, blocks, p, output);
         if answer == Answer::Done {
             count[0] = changed.bytes as u8;
             count[1] = changed.bits as u8;
@@ -205,17 +205,17 @@ pub mod library {
                 place: u8,
                 packet: *const u8,
                 packet_len: usize,
-                room: *mut u8,
-                room_len: usize,
+                output: *mut u8,
+                output_len: usize,
             ) -> u8;
             pub fn dvbs_derandomize(
                 place: u8,
                 packet: *const u8,
                 packet_len: usize,
-                room: *mut u8,
-                room_len: usize,
+                output: *mut u8,
+                output_len: usize,
             ) -> u8;
-            pub fn dvbs_rs_encode(data: *const u8, data_len: usize, room: *mut u8, room_len: usize) -> u8;
+            pub fn dvbs_rs_encode(data: *const u8, data_len: usize, output: *mut u8, output_len: usize) -> u8;
             pub fn dvbs_rs_decode(block: *mut u8, block_len: usize, count: *mut u8, count_len: usize) -> u8;
             pub fn dvbs_rs_decode_marked(
                 block: *mut u8,
@@ -229,8 +229,8 @@ pub mod library {
                 rate: u8,
                 packets: *const u8,
                 packets_len: usize,
-                room: *mut u8,
-                room_len: usize,
+                output: *mut u8,
+                output_len: usize,
                 answer: *mut u8,
                 answer_len: usize,
             ) -> u64;
@@ -239,8 +239,8 @@ pub mod library {
                 memory: u8,
                 symbols: *const u8,
                 symbols_len: usize,
-                room: *mut u8,
-                room_len: usize,
+                output: *mut u8,
+                output_len: usize,
                 result: *mut u8,
                 result_len: usize,
             ) -> u64;
@@ -253,16 +253,16 @@ pub mod library {
                 q_len: usize,
                 lost: *const u8,
                 lost_len: usize,
-                room: *mut u8,
-                room_len: usize,
+                output: *mut u8,
+                output_len: usize,
                 result: *mut u8,
                 result_len: usize,
             ) -> u64;
             pub fn dvbs_receive_run(
                 blocks: *const u8,
                 blocks_len: usize,
-                room: *mut u8,
-                room_len: usize,
+                output: *mut u8,
+                output_len: usize,
                 counts: *mut u8,
                 counts_len: usize,
                 answer: *mut u8,
@@ -273,8 +273,8 @@ pub mod library {
                 blocks_len: usize,
                 marks: *const u8,
                 marks_len: usize,
-                room: *mut u8,
-                room_len: usize,
+                output: *mut u8,
+                output_len: usize,
                 counts: *mut u8,
                 counts_len: usize,
                 answer: *mut u8,
@@ -285,8 +285,8 @@ pub mod library {
                 recording_len: usize,
                 blocks: u64,
                 p: u64,
-                room: *mut u8,
-                room_len: usize,
+                output: *mut u8,
+                output_len: usize,
                 count: *mut u8,
                 count_len: usize,
             ) -> u8;
@@ -298,16 +298,16 @@ pub mod library {
 
     // Each pointer comes from a slice and is passed with that slice's length.
 
-    pub fn randomize(place: u8, packet: &[u8], room: &mut [u8]) -> u8 {
-        unsafe { c::dvbs_randomize(place, packet.as_ptr(), packet.len(), room.as_mut_ptr(), room.len()) }
+    pub fn randomize(place: u8, packet: &[u8], output: &mut [u8]) -> u8 {
+        unsafe { c::dvbs_randomize(place, packet.as_ptr(), packet.len(), output.as_mut_ptr(), output.len()) }
     }
 
-    pub fn derandomize(place: u8, packet: &[u8], room: &mut [u8]) -> u8 {
-        unsafe { c::dvbs_derandomize(place, packet.as_ptr(), packet.len(), room.as_mut_ptr(), room.len()) }
+    pub fn derandomize(place: u8, packet: &[u8], output: &mut [u8]) -> u8 {
+        unsafe { c::dvbs_derandomize(place, packet.as_ptr(), packet.len(), output.as_mut_ptr(), output.len()) }
     }
 
-    pub fn rs_encode(data: &[u8], room: &mut [u8]) -> u8 {
-        unsafe { c::dvbs_rs_encode(data.as_ptr(), data.len(), room.as_mut_ptr(), room.len()) }
+    pub fn rs_encode(data: &[u8], output: &mut [u8]) -> u8 {
+        unsafe { c::dvbs_rs_encode(data.as_ptr(), data.len(), output.as_mut_ptr(), output.len()) }
     }
 
     pub fn rs_decode(block: &mut [u8], count: &mut [u8]) -> u8 {
@@ -327,29 +327,29 @@ pub mod library {
         }
     }
 
-    pub fn send_run(rate: u8, packets: &[u8], room: &mut [u8], answer: &mut [u8]) -> u64 {
+    pub fn send_run(rate: u8, packets: &[u8], output: &mut [u8], answer: &mut [u8]) -> u64 {
         unsafe {
             c::dvbs_send_run(
                 rate,
                 packets.as_ptr(),
                 packets.len(),
-                room.as_mut_ptr(),
-                room.len(),
+                output.as_mut_ptr(),
+                output.len(),
                 answer.as_mut_ptr(),
                 answer.len(),
             )
         }
     }
 
-    pub fn read_run(rate: u8, memory: u8, symbols: &[u8], room: &mut [u8], result: &mut [u8]) -> u64 {
+    pub fn read_run(rate: u8, memory: u8, symbols: &[u8], output: &mut [u8], result: &mut [u8]) -> u64 {
         unsafe {
             c::dvbs_read_run(
                 rate,
                 memory,
                 symbols.as_ptr(),
                 symbols.len(),
-                room.as_mut_ptr(),
-                room.len(),
+                output.as_mut_ptr(),
+                output.len(),
                 result.as_mut_ptr(),
                 result.len(),
             )
@@ -362,7 +362,7 @@ pub mod library {
         i: &[f32],
         q: &[f32],
         lost: &[u8],
-        room: &mut [u8],
+        output: &mut [u8],
         result: &mut [u8],
     ) -> u64 {
         unsafe {
@@ -375,21 +375,21 @@ pub mod library {
                 q.len(),
                 lost.as_ptr(),
                 lost.len(),
-                room.as_mut_ptr(),
-                room.len(),
+                output.as_mut_ptr(),
+                output.len(),
                 result.as_mut_ptr(),
                 result.len(),
             )
         }
     }
 
-    pub fn receive_run(blocks: &[u8], room: &mut [u8], counts: &mut [u8], answer: &mut [u8]) -> u64 {
+    pub fn receive_run(blocks: &[u8], output: &mut [u8], counts: &mut [u8], answer: &mut [u8]) -> u64 {
         unsafe {
             c::dvbs_receive_run(
                 blocks.as_ptr(),
                 blocks.len(),
-                room.as_mut_ptr(),
-                room.len(),
+                output.as_mut_ptr(),
+                output.len(),
                 counts.as_mut_ptr(),
                 counts.len(),
                 answer.as_mut_ptr(),
@@ -398,15 +398,15 @@ pub mod library {
         }
     }
 
-    pub fn receive_run_marked(blocks: &[u8], marks: &[u8], room: &mut [u8], counts: &mut [u8], answer: &mut [u8]) -> u64 {
+    pub fn receive_run_marked(blocks: &[u8], marks: &[u8], output: &mut [u8], counts: &mut [u8], answer: &mut [u8]) -> u64 {
         unsafe {
             c::dvbs_receive_run_marked(
                 blocks.as_ptr(),
                 blocks.len(),
                 marks.as_ptr(),
                 marks.len(),
-                room.as_mut_ptr(),
-                room.len(),
+                output.as_mut_ptr(),
+                output.len(),
                 counts.as_mut_ptr(),
                 counts.len(),
                 answer.as_mut_ptr(),
@@ -415,15 +415,15 @@ pub mod library {
         }
     }
 
-    pub fn recording_block(recorded: &[u8], blocks: u64, p: u64, room: &mut [u8], count: &mut [u8]) -> u8 {
+    pub fn recording_block(recorded: &[u8], blocks: u64, p: u64, output: &mut [u8], count: &mut [u8]) -> u8 {
         unsafe {
             c::dvbs_recording_block(
                 recorded.as_ptr(),
                 recorded.len(),
                 blocks,
                 p,
-                room.as_mut_ptr(),
-                room.len(),
+                output.as_mut_ptr(),
+                output.len(),
                 count.as_mut_ptr(),
                 count.len(),
             )

@@ -150,27 +150,27 @@ fn coder_known(rate: u8, memory: u8) -> Result<(), Answer> {
 }
 
 /// Reads a run. Refusals in the order 6, 5, 12, 13, 14, 4.
-pub fn read_run(rate: u8, memory: u8, symbols: &[u8], room: usize) -> Result<Run, Answer> {
+pub fn read_run(rate: u8, memory: u8, symbols: &[u8], output: usize) -> Result<Run, Answer> {
     coder_known(rate, memory)?;
     let count = length_of(rate, symbols.len())?;
     if symbols.iter().any(|&s| s > 3) {
         return Err(Answer::NoSymbol);
     }
-    if room < count {
-        return Err(Answer::ShortRoom);
+    if output < count {
+        return Err(Answer::ShortOutput);
     }
     Ok(search(rate, memory, &hard(symbols), count))
 }
 
 /// Reads a run by soft decisions. Refusals in the order 6, 5, 24, 12, 13, 4.
-pub fn read_soft_run(rate: u8, memory: u8, i: &[f32], q: &[f32], lost: &[u8], room: usize) -> Result<Run, Answer> {
+pub fn read_soft_run(rate: u8, memory: u8, i: &[f32], q: &[f32], lost: &[u8], output: usize) -> Result<Run, Answer> {
     coder_known(rate, memory)?;
     if i.len() != q.len() || i.len() != lost.len() || lost.iter().any(|&mark| mark > 1) {
         return Err(Answer::SoftLists);
     }
     let count = length_of(rate, i.len())?;
-    if room < count {
-        return Err(Answer::ShortRoom);
+    if output < count {
+        return Err(Answer::ShortOutput);
     }
     let received: Vec<BitCosts> =
         (0..i.len()).flat_map(|k| if lost[k] == 1 { [[0, 0]; 2] } else { [soft(i[k]), soft(q[k])] }).collect();

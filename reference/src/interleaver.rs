@@ -30,17 +30,17 @@ impl Branches {
     }
 
     /// A block begins at branch 0; 204 is 17 times 12.
-    pub fn pass(&mut self, block: &[u8], room: &mut [u8]) -> Answer {
+    pub fn pass(&mut self, block: &[u8], output: &mut [u8]) -> Answer {
         if block.len() != BLOCK_LENGTH {
             return Answer::BlockLength;
         }
-        if room.len() < BLOCK_LENGTH {
-            return Answer::ShortRoom;
+        if output.len() < BLOCK_LENGTH {
+            return Answer::ShortOutput;
         }
         for n in 0..BLOCK_LENGTH {
             let queue = &mut self.queues[n % BRANCHES];
             queue.push_back(block[n]);
-            room[n] = queue.pop_front().expect("just pushed");
+            output[n] = queue.pop_front().expect("just pushed");
         }
         Answer::Done
     }
@@ -53,10 +53,10 @@ mod tests {
 
     #[test]
     fn the_first_block_keeps_seventeen_bytes() {
-        let mut room = [7; 204];
-        assert_eq!(Branches::interleaver().pass(&[0xFF; 204], &mut room), Answer::Done);
+        let mut output = [7; 204];
+        assert_eq!(Branches::interleaver().pass(&[0xFF; 204], &mut output), Answer::Done);
         for n in 0..204 {
-            assert_eq!(room[n], if n % 12 == 0 { 0xFF } else { 0 });
+            assert_eq!(output[n], if n % 12 == 0 { 0xFF } else { 0 });
         }
     }
 
@@ -87,6 +87,6 @@ mod tests {
         let mut b = Branches::interleaver();
         assert_eq!(b.pass(&[0; 203], &mut [0; 204]), Answer::BlockLength);
         assert_eq!(b.pass(&[0; 205], &mut [0; 0]), Answer::BlockLength);
-        assert_eq!(b.pass(&[0; 204], &mut [0; 203]), Answer::ShortRoom);
+        assert_eq!(b.pass(&[0; 204], &mut [0; 203]), Answer::ShortOutput);
     }
 }

@@ -44,18 +44,18 @@ fn generator_at(place: usize) -> Prbs {
 }
 
 /// The packet with the sync byte `first` and its other bytes xored.
-fn apply(place: usize, packet: &[u8], first: u8, room: &mut [u8]) {
+fn apply(place: usize, packet: &[u8], first: u8, output: &mut [u8]) {
     let mut prbs = generator_at(place);
     if place > 0 {
         prbs.byte(); // runs on, output disabled
     }
-    room[0] = first;
+    output[0] = first;
     for n in 1..PACKET_LENGTH {
-        room[n] = packet[n] ^ prbs.byte();
+        output[n] = packet[n] ^ prbs.byte();
     }
 }
 
-pub fn randomize(place: u8, packet: &[u8], room: &mut [u8]) -> Answer {
+pub fn randomize(place: u8, packet: &[u8], output: &mut [u8]) -> Answer {
     if place as usize >= GROUP_LENGTH {
         return Answer::StateRange;
     }
@@ -65,26 +65,26 @@ pub fn randomize(place: u8, packet: &[u8], room: &mut [u8]) -> Answer {
     if packet[0] != SYNC {
         return Answer::SyncByte;
     }
-    if room.len() < PACKET_LENGTH {
-        return Answer::ShortRoom;
+    if output.len() < PACKET_LENGTH {
+        return Answer::ShortOutput;
     }
     let first = if place == 0 { INVERTED_SYNC } else { SYNC };
-    apply(place as usize, packet, first, room);
+    apply(place as usize, packet, first, output);
     Answer::Done
 }
 
 /// The same, and writes 47 hex first, whatever came there.
-pub fn derandomize(place: u8, packet: &[u8], room: &mut [u8]) -> Answer {
+pub fn derandomize(place: u8, packet: &[u8], output: &mut [u8]) -> Answer {
     if place as usize >= GROUP_LENGTH {
         return Answer::StateRange;
     }
     if packet.len() != PACKET_LENGTH {
         return Answer::PacketLength;
     }
-    if room.len() < PACKET_LENGTH {
-        return Answer::ShortRoom;
+    if output.len() < PACKET_LENGTH {
+        return Answer::ShortOutput;
     }
-    apply(place as usize, packet, SYNC, room);
+    apply(place as usize, packet, SYNC, output);
     Answer::Done
 }
 
@@ -103,11 +103,11 @@ mod tests {
     fn first_and_second_packet_of_a_group() {
         let mut packet = [0; 188];
         packet[0] = SYNC;
-        let mut room = [0; 188];
-        assert_eq!(randomize(0, &packet, &mut room), Answer::Done);
-        assert_eq!(room[..5], [0xB8, 0x03, 0xF6, 0x08, 0x34]);
-        assert_eq!(randomize(1, &packet, &mut room), Answer::Done);
-        assert_eq!(room[0], SYNC);
+        let mut output = [0; 188];
+        assert_eq!(randomize(0, &packet, &mut output), Answer::Done);
+        assert_eq!(output[..5], [0xB8, 0x03, 0xF6, 0x08, 0x34]);
+        assert_eq!(randomize(1, &packet, &mut output), Answer::Done);
+        assert_eq!(output[0], SYNC);
     }
 
     #[test]
@@ -118,16 +118,16 @@ mod tests {
         let mut packet = [0; 188];
         packet[0] = SYNC;
         for place in 0..8 {
-            let mut room = [0; 188];
-            randomize(place, &packet, &mut room);
+            let mut output = [0; 188];
+            randomize(place, &packet, &mut output);
             for n in 0..188 {
                 if place == 0 && n == 0 {
-                    assert_eq!(room[0], INVERTED_SYNC);
+                    assert_eq!(output[0], INVERTED_SYNC);
                     continue;
                 }
                 let byte = prbs.byte();
                 used += 1;
-                assert_eq!(room[n], if n == 0 { SYNC } else { byte });
+                assert_eq!(output[n], if n == 0 { SYNC } else { byte });
             }
         }
         assert_eq!(used, 1503);
@@ -136,12 +136,12 @@ mod tests {
     #[test]
     fn refusals_in_order() {
         let packet = [SYNC; 188];
-        let mut room = [9; 188];
-        assert_eq!(randomize(8, &packet[..1], &mut room[..0]), Answer::StateRange);
-        assert_eq!(randomize(7, &[0; 187], &mut room[..0]), Answer::PacketLength);
-        assert_eq!(randomize(7, &[0; 188], &mut room[..0]), Answer::SyncByte);
-        assert_eq!(randomize(7, &packet, &mut room[..187]), Answer::ShortRoom);
-        assert_eq!(derandomize(7, &[0; 188], &mut room[..187]), Answer::ShortRoom);
-        assert_eq!(room, [9; 188]);
+        let mut output = [9; 188];
+        assert_eq!(randomize(8, &packet[..1], &mut output[..0]), Answer::StateRange);
+        assert_eq!(randomize(7, &[0; 187], &mut output[..0]), Answer::PacketLength);
+        assert_eq!(randomize(7, &[0; 188], &mut output[..0]), Answer::SyncByte);
+        assert_eq!(randomize(7, &packet, &mut output[..187]), Answer::ShortOutput);
+        assert_eq!(derandomize(7, &[0; 188], &mut output[..187]), Answer::ShortOutput);
+        assert_eq!(output, [9; 188]);
     }
 }

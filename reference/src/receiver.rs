@@ -1,4 +1,4 @@
-//! The block receiver of document 01: delays, repair (with marks, document 02,
+//! The block receiver of document 01: delays, outer decoding (with marks, document 02,
 //! P11), group place (as document 02 amends it under P4), derandomizing, and the
 //! counts of a pass.
 
@@ -48,25 +48,25 @@ impl Receiver {
     }
 
     /// One block without marks: they are 0 where none come.
-    pub fn receive(&mut self, block: &[u8], room: &mut [u8]) -> Answer {
-        self.receive_marked(block, &[0; BLOCK_LENGTH], room)
+    pub fn receive(&mut self, block: &[u8], output: &mut [u8]) -> Answer {
+        self.receive_marked(block, &[0; BLOCK_LENGTH], output)
     }
 
-    /// One block and its marks; a packet is in the room where the answer is Done.
-    pub fn receive_marked(&mut self, block: &[u8], marks: &[u8], room: &mut [u8]) -> Answer {
+    /// One block and its marks; a packet is in the output where the answer is Done.
+    pub fn receive_marked(&mut self, block: &[u8], marks: &[u8], output: &mut [u8]) -> Answer {
         if block.len() != BLOCK_LENGTH {
             return Answer::BlockLength;
         }
         if !reed_solomon::are_marks(marks, BLOCK_LENGTH) {
             return Answer::MarkValue;
         }
-        if room.len() < PACKET_LENGTH {
-            return Answer::ShortRoom;
+        if output.len() < PACKET_LENGTH {
+            return Answer::ShortOutput;
         }
         if self.counts.taken == MOST_BLOCKS {
             return Answer::Full;
         }
-        let answer = self.take(block, marks, room);
+        let answer = self.take(block, marks, output);
         self.counts.taken += 1;
         match answer {
             Answer::Done => self.counts.delivered += 1,
@@ -79,7 +79,7 @@ impl Receiver {
         answer
     }
 
-    fn take(&mut self, block: &[u8], marks: &[u8], room: &mut [u8]) -> Answer {
+    fn take(&mut self, block: &[u8], marks: &[u8], output: &mut [u8]) -> Answer {
         let mut ordered = [0; BLOCK_LENGTH];
         self.branches.pass(block, &mut ordered);
         let mut erased = [0; BLOCK_LENGTH];
@@ -98,9 +98,9 @@ impl Receiver {
         self.counts.bits += changed.bits as u64;
         match (ordered[0], self.place) {
             // B8 is place 0, due or not.
-            (INVERTED_SYNC, _) => self.give(0, &ordered, room),
+            (INVERTED_SYNC, _) => self.give(0, &ordered, output),
             (_, None) => Answer::Waiting,
-            (SYNC, Some(place)) if place > 0 => self.give(place, &ordered, room),
+            (SYNC, Some(place)) if place > 0 => self.give(place, &ordered, output),
             (SYNC, Some(_)) => self.lose_place(),
             (_, Some(_)) if self.odd => self.lose_place(),
             (_, Some(place)) => {
@@ -111,10 +111,10 @@ impl Receiver {
         }
     }
 
-    fn give(&mut self, place: usize, ordered: &[u8], room: &mut [u8]) -> Answer {
+    fn give(&mut self, place: usize, ordered: &[u8], output: &mut [u8]) -> Answer {
         self.place = Some((place + 1) % GROUP_LENGTH);
         self.odd = false;
-        randomizer::derandomize(place as u8, &ordered[..PACKET_LENGTH], room)
+        randomizer::derandomize(place as u8, &ordered[..PACKET_LENGTH], output)
     }
 
     fn lose_place(&mut self) -> Answer {
@@ -134,10 +134,10 @@ mod tests {
         let mut receiver = Receiver::fresh();
         let (mut answers, mut packets) = (Vec::new(), Vec::new());
         for block in stream.chunks_exact(204) {
-            let mut room = [0; 188];
-            let answer = receiver.receive(block, &mut room);
+            let mut output = [0; 188];
+            let answer = receiver.receive(block, &mut output);
             if answer == Answer::Done {
-                packets.extend(room);
+                packets.extend(output);
             }
             answers.push(answer);
         }
@@ -179,7 +179,7 @@ mod tests {
     }
 
     /// What a fresh receiver answers for codewords with these first bytes, after
-    /// filling. None stands for a block beyond repair.
+    /// filling. None stands for a block uncorrectable.
     fn answers_for(first_bytes: &[Option<u8>]) -> Vec<u8> {
         let mut stream = Vec::new();
         let mut branches = Branches::interleaver();
@@ -245,9 +245,9 @@ mod tests {
         }
         let (mut receiver, mut got) = (Receiver::fresh(), Vec::new());
         for (block, marked) in stream.chunks_exact(204).zip(marks.chunks_exact(204)) {
-            let mut room = [0; 188];
-            if receiver.receive_marked(block, marked, &mut room) == Answer::Done {
-                got.extend(room);
+            let mut output = [0; 188];
+            if receiver.receive_marked(block, marked, &mut output) == Answer::Done {
+                got.extend(output);
             }
         }
         assert_eq!(got, sent[..29 * 188]);
@@ -261,7 +261,7 @@ mod tests {
         assert_eq!(receiver.receive_marked(&[0; 204], &[2; 204], &mut [0; 0]), Answer::MarkValue);
         assert_eq!(receiver.receive_marked(&[0; 204], &[0; 203], &mut [0; 0]), Answer::MarkValue);
         assert_eq!(receiver.receive(&[0; 203], &mut [0; 0]), Answer::BlockLength);
-        assert_eq!(receiver.receive(&[0; 204], &mut [0; 187]), Answer::ShortRoom);
+        assert_eq!(receiver.receive(&[0; 204], &mut [0; 187]), Answer::ShortOutput);
         assert_eq!(receiver.counts(), Counts::default());
         receiver.counts.taken = MOST_BLOCKS;
         assert_eq!(receiver.receive(&[0; 204], &mut [0; 188]), Answer::Full);

@@ -1,5 +1,5 @@
-//! One block of a recording, repaired (document 02, P5), by its definition: what a
-//! fresh receiver's repair has at its call p + 12.
+//! One block of a recording, corrected (document 02, P5), by its definition: what a
+//! fresh receiver's outer decoder has at its call p + 12.
 
 use crate::answer::Answer;
 use crate::interleaver::Branches;
@@ -9,7 +9,7 @@ use crate::BLOCK_LENGTH;
 
 /// The block of a recording that is said to have so many whole blocks: the answer,
 /// and how many bytes and bits were changed.
-pub fn repaired_block(recording: &[u8], blocks: u64, p: u64, room: &mut [u8]) -> (Answer, Changed) {
+pub fn decoded_block(recording: &[u8], blocks: u64, p: u64, output: &mut [u8]) -> (Answer, Changed) {
     if blocks != (recording.len() / BLOCK_LENGTH) as u64 {
         return (Answer::StateRange, Changed::default());
     }
@@ -17,8 +17,8 @@ pub fn repaired_block(recording: &[u8], blocks: u64, p: u64, room: &mut [u8]) ->
     if p as u128 + 12 > blocks.min(MOST_BLOCKS) as u128 {
         return (Answer::NoSuchBlock, Changed::default());
     }
-    if room.len() < BLOCK_LENGTH {
-        return (Answer::ShortRoom, Changed::default());
+    if output.len() < BLOCK_LENGTH {
+        return (Answer::ShortOutput, Changed::default());
     }
     let mut branches = Branches::deinterleaver();
     let mut ordered = [0; BLOCK_LENGTH];
@@ -27,7 +27,7 @@ pub fn repaired_block(recording: &[u8], blocks: u64, p: u64, room: &mut [u8]) ->
     }
     let (answer, changed) = reed_solomon::decode(&mut ordered);
     if answer == Answer::Done {
-        room[..BLOCK_LENGTH].copy_from_slice(&ordered);
+        output[..BLOCK_LENGTH].copy_from_slice(&ordered);
     }
     (answer, changed)
 }
@@ -46,13 +46,13 @@ mod tests {
         packets.iter_mut().step_by(188).for_each(|byte| *byte = SYNC);
         let recording = interleaved_stream(&packets);
         for p in 0..19 {
-            let mut room = [0; 204];
-            assert_eq!(repaired_block(&recording, 30, p, &mut room), (Answer::Done, Changed::default()));
-            assert_eq!(room[0], if p % 8 == 0 { INVERTED_SYNC } else { SYNC });
+            let mut output = [0; 204];
+            assert_eq!(decoded_block(&recording, 30, p, &mut output), (Answer::Done, Changed::default()));
+            assert_eq!(output[0], if p % 8 == 0 { INVERTED_SYNC } else { SYNC });
         }
-        assert_eq!(repaired_block(&recording, 30, 19, &mut [0; 204]).0, Answer::NoSuchBlock);
-        assert_eq!(repaired_block(&recording, 30, u64::MAX, &mut [0; 204]).0, Answer::NoSuchBlock);
-        assert_eq!(repaired_block(&recording, 31, 19, &mut [0; 203]).0, Answer::StateRange);
-        assert_eq!(repaired_block(&recording, 30, 18, &mut [0; 203]).0, Answer::ShortRoom);
+        assert_eq!(decoded_block(&recording, 30, 19, &mut [0; 204]).0, Answer::NoSuchBlock);
+        assert_eq!(decoded_block(&recording, 30, u64::MAX, &mut [0; 204]).0, Answer::NoSuchBlock);
+        assert_eq!(decoded_block(&recording, 31, 19, &mut [0; 203]).0, Answer::StateRange);
+        assert_eq!(decoded_block(&recording, 30, 18, &mut [0; 203]).0, Answer::ShortOutput);
     }
 }

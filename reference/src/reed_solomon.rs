@@ -85,15 +85,15 @@ pub fn check_bytes(data: &[u8]) -> [u8; CHECK_LENGTH] {
 }
 
 /// The data bytes, then the sixteen that make the block a codeword.
-pub fn encode(data: &[u8], room: &mut [u8]) -> Answer {
+pub fn encode(data: &[u8], output: &mut [u8]) -> Answer {
     if data.len() != PACKET_LENGTH {
         return Answer::PacketLength;
     }
-    if room.len() < BLOCK_LENGTH {
-        return Answer::ShortRoom;
+    if output.len() < BLOCK_LENGTH {
+        return Answer::ShortOutput;
     }
-    room[..PACKET_LENGTH].copy_from_slice(data);
-    room[PACKET_LENGTH..BLOCK_LENGTH].copy_from_slice(&check_bytes(data));
+    output[..PACKET_LENGTH].copy_from_slice(data);
+    output[PACKET_LENGTH..BLOCK_LENGTH].copy_from_slice(&check_bytes(data));
     Answer::Done
 }
 
@@ -214,11 +214,11 @@ pub fn nearest_codeword(block: &[u8]) -> Option<([u8; BLOCK_LENGTH], Changed)> {
     if length > CORRECTABLE {
         return None;
     }
-    let repaired = corrected(block, &s, &locator)?;
+    let corrected = corrected(block, &s, &locator)?;
     // Nothing above is trusted: the result must be a codeword within eight bytes.
-    let changed = changed(block, &repaired);
-    if changed.bytes <= CORRECTABLE && is_codeword(&repaired) {
-        Some((repaired, changed))
+    let changed = changed(block, &corrected);
+    if changed.bytes <= CORRECTABLE && is_codeword(&corrected) {
+        Some((corrected, changed))
     } else {
         None
     }
@@ -242,10 +242,10 @@ pub fn codeword_with_marks(block: &[u8], marks: &[u8]) -> Option<([u8; BLOCK_LEN
     if 2 * (length - erasures.len()) + erasures.len() > CHECK_LENGTH {
         return None;
     }
-    let repaired = corrected(block, &s, &locator)?;
+    let corrected = corrected(block, &s, &locator)?;
     // Nothing above is trusted: the result must be a codeword with 2 e + f at most 16.
-    if cost(marks, block, &repaired) <= CHECK_LENGTH && is_codeword(&repaired) {
-        Some((repaired, changed(block, &repaired)))
+    if cost(marks, block, &corrected) <= CHECK_LENGTH && is_codeword(&corrected) {
+        Some((corrected, changed(block, &corrected)))
     } else {
         None
     }
@@ -253,8 +253,8 @@ pub fn codeword_with_marks(block: &[u8], marks: &[u8]) -> Option<([u8; BLOCK_LEN
 
 /// The block with the errors at the roots of the locator taken away.
 fn corrected(block: &[u8], s: &[u8; CHECK_LENGTH], locator: &[u8; CHECK_LENGTH + 1]) -> Option<[u8; BLOCK_LENGTH]> {
-    let mut repaired = [0; BLOCK_LENGTH];
-    repaired.copy_from_slice(block);
+    let mut corrected = [0; BLOCK_LENGTH];
+    corrected.copy_from_slice(block);
     // Evaluator: syndromes times locator, modulo x^16.
     let mut evaluator = [0; CHECK_LENGTH];
     for i in 0..CHECK_LENGTH {
@@ -279,12 +279,12 @@ fn corrected(block: &[u8], s: &[u8; CHECK_LENGTH], locator: &[u8; CHECK_LENGTH +
             return None;
         }
         let quotient = divide(evaluate(&evaluator, inverse), slope);
-        repaired[n] ^= multiply(power(exponent), quotient);
+        corrected[n] ^= multiply(power(exponent), quotient);
     }
-    Some(repaired)
+    Some(corrected)
 }
 
-/// Repairs a block in place. What changed is given where the answer is Done.
+/// Corrects a block in place. What changed is given where the answer is Done.
 pub fn decode(block: &mut [u8]) -> (Answer, Changed) {
     if block.len() != BLOCK_LENGTH {
         return (Answer::BlockLength, Changed::default());
@@ -303,7 +303,7 @@ pub fn are_marks(marks: &[u8], bytes: usize) -> bool {
     marks.len() == bytes && marks.iter().all(|&m| m <= 1)
 }
 
-/// Repairs a block in place with a mark for each byte. What changed is given where
+/// Corrects a block in place with a mark for each byte. What changed is given where
 /// the answer is Done.
 pub fn decode_marked(block: &mut [u8], marks: &[u8]) -> (Answer, Changed) {
     if block.len() != BLOCK_LENGTH {
@@ -527,6 +527,6 @@ mod tests {
         assert_eq!(decode(&mut [0; 205]).0, Answer::BlockLength);
         assert_eq!(encode(&[0; 187], &mut [0; 204]), Answer::PacketLength);
         assert_eq!(encode(&[0; 189], &mut [0; 204]), Answer::PacketLength);
-        assert_eq!(encode(&[0; 188], &mut [0; 203]), Answer::ShortRoom);
+        assert_eq!(encode(&[0; 188], &mut [0; 203]), Answer::ShortOutput);
     }
 }

@@ -90,23 +90,23 @@ pub fn read(text: &[u8]) -> Result<Report, Answer> {
 }
 
 /// The text in so much room: 17, 18, 4.
-pub fn write(report: &Report, room: usize) -> Result<String, Answer> {
+pub fn write(report: &Report, output: usize) -> Result<String, Answer> {
     if let Some(answer) = report.refusal() {
         return Err(answer);
     }
     let text = report.text();
-    if room < text.len() { Err(Answer::ShortRoom) } else { Ok(text) }
+    if output < text.len() { Err(Answer::ShortOutput) } else { Ok(text) }
 }
 
 /// The report of a text in the form wanted, 1 or 2: 17, 18, 19, 4.
-pub fn moved(text: &[u8], form: u8, room: usize) -> Result<String, Answer> {
+pub fn moved(text: &[u8], form: u8, output: usize) -> Result<String, Answer> {
     let report = read(text)?;
     let bits = match (report.bits, form) {
         (Bits::Absent, 2) => Bits::Dash,
         (Bits::Dash, 1) => Bits::Absent,
         _ => return Err(Answer::FormKept),
     };
-    write(&Report { bits, ..report }, room)
+    write(&Report { bits, ..report }, output)
 }
 
 #[cfg(test)]
@@ -130,7 +130,7 @@ mod tests {
         let second = moved(first.as_bytes(), 2, 320).unwrap();
         assert_eq!(second, ZEROS.replace("bits=0", "bits=-"));
         assert_eq!(moved(second.as_bytes(), 1, first.len()).unwrap(), first);
-        assert_eq!(moved(second.as_bytes(), 1, first.len() - 1), Err(Answer::ShortRoom));
+        assert_eq!(moved(second.as_bytes(), 1, first.len() - 1), Err(Answer::ShortOutput));
     }
 
     #[test]

@@ -32,13 +32,13 @@ impl Sender {
 
     /// One packet, or no bytes; the answer and how many symbols were written.
     /// A null packet stands in for no bytes and for a packet without the sync byte.
-    pub fn send(&mut self, input: &[u8], room: &mut [u8]) -> (Answer, usize) {
+    pub fn send(&mut self, input: &[u8], output: &mut [u8]) -> (Answer, usize) {
         if input.len() != 0 && input.len() != PACKET_LENGTH {
             return (Answer::PacketLength, 0);
         }
         let due = self.inner.symbols_due(8 * BLOCK_LENGTH);
-        if room.len() < due {
-            return (Answer::ShortRoom, 0);
+        if output.len() < due {
+            return (Answer::ShortOutput, 0);
         }
         let (packet, answer) = match input.first() {
             Some(&SYNC) => (input, Answer::Done),
@@ -47,7 +47,7 @@ impl Sender {
         let block = self.interleaved(packet);
         let symbols = self.inner.code(&block);
         assert_eq!(symbols.len(), due);
-        room[..due].copy_from_slice(&symbols);
+        output[..due].copy_from_slice(&symbols);
         (answer, due)
     }
 

@@ -24,21 +24,21 @@ static SYMBOLS: [&[u8]; 5] = [
 fn randomizer_both_ways() {
     for (n, packet) in PACKETS.chunks_exact(188).enumerate() {
         let want = &RANDOMIZED[188 * n..188 * (n + 1)];
-        let mut room = [0; 188];
-        assert_eq!(randomizer::randomize(n as u8 % 8, packet, &mut room), Answer::Done);
-        assert_eq!(room, want);
-        assert_eq!(randomizer::derandomize(n as u8 % 8, want, &mut room), Answer::Done);
-        assert_eq!(room, packet);
+        let mut output = [0; 188];
+        assert_eq!(randomizer::randomize(n as u8 % 8, packet, &mut output), Answer::Done);
+        assert_eq!(output, want);
+        assert_eq!(randomizer::derandomize(n as u8 % 8, want, &mut output), Answer::Done);
+        assert_eq!(output, packet);
     }
 }
 
 #[test]
 fn outer_code() {
     for (n, data) in RANDOMIZED.chunks_exact(188).enumerate() {
-        let mut room = [0; 204];
-        assert_eq!(reed_solomon::encode(data, &mut room), Answer::Done);
-        assert_eq!(room, CODED[204 * n..204 * (n + 1)]);
-        assert_eq!(reed_solomon::decode(&mut room), (Answer::Done, reed_solomon::Changed::default()));
+        let mut output = [0; 204];
+        assert_eq!(reed_solomon::encode(data, &mut output), Answer::Done);
+        assert_eq!(output, CODED[204 * n..204 * (n + 1)]);
+        assert_eq!(reed_solomon::decode(&mut output), (Answer::Done, reed_solomon::Changed::default()));
     }
 }
 
@@ -46,9 +46,9 @@ fn outer_code() {
 fn interleaver() {
     let mut branches = Branches::interleaver();
     for (n, block) in CODED.chunks_exact(204).enumerate() {
-        let mut room = [0; 204];
-        assert_eq!(branches.pass(block, &mut room), Answer::Done);
-        assert_eq!(room, INTERLEAVED[204 * n..204 * (n + 1)]);
+        let mut output = [0; 204];
+        assert_eq!(branches.pass(block, &mut output), Answer::Done);
+        assert_eq!(output, INTERLEAVED[204 * n..204 * (n + 1)]);
     }
     assert_eq!(interleaved_stream(PACKETS), INTERLEAVED);
 }
@@ -60,11 +60,11 @@ fn sender_at_every_rate_that_is_sent() {
         assert_eq!(sender.symbols_due(40), SYMBOLS[rate as usize].len());
         let mut symbols: Vec<u8> = Vec::new();
         for packet in PACKETS.chunks_exact(188) {
-            let mut room = [9; 2000];
-            let (answer, written) = sender.send(packet, &mut room);
+            let mut output = [9; 2000];
+            let (answer, written) = sender.send(packet, &mut output);
             assert_eq!(answer, Answer::Done);
-            assert!(room[written..].iter().all(|&byte| byte == 9));
-            symbols.extend(&room[..written]);
+            assert!(output[written..].iter().all(|&byte| byte == 9));
+            symbols.extend(&output[..written]);
         }
         assert_eq!(symbols, SYMBOLS[rate as usize]);
     }
@@ -83,9 +83,9 @@ fn receiver() {
     let mut receiver = Receiver::fresh();
     let mut packets: Vec<u8> = Vec::new();
     for block in INTERLEAVED.chunks_exact(204) {
-        let mut room = [0; 188];
-        if receiver.receive(block, &mut room) == Answer::Done {
-            packets.extend(room);
+        let mut output = [0; 188];
+        if receiver.receive(block, &mut output) == Answer::Done {
+            packets.extend(output);
         }
     }
     assert_eq!(packets, PACKETS[..29 * 188]);

@@ -2,14 +2,14 @@
 -- Assumes nothing.
 use Prim.Native.Nat.{ℕ}
 use Rattle.answer.specs.declared.Answer.{Answer}
-use Rattle.answer.specs.declared.Answer.the-variants.{Done, PacketLength, SyncByte, BlockLength, RoomLength, StateRange, UnknownRate, CountsFull, Uncorrectable, Filling, WaitingForGroup, OutOfStep, PatternLength, RunLength, SymbolRange, NullPacket, NoSuchBlock, NotReport, WrongSums, FormKept, MarkValue, TooManyReports, StateLength, UnknownCount, SoftLists}
+use Rattle.answer.specs.declared.Answer.the-variants.{Done, PacketLength, SyncByte, BlockLength, OutputLength, StateRange, UnknownRate, CountsFull, Uncorrectable, Filling, WaitingForGroup, OutOfStep, PatternLength, RunLength, SymbolRange, NullPacket, NoSuchBlock, NotReport, WrongSums, FormKept, MarkValue, TooManyReports, StateLength, UnknownCount, SoftLists}
 
 abbrev pub numberOf : Answer → ℕ
 numberOf Done = 0
 numberOf PacketLength = 1
 numberOf SyncByte = 2
 numberOf BlockLength = 3
-numberOf RoomLength = 4
+numberOf OutputLength = 4
 numberOf StateRange = 5
 numberOf UnknownRate = 6
 numberOf CountsFull = 7

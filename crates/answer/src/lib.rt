@@ -11,8 +11,8 @@ pub enum Answer {
     SyncByte,
     // A block is not 204 bytes.
     BlockLength,
-    // The room lent is shorter than the answer needs.
-    RoomLength,
+    // The output lent is shorter than the answer needs.
+    OutputLength,
     // A number in the state lies outside its range.
     StateRange,
     // A fresh sender or inner coder is wanted at a rate other than 0 to 4.
@@ -65,7 +65,7 @@ impl Answer {
             Answer::PacketLength => 1,
             Answer::SyncByte => 2,
             Answer::BlockLength => 3,
-            Answer::RoomLength => 4,
+            Answer::OutputLength => 4,
             Answer::StateRange => 5,
             Answer::UnknownRate => 6,
             Answer::CountsFull => 7,

@@ -9,21 +9,21 @@ use lib.Seq.{length-take-le}
 use Rattle.common.specs.Lists.{placed}
 use Rattle.common.proofs.Lists.{put-after}
 
--- a part copied to the front of a room
-pub front : (bytes room : List ℕ) (at end size : ℕ) → end ≡ at + size → end ≤ length bytes
-    → placed room 0 (take (end - at) (drop at bytes)) ≡ take size (drop at bytes) ++ drop size room
-front bytes room at end size e h =
+-- a part copied to the front of an output
+pub front : (bytes output : List ℕ) (at end size : ℕ) → end ≡ at + size → end ≤ length bytes
+    → placed output 0 (take (end - at) (drop at bytes)) ≡ take size (drop at bytes) ++ drop size output
+front bytes output at end size e h =
     let q : end - at ≡ size = omega arith in
     let m : 0 + length (take size (drop at bytes)) ≡ size = omega (arith, length-take-le size (drop at bytes) (omega (arith, length-drop at bytes))) in
-    ap (λ (i : ℕ). placed room 0 (take i (drop at bytes))) q
-    ∙ ap (λ (i : ℕ). take size (drop at bytes) ++ drop i room) m
+    ap (λ (i : ℕ). placed output 0 (take i (drop at bytes))) q
+    ∙ ap (λ (i : ℕ). take size (drop at bytes) ++ drop i output) m
 
--- a part copied to a room of its length
-pub whole : (bytes room : List ℕ) (at end size : ℕ) → end ≡ at + size → end ≤ length bytes → length room ≡ size
-    → placed room 0 (take (end - at) (drop at bytes)) ≡ take size (drop at bytes)
-whole bytes room at end size e h n =
-    front bytes room at end size e h
-    ∙ ap (λ (l : List ℕ). take size (drop at bytes) ++ l) (drop-of-length-le room {i = size} (omega arith))
+-- a part copied to an output of its length
+pub whole : (bytes output : List ℕ) (at end size : ℕ) → end ≡ at + size → end ≤ length bytes → length output ≡ size
+    → placed output 0 (take (end - at) (drop at bytes)) ≡ take size (drop at bytes)
+whole bytes output at end size e h n =
+    front bytes output at end size e h
+    ∙ ap (λ (l : List ℕ). take size (drop at bytes) ++ l) (drop-of-length-le output {i = size} (omega arith))
     ∙ append-nil (take size (drop at bytes))
 
 -- a list put after those that are written

@@ -14,7 +14,7 @@ use Rattle.common.specs.Choice.{pick}
 use Rattle.common.specs.Lists.{All}
 use Rattle.common.proofs.Choice.{both-true}
 use Rattle.receiver.specs.declared.Receiver.{Receiver}
-use Rattle.bridge.specs.State.{Field, part, fieldsOf, layout, stateLength}
+use Rattle.bridge.specs.State.{StateField, part, fieldsOf, layout, stateLength}
 
 -- a fact of a field, before those of the fields after it
 infixr 10 _&_
@@ -22,28 +22,28 @@ pub _&_ : {A B : Type 0} → A → B → A × B
 a & b = (a, b)
 
 -- from a byte on to an end, no byte is left out and none is in two fields
-abbrev pub contiguous : ℕ → List Field → ℕ → Bool
+abbrev pub contiguous : ℕ → List StateField → ℕ → Bool
 contiguous at [] end = eqb at end
 contiguous at (f ∷ fs) end = pick (eqb (f .offset) at) (contiguous (at + f .size) fs end) false
 
 pub layout-contiguous : contiguous 0 layout stateLength ≡ true
 layout-contiguous = refl
 
-first-offset : (f : Field) (fs : List Field) (at end : ℕ) → contiguous at (f ∷ fs) end ≡ true → f .offset ≡ at
+first-offset : (f : StateField) (fs : List StateField) (at end : ℕ) → contiguous at (f ∷ fs) end ≡ true → f .offset ≡ at
 first-offset f fs at end c = eqb-true (f .offset) at (both-true (eqb (f .offset) at) (contiguous (at + f .size) fs end) c .0)
 
-others : (f : Field) (fs : List Field) (at end : ℕ) → contiguous at (f ∷ fs) end ≡ true → contiguous (at + f .size) fs end ≡ true
+others : (f : StateField) (fs : List StateField) (at end : ℕ) → contiguous at (f ∷ fs) end ≡ true → contiguous (at + f .size) fs end ≡ true
 others f fs at end c = both-true (eqb (f .offset) at) (contiguous (at + f .size) fs end) c .1
 
 -- ---- the fields of bytes are the bytes
 
-part-more : (f : Field) (at : ℕ) (bytes : List ℕ) → f .offset ≡ at → part f bytes ++ drop (at + f .size) bytes ≡ drop at bytes
+part-more : (f : StateField) (at : ℕ) (bytes : List ℕ) → f .offset ≡ at → part f bytes ++ drop (at + f .size) bytes ≡ drop at bytes
 part-more f at bytes e =
     ap₂ (λ (i : ℕ) (l : List ℕ). take (f .size) (drop i bytes) ++ l) e (sym (drop-drop (f .size) at bytes))
     ∙ take-append-drop (f .size) (drop at bytes)
 
 -- what the fields of a receiver are where each is that of the bytes
-pub fields-joined : (fs : List Field) (at end : ℕ) (s : Receiver) (bytes : List ℕ) → contiguous at fs end ≡ true → length bytes ≡ end
+pub fields-joined : (fs : List StateField) (at end : ℕ) (s : Receiver) (bytes : List ℕ) → contiguous at fs end ≡ true → length bytes ≡ end
     → All (λ f. f .held s ≡ part f bytes) fs → fieldsOf fs s ≡ drop at bytes
 fields-joined [] at end s bytes c n e = sym (drop-of-length-le bytes {i = at} (omega (arith, eqb-true at end c)))
 fields-joined (f ∷ fs) at end s bytes c n e =
@@ -52,7 +52,7 @@ fields-joined (f ∷ fs) at end s bytes c n e =
 
 -- ---- each field of a receiver is found again
 
-pub fields-found : (fs : List Field) (at end : ℕ) (s : Receiver) (front : List ℕ) → contiguous at fs end ≡ true → length front ≡ at
+pub fields-found : (fs : List StateField) (at end : ℕ) (s : Receiver) (front : List ℕ) → contiguous at fs end ≡ true → length front ≡ at
     → All (λ f. length (f .held s) ≡ f .size) fs → All (λ f. part f (front ++ fieldsOf fs s) ≡ f .held s) fs
 fields-found [] at end s front c n e = tt
 fields-found (f ∷ fs) at end s front c n e = (
@@ -63,7 +63,7 @@ fields-found (f ∷ fs) at end s front c n e = (
       (fields-found fs (at + f .size) end s (front ++ f .held s) (others f fs at end c) (length-append front (f .held s) ∙ ap₂ (λ (i j : ℕ). i + j) n (e .0)) (e .1)),
 )
 
-pub fields-length : (fs : List Field) (at end : ℕ) (s : Receiver) → contiguous at fs end ≡ true → All (λ f. length (f .held s) ≡ f .size) fs
+pub fields-length : (fs : List StateField) (at end : ℕ) (s : Receiver) → contiguous at fs end ≡ true → All (λ f. length (f .held s) ≡ f .size) fs
     → at + length (fieldsOf fs s) ≡ end
 fields-length [] at end s c e = omega (arith, eqb-true at end c)
 fields-length (f ∷ fs) at end s c e =

@@ -8,26 +8,26 @@ use borrow.Author.Tests.{eq-eqb, le-ltb}
 use lib.ListN.{length, getD, drop}
 use Rattle.common.specs.Lists.{ByteEntries}
 use Rattle.count_bytes.specs.Bytes.{toBytes, numbersOf}
-use Rattle.receiver.specs.Receive.{inRange}
+use Rattle.receiver.specs.Receive.{receiverInRange}
 use Rattle.receiver.specs.declared.Receiver.{Receiver}
-use Rattle.bridge.specs.State.{stateOf, bytesOf, StandsFor}
-use Rattle.bridge.specs.Calls.{refuses, BridgeTakes, wrong-length, no-state, as-receiver, countNumber, countRoom}
+use Rattle.bridge.specs.State.{stateOf, stateBytes, StandsFor}
+use Rattle.bridge.specs.Calls.{refuses, BridgeTakes, wrong-length, no-state, as-receiver, countNumber, countOutput}
 use Rattle.bridge.proofs.States.{written-read}
 use Rattle.bridge.proofs.Takes.{refused-same}
 
--- after a refusal of a block every byte of the state and of the room is as it was
-pub refusal-keeps : (state block room : List ℕ) (r : ℕ) (after exit : List ℕ) → ByteEntries state → BridgeTakes state block room r after exit
-    → refuses r ≡ true → (after ≡ state) × (exit ≡ room)
-refusal-keeps state block room r after exit e (wrong-length n q a x) f = (a, x)
-refusal-keeps state block room r after exit e (no-state n k q a x) f = (a, x)
-refusal-keeps state block room r after exit e (as-receiver s h received g q a m) f =
-    let k = refused-same s block room received exit g (sym (ap refuses q) ∙ f) in
-    (a ∙ ap bytesOf (k .0 ∙ sym (h .read)) ∙ written-read state (h .size) e, k .1)
+-- after a refusal of a block every byte of the state and of the output is as it was
+pub refusal-keeps : (state block output : List ℕ) (r : ℕ) (after exit : List ℕ) → ByteEntries state → BridgeTakes state block output r after exit
+    → refuses r ≡ true → (after ≡ state) × (exit ≡ output)
+refusal-keeps state block output r after exit e (wrong-length n q a x) f = (a, x)
+refusal-keeps state block output r after exit e (no-state n k q a x) f = (a, x)
+refusal-keeps state block output r after exit e (as-receiver s h received g q a m) f =
+    let k = refused-same s block output received exit g (sym (ap refuses q) ∙ f) in
+    (a ∙ ap stateBytes (k .0 ∙ sym (h .read)) ∙ written-read state (h .size) e, k .1)
 
 -- a count of the receiver that the bytes stand for
-pub count-read : (state room : List ℕ) (number : ℕ) (s : Receiver) → StandsFor state s → number ≤ 7 → 8 ≤ length room
-    → (countNumber state number room ≡ 0) × (countRoom state number room ≡ toBytes 8 (getD (numbersOf (s .counts)) number 0) ++ drop 8 room)
-count-read state room number s h k l =
-    let t : inRange (stateOf state) ≡ true = ap inRange (h .read) ∙ h .range in
+pub count-read : (state output : List ℕ) (number : ℕ) (s : Receiver) → StandsFor state s → number ≤ 7 → 8 ≤ length output
+    → (countNumber state number output ≡ 0) × (countOutput state number output ≡ toBytes 8 (getD (numbersOf (s .counts)) number 0) ++ drop 8 output)
+count-read state output number s h k l =
+    let t : receiverInRange (stateOf state) ≡ true = ap receiverInRange (h .read) ∙ h .range in
     simp (eq-eqb _ _ (h .size), le-ltb _ _ k, t, le-ltb _ _ l)
-    (refl, ap (λ (x : Receiver). toBytes 8 (getD (numbersOf (x .counts)) number 0) ++ drop 8 room) (h .read))
+    (refl, ap (λ (x : Receiver). toBytes 8 (getD (numbersOf (x .counts)) number 0) ++ drop 8 output) (h .read))

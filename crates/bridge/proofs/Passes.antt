@@ -15,7 +15,7 @@ use Rattle.receiver.specs.Kept as kept
 use Rattle.receiver.specs.Kept.{Kept}
 use Rattle.receiver.specs.declared.Receiver.{Receiver}
 use Rattle.receiver.proofs.Promised.{promised-received}
-use Rattle.bridge.specs.State.{bytesOf, StandsFor}
+use Rattle.bridge.specs.State.{stateBytes, StandsFor}
 use Rattle.bridge.specs.Calls.{wrong-length, no-state, as-receiver}
 use Rattle.bridge.specs.Pass.{BridgePass, none, call}
 use Rattle.bridge.proofs.States.{one-receiver, stands-fresh}
@@ -29,22 +29,22 @@ pub record AsKept (s : Receiver) (blocks : List (List ℕ)) (numbers : List ℕ)
 pub pass-kept : {state last : List ℕ} {blocks : List (List ℕ)} {numbers : List ℕ} {packets : List (List ℕ)} (s : Receiver) → StandsFor state s
     → BridgePass state blocks numbers packets last → AsKept s blocks numbers packets last
 pass-kept s h none = record { last = s; calls = kept.none; stands = h }
-pass-kept s h (call block room r after exit l (wrong-length n q a x) rest) = absurd (n (h .size))
-pass-kept s h (call block room r after exit l (no-state n f q a x) rest) = absurd (f s h)
-pass-kept s h (call {blocks = blocks} {numbers = numbers} {packets = packets} block room r after exit l (as-receiver t k received g q a m) rest) =
+pass-kept s h (call block output r after exit l (wrong-length n q a x) rest) = absurd (n (h .size))
+pass-kept s h (call block output r after exit l (no-state n f q a x) rest) = absurd (f s h)
+pass-kept s h (call {blocks = blocks} {numbers = numbers} {packets = packets} block output r after exit l (as-receiver t k received g q a m) rest) =
     let w = pass-kept (received .receiver) m rest in
-    let own = subst (λ (x : Receiver). Receives x block room received exit) (one-receiver _ t s k h) g in
+    let own = subst (λ (x : Receiver). Receives x block output received exit) (one-receiver _ t s k h) g in
     record {
       last = w .last;
       calls =
           subst (λ (n : ℕ). Kept s (block ∷ blocks) (n ∷ numbers) (pick (eqb n 0) (take 188 exit ∷ []) [] ++ packets) (w .last)) (sym q)
-          (kept.call block room exit received l own (w .calls));
+          (kept.call block output exit received l own (w .calls));
       stands = w .stands;
     }
 
 -- demand 2, receiving, through the bridge: begun with a fresh state, the blocks of a fresh sender give its packets back, eleven blocks late
 pub pass-received : (packets : List (List ℕ)) → All Packet packets → length packets ≤ 4294967295 → (numbers : List ℕ) (given : List (List ℕ)) (last : List ℕ)
-    → BridgePass (bytesOf freshReceiver) (interleaved (map encoded (randomizedStream packets))) numbers given last
+    → BridgePass (stateBytes freshReceiver) (interleaved (map encoded (randomizedStream packets))) numbers given last
     → (numbers ≡ take (length packets) (replicate 11 9 ++ replicate (length packets) 0)) × (given ≡ take (length packets - 11) packets)
 pass-received packets ws l numbers given last p =
     let w = pass-kept freshReceiver stands-fresh p in

@@ -23,7 +23,7 @@ use Rattle.count_bytes.proofs.Numbers.{to-from, from-to-eight, length-to}
 use Rattle.receiver.specs.Receive.{freshReceiver}
 use Rattle.receiver.specs.declared.Receiver.{Receiver}
 use Rattle.receiver.proofs.Reached.{Sound, sound-range, sound-fresh}
-use Rattle.bridge.specs.State.{placeOf, placeByte, Field, layout, stateLength, part, numberIn, stateOf, bytesOf, StandsFor}
+use Rattle.bridge.specs.State.{placeOf, placeByte, StateField, layout, stateLength, part, numberIn, stateOf, stateBytes, StandsFor}
 use Rattle.bridge.specs.State as field
 use Rattle.bridge.proofs.Fields.{_&_, layout-contiguous, fields-joined, fields-found, fields-length}
 
@@ -56,18 +56,18 @@ place-again (Known p) m h = let l = ltb-true p 8 (both-true (ltb p 8) (ltb m 2) 
 -- ---- bytes that are read
 
 module _ (bytes : List ℕ) (n : length bytes ≡ stateLength) where
-  pub part-length : (f : Field) → f .offset + f .size ≤ stateLength → length (part f bytes) ≡ f .size
+  pub part-length : (f : StateField) → f .offset + f .size ≤ stateLength → length (part f bytes) ≡ f .size
   part-length f h = length-take-le (f .size) (drop (f .offset) bytes) (omega (arith, length-drop (f .offset) bytes))
 
   module _ (e : ByteEntries bytes) where
-    part-entries : (f : Field) → ByteEntries (part f bytes)
+    part-entries : (f : StateField) → ByteEntries (part f bytes)
     part-entries f = entries-take (λ x. x < 256) (omega arith) (f .size) (drop (f .offset) bytes) (entries-drop (λ x. x < 256) (f .offset) bytes e)
 
     -- the number of a field, in as many bytes as it has
-    pub number-bytes : (f : Field) → f .offset + f .size ≤ stateLength → toBytes (f .size) (numberIn f bytes) ≡ part f bytes
+    pub number-bytes : (f : StateField) → f .offset + f .size ≤ stateLength → toBytes (f .size) (numberIn f bytes) ≡ part f bytes
     number-bytes f h = to-from (f .size) (part f bytes) (part-entries f) (part-length f h)
 
-    byte-of : (f : Field) → f .size ≡ 1 → f .offset + f .size ≤ stateLength → numberIn f bytes ∷ [] ≡ part f bytes
+    byte-of : (f : StateField) → f .size ≡ 1 → f .offset + f .size ≤ stateLength → numberIn f bytes ∷ [] ≡ part f bytes
     byte-of f q h = one-byte (part f bytes) (part-length f h ∙ q)
 
     -- the eight bytes of a count
@@ -103,13 +103,13 @@ module _ (bytes : List ℕ) (n : length bytes ≡ stateLength) where
         & tt
 
     -- what is read and written again is as it was
-    pub written-read : bytesOf (stateOf bytes) ≡ bytes
-    unfolding bytesOf
+    pub written-read : stateBytes (stateOf bytes) ≡ bytes
+    unfolding stateBytes
     written-read = fields-joined layout 0 stateLength (stateOf bytes) bytes layout-contiguous n read-fields
 
 -- two different strings of bytes never stand for one receiver
 pub one-string : (a b : List ℕ) (s : Receiver) → ByteEntries a → ByteEntries b → StandsFor a s → StandsFor b s → a ≡ b
-one-string a b s e f h k = sym (written-read a (h .size) e) ∙ ap bytesOf (h .read ∙ sym (k .read)) ∙ written-read b (k .size) f
+one-string a b s e f h k = sym (written-read a (h .size) e) ∙ ap stateBytes (h .read ∙ sym (k .read)) ∙ written-read b (k .size) f
 
 -- one string of bytes never stands for two
 pub one-receiver : (bytes : List ℕ) (s t : Receiver) → StandsFor bytes s → StandsFor bytes t → s ≡ t
@@ -119,8 +119,8 @@ one-receiver bytes s t h k = sym (h .read) ∙ k .read
 
 -- its fields as they are put
 pub fields-put : (s : Receiver) (place : ℕ) (counts bytes : List ℕ) → place ≡ placeByte (s .sync .place) → counts ≡ countBytes (s .counts) ++ []
-    → bytes ≡ s .deinterleaver .branches .cells ++ s .deinterleaver .branches .positions ++ (place ∷ s .sync .missed ∷ []) ++ counts ++ s .marks → bytes ≡ bytesOf s
-unfolding bytesOf countBytes
+    → bytes ≡ s .deinterleaver .branches .cells ++ s .deinterleaver .branches .positions ++ (place ∷ s .sync .missed ∷ []) ++ counts ++ s .marks → bytes ≡ stateBytes s
+unfolding stateBytes countBytes
 fields-put s place counts bytes p c e =
     let b = s .deinterleaver .branches in
     let sync : List ℕ = placeByte (s .sync .place) ∷ s .sync .missed ∷ [] in
@@ -150,14 +150,14 @@ module _ (s : Receiver) (g : Sound s) where
       & g .marks
       & tt
 
-  found : All (λ f. part f (bytesOf s) ≡ f .held s) layout
-  unfolding bytesOf
+  found : All (λ f. part f (stateBytes s) ≡ f .held s) layout
+  unfolding stateBytes
   found = fields-found layout 0 stateLength s [] layout-contiguous refl sized
 
-  again : (n : ℕ) → n < 18446744073709551616 → (f : Field) → part f (bytesOf s) ≡ toBytes 8 n → numberIn f (bytesOf s) ≡ n
+  again : (n : ℕ) → n < 18446744073709551616 → (f : StateField) → part f (stateBytes s) ≡ toBytes 8 n → numberIn f (stateBytes s) ≡ n
   again n h f e = ap fromBytes e ∙ from-to-eight n h
 
-  pub read-written : stateOf (bytesOf s) ≡ s
+  pub read-written : stateOf (stateBytes s) ≡ s
   unfolding stateOf
   read-written =
       let p = found in
@@ -167,9 +167,9 @@ module _ (s : Receiver) (g : Sound s) where
       let middle = r .middle in
       let bytes = r .bytes in
       let eightfold = r .eightfold in
-      let place-same : placeOf (numberIn field.place (bytesOf s)) ≡ s .sync .place
+      let place-same : placeOf (numberIn field.place (stateBytes s)) ≡ s .sync .place
       = ap placeOf (ap fromBytes (p .1 .1 .0) ∙ from-one _) ∙ place-again (s .sync .place) (s .sync .missed) (g .sync) in
-      let missed-same : numberIn field.missed (bytesOf s) ≡ s .sync .missed = ap fromBytes (p .1 .1 .1 .0) ∙ from-one _ in
+      let missed-same : numberIn field.missed (stateBytes s) ≡ s .sync .missed = ap fromBytes (p .1 .1 .1 .0) ∙ from-one _ in
       let taken-same = again (n .taken) (omega arith) field.taken (p .1 .1 .1 .1 .0) in
       let filling-same = again (n .filling) (omega arith) field.filling (p .1 .1 .1 .1 .1 .0) in
       let delivered-same = again (n .delivered) (omega arith) field.delivered (p .1 .1 .1 .1 .1 .1 .0) in
@@ -194,13 +194,13 @@ module _ (s : Receiver) (g : Sound s) where
         };
       }
 
-  pub written-length : length (bytesOf s) ≡ stateLength
-  unfolding bytesOf
+  pub written-length : length (stateBytes s) ≡ stateLength
+  unfolding stateBytes
   written-length = let h = fields-length layout 0 stateLength s layout-contiguous sized in omega arith
 
   -- what is written for a receiver in range stands for it
-  pub stands-written : StandsFor (bytesOf s) s
+  pub stands-written : StandsFor (stateBytes s) s
   stands-written = record { size = written-length; read = read-written; range = sound-range s g }
 
-pub stands-fresh : StandsFor (bytesOf freshReceiver) freshReceiver
+pub stands-fresh : StandsFor (stateBytes freshReceiver) freshReceiver
 stands-fresh = stands-written freshReceiver sound-fresh

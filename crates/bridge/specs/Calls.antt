@@ -9,11 +9,11 @@ use lib.ListN.{length, getD, drop}
 use Rattle.common.specs.Choice.{pick}
 use Rattle.answer.specs.Number.{numberOf}
 use Rattle.count_bytes.specs.Bytes.{toBytes, numbersOf}
-use Rattle.receiver.specs.Receive.{freshReceiver, inRange, Receives}
+use Rattle.receiver.specs.Receive.{freshReceiver, receiverInRange, Receives}
 use Rattle.receiver.specs.Run.{takenBy}
 use Rattle.receiver.specs.declared.Receiver.{Receiver}
 use Rattle.receiver.specs.declared.Received.{Received}
-use Rattle.bridge.specs.State.{stateLength, stateOf, bytesOf, StandsFor}
+use Rattle.bridge.specs.State.{stateLength, stateOf, stateBytes, StandsFor}
 
 -- ---- a fresh state
 
@@ -21,7 +21,7 @@ abbrev pub freshNumber : List ℕ → ℕ
 freshNumber state = pick (eqb (length state) stateLength) 0 22
 
 abbrev pub freshBytes : List ℕ → List ℕ
-freshBytes state = pick (eqb (length state) stateLength) (bytesOf freshReceiver) state
+freshBytes state = pick (eqb (length state) stateLength) (stateBytes freshReceiver) state
 
 -- ---- a block
 
@@ -31,25 +31,25 @@ refuses number = eqb (takenBy number) 0
 
 -- Bytes that stand for a receiver: its own call, and the bytes after it are those of the receiver after it, for which they stand.
 -- Any other bytes are refused, by their length or as out of range, and all is as it was.
-pub data BridgeTakes (state block room : List ℕ) (r : ℕ) (after exit : List ℕ) : Type 0 where
-  wrong-length : (length state ≡ stateLength → ⊥) → r ≡ 22 → after ≡ state → exit ≡ room → BridgeTakes state block room r after exit
-  no-state : length state ≡ stateLength → ((s : Receiver) → StandsFor state s → ⊥) → r ≡ 5 → after ≡ state → exit ≡ room
-      → BridgeTakes state block room r after exit
-  as-receiver : (s : Receiver) → StandsFor state s → (received : Received) → Receives s block room received exit
-      → r ≡ numberOf (received .answer) → after ≡ bytesOf (received .receiver) → StandsFor after (received .receiver)
-      → BridgeTakes state block room r after exit
+pub data BridgeTakes (state block output : List ℕ) (r : ℕ) (after exit : List ℕ) : Type 0 where
+  wrong-length : (length state ≡ stateLength → ⊥) → r ≡ 22 → after ≡ state → exit ≡ output → BridgeTakes state block output r after exit
+  no-state : length state ≡ stateLength → ((s : Receiver) → StandsFor state s → ⊥) → r ≡ 5 → after ≡ state → exit ≡ output
+      → BridgeTakes state block output r after exit
+  as-receiver : (s : Receiver) → StandsFor state s → (received : Received) → Receives s block output received exit
+      → r ≡ numberOf (received .answer) → after ≡ stateBytes (received .receiver) → StandsFor after (received .receiver)
+      → BridgeTakes state block output r after exit
 
 -- ---- a count
 
--- the tests of the state that is read, and of the room
+-- the tests of the state that is read, and of the output
 abbrev heldNumber : List ℕ → List ℕ → ℕ
-heldNumber state room = pick (inRange (stateOf state)) (pick (ltb (length room) 8) 4 0) 5
+heldNumber state output = pick (receiverInRange (stateOf state)) (pick (ltb (length output) 8) 4 0) 5
 
 -- all tests in their order: 22, 23, 5, 4
 abbrev pub countNumber : List ℕ → ℕ → List ℕ → ℕ
-countNumber state number room = pick (eqb (length state) stateLength) (pick (ltb 7 number) 23 (heldNumber state room)) 22
+countNumber state number output = pick (eqb (length state) stateLength) (pick (ltb 7 number) 23 (heldNumber state output)) 22
 
--- the count of the receiver that the bytes stand for, in eight bytes at the front of the room
-abbrev pub countRoom : List ℕ → ℕ → List ℕ → List ℕ
-countRoom state number room =
-    pick (eqb (countNumber state number room) 0) (toBytes 8 (getD (numbersOf (stateOf state .counts)) number 0) ++ drop 8 room) room
+-- the count of the receiver that the bytes stand for, in eight bytes at the front of the output
+abbrev pub countOutput : List ℕ → ℕ → List ℕ → List ℕ
+countOutput state number output =
+    pick (eqb (countNumber state number output) 0) (toBytes 8 (getD (numbersOf (stateOf state .counts)) number 0) ++ drop 8 output) output

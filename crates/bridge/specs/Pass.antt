@@ -8,9 +8,9 @@ use lib.ListN.{length, take}
 use Rattle.common.specs.Choice.{pick}
 use Rattle.bridge.specs.Calls.{BridgeTakes}
 
--- The bytes of the state before the first block and after the last, the answers, and the packets that calls answered 0 left in their room.
+-- The bytes of the state before the first block and after the last, the answers, and the packets that calls answered 0 left in their output.
 pub data BridgePass : List ℕ → List (List ℕ) → List ℕ → List (List ℕ) → List ℕ → Type 0 where
   none : {state : List ℕ} → BridgePass state [] [] [] state
-  call : {state last : List ℕ} {blocks : List (List ℕ)} {numbers : List ℕ} {packets : List (List ℕ)} (block room : List ℕ) (r : ℕ) (after exit : List ℕ)
-      → 188 ≤ length room → BridgeTakes state block room r after exit → BridgePass after blocks numbers packets last
+  call : {state last : List ℕ} {blocks : List (List ℕ)} {numbers : List ℕ} {packets : List (List ℕ)} (block output : List ℕ) (r : ℕ) (after exit : List ℕ)
+      → 188 ≤ length output → BridgeTakes state block output r after exit → BridgePass after blocks numbers packets last
       → BridgePass state (block ∷ blocks) (r ∷ numbers) (pick (eqb r 0) (take 188 exit ∷ []) [] ++ packets) last

@@ -4,7 +4,7 @@ ghost use mathlib.Core.Path.{_≡_};
 ghost use mathlib.Core.List.{_++_};
 ghost use Prim.Native.Nat.{_+_, _≤_};
 ghost use lib.ListN.{length, take, drop};
-ghost use Rattle.bridge.specs.State.{placeOf, placeByte, stateOf, bytesOf};
+ghost use Rattle.bridge.specs.State.{placeOf, placeByte, stateOf, stateBytes};
 use count_bytes::counts_at;
 use count_bytes::put_counts;
 use delay_branches::Branches;
@@ -116,7 +116,7 @@ fn put_fields(
 // The bytes that stand for a receiver.
 pub fn write_state(receiver: Receiver, bytes: &mut [u8])
     requires { ⌜ length (now bytes) ≡ 2322 ⌝ }
-    ensures { λ _. ⌜ now (bytes .exit) ≡ bytesOf receiver ⌝ }
+    ensures { λ _. ⌜ now (bytes .exit) ≡ stateBytes receiver ⌝ }
 {
     let deinterleaver = receiver.deinterleaver;
     let branches = deinterleaver.branches;

@@ -1,7 +1,7 @@
 // A part for the bridge: document 02, P14. A receiver whose state is bytes that the firmware keeps, as functions for C.
 // Their declarations are in include/dvbs_bridge.h, and docs/BRIDGE.md lists the layout of the state.
 ghost use mathlib.Core.Path.{_≡_};
-ghost use Rattle.bridge.specs.Calls.{freshNumber, freshBytes, refuses, BridgeTakes, countNumber, countRoom};
+ghost use Rattle.bridge.specs.Calls.{freshNumber, freshBytes, refuses, BridgeTakes, countNumber, countOutput};
 use answer::Answer;
 use receiver::Receiver;
 
@@ -46,16 +46,16 @@ pub extern "C" fn dvbs_bridge_fresh(state: &mut [u8]) -> u8
 
 // Takes a block without marks: the number of the answer.
 #[no_mangle]
-pub extern "C" fn dvbs_bridge_take(state: &mut [u8], block: &[u8], room: &mut [u8]) -> u8
+pub extern "C" fn dvbs_bridge_take(state: &mut [u8], block: &[u8], output: &mut [u8]) -> u8
     ensures { λ r. ⌜
-        BridgeTakes (now (state .entry)) (now (block .entry)) (now (room .entry)) r (now (state .exit)) (now (room .exit)) ⌝ }
+        BridgeTakes (now (state .entry)) (now (block .entry)) (now (output .entry)) r (now (state .exit)) (now (output .exit)) ⌝ }
 {
     if state.len() != STATE_LENGTH {
         let answer = Answer::StateLength;
         return answer.number();
     }
     let before = read_state(state);
-    let received = before.receive(block, room);
+    let received = before.receive(block, output);
     let answer = received.answer;
     let receiver = received.receiver;
     let number = answer.number();
@@ -68,10 +68,10 @@ pub extern "C" fn dvbs_bridge_take(state: &mut [u8], block: &[u8], room: &mut [u
 
 // Reads a count by its number: the number of the answer.
 #[no_mangle]
-pub extern "C" fn dvbs_bridge_count(state: &[u8], number: u8, room: &mut [u8]) -> u8
+pub extern "C" fn dvbs_bridge_count(state: &[u8], number: u8, output: &mut [u8]) -> u8
     ensures { λ r. ⌜
-        (r ≡ countNumber (now (state .entry)) number (now (room .entry)))
-        × (now (room .exit) ≡ countRoom (now (state .entry)) number (now (room .entry))) ⌝ }
+        (r ≡ countNumber (now (state .entry)) number (now (output .entry)))
+        × (now (output .exit) ≡ countOutput (now (state .entry)) number (now (output .entry))) ⌝ }
 {
     if state.len() != STATE_LENGTH {
         let answer = Answer::StateLength;
@@ -86,12 +86,12 @@ pub extern "C" fn dvbs_bridge_count(state: &[u8], number: u8, room: &mut [u8]) -
         let answer = Answer::StateRange;
         return answer.number();
     }
-    if room.len() < 8 {
-        let answer = Answer::RoomLength;
+    if output.len() < 8 {
+        let answer = Answer::OutputLength;
         return answer.number();
     }
     let start = COUNTS + 8 * number as usize;
     let end = start + 8;
-    common::put(&state[start..end], 0, room);
+    common::put(&state[start..end], 0, output);
     0
 }

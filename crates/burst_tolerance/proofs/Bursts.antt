@@ -1,5 +1,5 @@
--- What a burst may do: where the wrong bytes of every 2,448 lie within 96, a receiver fresh at any block of a sender repairs every block
--- to what was sent and gives every packet from the first start of a group on. And a block with nine wrong bytes is not so repaired.
+-- What a burst may do: where the wrong bytes of every 2,448 lie within 96, a receiver fresh at any block of a sender corrects every block
+-- to what was sent and gives every packet from the first start of a group on. And a block with nine wrong bytes is not so corrected.
 -- Assumes nothing.
 use mathlib.Core.Path.{_≡_, refl, sym, ap, ap₂, _∙_, subst}
 use mathlib.Core.Bool.{Bool, true, false}
@@ -28,8 +28,8 @@ use Rattle.interleaver.proofs.Whole.{length-run}
 use Rattle.interleaver.proofs.Blocks.{length-flatten}
 use Rattle.group_sync.specs.Stream.{beforeGroup}
 use Rattle.reception_counts.specs.declared.Counts.{Counts}
-use Rattle.receiver.specs.Receive.{freshReceiver, Unmarked, delayedBlock}
-use Rattle.receiver.specs.Run.{Call, answerOf, after, Calls, afterCalls, history, acceptedBy, overAccepted, blocksOf, answers, Plain, Roomy}
+use Rattle.receiver.specs.Receive.{freshReceiver, NoMarks, delayedBlock}
+use Rattle.receiver.specs.Run.{Call, answerOf, afterCall, DecodedCalls, afterCalls, history, acceptedBy, overAccepted, lentBlocks, answers, Plain, OutputFits}
 use Rattle.receiver.specs.Begun.{lefts, BegunAt}
 use Rattle.receiver.specs.Kept.{Kept}
 use Rattle.receiver.specs.declared.Receiver.{Receiver}
@@ -39,14 +39,14 @@ use Rattle.receiver.proofs.Outcomes.{Unrefused, plain-marked, next-unrefused, b
 use Rattle.receiver.proofs.Decoding.{plain-decodes}
 use Rattle.receiver.proofs.Reception.{blocks-count, came-gathered, coded-size, coded-gathered, coded-nears, near-received}
 use Rattle.receiver.proofs.Promised.{kept-calls}
-use Rattle.burst_tolerance.specs.Places.{span, count}
-use Rattle.burst_tolerance.specs.Burst.{sentBytes, receivedBytes, Burst, Bursts, wrongIn, wrongBytes, Tolerated, Promised}
+use Rattle.burst_tolerance.specs.Places.{span, howMany}
+use Rattle.burst_tolerance.specs.Burst.{sentBytesFrom, receivedBytes, Burst, Bursts, wrongIn, wrongBytes, Tolerated, Promised}
 use Rattle.burst_tolerance.proofs.Places.{count-burst, spread}
 
 -- ---- wrong bytes in a block
 
 -- two lists by their places
-pub differ-listOf : (f g : ℕ → ℕ) (n : ℕ) → differ (listOf n f) (listOf n g) ≡ count (λ i. pick (eqb (f i) (g i)) false true) n
+pub differ-listOf : (f g : ℕ → ℕ) (n : ℕ) → differ (listOf n f) (listOf n g) ≡ howMany (λ i. pick (eqb (f i) (g i)) false true) n
 unfolding differ distance listOf
 differ-listOf f g zero = refl
 differ-listOf f g (suc n) =
@@ -59,7 +59,7 @@ differ-listOf f g (suc n) =
 
 -- a block by the places of its bytes
 pub wrong-count : (sent received : List ℕ) (p : ℕ)
-    → wrongIn sent received p ≡ count (λ n. pick (eqb (getD received (placeIn p n) 0) (getD sent (placeIn p n) 0)) false true) 204
+    → wrongIn sent received p ≡ howMany (λ n. pick (eqb (getD received (placeIn p n) 0) (getD sent (placeIn p n) 0)) false true) 204
 unfolding gathered
 wrong-count sent received p = differ-listOf (λ n. getD received (placeIn p n) 0) (λ n. getD sent (placeIn p n) 0) 204
 
@@ -86,13 +86,13 @@ changedIn (a ∷ ns) (x ∷ xs) [] = 0
 changedIn (a ∷ ns) (x ∷ xs) (y ∷ ys) = acceptedBy a * differ x y + changedIn ns xs ys
 
 calls-changed : (cs : List Call) (s : Receiver) → Unrefused s cs
-    → overAccepted (λ c. c .bytes) (history s cs) ≡ changedIn (answers s cs) (run Receiving (s .deinterleaver .branches) (blocksOf cs)) (lefts cs)
+    → overAccepted (λ c. c .bytes) (history s cs) ≡ changedIn (answers s cs) (run Receiving (s .deinterleaver .branches) (lentBlocks cs)) (lefts cs)
 unfolding run
 calls-changed [] s u = refl
 calls-changed (c ∷ cs) s u =
     ap (λ (i : ℕ). acceptedBy (answerOf s c) * differ (delayedBlock s (c .block)) (c .left) + i)
-    (calls-changed cs (after s c) (next-unrefused s c cs u)
-    ∙ ap (λ (b : Branches). changedIn (answers (after s c) cs) (run Receiving b (blocksOf cs)) (lefts cs)) (branches-after s c cs u))
+    (calls-changed cs (afterCall s c) (next-unrefused s c cs u)
+    ∙ ap (λ (b : Branches). changedIn (answers (afterCall s c) cs) (run Receiving b (lentBlocks cs)) (lefts cs)) (branches-after s c cs u))
 
 -- the first k are filling
 changed-filling : (k n : ℕ) (ns : List ℕ) (xs ys : List (List ℕ)) → n ≤ length xs → n ≤ length ys
@@ -148,105 +148,105 @@ lefts-drop (suc k) [] = refl
 lefts-drop (suc k) (c ∷ cs) = lefts-drop k cs
 
 -- calls that no test refuses and in which no mark comes: whatever decoding leaves is within eight bytes
-left-near : (cs : List Call) (s : Receiver) → Unrefused s cs → Unmarked s → All Plain cs → (i : ℕ) → i < length cs
-    → differ (getD (run Receiving (s .deinterleaver .branches) (blocksOf cs)) i []) (getD (lefts cs) i []) ≤ 8
+left-near : (cs : List Call) (s : Receiver) → Unrefused s cs → NoMarks s → All Plain cs → (i : ℕ) → i < length cs
+    → differ (getD (run Receiving (s .deinterleaver .branches) (lentBlocks cs)) i []) (getD (lefts cs) i []) ≤ 8
 unfolding run
 left-near [] s u z pl i h = absurd (not-suc-le-zero h)
 left-near (c ∷ cs) s u z pl zero h = within-eight (delayedBlock s (c .block)) (c .left) (c .decoded) (plain-decodes s c cs u z (pl .0))
 left-near (c ∷ cs) s u z pl (suc i) h =
-    subst (λ (b : Branches). differ (getD (run Receiving b (blocksOf cs)) i []) (getD (lefts cs) i []) ≤ 8) (branches-after s c cs u)
-    (left-near cs (after s c) (next-unrefused s c cs u) (unmarked-after s c cs u z (pl .0)) (pl .1) i (omega arith))
+    subst (λ (b : Branches). differ (getD (run Receiving b (lentBlocks cs)) i []) (getD (lefts cs) i []) ≤ 8) (branches-after s c cs u)
+    (left-near cs (afterCall s c) (next-unrefused s c cs u) (unmarked-after s c cs u z (pl .0)) (pl .1) i (omega arith))
 
 -- ---- the stream
 
 module _ (packets : List (List ℕ)) (ws : All Packet packets) (m : ℕ) (cs : List Call) (h : m + length cs ≤ length packets)
-    (l : length cs ≤ 4294967295) (bs : All (Length 204) (blocksOf cs)) (pl : All Plain cs) (rs : All Roomy cs) (ds : Calls freshReceiver cs) where
+    (l : length cs ≤ 4294967295) (bs : All (Length 204) (lentBlocks cs)) (pl : All Plain cs) (rs : All OutputFits cs) (ds : DecodedCalls freshReceiver cs) where
   abbrev coded : List (List ℕ)
   coded = map encoded (randomizedStream packets)
 
   calls : Unrefused freshReceiver cs
   unfolding freshReceiver
-  calls = record { sound = sound-fresh; most = omega arith; sizes = bs; marked = plain-marked cs pl; rooms = rs; decodes = ds }
+  calls = record { sound = sound-fresh; most = omega arith; sizes = bs; marked = plain-marked cs pl; outputs = rs; decodes = ds }
 
-  -- the block that call i + 12 repairs, and the one sent
+  -- the block that call i + 12 corrects, and the one sent
   wrong-is : (i : ℕ) → i + 11 < length cs
-      → differ (getD (drop 11 (run Receiving fresh (blocksOf cs))) i []) (getD (drop m coded) i [])
-      ≡ wrongIn (sentBytes packets m) (receivedBytes cs) i
+      → differ (getD (drop 11 (run Receiving fresh (lentBlocks cs))) i []) (getD (drop m coded) i [])
+      ≡ wrongIn (sentBytesFrom packets m) (receivedBytes cs) i
   wrong-is i k = ap₂ differ (came-gathered cs bs i k) (coded-gathered packets ws m i (omega arith))
 
-  many : length (run Receiving fresh (blocksOf cs)) ≡ length cs
-  many = length-run Receiving fresh (blocksOf cs) ∙ blocks-count cs
+  many : length (run Receiving fresh (lentBlocks cs)) ≡ length cs
+  many = length-run Receiving fresh (lentBlocks cs) ∙ blocks-count cs
 
-  -- where the answers are those of a stream begun at block m, and every block was repaired
+  -- where the answers are those of a stream begun at block m, and every block was corrected
   module _ (begun : BegunAt m packets cs) where
     abbrev late : List ℕ
     late = replicate (beforeGroup m) 10 ++ replicate (length cs) 0
 
-    late-changed : changedIn (take (length cs - 11) late) (drop 11 (run Receiving fresh (blocksOf cs))) (take (length cs - 11) (drop m coded))
-        ≡ wrongBytes (sentBytes packets m) (receivedBytes cs) 0 (length cs - 11)
+    late-changed : changedIn (take (length cs - 11) late) (drop 11 (run Receiving fresh (lentBlocks cs))) (take (length cs - 11) (drop m coded))
+        ≡ wrongBytes (sentBytesFrom packets m) (receivedBytes cs) 0 (length cs - 11)
     late-changed =
-        changed-accepted (sentBytes packets m) (receivedBytes cs) (beforeGroup m) (length cs - 11) (length cs) 0
-        (drop 11 (run Receiving fresh (blocksOf cs))) (take (length cs - 11) (drop m coded)) (omega arith)
-        (omega (arith, length-drop 11 (run Receiving fresh (blocksOf cs)), many)) sent-many one
+        changed-accepted (sentBytesFrom packets m) (receivedBytes cs) (beforeGroup m) (length cs - 11) (length cs) 0
+        (drop 11 (run Receiving fresh (lentBlocks cs))) (take (length cs - 11) (drop m coded)) (omega arith)
+        (omega (arith, length-drop 11 (run Receiving fresh (lentBlocks cs)), many)) sent-many one
       where
         sent-many : length cs - 11 ≤ length (take (length cs - 11) (drop m coded))
         sent-many = omega (arith, length-take-le (length cs - 11) (drop m coded) (omega (arith, length-drop m coded, coded-size packets ws)))
 
         one : (i : ℕ) → i < length cs - 11
-            → differ (getD (drop 11 (run Receiving fresh (blocksOf cs))) i []) (getD (take (length cs - 11) (drop m coded)) i [])
-            ≡ wrongIn (sentBytes packets m) (receivedBytes cs) (0 + i)
+            → differ (getD (drop 11 (run Receiving fresh (lentBlocks cs))) i []) (getD (take (length cs - 11) (drop m coded)) i [])
+            ≡ wrongIn (sentBytesFrom packets m) (receivedBytes cs) (0 + i)
         one i k =
             let e : i ≡ 0 + i = omega arith in
-            ap (differ (getD (drop 11 (run Receiving fresh (blocksOf cs))) i [])) (getD-take (length cs - 11) (drop m coded) i [] k)
-            ∙ wrong-is i (omega arith) ∙ ap (wrongIn (sentBytes packets m) (receivedBytes cs)) e
+            ap (differ (getD (drop 11 (run Receiving fresh (lentBlocks cs))) i [])) (getD-take (length cs - 11) (drop m coded) i [] k)
+            ∙ wrong-is i (omega arith) ∙ ap (wrongIn (sentBytesFrom packets m) (receivedBytes cs)) e
 
-    counted : afterCalls freshReceiver cs .counts .changed ≡ wrongBytes (sentBytes packets m) (receivedBytes cs) 0 (length cs - 11)
+    counted : afterCalls freshReceiver cs .counts .changed ≡ wrongBytes (sentBytesFrom packets m) (receivedBytes cs) 0 (length cs - 11)
     unfolding freshReceiver
     counted =
         ap (λ (n : Counts). n .changed) (history-counts cs)
         ∙ calls-changed cs freshReceiver calls
-        ∙ ap (λ (ns : List ℕ). changedIn ns (run Receiving fresh (blocksOf cs)) (lefts cs)) (begun .answered)
-        ∙ changed-filling 11 (length cs) late (run Receiving fresh (blocksOf cs)) (lefts cs) (omega (arith, many)) (omega (arith, lefts-count cs))
-        ∙ ap (changedIn (take (length cs - 11) late) (drop 11 (run Receiving fresh (blocksOf cs)))) (lefts-drop 11 cs ∙ begun .repaired)
+        ∙ ap (λ (ns : List ℕ). changedIn ns (run Receiving fresh (lentBlocks cs)) (lefts cs)) (begun .answered)
+        ∙ changed-filling 11 (length cs) late (run Receiving fresh (lentBlocks cs)) (lefts cs) (omega (arith, many)) (omega (arith, lefts-count cs))
+        ∙ ap (changedIn (take (length cs - 11) late) (drop 11 (run Receiving fresh (lentBlocks cs)))) (lefts-drop 11 cs ∙ begun .corrected)
         ∙ late-changed
 
   -- what a burst may do
-  pub burst-received : Bursts (sentBytes packets m) (receivedBytes cs) → Tolerated m packets cs
+  pub burst-received : Bursts (sentBytesFrom packets m) (receivedBytes cs) → Tolerated m packets cs
   burst-received b = record { begun = begun; changed = counted begun }
     where
-      each : (i : ℕ) → i + 11 < length cs → differ (getD (drop 11 (run Receiving fresh (blocksOf cs))) i []) (getD (drop m coded) i []) ≤ 8
+      each : (i : ℕ) → i + 11 < length cs → differ (getD (drop 11 (run Receiving fresh (lentBlocks cs))) i []) (getD (drop m coded) i []) ≤ 8
       each i k =
           rw (wrong-is i k)
-          (burst-wrong (sentBytes packets m) (receivedBytes cs) i
-          (b (204 * i) span (omega arith) (omega (arith, length-flatten 204 (blocksOf cs) bs, blocks-count cs))))
+          (burst-wrong (sentBytesFrom packets m) (receivedBytes cs) i
+          (b (204 * i) span (omega arith) (omega (arith, length-flatten 204 (lentBlocks cs) bs, blocks-count cs))))
 
       begun : BegunAt m packets cs
       begun = near-received packets ws m cs calls pl (coded-nears packets ws m cs h each)
 
-  -- a block with more wrong bytes is not repaired to what was sent
-  pub never-repaired : (p : ℕ) → p + 11 < length cs → 8 < wrongIn (sentBytes packets m) (receivedBytes cs) p
+  -- a block with more wrong bytes is not corrected to what was sent
+  pub never-corrected : (p : ℕ) → p + 11 < length cs → 8 < wrongIn (sentBytesFrom packets m) (receivedBytes cs) p
       → getD (lefts cs) (p + 11) [] ≡ getD (drop m coded) p [] → ⊥
   unfolding freshReceiver
-  never-repaired p k w e =
+  never-corrected p k w e =
       let i : 11 + p ≡ p + 11 = omega arith in
-      let a : getD (drop 11 (run Receiving fresh (blocksOf cs))) p [] ≡ getD (run Receiving fresh (blocksOf cs)) (p + 11) [] =
-      getD-drop 11 (run Receiving fresh (blocksOf cs)) p [] ∙ ap (λ (j : ℕ). getD (run Receiving fresh (blocksOf cs)) j []) i in
-      let d : differ (getD (run Receiving fresh (blocksOf cs)) (p + 11) []) (getD (lefts cs) (p + 11) []) ≡ wrongIn (sentBytes packets m) (receivedBytes cs) p =
+      let a : getD (drop 11 (run Receiving fresh (lentBlocks cs))) p [] ≡ getD (run Receiving fresh (lentBlocks cs)) (p + 11) [] =
+      getD-drop 11 (run Receiving fresh (lentBlocks cs)) p [] ∙ ap (λ (j : ℕ). getD (run Receiving fresh (lentBlocks cs)) j []) i in
+      let d : differ (getD (run Receiving fresh (lentBlocks cs)) (p + 11) []) (getD (lefts cs) (p + 11) []) ≡ wrongIn (sentBytesFrom packets m) (receivedBytes cs) p =
       ap₂ differ (sym a) e ∙ wrong-is p k in
       omega (arith, left-near cs freshReceiver calls refl pl (p + 11) k, d, w)
 
 -- ---- of the promise of `receive`
 
 pub burst-promised : (packets : List (List ℕ)) → All Packet packets → (m : ℕ) (blocks : List (List ℕ)) → m + length blocks ≤ length packets
-    → length blocks ≤ 4294967295 → All (Length 204) blocks → Bursts (sentBytes packets m) (flatten blocks)
+    → length blocks ≤ 4294967295 → All (Length 204) blocks → Bursts (sentBytesFrom packets m) (flatten blocks)
     → (numbers : List ℕ) (given : List (List ℕ)) (last : Receiver) → Kept freshReceiver blocks numbers given last
     → Promised m packets blocks numbers given last
 burst-promised packets ws m blocks h l bs b numbers given last k =
     let c = kept-calls k in
     let n : length (c .calls) ≡ length blocks = sym (blocks-count (c .calls)) ∙ ap length (c .lent) in
     let t =
-    burst-received packets ws m (c .calls) (omega arith) (omega arith) (subst (All (Length 204)) (sym (c .lent)) bs) (c .plain) (c .roomy) (c .decodes)
-    (subst (λ (x : List (List ℕ)). Bursts (sentBytes packets m) (flatten x)) (sym (c .lent)) b) in
+    burst-received packets ws m (c .calls) (omega arith) (omega arith) (subst (All (Length 204)) (sym (c .lent)) bs) (c .plain) (c .output-fits) (c .decodes)
+    (subst (λ (x : List (List ℕ)). Bursts (sentBytesFrom packets m) (flatten x)) (sym (c .lent)) b) in
     record {
       answered =
           sym (c .answered) ∙ t .begun .answered
@@ -254,5 +254,5 @@ burst-promised packets ws m blocks h l bs b numbers given last k =
       gave = sym (c .given) ∙ t .begun .given ∙ ap (λ (i : ℕ). take (i - 11 - beforeGroup m) (drop (m + beforeGroup m) packets)) n;
       changed =
           ap (λ (r : Receiver). r .counts .changed) (sym (c .state)) ∙ t .changed
-          ∙ ap₂ (λ (x : List (List ℕ)) (i : ℕ). wrongBytes (sentBytes packets m) (flatten x) 0 (i - 11)) (c .lent) n;
+          ∙ ap₂ (λ (x : List (List ℕ)) (i : ℕ). wrongBytes (sentBytesFrom packets m) (flatten x) 0 (i - 11)) (c .lent) n;
     }

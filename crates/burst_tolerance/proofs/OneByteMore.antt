@@ -15,7 +15,7 @@ use Rattle.common.specs.Choice.{pick}
 use Rattle.common.proofs.Computed.{agree-at}
 use Rattle.common.proofs.Lists.{length-listOf, getD-listOf}
 use Rattle.interleaver.specs.Gathered.{placeIn}
-use Rattle.burst_tolerance.specs.Places.{count, inside}
+use Rattle.burst_tolerance.specs.Places.{howMany, inside}
 use Rattle.burst_tolerance.specs.Burst.{wrongIn}
 use Rattle.burst_tolerance.specs.Table.{otherByte, harmed}
 use Rattle.burst_tolerance.proofs.Places.{count-same, spread}
@@ -45,7 +45,7 @@ module _ (start many : ℕ) (sent : List ℕ) where
       by false x = rw (eq-eqb x x refl) refl
 
   -- so those of a block are the ones that lie in it
-  pub wrong-inside : (p : ℕ) → 204 * p + 2448 ≤ length sent → wrongIn sent (harmed start many sent) p ≡ count (λ n. inside start many (placeIn p n)) 204
+  pub wrong-inside : (p : ℕ) → 204 * p + 2448 ≤ length sent → wrongIn sent (harmed start many sent) p ≡ howMany (λ n. inside start many (placeIn p n)) 204
   wrong-inside p h =
       wrong-count sent (harmed start many sent) p
       ∙ count-same (λ n. pick (eqb (getD (harmed start many sent) (placeIn p n) 0) (getD sent (placeIn p n) 0)) false true)
@@ -65,10 +65,10 @@ inside-from a start many i = ap₂ (λ (t u : Bool). pick t false u) (less i sta
         by (no l) = le-ltb (a + x) (a + y) (omega arith) ∙ sym (le-ltb x y (omega arith))
 
 -- Nine bytes of one block are within 97 that begin with one of them and end in the same received block.
-nine-inside : (p n : ℕ) → n + 97 ≤ 204 → count (λ k. inside (placeIn p n) 97 (placeIn p k)) 204 ≡ 9
+nine-inside : (p n : ℕ) → n + 97 ≤ 204 → howMany (λ k. inside (placeIn p n) 97 (placeIn p k)) 204 ≡ 9
 nine-inside p n h =
     count-same (λ k. inside (placeIn p n) 97 (placeIn p k)) (λ k. inside (placeIn 0 n) 97 (placeIn 0 k)) 204 (λ k l. moved k)
-    ∙ agree-at (λ i. count (λ k. inside (placeIn 0 i) 97 (placeIn 0 k)) 204) (λ i. 9) 108 tt n (omega arith)
+    ∙ agree-at (λ i. howMany (λ k. inside (placeIn 0 i) 97 (placeIn 0 k)) 204) (λ i. 9) 108 tt n (omega arith)
   where
     moved : (k : ℕ) → inside (placeIn p n) 97 (placeIn p k) ≡ inside (placeIn 0 n) 97 (placeIn 0 k)
     moved k =

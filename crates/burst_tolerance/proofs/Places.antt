@@ -11,24 +11,24 @@ use borrow.Author.Tests.{eq-eqb, ne-eqb, lt-ltb, le-ltb}
 use lib.Dec.{eqb}
 use Rattle.common.specs.Choice.{pick}
 use Rattle.interleaver.specs.Gathered.{placeIn}
-use Rattle.burst_tolerance.specs.Places.{burstLength, count, inside, Spread}
+use Rattle.burst_tolerance.specs.Places.{burstLength, howMany, inside, Spread}
 
 -- ---- counting
 
 false-true : {A : Type 0} → _≡_ {A = Bool} false true → A
 false-true z = absurd (let q : _≡_ {A = ℕ} 0 1 = cc in omega arith)
 
-pub count-same : (v w : ℕ → Bool) (n : ℕ) → ((i : ℕ) → i < n → v i ≡ w i) → count v n ≡ count w n
+pub count-same : (v w : ℕ → Bool) (n : ℕ) → ((i : ℕ) → i < n → v i ≡ w i) → howMany v n ≡ howMany w n
 count-same v w zero h = refl
 count-same v w (suc n) h = ap₂ (λ (a : ℕ) (t : Bool). a + pick t 1 0) (count-same v w n (λ i l. h i (omega arith))) (h n (omega arith))
 
 module _ (w : ℕ → Bool) where
-  count-none : (n : ℕ) → ((i : ℕ) → i < n → w i ≡ false) → count w n ≡ 0
+  count-none : (n : ℕ) → ((i : ℕ) → i < n → w i ≡ false) → howMany w n ≡ 0
   count-none zero h = refl
   count-none (suc n) h = rw (h n (omega arith)) (omega (arith, count-none n (λ i l. h i (omega arith))))
 
   -- at most one passes
-  count-one : (n : ℕ) → ((i j : ℕ) → i < n → j < n → w i ≡ true → w j ≡ true → i ≡ j) → count w n ≤ 1
+  count-one : (n : ℕ) → ((i j : ℕ) → i < n → j < n → w i ≡ true → w j ≡ true → i ≡ j) → howMany w n ≤ 1
   count-one zero h = omega arith
   count-one (suc n) h = by (w n) refl (count-one n (λ i j k l. h i j (omega arith) (omega arith)))
     where
@@ -36,7 +36,7 @@ module _ (w : ℕ → Bool) where
       none e i l false f = f
       none e i l true f = let q : i ≡ n = h i n (omega arith) (omega arith) f e in absurd (omega arith)
 
-      by : (t : Bool) → w n ≡ t → count w n ≤ 1 → count w n + pick (w n) 1 0 ≤ 1
+      by : (t : Bool) → w n ≡ t → howMany w n ≤ 1 → howMany w n + pick (w n) 1 0 ≤ 1
       by false e r = rw e (omega arith)
       by true e r = rw e (omega (arith, count-none n (λ i l. none e i l (w i) refl)))
 
@@ -52,7 +52,7 @@ split-one false u = refl
 split-one true true = refl
 split-one true false = refl
 
-count-split : (w : ℕ → Bool) (c : ℕ → ℕ) (k n : ℕ) → count w n ≡ count (inClass w c k) n + count (outClass w c k) n
+count-split : (w : ℕ → Bool) (c : ℕ → ℕ) (k n : ℕ) → howMany w n ≡ howMany (inClass w c k) n + howMany (outClass w c k) n
 count-split w c k zero = refl
 count-split w c k (suc n) = omega (arith, count-split w c k n, split-one (w n) (eqb (c n) k))
 
@@ -73,7 +73,7 @@ out-class true x k e = (refl, λ f. apart f)
 
 -- where each that passes is in one of k classes and no two are in one, at most k pass
 count-classes : (k : ℕ) (w : ℕ → Bool) (c : ℕ → ℕ) (n : ℕ) → ((i : ℕ) → i < n → w i ≡ true → c i < k)
-    → ((i j : ℕ) → i < n → j < n → w i ≡ true → w j ≡ true → c i ≡ c j → i ≡ j) → count w n ≤ k
+    → ((i j : ℕ) → i < n → j < n → w i ≡ true → w j ≡ true → c i ≡ c j → i ≡ j) → howMany w n ≤ k
 count-classes zero w c n h d = omega (arith, count-none w n (λ i l. none i l (w i) refl))
   where
     none : (i : ℕ) → i < n → (t : Bool) → w i ≡ t → w i ≡ false
@@ -140,7 +140,7 @@ abbrev pub Held : ℕ → ℕ → ℕ → Type 0
 Held p start n = (start ≤ placeIn p n) × (placeIn p n < start + burstLength)
 
 -- also of those that pass a test
-pub count-burst : (p start : ℕ) (w : ℕ → Bool) → ((n : ℕ) → n < 204 → w n ≡ true → Held p start n) → count w 204 ≤ 8
+pub count-burst : (p start : ℕ) (w : ℕ → Bool) → ((n : ℕ) → n < 204 → w n ≡ true → Held p start n) → howMany w 204 ≤ 8
 count-burst p start w h =
     count-classes 8 w (λ n. (placeIn p n - start) / 12) 204
     (λ n l e. low n (h n l e))

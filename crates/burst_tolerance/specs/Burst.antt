@@ -11,18 +11,18 @@ use Rattle.interleaver.specs.Stream.{interleaved}
 use Rattle.interleaver.specs.Gathered.{gathered}
 use Rattle.group_sync.specs.Stream.{beforeGroup}
 use Rattle.receiver.specs.Receive.{freshReceiver}
-use Rattle.receiver.specs.Run.{Call, afterCalls, blocksOf}
+use Rattle.receiver.specs.Run.{Call, afterCalls, lentBlocks}
 use Rattle.receiver.specs.Begun.{BegunAt}
 use Rattle.receiver.specs.declared.Receiver.{Receiver}
 use Rattle.burst_tolerance.specs.Places.{burstLength, span}
 
 -- the bytes that a fresh sender sends from its block m on, interleaved
-abbrev pub sentBytes : List (List ℕ) → ℕ → List ℕ
-sentBytes packets m = flatten (drop m (interleaved (map encoded (randomizedStream packets))))
+abbrev pub sentBytesFrom : List (List ℕ) → ℕ → List ℕ
+sentBytesFrom packets m = flatten (drop m (interleaved (map encoded (randomizedStream packets))))
 
 -- the bytes that a list of calls is lent
 abbrev pub receivedBytes : List Call → List ℕ
-receivedBytes cs = flatten (blocksOf cs)
+receivedBytes cs = flatten (lentBlocks cs)
 
 -- ---- the hypothesis
 
@@ -41,7 +41,7 @@ Bursts sent received = (a n : ℕ) → n ≤ span → a + n ≤ length received 
 
 -- ---- what is promised
 
--- how many bytes of the block that call p + 12 repairs are wrong
+-- how many bytes of the block that call p + 12 corrects are wrong
 abbrev pub wrongIn : List ℕ → List ℕ → ℕ → ℕ
 wrongIn sent received p = differ (gathered received p) (gathered sent p)
 
@@ -50,15 +50,15 @@ abbrev pub wrongBytes : List ℕ → List ℕ → ℕ → ℕ → ℕ
 wrongBytes sent received p zero = 0
 wrongBytes sent received p (suc n) = wrongIn sent received p + wrongBytes sent received (p + 1) n
 
--- A receiver fresh at block m of the sender repairs every block after the eleven to what was sent, and gives every packet from the first
+-- A receiver fresh at block m of the sender corrects every block after the eleven to what was sent, and gives every packet from the first
 -- start of a group on. So it accepts every block after the eleven, and changed is the number of wrong bytes in them.
 pub record Tolerated (m : ℕ) (packets : List (List ℕ)) (cs : List Call) : Type 0 where
   pub begun : BegunAt m packets cs
-  pub changed : afterCalls freshReceiver cs .counts .changed ≡ wrongBytes (sentBytes packets m) (receivedBytes cs) 0 (length cs - 11)
+  pub changed : afterCalls freshReceiver cs .counts .changed ≡ wrongBytes (sentBytesFrom packets m) (receivedBytes cs) 0 (length cs - 11)
 
 -- The same of calls of `receive`, each by its promise alone: these blocks, the numbers of the answers, the packets given, and the receiver
 -- that the last call handed back.
 pub record Promised (m : ℕ) (packets blocks : List (List ℕ)) (numbers : List ℕ) (given : List (List ℕ)) (last : Receiver) : Type 0 where
   pub answered : numbers ≡ take (length blocks) (replicate 11 9 ++ replicate (beforeGroup m) 10 ++ replicate (length blocks) 0)
   pub gave : given ≡ take (length blocks - 11 - beforeGroup m) (drop (m + beforeGroup m) packets)
-  pub changed : last .counts .changed ≡ wrongBytes (sentBytes packets m) (flatten blocks) 0 (length blocks - 11)
+  pub changed : last .counts .changed ≡ wrongBytes (sentBytesFrom packets m) (flatten blocks) 0 (length blocks - 11)

@@ -17,9 +17,9 @@ abbrev pub span : ℕ
 span = 2448
 
 -- how many numbers below n pass a test
-abbrev pub count : (ℕ → Bool) → ℕ → ℕ
-count w zero = 0
-count w (suc n) = count w n + pick (w n) 1 0
+abbrev pub howMany : (ℕ → Bool) → ℕ → ℕ
+howMany w zero = 0
+howMany w (suc n) = howMany w n + pick (w n) 1 0
 
 -- byte i is one of the `many` consecutive bytes from byte `start` on
 abbrev pub inside : ℕ → ℕ → ℕ → Bool
@@ -40,4 +40,4 @@ pub record Spread (p : ℕ) : Type 0 where
   -- any two are at least twelve received bytes apart
   pub apart : (n k : ℕ) → n < 204 → k < 204 → (n ≡ k → ⊥) → (placeIn p n + 12 ≤ placeIn p k) ⊎ (placeIn p k + 12 ≤ placeIn p n)
   -- so a burst holds at most eight of them
-  pub eight : (start : ℕ) → count (λ n. inside start burstLength (placeIn p n)) 204 ≤ 8
+  pub eight : (start : ℕ) → howMany (λ n. inside start burstLength (placeIn p n)) 204 ≤ 8

@@ -10,10 +10,10 @@ use Rattle.common.specs.Lists.{All, Length, listOf}
 use Rattle.reed_solomon.specs.Encode.{encoded}
 use Rattle.randomizer.specs.Stream.{randomizedStream}
 use Rattle.receiver.specs.Receive.{freshReceiver}
-use Rattle.receiver.specs.Run.{Call, Calls, blocksOf, Plain, Roomy}
+use Rattle.receiver.specs.Run.{Call, DecodedCalls, lentBlocks, Plain, OutputFits}
 use Rattle.receiver.specs.Begun.{lefts}
 use Rattle.burst_tolerance.specs.Places.{inside}
-use Rattle.burst_tolerance.specs.Burst.{sentBytes, receivedBytes, wrongIn}
+use Rattle.burst_tolerance.specs.Burst.{sentBytesFrom, receivedBytes, wrongIn}
 
 -- forty packets of 47 hex and 187 zeros
 abbrev pub packets : List (List ℕ)
@@ -28,22 +28,22 @@ unfoldable pub harmed : ℕ → ℕ → List ℕ → List ℕ
 unfolding listOf
 harmed start many sent = listOf (length sent) (λ i. pick (inside start many i) (otherByte (getD sent i 0)) (getD sent i 0))
 
--- a row: a burst makes so many bytes of a block wrong; or the block is then not repaired to what was sent
+-- a row: a burst makes so many bytes of a block wrong; or the block is then not corrected to what was sent
 pub data Case : Type 0 where
   puts : (start many block wrong : ℕ) → Case
-  not-repaired : (start many block : ℕ) → Case
+  not-corrected : (start many block : ℕ) → Case
 
 abbrev pub Holds : Case → Type 0
-Holds (puts start many block wrong) = wrongIn (sentBytes packets 0) (harmed start many (sentBytes packets 0)) block ≡ wrong
-Holds (not-repaired start many block) =
-    (cs : List Call) → All (Length 204) (blocksOf cs) → receivedBytes cs ≡ harmed start many (sentBytes packets 0) → All Plain cs → All Roomy cs
-    → Calls freshReceiver cs → getD (lefts cs) (block + 11) [] ≡ getD (map encoded (randomizedStream packets)) block [] → ⊥
+Holds (puts start many block wrong) = wrongIn (sentBytesFrom packets 0) (harmed start many (sentBytesFrom packets 0)) block ≡ wrong
+Holds (not-corrected start many block) =
+    (cs : List Call) → All (Length 204) (lentBlocks cs) → receivedBytes cs ≡ harmed start many (sentBytesFrom packets 0) → All Plain cs → All OutputFits cs
+    → DecodedCalls freshReceiver cs → getD (lefts cs) (block + 11) [] ≡ getD (map encoded (randomizedStream packets)) block [] → ⊥
 
 abbrev pub cases : List Case
 cases =
     -- 96 bytes from the first byte of block 20 on: eight wrong bytes in it
     puts 4080 96 20 8
-    -- 97 bytes: nine, and it is not repaired to what was sent
+    -- 97 bytes: nine, and it is not corrected to what was sent
     ∷ puts 4080 97 20 9
-    ∷ not-repaired 4080 97 20
+    ∷ not-corrected 4080 97 20
     ∷ []

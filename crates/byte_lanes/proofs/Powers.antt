@@ -19,7 +19,7 @@ use Rattle.galois.specs.Field256.{timesX, rounds, mul, pow, scaled}
 use Rattle.galois.proofs.Laws.{mul-lt, mul-comm}
 use Rattle.galois.proofs.Powers.{times-one, pow-add}
 use Rattle.galois.proofs.Instance.{bytes, byte, byte-add, byte-mul, byte-power}
-use Rattle.byte_lanes.specs.Lanes.{elements, point, productsOf, PowersFrom, advanced, ValuesAt}
+use Rattle.byte_lanes.specs.Lanes.{elements, alpha, productsOf, PowersFrom, hornerStep, ValuesAt}
 use Rattle.byte_lanes.proofs.Words.{length-sum, sum-at, length-products, products-at}
 
 pub zeros-at : (n j : ℕ) → getD {A = ℕ} (replicate n 0) j 0 ≡ 0
@@ -55,7 +55,7 @@ powers-next n x y l e p =
     }
 
 -- in the field
-pub powers-at : (n : ℕ) (x : List ℕ) → PowersFrom n x → (j : ℕ) → j < 16 → byte (getD x j 0) ≡ point (n + j)
+pub powers-at : (n : ℕ) (x : List ℕ) → PowersFrom n x → (j : ℕ) → j < 16 → byte (getD x j 0) ≡ alpha (n + j)
 powers-at n x p j h = ap byte (p .each j h) ∙ byte-power 2 (n + j)
 
 -- ---- one factor in every lane
@@ -72,18 +72,18 @@ module _ (x v : List ℕ) (c : ℕ) (n : length x ≡ 16) (m : length v ≡ 16) 
   products-length : length (productsOf x v) ≡ 16
   products-length = length-products x v (n ∙ sym m) ∙ n
 
-  pub length-advanced : length (advanced x v c) ≡ 16
-  unfolding advanced
+  pub length-advanced : length (hornerStep x v c) ≡ 16
+  unfolding hornerStep
   length-advanced = length-sum (productsOf x v) (replicate 16 c) products-length ∙ products-length
 
-  pub advanced-at : (j : ℕ) → j < 16 → getD (advanced x v c) j 0 ≡ bitXor (mul (getD x j 0) (getD v j 0)) c
-  unfolding advanced
+  pub advanced-at : (j : ℕ) → j < 16 → getD (hornerStep x v c) j 0 ≡ bitXor (mul (getD x j 0) (getD v j 0)) c
+  unfolding hornerStep
   advanced-at j h =
       sum-at (productsOf x v) (replicate 16 c) j products-length
       ∙ ap₂ bitXor (products-at x v j (n ∙ sym m) (omega arith)) (getD-replicate 16 j c 0 h)
 
   -- the same, in the field
-  advanced-byte : (j : ℕ) → j < 16 → byte (getD (advanced x v c) j 0) ≡ bytes .add (bytes .mul (byte (getD x j 0)) (byte (getD v j 0))) (byte c)
+  advanced-byte : (j : ℕ) → j < 16 → byte (getD (hornerStep x v c) j 0) ≡ bytes .add (bytes .mul (byte (getD x j 0)) (byte (getD v j 0))) (byte c)
   advanced-byte j h =
       ap byte (advanced-at j h) ∙ byte-add (mul (getD x j 0) (getD v j 0)) c
       ∙ ap (λ (u : Fin 256). bytes .add u (byte c)) (byte-mul (getD x j 0) (getD v j 0))
@@ -112,7 +112,7 @@ values-none q x k n s =
       small = λ j h. subst (λ (i : ℕ). i < 256) (sym (getD-replicate 16 j (getD q k 0) 0 h)) s;
     }
 
-pub values-more : (q x : List ℕ) (k : ℕ) (v w : List ℕ) → k < length q → length x ≡ 16 → getD q k 0 < 256 → ValuesAt (drop (k + 1) q) x v → w ≡ advanced x v (getD q k 0)
+pub values-more : (q x : List ℕ) (k : ℕ) (v w : List ℕ) → k < length q → length x ≡ 16 → getD q k 0 < 256 → ValuesAt (drop (k + 1) q) x v → w ≡ hornerStep x v (getD q k 0)
     → ValuesAt (drop k q) x w
 values-more q x k v w n l s e f =
     record {

@@ -18,8 +18,8 @@ abbrev pub word : List ℕ → List (Fin 256)
 word l = elements (reverse l)
 
 -- power i of 02. The first sixteen are the roots of the generator polynomial, and the first 204 the places of a block's coefficients
-abbrev pub point : ℕ → Fin 256
-point i = power (ops bytes) (byte 2) i
+abbrev pub alpha : ℕ → Fin 256
+alpha i = power (ops bytes) (byte 2) i
 
 -- element by element, the products
 unfoldable pub productsOf : List ℕ → List ℕ → List ℕ
@@ -32,8 +32,8 @@ pub record PowersFrom (n : ℕ) (x : List ℕ) : Type 0 where
   pub each : (j : ℕ) → j < 16 → getD x j 0 ≡ pow 2 (n + j)
 
 -- one step of Horner's rule at the places x: from the values v, with one coefficient c more
-unfoldable pub advanced : List ℕ → List ℕ → ℕ → List ℕ
-advanced x v c = plus numbers (productsOf x v) (replicate 16 c)
+unfoldable pub hornerStep : List ℕ → List ℕ → ℕ → List ℕ
+hornerStep x v c = plus numbers (productsOf x v) (replicate 16 c)
 
 -- the values of a polynomial at sixteen places, the lowest coefficient first
 pub record ValuesAt (q x v : List ℕ) : Type 0 where

@@ -3,6 +3,6 @@ pub mod Computed
 pub mod Lists
 pub mod Entries
 pub mod Written
-pub mod Rooms
+pub mod Outputs
 pub mod Each
 pub mod Xor

@@ -31,6 +31,6 @@ unfoldable pub listOf : {A : Type 0} → ℕ → (ℕ → A) → List A
 listOf zero f = []
 listOf (suc n) f = listOf n f ++ f n ∷ []
 
--- a room with a list at a place of it, and all else as it was
+-- an output with a list at a place of it, and all else as it was
 abbrev pub placed : List ℕ → ℕ → List ℕ → List ℕ
-placed room at s = take at room ++ s ++ drop (at + length s) room
+placed output at s = take at output ++ s ++ drop (at + length s) output

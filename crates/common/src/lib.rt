@@ -5,14 +5,14 @@ ghost use mathlib.Core.List.{_++_};
 ghost use Prim.Native.Nat.{_+_, _≤_};
 ghost use lib.ListN.{length, take, drop};
 
-// Writes a list into room, from a place on.
-pub fn put(list: &[u8], at: usize, room: &mut [u8])
-    requires { ⌜ at + length (now list) ≤ length (now room) ⌝ }
-    ensures { λ _. ⌜ now (room .exit) ≡ take at (now (room .entry)) ++ now (list .entry) ++ drop (at + length (now (list .entry))) (now (room .entry)) ⌝ }
+// Writes a list into the output, from a place on.
+pub fn put(list: &[u8], at: usize, output: &mut [u8])
+    requires { ⌜ at + length (now list) ≤ length (now output) ⌝ }
+    ensures { λ _. ⌜ now (output .exit) ≡ take at (now (output .entry)) ++ now (list .entry) ++ drop (at + length (now (list .entry))) (now (output .entry)) ⌝ }
 {
     let mut i: usize = 0;
     while i < list.len() {
-        room[at + i] = list[i];
+        output[at + i] = list[i];
         i += 1;
     }
 }

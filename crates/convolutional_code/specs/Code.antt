@@ -13,13 +13,13 @@ abbrev pub tapsY : List ℕ
 tapsY = 0 ∷ 2 ∷ 3 ∷ 5 ∷ 6 ∷ []
 
 -- the sum of the bits at the taps; past is every bit so far, the newest first, and 0 before the first one
-abbrev pub total : List ℕ → List ℕ → ℕ
-total [] past = 0
-total (t ∷ ts) past = getD past t 0 + total ts past
+abbrev pub tapSum : List ℕ → List ℕ → ℕ
+tapSum [] past = 0
+tapSum (t ∷ ts) past = getD past t 0 + tapSum ts past
 
 -- the coded bit of the newest bit: the xor of the bits at the taps
 abbrev pub convolved : List ℕ → List ℕ → ℕ
-convolved taps past = total taps past % 2
+convolved taps past = tapSum taps past % 2
 
 -- ---- with a memory
 

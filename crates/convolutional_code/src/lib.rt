@@ -31,31 +31,31 @@ pub fn next_memory(memory: u8, bit: u8) -> u8
 }
 
 // Writes the bits of the memory, the oldest first, one to a byte.
-fn unpack_memory(memory: u8, room: &mut [u8])
-    requires { ⌜ 6 ≤ length (now room) ⌝ }
-    ensures { λ r. ⌜ now (room .exit) ≡ oldest memory ++ drop 6 (now (room .entry)) ⌝ }
+fn unpack_memory(memory: u8, output: &mut [u8])
+    requires { ⌜ 6 ≤ length (now output) ⌝ }
+    ensures { λ r. ⌜ now (output .exit) ≡ oldest memory ++ drop 6 (now (output .entry)) ⌝ }
 {
-    room[0] = memory % 2;
-    room[1] = memory / 2 % 2;
-    room[2] = memory / 4 % 2;
-    room[3] = memory / 8 % 2;
-    room[4] = memory / 16 % 2;
-    room[5] = memory / 32 % 2;
+    output[0] = memory % 2;
+    output[1] = memory / 2 % 2;
+    output[2] = memory / 4 % 2;
+    output[3] = memory / 8 % 2;
+    output[4] = memory / 16 % 2;
+    output[5] = memory / 32 % 2;
 }
 
 // Writes the bits of a byte, the top bit first, one to a byte.
-fn unpack_byte(b: u8, room: &mut [u8])
-    requires { ⌜ 8 ≤ length (now room) ⌝ }
-    ensures { λ r. ⌜ now (room .exit) ≡ bitsOf (b ∷ []) ++ drop 8 (now (room .entry)) ⌝ }
+fn unpack_byte(b: u8, output: &mut [u8])
+    requires { ⌜ 8 ≤ length (now output) ⌝ }
+    ensures { λ r. ⌜ now (output .exit) ≡ bitsOf (b ∷ []) ++ drop 8 (now (output .entry)) ⌝ }
 {
-    room[0] = b / 128 % 2;
-    room[1] = b / 64 % 2;
-    room[2] = b / 32 % 2;
-    room[3] = b / 16 % 2;
-    room[4] = b / 8 % 2;
-    room[5] = b / 4 % 2;
-    room[6] = b / 2 % 2;
-    room[7] = b % 2;
+    output[0] = b / 128 % 2;
+    output[1] = b / 64 % 2;
+    output[2] = b / 32 % 2;
+    output[3] = b / 16 % 2;
+    output[4] = b / 8 % 2;
+    output[5] = b / 4 % 2;
+    output[6] = b / 2 % 2;
+    output[7] = b % 2;
 }
 
 // Writes the bits of the memory and of some bytes.

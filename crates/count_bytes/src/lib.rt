@@ -22,21 +22,21 @@ pub fn byte_at(n: u64, k: usize) -> u8
 }
 
 // Writes a number in eight bytes, from a place on.
-fn put_number(number: u64, at: usize, room: &mut [u8])
-    requires { ⌜ at + 8 ≤ length (now room) ⌝ }
-    ensures { λ _. ⌜ now (room .exit) ≡ placed (now (room .entry)) at (toBytes 8 number) ⌝ }
+fn put_number(number: u64, at: usize, output: &mut [u8])
+    requires { ⌜ at + 8 ≤ length (now output) ⌝ }
+    ensures { λ _. ⌜ now (output .exit) ≡ placed (now (output .entry)) at (toBytes 8 number) ⌝ }
 {
     let mut k: usize = 0;
     while k < 8 {
-        room[at + k] = byte_at(number, k);
+        output[at + k] = byte_at(number, k);
         k += 1;
     }
 }
 
 // Writes the eight counts, each in eight bytes.
-pub fn put_counts(counts: Counts, room: &mut [u8])
-    requires { ⌜ 64 ≤ length (now room) ⌝ }
-    ensures { λ _. ⌜ now (room .exit) ≡ countBytes counts ++ drop 64 (now (room .entry)) ⌝ }
+pub fn put_counts(counts: Counts, output: &mut [u8])
+    requires { ⌜ 64 ≤ length (now output) ⌝ }
+    ensures { λ _. ⌜ now (output .exit) ≡ countBytes counts ++ drop 64 (now (output .entry)) ⌝ }
 {
     let numbers = [
         counts.taken,
@@ -50,7 +50,7 @@ pub fn put_counts(counts: Counts, room: &mut [u8])
     ];
     let mut i: usize = 0;
     while i < 8 {
-        put_number(numbers[i], 8 * i, room);
+        put_number(numbers[i], 8 * i, output);
         i += 1;
     }
 }

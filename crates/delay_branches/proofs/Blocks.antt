@@ -10,9 +10,9 @@ use lib.Seq.{ext-getD}
 use Rattle.common.specs.Lists.{Entries, listOf}
 use Rattle.common.proofs.Entries.{entries-take, entries-drop, entries-append, entries-listOf}
 use Rattle.common.proofs.Lists.{length-listOf, getD-listOf}
-use Rattle.delay_branches.specs.Branch.{delayOf, sizeOf, baseOf, inRange, cellsOf, turned, queue}
+use Rattle.delay_branches.specs.Branch.{delayOf, sizeOf, baseOf, branchesInRange, cellsOf, turned, queue}
 use Rattle.delay_branches.specs.Column.{column}
-use Rattle.delay_branches.specs.Block.{leaving, staying, positionOf, storedOf, joined, blockOut, after}
+use Rattle.delay_branches.specs.Block.{leaving, staying, positionOf, storedOf, joined, blockOut, branchesAfter}
 use Rattle.delay_branches.specs.declared.Side.{Side}
 use Rattle.delay_branches.specs.declared.Branches.{Branches}
 use Rattle.delay_branches.proofs.Columns.{length-column, getD-column}
@@ -24,7 +24,7 @@ use Rattle.delay_branches.proofs.Cells.{base-end, length-cells, length-
 pub record Good (side : Side) (s : Branches) : Type 0 where
   pub cells : length (s .cells) ≡ 1122
   pub positions : length (s .positions) ≡ 12
-  pub range : inRange side s ≡ true
+  pub range : branchesInRange side s ≡ true
 
 -- a branch has no cells or at least seventeen
 pub enough : (d : ℕ) → (17 * d ≡ 0 → ⊥) → 17 ≤ 17 * d
@@ -98,8 +98,8 @@ module _ (side : Side) (s : Branches) (g : Good side s) (block : List ℕ) (j : 
 
 -- ---- the state stays good
 
-pub good-after : (side : Side) (s : Branches) (block : List ℕ) → Good side s → Good side (after side s block)
-unfolding after
+pub good-after : (side : Side) (s : Branches) (block : List ℕ) → Good side s → Good side (branchesAfter side s block)
+unfolding branchesAfter
 good-after side s block g = record {
   cells = length-joined side (storedOf side s block) 12 (λ j h. length-stored side s g block j h) ∙ base-end side;
   positions = length-listOf 12 (positionOf side s);
@@ -119,15 +119,15 @@ column-out side s block j h =
     each k l = getD-column j (blockOut side s block) k l ∙ sym (leaves-at side s block j k h l)
 
 queue-after : (side : Side) (s : Branches) (block : List ℕ) → Good side s → (j : ℕ) → j < 12
-    → queue side (after side s block) j ≡ staying side s block j
-unfolding queue after
+    → queue side (branchesAfter side s block) j ≡ staying side s block j
+unfolding queue branchesAfter
 queue-after side s block g j h =
     ap₂ turned (getD-listOf 12 (positionOf side s) 0 j h)
     (joined-part side (storedOf side s block) 12 (λ i l. length-stored side s g block i l) j h)
     ∙ stored-queue side s g block j h
 
 pub queue-law : (side : Side) (s : Branches) (block : List ℕ) → Good side s → (j : ℕ) → j < 12
-    → queue side s j ++ column j block ≡ column j (blockOut side s block) ++ queue side (after side s block) j
+    → queue side s j ++ column j block ≡ column j (blockOut side s block) ++ queue side (branchesAfter side s block) j
 unfolding leaving staying
 queue-law side s block g j h =
     sym (take-append-drop 17 (queue side s j ++ column j block))
@@ -158,8 +158,8 @@ module _ (P : ℕ → Type 0) (z : P 0) where
         entries-listOf P z 204 (λ n. getD (leaving side s block (n % 12)) (n / 12) 0)
         (λ n. entries-take P z 17 (queue side s (n % 12) ++ column (n % 12) block) (entries-through (n % 12)) (n / 12))
 
-    pub entries-after : Entries P (after side s block .cells)
-    unfolding after joined storedOf staying
+    pub entries-after : Entries P (branchesAfter side s block .cells)
+    unfolding branchesAfter joined storedOf staying
     entries-after = go 12
       where
         go : (n : ℕ) → Entries P (joined n (storedOf side s block))

@@ -1,4 +1,4 @@
--- The room while the branches are passed one after the other: branch j writes the places j, 12 + j, 24 + j, ...
+-- The output while the branches are passed one after the other: branch j writes the places j, 12 + j, 24 + j, ...
 -- Assumes nothing.
 use mathlib.Core.Path.{_≡_, refl, ap, sym, _∙_}
 use mathlib.Core.List.{List, [], _∷_, _++_}
@@ -8,7 +8,7 @@ use native.Mathlib.Decide.{ℕ-discrete, decLt}
 use native.Mathlib.Omega.{arith}
 use lib.ListN.{length, getD, drop, set, length-set, length-append, length-drop, List·getD-append}
 use lib.Seq.{getD-set-same, getD-set-other, getD-append-add, getD-drop, ext-getD}
-use Rattle.delay_branches.specs.Column.{placed}
+use Rattle.delay_branches.specs.Column.{scattered}
 
 -- m bytes of the block are written, those of branch 0 first
 pub record Filled (block d : List ℕ) (r : List ℕ) (m : ℕ) : Type 0 where
@@ -19,7 +19,7 @@ pub record Filled (block d : List ℕ) (r : List ℕ) (m : ℕ) : Type 0 where
 pub filled-none : (block d : List ℕ) → Filled block d d 0
 filled-none block d = record { same = refl; done = λ n h k. absurd (omega arith); left = λ n h. refl }
 
-module _ {block d r : List ℕ} (j k : ℕ) (g : Filled block d r (17 * j + k)) (h : j < 12) (l : k < 17) (room : 204 ≤ length d) where
+module _ {block d r : List ℕ} (j k : ℕ) (g : Filled block d r (17 * j + k)) (h : j < 12) (l : k < 17) (output : 204 ≤ length d) where
   filled-more : (v : ℕ) → v ≡ getD block (12 * k + j) 0 → Filled block d (set r (12 * k + j) v) (17 * j + suc k)
   filled-more v e = record {
     same = length-set r (12 * k + j) v ∙ g .same;
@@ -42,12 +42,12 @@ module _ {block d r : List ℕ} (j k : ℕ) (g : Filled block d r (17 * j + k)) 
 -- the bytes of branch j from its byte k on
 pub filled-placed : {block d : List ℕ} (j k : ℕ) (bs r : List ℕ) → Filled block d r (17 * j + k) → j < 12 → k + length bs ≤ 17 → 204 ≤ length d
     → ((i : ℕ) → i < length bs → getD bs i 0 ≡ getD block (12 * (k + i) + j) 0)
-    → Filled block d (placed (12 * k + j) bs r) (17 * j + (k + length bs))
-unfolding placed
-filled-placed {block} {d} j k [] r g h l room e = rw (add-zero k) g
-filled-placed {block} {d} j k (b ∷ bs) r g h l room e =
+    → Filled block d (scattered (12 * k + j) bs r) (17 * j + (k + length bs))
+unfolding scattered
+filled-placed {block} {d} j k [] r g h l output e = rw (add-zero k) g
+filled-placed {block} {d} j k (b ∷ bs) r g h l output e =
     rw (next, count)
-    (filled-placed j (suc k) bs (set r (12 * k + j) b) (filled-more j k g h (omega arith) room b first) h (omega arith) room (λ i u. rest i u))
+    (filled-placed j (suc k) bs (set r (12 * k + j) b) (filled-more j k g h (omega arith) output b first) h (omega arith) output (λ i u. rest i u))
   where
     next : 12 * k + j + 12 ≡ 12 * suc k + j
     next = omega arith
@@ -64,7 +64,7 @@ filled-placed {block} {d} j k (b ∷ bs) r g h l room e =
         e (suc i) (omega arith) ∙ ap (λ (m : ℕ). getD block (12 * m + j) 0) q
 
 pub filled-all : {block d r : List ℕ} → Filled block d r 204 → length block ≡ 204 → 204 ≤ length d → r ≡ block ++ drop 204 d
-filled-all {block} {d} {r} g n room = ext-getD 0 r (block ++ drop 204 d) size (λ i h. each i (decLt i 204))
+filled-all {block} {d} {r} g n output = ext-getD 0 r (block ++ drop 204 d) size (λ i h. each i (decLt i 204))
   where
     size : length r ≡ length (block ++ drop 204 d)
     size = g .same ∙ sym (length-append block (drop 204 d) ∙ simp (length-drop, n) (omega arith))

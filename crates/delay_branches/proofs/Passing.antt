@@ -11,27 +11,27 @@ use lib.Seq.{drop-cons, set-at, drop-at, take-at, drop-drop, getD-append-add, ge
 use Rattle.common.specs.Lists.{listOf}
 use Rattle.common.proofs.Lists.{length-listOf}
 use Rattle.delay_branches.specs.Branch.{sizeOf, baseOf, cellsOf, turned, queue}
-use Rattle.delay_branches.specs.Column.{column, placed}
-use Rattle.delay_branches.specs.Block.{leaving, staying, positionAfter, positionOf, storedOf, joined, blockOut, after}
+use Rattle.delay_branches.specs.Column.{column, scattered}
+use Rattle.delay_branches.specs.Block.{leaving, staying, positionAfter, positionOf, storedOf, joined, blockOut, branchesAfter}
 use Rattle.delay_branches.specs.declared.Side.{Side}
 use Rattle.delay_branches.specs.declared.Branches.{Branches}
 use Rattle.delay_branches.proofs.Cells.{base-end, cells-fit, length-cells, length-joined}
 use Rattle.delay_branches.proofs.Filling.{Filled, filled-none, filled-placed, filled-all}
 use Rattle.delay_branches.proofs.Blocks.{Good, length-stored, length-leaves, leaves-at, length-out}
 
--- the branches below j are passed; d was the room
-pub record Passing (side : Side) (s : Branches) (block d : List ℕ) (room cells positions : List ℕ) (base j : ℕ) : Type 0 where
+-- the branches below j are passed; d was the output
+pub record Passing (side : Side) (s : Branches) (block d : List ℕ) (output cells positions : List ℕ) (base j : ℕ) : Type 0 where
   pub start : base ≡ baseOf side j
   pub stored : cells ≡ joined j (storedOf side s block) ++ drop (baseOf side j) (s .cells)
   pub next : positions ≡ listOf j (positionOf side s) ++ drop j (s .positions)
-  pub filled : Filled (blockOut side s block) d room (17 * j)
+  pub filled : Filled (blockOut side s block) d output (17 * j)
 
 pub passing-none : (side : Side) (s : Branches) (block d : List ℕ) → Passing side s block d d (s .cells) (s .positions) 0 0
 unfolding baseOf joined listOf
 passing-none side s block d = record { start = refl; stored = refl; next = refl; filled = filled-none (blockOut side s block) d }
 
-module _ {side : Side} {s : Branches} {block d room cells positions : List ℕ} {base j : ℕ}
-    (g : Passing side s block d room cells positions base j) (whole : Good side s) (h : j < 12) where
+module _ {side : Side} {s : Branches} {block d output cells positions : List ℕ} {base j : ℕ}
+    (g : Passing side s block d output cells positions base j) (whole : Good side s) (h : j < 12) where
   length-front : length (joined j (storedOf side s block)) ≡ base
   length-front = length-joined side (storedOf side s block) j (λ i l. length-stored side s whole block i (omega arith)) ∙ sym (g .start)
 
@@ -67,15 +67,15 @@ module _ {side : Side} {s : Branches} {block d room cells positions : List ℕ} 
       ∙ ap (λ (k : ℕ). getD (s .positions) k 0) (add-zero j)
 
   -- what branch j gives
-  pub passing-more : {p next size end : ℕ} {part part′ cells′ room′ : List ℕ} → 204 ≤ length d
+  pub passing-more : {p next size end : ℕ} {part part′ cells′ output′ : List ℕ} → 204 ≤ length d
       → size ≡ sizeOf side j → end ≡ base + size → part ≡ cellsOf side s j → p ≡ getD (s .positions) j 0
       → next ≡ positionAfter (length part) p
       → part′ ≡ turned (length part - next) (drop 17 (turned p part ++ column j block))
       → cells′ ≡ take base cells ++ (part′ ++ drop size (drop base cells))
-      → room′ ≡ placed j (take 17 (turned p part ++ column j block)) room
-      → Passing side s block d room′ cells′ (set positions j next) end (j + 1)
+      → output′ ≡ scattered j (take 17 (turned p part ++ column j block)) output
+      → Passing side s block d output′ cells′ (set positions j next) end (j + 1)
   unfolding baseOf joined listOf positionOf storedOf staying leaving queue
-  passing-more {p} {next} {size} {end} {part} {part′} {cells′} {room′} long e1 e2 e3 e4 e5 e6 e7 e8 = record {
+  passing-more {p} {next} {size} {end} {part} {part′} {cells′} {output′} long e1 e2 e3 e4 e5 e6 e7 e8 = record {
     start = rw (add-one j) (e2 ∙ ap₂ _+_ (g .start) e1);
     stored =
         rw (add-one j)
@@ -109,24 +109,24 @@ module _ {side : Side} {s : Branches} {block d room cells positions : List ℕ} 
       rest : drop size (drop base cells) ≡ drop (baseOf side j + sizeOf side j) (s .cells)
       rest = ap₂ drop e1 behind ∙ drop-drop (sizeOf side j) base (s .cells) ∙ ap (λ (k : ℕ). drop (k + sizeOf side j) (s .cells)) (g .start)
 
-      filling : Filled (blockOut side s block) d room′ (17 * (j + 1))
+      filling : Filled (blockOut side s block) d output′ (17 * (j + 1))
       filling =
           let m : length (leaving side s block j) ≡ 17 = length-leaves side s block j in
           let k : 17 * j + (0 + length (leaving side s block j)) ≡ 17 * (j + 1) = omega arith in
           let z : 17 * j + 0 ≡ 17 * j = omega arith in
-          let r : room′ ≡ placed (12 * 0 + j) (leaving side s block j) room
-          = e8 ∙ ap₂ (λ (i : ℕ) (l : List ℕ). placed i (take 17 l) room) (sym (zero-add j)) passed
+          let r : output′ ≡ scattered (12 * 0 + j) (leaving side s block j) output
+          = e8 ∙ ap₂ (λ (i : ℕ) (l : List ℕ). scattered i (take 17 l) output) (sym (zero-add j)) passed
           in
           rw (r, sym k)
-          (filled-placed j 0 (leaving side s block j) room (rw z (g .filled)) h (omega arith) long
+          (filled-placed j 0 (leaving side s block j) output (rw z (g .filled)) h (omega arith) long
           (λ i l. leaves-at side s block j i h (omega arith) ∙ ap (λ (q : ℕ). getD (blockOut side s block) (12 * q + j) 0) (sym (zero-add i))))
 
-pub passing-all : {side : Side} {s : Branches} {block d room cells positions : List ℕ} {base j : ℕ}
-    → Passing side s block d room cells positions base j → Good side s → j ≡ 12 → 204 ≤ length d
-    → (cells ≡ after side s block .cells) × (positions ≡ after side s block .positions) × (room ≡ blockOut side s block ++ drop 204 d)
-unfolding after
-passing-all {side} {s} {block} {d} {room} {cells} {positions} {base} {j} g whole e long =
-    let f : Passing side s block d room cells positions base 12 = rw e at g in (
+pub passing-all : {side : Side} {s : Branches} {block d output cells positions : List ℕ} {base j : ℕ}
+    → Passing side s block d output cells positions base j → Good side s → j ≡ 12 → 204 ≤ length d
+    → (cells ≡ branchesAfter side s block .cells) × (positions ≡ branchesAfter side s block .positions) × (output ≡ blockOut side s block ++ drop 204 d)
+unfolding branchesAfter
+passing-all {side} {s} {block} {d} {output} {cells} {positions} {base} {j} g whole e long =
+    let f : Passing side s block d output cells positions base 12 = rw e at g in (
       f .stored ∙ ends (joined 12 (storedOf side s block)) (s .cells) (baseOf side 12) (base-end side ∙ sym (whole .cells)),
       f .next ∙ ends (listOf 12 (positionOf side s)) (s .positions) 12 (sym (whole .positions)),
       filled-all (f .filled) (length-out side s block) long,

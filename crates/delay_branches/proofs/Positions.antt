@@ -13,17 +13,17 @@ use lib.Dec.{ltb}
 use lib.ListN.{getD}
 use Rattle.common.specs.Choice.{pick}
 use Rattle.common.proofs.Choice.{both-true}
-use Rattle.delay_branches.specs.Branch.{sizeOf, within}
+use Rattle.delay_branches.specs.Branch.{sizeOf, positionsWithin}
 use Rattle.delay_branches.specs.declared.Side.{Side}
 
 module _ (side : Side) (positions : List ℕ) where
   -- the test at one branch more
-  pub within-more : (j : ℕ) → within side positions j ≡ true → getD positions j 0 < max 1 (sizeOf side j) → within side positions (j + 1) ≡ true
-  unfolding within
+  pub within-more : (j : ℕ) → positionsWithin side positions j ≡ true → getD positions j 0 < max 1 (sizeOf side j) → positionsWithin side positions (j + 1) ≡ true
+  unfolding positionsWithin
   within-more j e h = rw add-one (rw e (lt-ltb _ _ h))
 
-  pub within-fails : (j n : ℕ) → j < n → max 1 (sizeOf side j) ≤ getD positions j 0 → within side positions n ≡ false
-  unfolding within
+  pub within-fails : (j n : ℕ) → j < n → max 1 (sizeOf side j) ≤ getD positions j 0 → positionsWithin side positions n ≡ false
+  unfolding positionsWithin
   within-fails j zero u h = absurd (not-suc-le-zero u)
   within-fails j (suc n) u h = by (ℕ-discrete j n) (within-fails j n)
     where
@@ -31,23 +31,23 @@ module _ (side : Side) (positions : List ℕ) where
       fails true e = e
       fails false e = refl
 
-      by : Dec (j ≡ n) → (j < n → max 1 (sizeOf side j) ≤ getD positions j 0 → within side positions n ≡ false) → within side positions (suc n) ≡ false
-      by (yes q) r = fails (within side positions n) (subst (λ (m : ℕ). ltb (getD positions m 0) (max 1 (sizeOf side m)) ≡ false) q (le-ltb _ _ h))
+      by : Dec (j ≡ n) → (j < n → max 1 (sizeOf side j) ≤ getD positions j 0 → positionsWithin side positions n ≡ false) → positionsWithin side positions (suc n) ≡ false
+      by (yes q) r = fails (positionsWithin side positions n) (subst (λ (m : ℕ). ltb (getD positions m 0) (max 1 (sizeOf side m)) ≡ false) q (le-ltb _ _ h))
       by (no q) r = rw (r (omega arith) h)
 
-  pub within-bound : (n : ℕ) → within side positions n ≡ true → (j : ℕ) → j < n → getD positions j 0 < max 1 (sizeOf side j)
-  unfolding within
+  pub within-bound : (n : ℕ) → positionsWithin side positions n ≡ true → (j : ℕ) → j < n → getD positions j 0 < max 1 (sizeOf side j)
+  unfolding positionsWithin
   within-bound zero e j h = absurd (not-suc-le-zero h)
   within-bound (suc n) e j h = by (ℕ-discrete j n) (within-bound n)
     where
-      both : (within side positions n ≡ true) × (ltb (getD positions n 0) (max 1 (sizeOf side n)) ≡ true)
-      both = both-true (within side positions n) (ltb (getD positions n 0) (max 1 (sizeOf side n))) e
+      both : (positionsWithin side positions n ≡ true) × (ltb (getD positions n 0) (max 1 (sizeOf side n)) ≡ true)
+      both = both-true (positionsWithin side positions n) (ltb (getD positions n 0) (max 1 (sizeOf side n))) e
 
-      by : Dec (j ≡ n) → (within side positions n ≡ true → (k : ℕ) → k < n → getD positions k 0 < max 1 (sizeOf side k)) → getD positions j 0 < max 1 (sizeOf side j)
+      by : Dec (j ≡ n) → (positionsWithin side positions n ≡ true → (k : ℕ) → k < n → getD positions k 0 < max 1 (sizeOf side k)) → getD positions j 0 < max 1 (sizeOf side j)
       by (yes q) r = rw q (ltb-true _ _ (both .1))
       by (no q) r = r (both .0) j (omega arith)
 
-  pub within-all : (n : ℕ) → ((j : ℕ) → j < n → getD positions j 0 < max 1 (sizeOf side j)) → within side positions n ≡ true
-  unfolding within
+  pub within-all : (n : ℕ) → ((j : ℕ) → j < n → getD positions j 0 < max 1 (sizeOf side j)) → positionsWithin side positions n ≡ true
+  unfolding positionsWithin
   within-all zero h = refl
   within-all (suc n) h = rw (within-all n (λ j k. h j (omega arith))) (lt-ltb _ _ (h n (omega arith)))

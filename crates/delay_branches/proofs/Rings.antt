@@ -12,7 +12,7 @@ use lib.ListN.{length, getD, take, drop, set, length-set, length-append, length-
 use lib.Seq.{drop-cons, take-suc-set, drop-set-lt, set-split, drop-length, append-snoc, length-take-le, take-all, drop-at, take-at, drop-nil, take-nil}
 use Rattle.common.specs.Choice.{pick}
 use Rattle.delay_branches.specs.Branch.{turned}
-use Rattle.delay_branches.specs.Block.{advanced, positionAfter}
+use Rattle.delay_branches.specs.Block.{positionAdvanced, positionAfter}
 
 -- the cell that is used after cell p
 abbrev pub nextOf : ℕ → ℕ → ℕ
@@ -67,20 +67,20 @@ length-leaving p s bs n = length-take-le 17 (turned p s ++ bs) (let m = length-a
 
 -- ---- positions
 
-advanced-zero : (size p : ℕ) → p < size → p ≡ advanced size p 0
+advanced-zero : (size p : ℕ) → p < size → p ≡ positionAdvanced size p 0
 advanced-zero size p h = rw (lt-ltb (p + 0) size (omega arith)) (omega arith)
 
-pub advanced-small : (size p k : ℕ) → p < size → k ≤ size → advanced size p k < size
+pub advanced-small : (size p k : ℕ) → p < size → k ≤ size → positionAdvanced size p k < size
 advanced-small size p k h l = by (decLt (p + k) size)
   where
-    by : Dec (p + k < size) → advanced size p k < size
+    by : Dec (p + k < size) → positionAdvanced size p k < size
     by (yes t) = rw (lt-ltb _ _ t) t
     by (no t) = rw (le-ltb (p + k) size (omega arith)) (omega arith)
 
-pub advanced-next : (size p k : ℕ) → p < size → k < size → nextOf size (advanced size p k) ≡ advanced size p (k + 1)
+pub advanced-next : (size p k : ℕ) → p < size → k < size → nextOf size (positionAdvanced size p k) ≡ positionAdvanced size p (k + 1)
 advanced-next size p k h l = by (decLt (p + k) size) (decLt (p + (k + 1)) size)
   where
-    by : Dec (p + k < size) → Dec (p + (k + 1) < size) → nextOf size (advanced size p k) ≡ advanced size p (k + 1)
+    by : Dec (p + k < size) → Dec (p + (k + 1) < size) → nextOf size (positionAdvanced size p k) ≡ positionAdvanced size p (k + 1)
     by (yes t) (yes u) = rw (lt-ltb _ _ t, lt-ltb _ _ u, ne-eqb (p + k + 1) size (λ e. omega arith)) (omega arith)
     by (yes t) (no u) = rw (lt-ltb _ _ t, le-ltb (p + (k + 1)) size (omega arith), eq-eqb (p + k + 1) size (omega arith)) (omega arith)
     by (no t) (yes u) = absurd (omega arith)
@@ -113,7 +113,7 @@ through p [] bs e n =
 -- k of the bytes have gone in, from cells s and position p on; t and q are the cells and the position now
 pub record Turning (s : List ℕ) (p : ℕ) (bs : List ℕ) (t : List ℕ) (q k : ℕ) : Type 0 where
   pub same : length t ≡ length s
-  pub at : q ≡ advanced (length s) p k
+  pub at : q ≡ positionAdvanced (length s) p k
   pub small : q < length t
   pub rest : turned q t ++ drop k bs ≡ drop k (turned p s ++ bs)
 
@@ -146,10 +146,10 @@ module _ {s : List ℕ} {p : ℕ} {bs t : List ℕ} {q k : ℕ} (g : Turning s p
   unfolding all
   turning-more b r e f =
       let n : length (set t q b) ≡ length s = length-set t q b ∙ g .same in
-      let a : r ≡ advanced (length s) p (k + 1)
+      let a : r ≡ positionAdvanced (length s) p (k + 1)
       = f ∙ ap (nextOf (length s)) (g .at) ∙ advanced-next (length s) p k small (omega arith)
       in
-      let l : advanced (length s) p (k + 1) < length s = advanced-small (length s) p (k + 1) small (omega arith) in
+      let l : positionAdvanced (length s) p (k + 1) < length s = advanced-small (length s) p (k + 1) small (omega arith) in
       record {
         same = n;
         at = a;

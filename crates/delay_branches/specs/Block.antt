@@ -25,11 +25,11 @@ unfolding queue column
 staying side s block j = drop 17 (queue side s j ++ column j block)
 
 -- the position of a branch of so many cells, k bytes on: the cells are used in turn
-abbrev pub advanced : ℕ → ℕ → ℕ → ℕ
-advanced size p k = pick (ltb (p + k) size) (p + k) (p + k - size)
+abbrev pub positionAdvanced : ℕ → ℕ → ℕ → ℕ
+positionAdvanced size p k = pick (ltb (p + k) size) (p + k) (p + k - size)
 
 unfoldable pub positionAfter : ℕ → ℕ → ℕ
-positionAfter size p = pick (eqb size 0) p (advanced size p 17)
+positionAfter size p = pick (eqb size 0) p (positionAdvanced size p 17)
 
 -- the block that leaves: byte n is the next one of branch n mod 12
 unfoldable pub blockOut : Side → Branches → List ℕ → List ℕ
@@ -50,9 +50,9 @@ unfoldable pub joined : ℕ → (ℕ → List ℕ) → List ℕ
 joined zero f = []
 joined (suc n) f = joined n f ++ f n
 
-unfoldable pub after : Side → Branches → List ℕ → Branches
+unfoldable pub branchesAfter : Side → Branches → List ℕ → Branches
 unfolding storedOf positionOf listOf joined
-after side s block = record {
+branchesAfter side s block = record {
   cells = joined 12 (storedOf side s block);
   positions = listOf 12 (positionOf side s);
 }

@@ -29,13 +29,13 @@ baseOf side zero = 0
 baseOf side (suc j) = baseOf side j + sizeOf side j
 
 -- the positions of the branches below j are within their branches; 0 in the branch without cells
-unfoldable pub within : Side → List ℕ → ℕ → Bool
-within side positions zero = true
-within side positions (suc j) = pick (within side positions j) (ltb (getD positions j 0) (max 1 (sizeOf side j))) false
+unfoldable pub positionsWithin : Side → List ℕ → ℕ → Bool
+positionsWithin side positions zero = true
+positionsWithin side positions (suc j) = pick (positionsWithin side positions j) (ltb (getD positions j 0) (max 1 (sizeOf side j))) false
 
 -- what document 01 asks of the delay positions of a state
-abbrev pub inRange : Side → Branches → Bool
-inRange side s = within side (s .positions) 12
+abbrev pub branchesInRange : Side → Branches → Bool
+branchesInRange side s = positionsWithin side (s .positions) 12
 
 -- A branch is a first-in, first-out register. Its cells are used in turn: the oldest byte is at the branch's position.
 abbrev pub cellsOf : Side → Branches → ℕ → List ℕ

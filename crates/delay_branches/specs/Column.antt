@@ -11,6 +11,6 @@ unfolding listOf
 column j block = listOf 17 (λ k. getD block (12 * k + j) 0)
 
 -- the output switch: bytes put into a list, the first at place n and each twelve places on
-unfoldable pub placed : ℕ → List ℕ → List ℕ → List ℕ
-placed n [] room = room
-placed n (b ∷ bs) room = placed (n + 12) bs (set room n b)
+unfoldable pub scattered : ℕ → List ℕ → List ℕ → List ℕ
+scattered n [] output = output
+scattered n (b ∷ bs) output = scattered (n + 12) bs (set output n b)

@@ -7,9 +7,9 @@ ghost use Prim.Native.Nat.{_+_, _-_, _<_, _≤_, max};
 ghost use lib.Dec.{eqb};
 ghost use lib.ListN.{length, take, drop};
 ghost use Rattle.common.specs.Choice.{pick};
-ghost use Rattle.delay_branches.specs.Branch.{laid, delayOf, within, inRange, turned};
-ghost use Rattle.delay_branches.specs.Column.{column, placed};
-ghost use Rattle.delay_branches.specs.Block.{fresh, blockOut, after, positionAfter, advanced};
+ghost use Rattle.delay_branches.specs.Branch.{laid, delayOf, positionsWithin, branchesInRange, turned};
+ghost use Rattle.delay_branches.specs.Column.{column, scattered};
+ghost use Rattle.delay_branches.specs.Block.{fresh, blockOut, branchesAfter, positionAfter, positionAdvanced};
 
 // The side of the line that the branches stand on.
 pub enum Side {
@@ -56,7 +56,7 @@ fn limit_of(size: usize) -> usize
 
 // Whether each position is within its branch.
 pub fn positions_within(side: Side, positions: [u8; 12]) -> bool
-    ensures { λ r. ⌜ r ≡ within side positions 12 ⌝ }
+    ensures { λ r. ⌜ r ≡ positionsWithin side positions 12 ⌝ }
 {
     let mut j: usize = 0;
     while j < 12 {
@@ -71,14 +71,14 @@ pub fn positions_within(side: Side, positions: [u8; 12]) -> bool
 }
 
 // Copies the bytes of branch j.
-fn copy_column(j: usize, block: &[u8], room: &mut [u8])
-    requires { ⌜ (j < 12) × (length (now block) ≡ 204) × (204 ≤ length (now room)) ⌝ }
-    ensures { λ _. ⌜ now (room .exit) ≡ placed j (column j (now (block .entry))) (now (room .entry)) ⌝ }
+fn copy_column(j: usize, block: &[u8], output: &mut [u8])
+    requires { ⌜ (j < 12) × (length (now block) ≡ 204) × (204 ≤ length (now output)) ⌝ }
+    ensures { λ _. ⌜ now (output .exit) ≡ scattered j (column j (now (block .entry))) (now (output .entry)) ⌝ }
 {
     let mut k: usize = 0;
     while k < 17 {
         let n = 12 * k + j;
-        room[n] = block[n];
+        output[n] = block[n];
         k += 1;
     }
 }
@@ -93,14 +93,20 @@ fn next_of(size: usize, p: usize) -> usize
 
 // Puts the bytes of branch j into its cells, from a position on, and takes out those that were there. Gives the next position.
 // For 17 cells that follow each other. From fresh branches on it is always so, as each branch has a multiple of 17 cells.
-fn exchange_row(cells: &mut [u8], position: usize, j: usize, block: &[u8], room: &mut [u8]) -> usize
+fn exchange_row(
+    cells: &mut [u8],
+    position: usize,
+    j: usize,
+    block: &[u8],
+    output: &mut [u8],
+) -> usize
     requires { ⌜
         (position + 17 ≤ length (now cells))
-        × (j < 12) × (length (now block) ≡ 204) × (204 ≤ length (now room)) ⌝ }
+        × (j < 12) × (length (now block) ≡ 204) × (204 ≤ length (now output)) ⌝ }
     ensures { λ r. ⌜
-        (r ≡ advanced (length (now (cells .entry))) position 17)
+        (r ≡ positionAdvanced (length (now (cells .entry))) position 17)
         × (now (cells .exit) ≡ turned (length (now (cells .entry)) - r) (drop 17 (turned position (now (cells .entry)) ++ column j (now (block .entry)))))
-        × (now (room .exit) ≡ placed j (take 17 (turned position (now (cells .entry)) ++ column j (now (block .entry)))) (now (room .entry))) ⌝ }
+        × (now (output .exit) ≡ scattered j (take 17 (turned position (now (cells .entry)) ++ column j (now (block .entry)))) (now (output .entry))) ⌝ }
 {
     let mut k: usize = 0;
     while k < 17 {
@@ -108,7 +114,7 @@ fn exchange_row(cells: &mut [u8], position: usize, j: usize, block: &[u8], room:
         let p = position + k;
         let out = cells[p];
         cells[p] = block[n];
-        room[n] = out;
+        output[n] = out;
         k += 1;
     }
     next_of(cells.len(), position + 16)
@@ -120,15 +126,15 @@ fn exchange_round(
     position: usize,
     j: usize,
     block: &[u8],
-    room: &mut [u8],
+    output: &mut [u8],
 ) -> usize
     requires { ⌜
         (17 ≤ length (now cells)) × (position < length (now cells))
-        × (j < 12) × (length (now block) ≡ 204) × (204 ≤ length (now room)) ⌝ }
+        × (j < 12) × (length (now block) ≡ 204) × (204 ≤ length (now output)) ⌝ }
     ensures { λ r. ⌜
-        (r ≡ advanced (length (now (cells .entry))) position 17)
+        (r ≡ positionAdvanced (length (now (cells .entry))) position 17)
         × (now (cells .exit) ≡ turned (length (now (cells .entry)) - r) (drop 17 (turned position (now (cells .entry)) ++ column j (now (block .entry)))))
-        × (now (room .exit) ≡ placed j (take 17 (turned position (now (cells .entry)) ++ column j (now (block .entry)))) (now (room .entry))) ⌝ }
+        × (now (output .exit) ≡ scattered j (take 17 (turned position (now (cells .entry)) ++ column j (now (block .entry)))) (now (output .entry))) ⌝ }
 {
     let size = cells.len();
     let mut p = position;
@@ -137,7 +143,7 @@ fn exchange_round(
         let n = 12 * k + j;
         let out = cells[p];
         cells[p] = block[n];
-        room[n] = out;
+        output[n] = out;
         p = next_of(size, p);
         k += 1;
     }
@@ -150,37 +156,37 @@ fn exchange_column(
     position: usize,
     j: usize,
     block: &[u8],
-    room: &mut [u8],
+    output: &mut [u8],
 ) -> usize
     requires { ⌜
         (17 ≤ length (now cells)) × (position < length (now cells))
-        × (j < 12) × (length (now block) ≡ 204) × (204 ≤ length (now room)) ⌝ }
+        × (j < 12) × (length (now block) ≡ 204) × (204 ≤ length (now output)) ⌝ }
     ensures { λ r. ⌜
-        (r ≡ advanced (length (now (cells .entry))) position 17)
+        (r ≡ positionAdvanced (length (now (cells .entry))) position 17)
         × (now (cells .exit) ≡ turned (length (now (cells .entry)) - r) (drop 17 (turned position (now (cells .entry)) ++ column j (now (block .entry)))))
-        × (now (room .exit) ≡ placed j (take 17 (turned position (now (cells .entry)) ++ column j (now (block .entry)))) (now (room .entry))) ⌝ }
+        × (now (output .exit) ≡ scattered j (take 17 (turned position (now (cells .entry)) ++ column j (now (block .entry)))) (now (output .entry))) ⌝ }
 {
     if cells.len() - position >= 17 {
-        return exchange_row(cells, position, j, block, room);
+        return exchange_row(cells, position, j, block, output);
     }
-    exchange_round(cells, position, j, block, room)
+    exchange_round(cells, position, j, block, output)
 }
 
 // Puts the bytes of branch j through its cells, if it has any.
-fn pass_column(cells: &mut [u8], position: u8, j: usize, block: &[u8], room: &mut [u8]) -> u8
+fn pass_column(cells: &mut [u8], position: u8, j: usize, block: &[u8], output: &mut [u8]) -> u8
     requires { ⌜
         ((length (now cells) ≡ 0 → ⊥) → 17 ≤ length (now cells)) × (length (now cells) ≤ 187) × (position < max 1 (length (now cells)))
-        × (j < 12) × (length (now block) ≡ 204) × (204 ≤ length (now room)) ⌝ }
+        × (j < 12) × (length (now block) ≡ 204) × (204 ≤ length (now output)) ⌝ }
     ensures { λ r. ⌜
         (r ≡ positionAfter (length (now (cells .entry))) position)
         × (now (cells .exit) ≡ turned (length (now (cells .entry)) - r) (drop 17 (turned position (now (cells .entry)) ++ column j (now (block .entry)))))
-        × (now (room .exit) ≡ placed j (take 17 (turned position (now (cells .entry)) ++ column j (now (block .entry)))) (now (room .entry))) ⌝ }
+        × (now (output .exit) ≡ scattered j (take 17 (turned position (now (cells .entry)) ++ column j (now (block .entry)))) (now (output .entry))) ⌝ }
 {
     if cells.len() == 0 {
-        copy_column(j, block, room);
+        copy_column(j, block, output);
         return position;
     }
-    exchange_column(cells, position as usize, j, block, room) as u8
+    exchange_column(cells, position as usize, j, block, output) as u8
 }
 
 // Puts a block through cells by positions that are in range. Gives the next positions.
@@ -189,14 +195,14 @@ pub fn pass_cells(
     cells: &mut [u8],
     positions: [u8; 12],
     block: &[u8],
-    room: &mut [u8],
+    output: &mut [u8],
 ) -> [u8; 12]
     requires { ⌜
-        (within side positions 12 ≡ true) × (length (now cells) ≡ 1122) × (length (now block) ≡ 204) × (204 ≤ length (now room)) ⌝ }
+        (positionsWithin side positions 12 ≡ true) × (length (now cells) ≡ 1122) × (length (now block) ≡ 204) × (204 ≤ length (now output)) ⌝ }
     ensures { λ r. ⌜
-        (r ≡ after side (laid (now (cells .entry)) positions) (now (block .entry)) .positions)
-        × (now (cells .exit) ≡ after side (laid (now (cells .entry)) positions) (now (block .entry)) .cells)
-        × (now (room .exit) ≡ blockOut side (laid (now (cells .entry)) positions) (now (block .entry)) ++ drop 204 (now (room .entry))) ⌝ }
+        (r ≡ branchesAfter side (laid (now (cells .entry)) positions) (now (block .entry)) .positions)
+        × (now (cells .exit) ≡ branchesAfter side (laid (now (cells .entry)) positions) (now (block .entry)) .cells)
+        × (now (output .exit) ≡ blockOut side (laid (now (cells .entry)) positions) (now (block .entry)) ++ drop 204 (now (output .entry))) ⌝ }
 {
     let mut next = positions;
     let mut base: usize = 0;
@@ -204,7 +210,7 @@ pub fn pass_cells(
     while j < 12 {
         let end = base + 17 * side.delay(j);
         let position = next[j];
-        next[j] = pass_column(&mut cells[base..end], position, j, block, room);
+        next[j] = pass_column(&mut cells[base..end], position, j, block, output);
         base = end;
         j += 1;
     }
@@ -212,14 +218,14 @@ pub fn pass_cells(
 }
 
 // Puts a block through branches whose positions are in range.
-pub fn pass_block(side: Side, branches: Branches, block: &[u8], room: &mut [u8]) -> Branches
-    requires { ⌜ (inRange side branches ≡ true) × (length (now block) ≡ 204) × (204 ≤ length (now room)) ⌝ }
+pub fn pass_block(side: Side, branches: Branches, block: &[u8], output: &mut [u8]) -> Branches
+    requires { ⌜ (branchesInRange side branches ≡ true) × (length (now block) ≡ 204) × (204 ≤ length (now output)) ⌝ }
     ensures { λ r. ⌜
-        (r ≡ after side branches (now (block .entry)))
-        × (now (room .exit) ≡ blockOut side branches (now (block .entry)) ++ drop 204 (now (room .entry))) ⌝ }
+        (r ≡ branchesAfter side branches (now (block .entry)))
+        × (now (output .exit) ≡ blockOut side branches (now (block .entry)) ++ drop 204 (now (output .entry))) ⌝ }
 {
     let mut cells = branches.cells;
     let before = branches.positions;
-    let positions = pass_cells(side, &mut cells, before, block, room);
+    let positions = pass_cells(side, &mut cells, before, block, output);
     Branches { cells, positions }
 }

@@ -19,7 +19,7 @@ use Rattle.common.specs.Choice.{pick}
 use Rattle.convolutional_code.specs.Code.{tapsX, tapsY, coded, nextMemory}
 use Rattle.trellis.specs.Metric.{Costs, costFrom}
 use Rattle.viterbi_decoder.specs.Step.{at, decided, stepCost, stepCosts}
-use Rattle.depuncturing.specs.Steps.{kind, width, kindCost, kindAt, first, punctured, pairCost, value, stepValue}
+use Rattle.depuncturing.specs.Steps.{kind, width, kindCost, kindAt, first, puncturedCosts, pairCost, value, stepValue}
 
 -- a step's four numbers cost what its coded bits do
 
@@ -51,8 +51,8 @@ kind-is l (suc (suc (suc q))) j m b =
 
 -- steps that are spread out cost what the run does
 pub steps-are : (l steps : List ℕ) (rate n : ℕ) → ((t : ℕ) → t < 4 * n → getD steps t 0 ≡ stepValue l rate t)
-    → (k m b : ℕ) → k < n → stepCosts steps k m b ≡ punctured rate (pairCost l) k m b
-unfolding stepCosts punctured stepValue
+    → (k m b : ℕ) → k < n → stepCosts steps k m b ≡ puncturedCosts rate (pairCost l) k m b
+unfolding stepCosts puncturedCosts stepValue
 steps-are l steps rate n h k m b lt =
     let z : 4 * k + 0 ≡ 4 * k = omega arith in
     let e0 : getD steps (4 * k) 0 ≡ value l (kindAt rate k) (first rate k) 0 = sym (ap (λ (t : ℕ). getD steps t 0) z) ∙ at-step 0 (omega arith) (omega arith) in
@@ -130,39 +130,39 @@ half-value l t =
     ap (λ (k : ℕ). getD l k 0) e ∙ ap (λ (q : ℕ). value l q (first 0 (t / 4)) (t % 4)) (sym (half-kind (t / 4)))
 
 -- so the costs are put as they are
-pub half-spread : (l room exit : List ℕ) (n m : ℕ) → m ≡ 4 * n → 4 * n ≤ length l → 4 * n ≤ length room
-    → exit ≡ take 0 room ++ take m l ++ drop (0 + length (take m l)) room
-    → (length exit ≡ length room) × ((t : ℕ) → t < 4 * n → getD exit t 0 ≡ stepValue l 0 t)
-half-spread l room exit n m q h k e =
+pub half-spread : (l output exit : List ℕ) (n m : ℕ) → m ≡ 4 * n → 4 * n ≤ length l → 4 * n ≤ length output
+    → exit ≡ take 0 output ++ take m l ++ drop (0 + length (take m l)) output
+    → (length exit ≡ length output) × ((t : ℕ) → t < 4 * n → getD exit t 0 ≡ stepValue l 0 t)
+half-spread l output exit n m q h k e =
     let part = take m l in
     let size : length part ≡ m = length-take-le m l (omega arith) in (
-      ap length e ∙ (length-append part (drop (0 + length part) room) ∙ omega (arith, size, length-drop (0 + length part) room)),
+      ap length e ∙ (length-append part (drop (0 + length part) output) ∙ omega (arith, size, length-drop (0 + length part) output)),
       λ t g.
           let i : 0 + t ≡ t = omega arith in
           ap (λ (x : List ℕ). getD x t 0) e
-          ∙ (ap (λ (j : ℕ). getD (part ++ drop (0 + length part) room) j 0) (sym i) ∙ put-own room part 0 t (omega (arith, size)) (omega (arith, size)))
+          ∙ (ap (λ (j : ℕ). getD (part ++ drop (0 + length part) output) j 0) (sym i) ∙ put-own output part 0 t (omega (arith, size)) (omega (arith, size)))
           ∙ (getD-take m l t 0 (omega arith) ∙ half-value l t),
     )
 
 -- ---- the loop
 
-pub record Spreading (l : List ℕ) (rate n k place j at : ℕ) (room₀ room : List ℕ) : Type 0 where
+pub record Spreading (l : List ℕ) (rate n k place j at : ℕ) (output₀ output : List ℕ) : Type 0 where
   pub most : k ≤ n
   pub here : place ≡ k % patternLength rate
   pub bit : j ≡ first rate k
   pub end : at ≡ 4 * k
-  pub written : Each (λ t v. v ≡ stepValue l rate t) (length room₀) room at
+  pub written : Each (λ t v. v ≡ stepValue l rate t) (length output₀) output at
 
-pub spreading-none : (l : List ℕ) (rate n : ℕ) (room : List ℕ) → Spreading l rate n 0 0 0 0 room room
+pub spreading-none : (l : List ℕ) (rate n : ℕ) (output : List ℕ) → Spreading l rate n 0 0 0 0 output output
 unfolding first
-spreading-none l rate n room = record { most = omega arith; here = sym (zero-mod (patternLength rate)); bit = refl; end = refl; written = each-none refl }
+spreading-none l rate n output = record { most = omega arith; here = sym (zero-mod (patternLength rate)); bit = refl; end = refl; written = each-none refl }
 
-pub spreading-more : (l : List ℕ) (rate n : ℕ) {k place j a : ℕ} {room₀ room : List ℕ} → Spreading l rate n k place j a room₀ room → k < n → 4 * n ≤ length room₀
+pub spreading-more : (l : List ℕ) (rate n : ℕ) {k place j a : ℕ} {output₀ output : List ℕ} → Spreading l rate n k place j a output₀ output → k < n → 4 * n ≤ length output₀
     → (q x0 x1 y0 y1 after : ℕ) → q ≡ kind rate place
     → x0 ≡ value l q j 0 → x1 ≡ value l q j 1 → y0 ≡ value l q j 2 → y1 ≡ value l q j 3 → after ≡ j + width q
-    → Spreading l rate n (k + 1) ((place + 1) % patternLength rate) after (a + 1 + 1 + 1 + 1) room₀ (set (set (set (set room a x0) (a + 1) x1) (a + 1 + 1) y0) (a + 1 + 1 + 1) y1)
+    → Spreading l rate n (k + 1) ((place + 1) % patternLength rate) after (a + 1 + 1 + 1 + 1) output₀ (set (set (set (set output a x0) (a + 1) x1) (a + 1 + 1) y0) (a + 1 + 1 + 1) y1)
 unfolding first stepValue
-spreading-more l rate n {k} {place} {j} {a} {room₀} {room} g h fits q x0 x1 y0 y1 after eq e0 e1 e2 e3 ea =
+spreading-more l rate n {k} {place} {j} {a} {output₀} {output} g h fits q x0 x1 y0 y1 after eq e0 e1 e2 e3 ea =
     let eq′ : q ≡ kindAt rate k = eq ∙ ap (kind rate) (g .here) in
     let en = g .end in
     record {
@@ -180,14 +180,14 @@ spreading-more l rate n {k} {place} {j} {a} {room₀} {room} g h fits q x0 x1 y0
     is : (t i : ℕ) → t / 4 ≡ k → t % 4 ≡ i → q ≡ kindAt rate k → value l q j i ≡ value l (kindAt rate (t / 4)) (first rate (t / 4)) (t % 4)
     is t i p r s = rw (p, r, s, g .bit)
 
-pub in-pattern : (l : List ℕ) (rate n p : ℕ) {k place j a : ℕ} {room₀ room : List ℕ} → Spreading l rate n k place j a room₀ room → p ≡ patternLength rate → 0 < p
+pub in-pattern : (l : List ℕ) (rate n p : ℕ) {k place j a : ℕ} {output₀ output : List ℕ} → Spreading l rate n k place j a output₀ output → p ≡ patternLength rate → 0 < p
     → (place < patternLength rate) × (place < p)
 in-pattern l rate n p {k} {place} g e h =
     let z : 0 < patternLength rate = rw e at h in
     let lt : place < patternLength rate = rw (g .here) (mod-lt k z) in
     (lt, rw e lt)
 
-pub asks : (l : List ℕ) (rate n len : ℕ) {k place j a : ℕ} {room₀ room : List ℕ} → Spreading l rate n k place j a room₀ room → k < n → rate < 5
+pub asks : (l : List ℕ) (rate n len : ℕ) {k place j a : ℕ} {output₀ output : List ℕ} → Spreading l rate n k place j a output₀ output → k < n → rate < 5
     → place < patternLength rate → 2 * first rate n ≤ len → (q : ℕ) → q ≡ kind rate place → (2 * (j + width q) ≤ len) × (0 < q) × (q ≤ 3)
 asks l rate n len {k} {place} {j} g h hr hp fits q e =
     let w : width q ≡ width (kindAt rate k) = ap width (e ∙ ap (kind rate) (g .here)) in

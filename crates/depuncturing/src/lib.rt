@@ -97,9 +97,9 @@ fn following(place: usize, pattern: usize) -> usize
 }
 
 // Writes the four costs of each of n steps, place by place of the pattern.
-fn spread_places(costs: &[u8], rate: usize, pattern: usize, n: usize, room: &mut [u8])
-    requires { ⌜ (rate < 5) × (pattern ≡ patternLength rate) × (0 < pattern) × (pattern ≤ 7) × (2 * first rate n ≤ length (now costs)) × (4 * n ≤ length (now room)) ⌝ }
-    ensures { λ _. ⌜ (length (now (room .exit)) ≡ length (now (room .entry))) × ((t : ℕ) → t < 4 * n → getD (now (room .exit)) t 0 ≡ stepValue (now (costs .entry)) rate t) ⌝ }
+fn spread_places(costs: &[u8], rate: usize, pattern: usize, n: usize, output: &mut [u8])
+    requires { ⌜ (rate < 5) × (pattern ≡ patternLength rate) × (0 < pattern) × (pattern ≤ 7) × (2 * first rate n ≤ length (now costs)) × (4 * n ≤ length (now output)) ⌝ }
+    ensures { λ _. ⌜ (length (now (output .exit)) ≡ length (now (output .entry))) × ((t : ℕ) → t < 4 * n → getD (now (output .exit)) t 0 ≡ stepValue (now (costs .entry)) rate t) ⌝ }
 {
     let kinds = KINDS;
     let mut k = 0;
@@ -109,13 +109,13 @@ fn spread_places(costs: &[u8], rate: usize, pattern: usize, n: usize, room: &mut
     while k < n {
         let q = kinds[7 * rate + place];
         let f = four_of(costs, q, j);
-        room[at] = f.x0;
+        output[at] = f.x0;
         let at1 = at + 1;
-        room[at1] = f.x1;
+        output[at1] = f.x1;
         let at2 = at1 + 1;
-        room[at2] = f.y0;
+        output[at2] = f.y0;
         let at3 = at2 + 1;
-        room[at3] = f.y1;
+        output[at3] = f.y1;
         at = at3 + 1;
         j = f.next;
         place = following(place, pattern);
@@ -124,14 +124,14 @@ fn spread_places(costs: &[u8], rate: usize, pattern: usize, n: usize, room: &mut
 }
 
 // Writes the four costs of each of n steps. At rate 1/2 every coded bit is sent, and the costs stand as they are wanted.
-pub fn spread_costs(costs: &[u8], rate: usize, pattern: usize, n: usize, room: &mut [u8])
-    requires { ⌜ (rate < 5) × (pattern ≡ patternLength rate) × (0 < pattern) × (pattern ≤ 7) × (2 * first rate n ≤ length (now costs)) × (4 * n ≤ length (now room)) ⌝ }
-    ensures { λ _. ⌜ (length (now (room .exit)) ≡ length (now (room .entry))) × ((t : ℕ) → t < 4 * n → getD (now (room .exit)) t 0 ≡ stepValue (now (costs .entry)) rate t) ⌝ }
+pub fn spread_costs(costs: &[u8], rate: usize, pattern: usize, n: usize, output: &mut [u8])
+    requires { ⌜ (rate < 5) × (pattern ≡ patternLength rate) × (0 < pattern) × (pattern ≤ 7) × (2 * first rate n ≤ length (now costs)) × (4 * n ≤ length (now output)) ⌝ }
+    ensures { λ _. ⌜ (length (now (output .exit)) ≡ length (now (output .entry))) × ((t : ℕ) → t < 4 * n → getD (now (output .exit)) t 0 ≡ stepValue (now (costs .entry)) rate t) ⌝ }
 {
     if rate == 0 {
         let end = 4 * n;
-        put(&costs[0..end], 0, room);
+        put(&costs[0..end], 0, output);
     } else {
-        spread_places(costs, rate, pattern, n, room);
+        spread_places(costs, rate, pattern, n, output);
     }
 }

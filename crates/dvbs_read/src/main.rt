@@ -28,14 +28,14 @@ fn symbols_in(input: &[u8]) -> usize
 }
 
 // Takes the symbols of the input. From a byte that is no symbol on nothing is taken, and its place is told; the first byte of the stream has place 0.
-fn take_input(reading: Reading, input: &[u8], costs: &mut [u8], room: &mut [u8]) -> Reading
-    requires { ⌜ (Going reading) × (4 * length (now input) ≤ length (now costs)) × (1632 ≤ length (now room)) ⌝ }
+fn take_input(reading: Reading, input: &[u8], costs: &mut [u8], output: &mut [u8]) -> Reading
+    requires { ⌜ (Going reading) × (4 * length (now input) ≤ length (now costs)) × (1632 ≤ length (now output)) ⌝ }
     ensures { λ r. ⌜ (Going r) × (TookInput (reading .stream) (now (input .entry)) (r .stream)) ⌝ }
 {
     let n = symbols_in(input);
     decision_costs(&input[..n], costs);
     let end = 4 * n;
-    let next = feed_costs(reading, &costs[..end], room);
+    let next = feed_costs(reading, &costs[..end], output);
     if n < input.len() {
         report(b"symbol=", next.symbols, b" ");
         report(b"answer=", 14, b"\n");
@@ -45,8 +45,8 @@ fn take_input(reading: Reading, input: &[u8], costs: &mut [u8], room: &mut [u8])
 }
 
 // Reads once, and takes what came. At the end of the input, or from a byte that is no symbol on, the stream ends.
-fn read_some(reading: Reading, input: &mut [u8], costs: &mut [u8], room: &mut [u8]) -> Reading
-    requires { ⌜ (Going reading) × (4 * length (now input) ≤ length (now costs)) × (1632 ≤ length (now room)) ⌝ }
+fn read_some(reading: Reading, input: &mut [u8], costs: &mut [u8], output: &mut [u8]) -> Reading
+    requires { ⌜ (Going reading) × (4 * length (now input) ≤ length (now costs)) × (1632 ≤ length (now output)) ⌝ }
     ensures { λ r. ⌜ Going r ⌝ }
 {
     let got = libc::read(STDIN_FILENO, input);
@@ -58,7 +58,7 @@ fn read_some(reading: Reading, input: &mut [u8], costs: &mut [u8], room: &mut [u
         return stopped(reading);
     }
     let n = io::count(got, input);
-    take_input(reading, &input[..n], costs, room)
+    take_input(reading, &input[..n], costs, output)
 }
 
 // Reads until the input ends. A proved loop has to end, and nothing says that an input does: the loop counts its turns down, from a number that no
@@ -68,17 +68,17 @@ fn read_all(reading: Reading)
 {
     let mut input = [0u8; 16384];
     let mut costs = [0u8; 65536];
-    let mut room = [0u8; 1632];
+    let mut output = [0u8; 1632];
     let mut reading = reading;
     let mut more = true;
     let mut turns = u64::MAX;
     while turns > 0 && more {
-        let next = read_some(reading, &mut input, &mut costs, &mut room);
+        let next = read_some(reading, &mut input, &mut costs, &mut output);
         more = next.more;
         reading = next;
         turns -= 1;
     }
-    symbol_pass::finish(reading, &mut room);
+    symbol_pass::finish(reading, &mut output);
 }
 
 fn main() {

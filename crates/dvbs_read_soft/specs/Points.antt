@@ -15,12 +15,12 @@ use Rattle.symbol_stream.specs.declared.SymbolStream.{SymbolStream}
 use Rattle.dvbs_read_soft.specs.declared.Points.{Points}
 
 -- the number whose lowest byte is at a place
-abbrev pub word : List ℕ → ℕ → ℕ
-word bytes at = getD bytes at 0 + 256 * getD bytes (at + 1) 0 + 65536 * getD bytes (at + 2) 0 + 16777216 * getD bytes (at + 3) 0
+abbrev pub wordAt : List ℕ → ℕ → ℕ
+wordAt bytes at = getD bytes at 0 + 256 * getD bytes (at + 1) 0 + 65536 * getD bytes (at + 2) 0 + 16777216 * getD bytes (at + 3) 0
 
 -- the f32 there; every NaN's pattern is a NaN
 abbrev pub number : List ℕ → ℕ → Float
-number bytes at = ofBits binary32 (word bytes at)
+number bytes at = ofBits binary32 (wordAt bytes at)
 
 -- the symbol that two numbers stand for: a lost one where both are NaN
 abbrev pub point : Float → Float → Received

@@ -7,7 +7,7 @@ ghost use lib.Ieee.{isNan, ofBits, binary32, nanBits};
 ghost use lib.ListN.{length, getD};
 ghost use Rattle.soft_decision.specs.Steps.{costsAlong};
 ghost use Rattle.symbol_pass.specs.Going.{Going};
-ghost use Rattle.dvbs_read_soft.specs.Points.{word, number, point, pointAt, Held, TookPoints};
+ghost use Rattle.dvbs_read_soft.specs.Points.{wordAt, number, point, pointAt, Held, TookPoints};
 use common::put;
 use libc::STDERR_FILENO;
 use libc::STDIN_FILENO;
@@ -41,7 +41,7 @@ fn word_of(a: u8, b: u8, c: u8, d: u8) -> u32
 // The number whose lowest byte is at a place.
 fn word_at(bytes: &[u8], at: usize) -> u32
     requires { ⌜ at + 4 ≤ length (now bytes) ⌝ }
-    ensures { λ r. ⌜ r ≡ word (now (bytes .entry)) at ⌝ }
+    ensures { λ r. ⌜ r ≡ wordAt (now (bytes .entry)) at ⌝ }
 {
     word_of(bytes[at], bytes[at + 1], bytes[at + 2], bytes[at + 3])
 }
@@ -97,27 +97,27 @@ fn point_at(bytes: &[u8], at: usize) -> Received
 }
 
 // Writes the costs of so many points.
-fn point_costs(bytes: &[u8], count: usize, room: &mut [u8])
-    requires { ⌜ (8 * count ≤ length (now bytes)) × (4 * count ≤ length (now room)) ⌝ }
-    ensures { λ _. ⌜ ((t : ℕ) → t < 4 * count → getD (now (room .exit)) t 0 ≡ costsAlong (pointAt (now (bytes .entry))) t) ⌝ }
+fn point_costs(bytes: &[u8], count: usize, output: &mut [u8])
+    requires { ⌜ (8 * count ≤ length (now bytes)) × (4 * count ≤ length (now output)) ⌝ }
+    ensures { λ _. ⌜ ((t : ℕ) → t < 4 * count → getD (now (output .exit)) t 0 ≡ costsAlong (pointAt (now (bytes .entry))) t) ⌝ }
 {
     let mut k: usize = 0;
     while k < count {
-        put_costs(point_at(bytes, 8 * k), 4 * k, room);
+        put_costs(point_at(bytes, 8 * k), 4 * k, output);
         k += 1;
     }
 }
 
 // Takes the whole points of some bytes, and holds the bytes that are left.
-fn take_points(points: Points, bytes: &[u8], costs: &mut [u8], room: &mut [u8]) -> Points
-    requires { ⌜ (Going (points .reading)) × (length (now bytes) ≤ 2 * length (now costs)) × (1632 ≤ length (now room)) ⌝ }
+fn take_points(points: Points, bytes: &[u8], costs: &mut [u8], output: &mut [u8]) -> Points
+    requires { ⌜ (Going (points .reading)) × (length (now bytes) ≤ 2 * length (now costs)) × (1632 ≤ length (now output)) ⌝ }
     ensures { λ r. ⌜ (Going (r .reading)) × (Held r (now (bytes .entry))) × (TookPoints (points .reading .stream) (now (bytes .entry)) (r .reading .stream)) ⌝ }
 {
     let count = bytes.len() / 8;
     point_costs(bytes, count, costs);
     let end = 4 * count;
     let reading = points.reading;
-    let next = feed_costs(reading, &costs[..end], room);
+    let next = feed_costs(reading, &costs[..end], output);
     let whole = 8 * count;
     let mut tail = [0u8; 8];
     put(&bytes[whole..], 0, &mut tail);
@@ -153,8 +153,8 @@ fn read_behind(input: &mut [u8]) -> Piece
 }
 
 // Reads once, and takes what came with the bytes that are held, which are laid before byte 8, where the read begins.
-fn read_some(points: Points, input: &mut [u8], costs: &mut [u8], room: &mut [u8]) -> Points
-    requires { ⌜ (Going (points .reading)) × (points .held < 8) × (length (points .tail) ≡ 8) × (8 ≤ length (now input)) × (length (now input) ≤ 2 * length (now costs)) × (1632 ≤ length (now room)) ⌝ }
+fn read_some(points: Points, input: &mut [u8], costs: &mut [u8], output: &mut [u8]) -> Points
+    requires { ⌜ (Going (points .reading)) × (points .held < 8) × (length (points .tail) ≡ 8) × (8 ≤ length (now input)) × (length (now input) ≤ 2 * length (now costs)) × (1632 ≤ length (now output)) ⌝ }
     ensures { λ r. ⌜ (Going (r .reading)) × (r .held < 8) × (length (r .tail) ≡ 8) ⌝ }
 {
     let piece = read_behind(input);
@@ -170,7 +170,7 @@ fn read_some(points: Points, input: &mut [u8], costs: &mut [u8], room: &mut [u8]
     let from = 8 - held;
     put(&tail[..held], from, input);
     let end = 8 + piece.length;
-    take_points(points, &input[from..end], costs, room)
+    take_points(points, &input[from..end], costs, output)
 }
 
 // Reads until the input ends. A proved loop has to end, and nothing says that an input does: the loop counts its turns down, from a number that no
@@ -180,7 +180,7 @@ fn read_all(reading: Reading)
 {
     let mut input = [0u8; 65544];
     let mut costs = [0u8; 32772];
-    let mut room = [0u8; 1632];
+    let mut output = [0u8; 1632];
     let tail = [0u8; 8];
     let mut points = Points {
         reading,
@@ -190,14 +190,14 @@ fn read_all(reading: Reading)
     let mut more = true;
     let mut turns = u64::MAX;
     while turns > 0 && more {
-        let next = read_some(points, &mut input, &mut costs, &mut room);
+        let next = read_some(points, &mut input, &mut costs, &mut output);
         more = next.reading.more;
         points = next;
         turns -= 1;
     }
     let held = points.held;
     let last = points.reading;
-    if symbol_pass::finish(last, &mut room) {
+    if symbol_pass::finish(last, &mut output) {
         symbol_pass::report(b"bytes=", held as u64, b"\n");
     }
 }

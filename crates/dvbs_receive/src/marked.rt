@@ -80,7 +80,7 @@ pub fn receive_files(fd: i32, marks_fd: i32) {
     while blocks < Counts::MOST {
         let mut block = [0u8; 204];
         let mut marks = [0u8; 204];
-        let mut room = [0u8; 188];
+        let mut output = [0u8; 188];
         let part = fill(fd, &mut block);
         if part.failed {
             os::fail(b"pass");
@@ -95,7 +95,7 @@ pub fn receive_files(fd: i32, marks_fd: i32) {
             os::fail(b"marks");
             return;
         }
-        let received = receiver.receive_marked(&block, &marks, &mut room);
+        let received = receiver.receive_marked(&block, &marks, &mut output);
         let answer = received.answer;
         let number = answer.number();
         if number == 20 {
@@ -103,7 +103,7 @@ pub fn receive_files(fd: i32, marks_fd: i32) {
             return;
         }
         if number == 0 {
-            if !io::write_all(STDOUT_FILENO, &room) {
+            if !io::write_all(STDOUT_FILENO, &output) {
                 os::fail(b"pass");
                 return;
             }

@@ -8,7 +8,7 @@ use native.Mathlib.Omega.{arith}
 use lib.IntN.{ℤ}
 use lib.ListN.{length, take, drop, length-take, length-append}
 use Rattle.io.specs.Counts.{clamped}
-use Rattle.sending.specs.Sending.{canSend, fedSymbols, Roomy, FeedsAll, Feeds}
+use Rattle.sending.specs.Sending.{canSend, fedSymbols, OutputsFit, FeedsAll, FeedsSending}
 use Rattle.sending.specs.declared.Sending.{Sending}
 use Rattle.sending.proofs.Pieces.{sending-range, sending-sent}
 use Rattle.sending.proofs.Laws.{feeds-all, fed-range}
@@ -17,13 +17,13 @@ use Rattle.dvbs_send.specs.Turn.{Turns}
 pub turns : (w : Sending) (buffer symbols answers : List ℕ) {got : ℤ} {n number count packets : ℕ} {next : Sending} {left told : List ℕ}
     → length (w .sender .interleaver .branches .cells) ≡ 1122 → length (w .sender .interleaver .branches .positions) ≡ 12 → canSend w ≡ true
     → length buffer ≡ 47940 → length symbols ≡ 416160 → length answers ≡ 255 → n ≡ clamped got (length buffer)
-    → Feeds w (take n buffer) symbols answers number count packets next left told
+    → FeedsSending w (take n buffer) symbols answers number count packets next left told
     → Turns w buffer symbols answers (record { got = got; count = count; packets = packets; sending = next }) left told
 turns w buffer symbols answers {got} {n} {number} {count} {packets} {next} {left} {told} cells positions range b r a e f =
     let q = sending-sent w range in
     let h = sending-range w (q .0) .1 in
     let l = length-take n buffer in
-    let g : Roomy w (take n buffer) symbols answers = record { range = q .0; sent = q .1; symbols = omega arith; answers-fit = omega arith } in
+    let g : OutputsFit w (take n buffer) symbols answers = record { range = q .0; sent = q .1; symbols = omega arith; answers-fit = omega arith } in
     let all = feeds-all f g in
     record {
       fed = subst (λ (k : ℕ). FeedsAll w (take k buffer) symbols answers 0 count packets next left told) e all;

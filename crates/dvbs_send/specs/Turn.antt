@@ -11,10 +11,10 @@ use Rattle.sending.specs.declared.Sending.{Sending}
 use Rattle.dvbs_send.specs.declared.Turn.{Turn}
 
 -- Room for the packets that a piece of 47,940 bytes can make whole, which are at most 255.
-pub record Ready (w : Sending) (buffer symbols answers : List ℕ) : Type 0 where
+pub record Buffers (w : Sending) (buffer symbols answers : List ℕ) : Type 0 where
   pub range : canSend w ≡ true
   pub piece : length buffer ≡ 47940
-  pub room : length symbols ≡ 416160
+  pub output : length symbols ≡ 416160
   pub numbers : length answers ≡ 255
 
 -- The buffer after the read, the symbols and the answers before and after it. Where `read` failed, no byte is fed.

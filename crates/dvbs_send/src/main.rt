@@ -6,7 +6,7 @@ ghost use mathlib.Core.Bool.{true};
 ghost use Prim.Native.Nat.{_≤_};
 ghost use lib.ListN.{length};
 ghost use Rattle.sending.specs.Sending.{canSend};
-ghost use Rattle.dvbs_send.specs.Turn.{Ready, Turns};
+ghost use Rattle.dvbs_send.specs.Turn.{Buffers, Turns};
 use libc::STDERR_FILENO;
 use libc::STDIN_FILENO;
 use libc::STDOUT_FILENO;
@@ -53,7 +53,7 @@ fn report_rest(rest: usize) {
 
 // Reads once, and feeds what came: from the front of the buffer, as many bytes as `read` answered.
 fn next_turn(sending: Sending, buffer: &mut [u8], symbols: &mut [u8], answers: &mut [u8]) -> Turn
-    requires { ⌜ Ready sending (now buffer) (now symbols) (now answers) ⌝ }
+    requires { ⌜ Buffers sending (now buffer) (now symbols) (now answers) ⌝ }
     ensures { λ r. ⌜
         Turns sending (now (buffer .exit)) (now (symbols .entry)) (now (answers .entry)) r (now (symbols .exit)) (now (answers .exit)) ⌝ }
 {
@@ -79,7 +79,7 @@ fn write_symbols(symbols: &[u8], count: usize) -> bool
 // Sends until the input ends, or a read or a write fails. A proved loop has to end, and nothing says that an input does: the
 // loop counts its turns down, from a number that no run uses up.
 fn send_all(sending: Sending, buffer: &mut [u8], symbols: &mut [u8], answers: &mut [u8])
-    requires { ⌜ Ready sending (now buffer) (now symbols) (now answers) ⌝ }
+    requires { ⌜ Buffers sending (now buffer) (now symbols) (now answers) ⌝ }
 {
     let mut sending = sending;
     let mut packets: u64 = 0;

@@ -12,7 +12,7 @@ use Rattle.common.proofs.Lists.{length-listOf, getD-listOf, All-at}
 use Rattle.convolutional_code.specs.Bits.{bitsOf}
 use Rattle.convolutional_code.proofs.Bits.{length-bits}
 use Rattle.interleaver.proofs.Blocks.{flatten-at, length-flatten}
-use Rattle.end_to_end.specs.Blocks.{byteOf, bytesOf, blocksOf}
+use Rattle.end_to_end.specs.Blocks.{byteOf, packedBytes, blocksIn}
 
 -- ---- bytes
 
@@ -60,18 +60,18 @@ byte-at (b ∷ bs) g (suc i) h =
     ap (λ (k : ℕ). getD (eight ++ bitsOf bs) k 0) e ∙ getD-append-add eight (bitsOf bs) (8 * i + j) 0)
     ∙ byte-at bs (g .1) i (omega arith)
 
-pub length-bytes : (bits : List ℕ) → length (bytesOf bits) ≡ length bits / 8
-unfolding bytesOf
+pub length-bytes : (bits : List ℕ) → length (packedBytes bits) ≡ length bits / 8
+unfolding packedBytes
 length-bytes bits = length-listOf (length bits / 8) (λ i. byteOf (λ j. getD bits (8 * i + j) 0))
 
 -- the first n bits of bytes make the bytes that are whole in them
-pub bytes-back : (bytes : List ℕ) → Bytes bytes → (n : ℕ) → n ≤ length (bitsOf bytes) → bytesOf (take n (bitsOf bytes)) ≡ take (n / 8) bytes
-unfolding bytesOf
+pub bytes-back : (bytes : List ℕ) → Bytes bytes → (n : ℕ) → n ≤ length (bitsOf bytes) → packedBytes (take n (bitsOf bytes)) ≡ take (n / 8) bytes
+unfolding packedBytes
 bytes-back bytes g n h =
     let bits = take n (bitsOf bytes) in
     let size : length bits ≡ n = length-take-le n (bitsOf bytes) h in
     let few : n / 8 ≤ length bytes = omega (arith, length-bits bytes) in
-    ext-getD 0 (bytesOf bits) (take (n / 8) bytes) (length-bytes bits ∙ ap (λ (k : ℕ). k / 8) size ∙ sym (length-take-le (n / 8) bytes few))
+    ext-getD 0 (packedBytes bits) (take (n / 8) bytes) (length-bytes bits ∙ ap (λ (k : ℕ). k / 8) size ∙ sym (length-take-le (n / 8) bytes few))
     (λ i l. let below : i < n / 8 = omega (arith, length-bytes bits, ap (λ (k : ℕ). k / 8) size) in
     getD-listOf (length bits / 8) (λ i. byteOf (λ j. getD bits (8 * i + j) 0)) 0 i (omega (arith, ap (λ (k : ℕ). k / 8) size))
     ∙ byte-same (λ j. getD bits (8 * i + j) 0) (λ j. getD (bitsOf bytes) (8 * i + j) 0) (λ j k. getD-take n (bitsOf bytes) (8 * i + j) 0 (omega arith))
@@ -103,8 +103,8 @@ module _ (sent : List (List ℕ)) (sizes : All (Length 204) sent) (n : ℕ) (h :
       ∙ flatten-at sent sizes b i (omega (arith, few)) c)
 
   -- the first n bytes of blocks make the blocks that are whole in them
-  pub blocks-back : blocksOf bytes ≡ take (n / 204) sent
-  unfolding blocksOf
+  pub blocks-back : blocksIn bytes ≡ take (n / 204) sent
+  unfolding blocksIn
   blocks-back =
       let count : length bytes / 204 ≡ n / 204 = ap (λ (k : ℕ). k / 204) size in
       let made = length-listOf (length bytes / 204) (λ b. take 204 (drop (204 * b) bytes)) in

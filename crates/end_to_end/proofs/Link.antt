@@ -32,8 +32,8 @@ use Rattle.sender.proofs.Inputs.{packets-sent}
 use Rattle.receiver.proofs.Decoding.{sent-length, sent-bytes}
 use Rattle.receiver.proofs.Reception.{blocks-count, coded-size, begun-anywhere}
 use Rattle.receiver.proofs.Promised.{kept-calls}
-use Rattle.end_to_end.specs.Blocks.{sentBits, bytesOf, blocksOf}
-use Rattle.end_to_end.specs.Link.{Link, wholeBlocks, Arrived}
+use Rattle.end_to_end.specs.Blocks.{sentBits, packedBytes, blocksIn}
+use Rattle.end_to_end.specs.Link.{Link, blocksInBits, Arrived}
 use Rattle.end_to_end.proofs.Blocks.{bytes-back, blocks-back}
 use Rattle.end_to_end.proofs.Sent.{sent-front, front-within, front-last}
 
@@ -84,11 +84,11 @@ module _ (packets : List (List ℕ)) (ws : All Packet packets) where
   bit-count = omega (arith, length-bits (flatten sent), byte-count)
 
   -- the first n bits that are sent make the blocks that are whole in them
-  front-blocks : (n : ℕ) → n ≤ length (sentBits packets) → blocksOf (bytesOf (take n (sentBits packets))) ≡ take (wholeBlocks n) sent
+  front-blocks : (n : ℕ) → n ≤ length (sentBits packets) → blocksIn (packedBytes (take n (sentBits packets))) ≡ take (blocksInBits n) sent
   unfolding sentBits
   front-blocks n h =
       let e : n / 8 / 204 ≡ n / 1632 = omega arith in
-      ap blocksOf (bytes-back (flatten sent) interleaved-bytes n h)
+      ap blocksIn (bytes-back (flatten sent) interleaved-bytes n h)
       ∙ blocks-back sent interleaved-sizes (n / 8) (omega (arith, length-bits (flatten sent)))
       ∙ ap (λ (k : ℕ). take k sent) e
 
@@ -105,16 +105,16 @@ arrived rate hr q inputs g bs limit l =
     let front = sent-front rate hr q g (l .sent) (l .runs) (l .whole) (l .unread) (l .cut) (l .read) in
     let within = front-within rate hr q g (l .sent) (l .runs) (l .whole) (l .unread) (l .cut) in
     let read : length (l .bits) ≡ far = ap length (front .0) ∙ length-take-le far (sentBits packets) within in
-    let n = wholeBlocks (length (l .bits)) in
-    let blocks : blocksOf (bytesOf (l .bits)) ≡ take n (interleavedBlocks packets) =
-    ap (λ (x : List ℕ). blocksOf (bytesOf x)) (front .0) ∙ front-blocks packets ws far within
-    ∙ ap (λ (k : ℕ). take (wholeBlocks k) (interleavedBlocks packets)) (sym read) in
+    let n = blocksInBits (length (l .bits)) in
+    let blocks : blocksIn (packedBytes (l .bits)) ≡ take n (interleavedBlocks packets) =
+    ap (λ (x : List ℕ). blocksIn (packedBytes x)) (front .0) ∙ front-blocks packets ws far within
+    ∙ ap (λ (k : ℕ). take (blocksInBits k) (interleavedBlocks packets)) (sym read) in
     let few : n ≤ length packets = omega (arith, read, within, bit-count packets ws) in
     let m = kept-calls (l .received) in
     let calls : length (m .calls) ≡ n =
     sym (blocks-count (m .calls)) ∙ ap length (m .lent ∙ blocks) ∙ length-take-le n (interleavedBlocks packets) (omega (arith, interleaved-count packets ws)) in
     let r = begun-anywhere packets ws 0 (m .calls) (omega arith) (omega arith)
-    (m .lent ∙ blocks ∙ ap (λ (k : ℕ). take k (interleavedBlocks packets)) (sym calls)) (m .plain) (m .roomy) (m .decodes) in
+    (m .lent ∙ blocks ∙ ap (λ (k : ℕ). take k (interleavedBlocks packets)) (sym calls)) (m .plain) (m .output-fits) (m .decodes) in
     let e : length (m .calls) - 11 - 0 ≡ n - 11 = omega arith in
     record {
       no-cost = front .1;
@@ -130,13 +130,13 @@ arrived rate hr q inputs g bs limit l =
 -- ---- how many blocks that is
 
 -- where less than a pattern is left unread, at most one block is not whole
-pub all-but-one : (rate n : ℕ) → rate < 5 → n ≤ wholeBlocks (patternLength rate * (1632 * n / patternLength rate)) + 1
+pub all-but-one : (rate n : ℕ) → rate < 5 → n ≤ blocksInBits (patternLength rate * (1632 * n / patternLength rate)) + 1
 all-but-one rate n hr =
     let p = patternLength rate in
     omega (arith, div-add-mod (1632 * n) p, mod-lt (1632 * n) (some-bits rate hr), length-le rate (up rate hr))
 
 -- and at rates 1/2, 2/3 and 3/4, whose patterns fill a block, every one is
-pub every-block : (rate n : ℕ) → rate < 3 → wholeBlocks (patternLength rate * (1632 * n / patternLength rate)) ≡ n
+pub every-block : (rate n : ℕ) → rate < 3 → blocksInBits (patternLength rate * (1632 * n / patternLength rate)) ≡ n
 unfolding modeOf
 every-block zero n h = omega arith
 every-block (suc zero) n h = omega arith

@@ -24,7 +24,7 @@ use Rattle.run_reader.proofs.Streams.{fits, stream-read, up-to-last}
 use Rattle.sender.specs.Standard.{interleavedBlocks, onAir}
 use Rattle.sender.specs.Input.{Input, packetsFor}
 use Rattle.sender.specs.Send.{freshSender}
-use Rattle.sender.specs.Calls.{Calls}
+use Rattle.sender.specs.Calls.{SendCalls}
 use Rattle.sender.specs.declared.Sender.{Sender}
 use Rattle.sender.proofs.History.{sent-on-air}
 use Rattle.end_to_end.specs.Blocks.{sentBits}
@@ -42,7 +42,7 @@ runs-whole rate (r ∷ rs) g =
 -- ---- the theorem, of a fresh sender that was given any inputs, with null packets put in
 
 module _ (rate : ℕ) (hr : rate < 5) (q : modeOf rate .sent ≡ true) {inputs : List (List ℕ)} {symbols : List ℕ} {last : Sender} (g : All Input inputs)
-    (c : Calls modeOf (freshSender rate) inputs symbols last) (rs : List (List ℕ)) (runs : All (Run rate) rs) (rest : List ℕ) (e : flatten rs ++ rest ≡ symbols) where
+    (c : SendCalls modeOf (freshSender rate) inputs symbols last) (rs : List (List ℕ)) (runs : All (Run rate) rs) (rest : List ℕ) (e : flatten rs ++ rest ≡ symbols) where
   abbrev bytes : List ℕ
   bytes = flatten (interleavedBlocks (packetsFor inputs))
 

@@ -17,11 +17,11 @@ abbrev pub byteOf : (ℕ → ℕ) → ℕ
 byteOf bit = 128 * bit 0 + 64 * bit 1 + 32 * bit 2 + 16 * bit 3 + 8 * bit 4 + 4 * bit 5 + 2 * bit 6 + bit 7
 
 -- the bytes of a list of bits; bits at its end that fill no byte are in none
-unfoldable pub bytesOf : List ℕ → List ℕ
+unfoldable pub packedBytes : List ℕ → List ℕ
 unfolding listOf
-bytesOf bits = listOf (length bits / 8) (λ i. byteOf (λ j. getD bits (8 * i + j) 0))
+packedBytes bits = listOf (length bits / 8) (λ i. byteOf (λ j. getD bits (8 * i + j) 0))
 
 -- the blocks of a list of bytes; bytes at its end that fill no block are in none
-unfoldable pub blocksOf : List ℕ → List (List ℕ)
+unfoldable pub blocksIn : List ℕ → List (List ℕ)
 unfolding listOf
-blocksOf bytes = listOf (length bytes / 204) (λ b. take 204 (drop (204 * b) bytes))
+blocksIn bytes = listOf (length bytes / 204) (λ b. take 204 (drop (204 * b) bytes))

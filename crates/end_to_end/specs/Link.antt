@@ -13,18 +13,18 @@ use Rattle.run_reader.specs.Runs.{Run, Readings}
 use Rattle.sender.specs.Standard.{interleavedBlocks}
 use Rattle.sender.specs.Input.{packetsFor}
 use Rattle.sender.specs.Send.{freshSender}
-use Rattle.sender.specs.Calls.{Calls}
+use Rattle.sender.specs.Calls.{SendCalls}
 use Rattle.sender.specs.declared.Sender.{Sender}
 use Rattle.receiver.specs.Receive.{freshReceiver}
 use Rattle.receiver.specs.Kept.{Kept}
 use Rattle.receiver.specs.declared.Receiver.{Receiver}
-use Rattle.end_to_end.specs.Blocks.{bytesOf, blocksOf}
+use Rattle.end_to_end.specs.Blocks.{packedBytes, blocksIn}
 
 pub record Link (rate : ℕ) (inputs : List (List ℕ)) : Type 0 where
   -- a fresh sender is given the inputs, call after call, and these are its symbols
   pub symbols : List ℕ
   pub sender : Sender
-  pub sent : Calls modeOf (freshSender rate) inputs symbols sender
+  pub sent : SendCalls modeOf (freshSender rate) inputs symbols sender
   -- they are cut into runs of whole patterns, in any way; any number of them may be left unread at the end
   pub runs : List (List ℕ)
   pub unread : List ℕ
@@ -39,19 +39,19 @@ pub record Link (rate : ℕ) (inputs : List (List ℕ)) : Type 0 where
   pub numbers : List ℕ
   pub given : List (List ℕ)
   pub receiver : Receiver
-  pub received : Kept freshReceiver (blocksOf (bytesOf bits)) numbers given receiver
+  pub received : Kept freshReceiver (blocksIn (packedBytes bits)) numbers given receiver
 
 -- the whole blocks in so many bits
-abbrev pub wholeBlocks : ℕ → ℕ
-wholeBlocks bits = bits / 1632
+abbrev pub blocksInBits : ℕ → ℕ
+blocksInBits bits = bits / 1632
 
 -- What comes back, of the packets with null packets put in. Every block that is whole is the one that was sent, and the packets of all but the last
 -- eleven of these blocks are given, in order. Where less than a pattern is left unread, the blocks are those up to the last whole pattern.
 pub record Arrived (rate : ℕ) (inputs : List (List ℕ)) (l : Link rate inputs) : Type 0 where
   pub no-cost : l .cost ≡ 0
-  pub blocks : blocksOf (bytesOf (l .bits)) ≡ take (wholeBlocks (length (l .bits))) (interleavedBlocks (packetsFor inputs))
-  pub within : wholeBlocks (length (l .bits)) ≤ length inputs
-  pub answered : l .numbers ≡ take (wholeBlocks (length (l .bits))) (replicate 11 9 ++ replicate (wholeBlocks (length (l .bits))) 0)
-  pub packets : l .given ≡ take (wholeBlocks (length (l .bits)) - 11) (packetsFor inputs)
+  pub blocks : blocksIn (packedBytes (l .bits)) ≡ take (blocksInBits (length (l .bits))) (interleavedBlocks (packetsFor inputs))
+  pub within : blocksInBits (length (l .bits)) ≤ length inputs
+  pub answered : l .numbers ≡ take (blocksInBits (length (l .bits))) (replicate 11 9 ++ replicate (blocksInBits (length (l .bits))) 0)
+  pub packets : l .given ≡ take (blocksInBits (length (l .bits)) - 11) (packetsFor inputs)
   pub to-the-last : length (l .unread) < symbolsPerPattern rate
       → length (l .bits) ≡ patternLength rate * (1632 * length inputs / patternLength rate)

@@ -19,7 +19,7 @@ use Rattle.algebra.proofs.Syndromes.{dot, dot-ext}
 use Rattle.galois.specs.Field256.{numbers, mul, inv, scaled}
 use Rattle.galois.proofs.Laws.{mul-lt, mul-zero-right, mul-comm}
 use Rattle.galois.proofs.Instance.{bytes, byte, byte-zero, byte-one, byte-add, byte-mul, byte-inv}
-use Rattle.byte_lanes.specs.Lanes.{elements, productsOf, advanced}
+use Rattle.byte_lanes.specs.Lanes.{elements, productsOf, hornerStep}
 use Rattle.error_correction.specs.Correction.{monic, RootProduct, quotientBy, numeratorAt, denominatorAt, FractionsAt, errorValue}
 use Rattle.byte_lanes.proofs.Words.{elements-plus, elements-scale, length-sum, sum-at}
 use Rattle.byte_lanes.proofs.Powers.{zeros-at, length-advanced, advanced-at, eval-from}
@@ -318,7 +318,7 @@ module _ (p s places : List ℕ) (n : ℕ) (size : length p ≡ suc n) (o : leng
 
   module _ (a u v : List ℕ) (k : ℕ) (more : 0 < k) (m : SummedLanes p s places a u v k) where
     abbrev pub nextCoefficients : List ℕ
-    nextCoefficients = advanced places a (getD p k 0)
+    nextCoefficients = hornerStep places a (getD p k 0)
 
     abbrev pub nextNumerators : List ℕ
     nextNumerators = plus numbers (scaled (getD s (k - 1) 0) nextCoefficients) u

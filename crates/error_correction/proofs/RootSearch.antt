@@ -19,9 +19,9 @@ use Rattle.algebra.specs.Polynomial.{eval}
 use Rattle.algebra.proofs.Ring.{zero-add as field-zero-add, add-zero as field-add-zero, mul-zero as field-mul-zero}
 use Rattle.galois.specs.Field256.{pow}
 use Rattle.galois.proofs.Instance.{bytes, byte, byte-val, byte-zero}
-use Rattle.byte_lanes.specs.Lanes.{elements, point, PowersFrom, ValuesAt}
+use Rattle.byte_lanes.specs.Lanes.{elements, alpha, PowersFrom, ValuesAt}
 use Rattle.byte_lanes.proofs.Powers.{zeros-at, powers-at}
-use Rattle.error_correction.specs.Correction.{EndsAt, masked, Masked, valuesOf, zerosFrom, Listed, rootsOf, one, FoundRoots}
+use Rattle.error_correction.specs.Correction.{EndsAt, masked, Masked, valuesOf, zerosFrom, Listed, rootsOf, onePolynomial, FoundRoots}
 
 -- ---- the degree
 
@@ -64,32 +64,32 @@ length-prefix q d n e = length-take-le (d + 1) q (omega (arith, e .most))
 
 pub length-values : (u q : List ℕ) → length (valuesOf u q) ≡ 204
 unfolding valuesOf
-length-values u q = length-listOf 204 (λ (i : ℕ). masked (getD u i 0) (eval (ops bytes) (elements q) (point i) .0))
+length-values u q = length-listOf 204 (λ (i : ℕ). masked (getD u i 0) (eval (ops bytes) (elements q) (alpha i) .0))
 
-pub value-at : (u q : List ℕ) (i : ℕ) → i < 204 → getD (valuesOf u q) i 0 ≡ masked (getD u i 0) (eval (ops bytes) (elements q) (point i) .0)
+pub value-at : (u q : List ℕ) (i : ℕ) → i < 204 → getD (valuesOf u q) i 0 ≡ masked (getD u i 0) (eval (ops bytes) (elements q) (alpha i) .0)
 unfolding valuesOf
-value-at u q i h = getD-listOf 204 (λ (i : ℕ). masked (getD u i 0) (eval (ops bytes) (elements q) (point i) .0)) 0 i h
+value-at u q i h = getD-listOf 204 (λ (i : ℕ). masked (getD u i 0) (eval (ops bytes) (elements q) (alpha i) .0)) 0 i h
 
 -- at an erasure the value is zero, elsewhere it is that of the polynomial
 pub value-erased : (u q : List ℕ) (i : ℕ) → i < 204 → (getD u i 0 ≡ 0 → ⊥) → getD (valuesOf u q) i 0 ≡ 0
-value-erased u q i h e = value-at u q i h ∙ ap (λ b. pick b (eval (ops bytes) (elements q) (point i) .0) 0) (ne-eqb (getD u i 0) 0 e)
+value-erased u q i h e = value-at u q i h ∙ ap (λ b. pick b (eval (ops bytes) (elements q) (alpha i) .0) 0) (ne-eqb (getD u i 0) 0 e)
 
-pub value-kept : (u q : List ℕ) (i : ℕ) → i < 204 → getD u i 0 ≡ 0 → getD (valuesOf u q) i 0 ≡ eval (ops bytes) (elements q) (point i) .0
-value-kept u q i h e = value-at u q i h ∙ ap (λ b. pick b (eval (ops bytes) (elements q) (point i) .0) 0) (eq-eqb (getD u i 0) 0 e)
+pub value-kept : (u q : List ℕ) (i : ℕ) → i < 204 → getD u i 0 ≡ 0 → getD (valuesOf u q) i 0 ≡ eval (ops bytes) (elements q) (alpha i) .0
+value-kept u q i h e = value-at u q i h ∙ ap (λ b. pick b (eval (ops bytes) (elements q) (alpha i) .0) 0) (eq-eqb (getD u i 0) 0 e)
 
-eval-one : (y : Fin 256) → eval (ops bytes) (elements one) y ≡ byte 1
+eval-one : (y : Fin 256) → eval (ops bytes) (elements onePolynomial) y ≡ byte 1
 unfolding eval
 eval-one y =
     ap (λ (v : Fin 256). bytes .add (byte 1) (bytes .mul y v)) (eval-zeros (replicate 8 0) y (λ k h. zeros-at 8 k))
     ∙ ap (bytes .add (byte 1)) (field-mul-zero bytes y) ∙ field-add-zero bytes (byte 1)
 
 -- the polynomial 1 is zero at the erasures alone
-pub value-one : (u : List ℕ) (i : ℕ) → i < 204 → getD (valuesOf u one) i 0 ≡ masked (getD u i 0) 1
-value-one u i h = value-at u one i h ∙ ap (λ (v : Fin 256). masked (getD u i 0) (v .0)) (eval-one (point i)) ∙ ap (masked (getD u i 0)) (byte-val 1 (lit< tt))
+pub value-one : (u : List ℕ) (i : ℕ) → i < 204 → getD (valuesOf u onePolynomial) i 0 ≡ masked (getD u i 0) 1
+value-one u i h = value-at u onePolynomial i h ∙ ap (λ (v : Fin 256). masked (getD u i 0) (v .0)) (eval-one (alpha i)) ∙ ap (masked (getD u i 0)) (byte-val 1 (lit< tt))
 
 module _ (u q x v w : List ℕ) (i d : ℕ) (h : i ≤ 204) (p : PowersFrom i x) (g : ValuesAt (take (d + 1) q) x v) (z : EndsAt q d)
     (k : Masked (take 16 (drop i u)) v w) (lw : length w ≡ 16) where
-  lane-value : (j : ℕ) → j < 16 → getD v j 0 ≡ eval (ops bytes) (elements q) (point (i + j)) .0
+  lane-value : (j : ℕ) → j < 16 → getD v j 0 ≡ eval (ops bytes) (elements q) (alpha (i + j)) .0
   lane-value j l =
       sym (byte-val (getD v j 0) (g .small j l))
       ∙ ap (λ (u : Fin 256). u .0)
@@ -204,8 +204,8 @@ module _ (degrees places : List ℕ) (count : ℕ) (v x : List ℕ) (i : ℕ) (d
     one-more : zerosFrom i (take l v) ++ (i + l) ∷ [] ≡ zerosFrom i (take (l + 1) v)
     one-more = sym (zeros-more i v l h ∙ ap (λ b. zerosFrom i (take l v) ++ pick b ((i + l) ∷ []) []) (eq-eqb _ _ z))
 
-    pub listed-room : count + length (zerosFrom i v) ≤ 16 → count' < 16
-    listed-room r =
+    pub listed-fits : count + length (zerosFrom i v) ≤ 16 → count' < 16
+    listed-fits r =
         omega (arith, s .all .number, ap length one-more, length-append (zerosFrom i (take l v)) ((i + l) ∷ []), zeros-front i (l + 1) v)
 
     pub listed-more : count + length (zerosFrom i v) ≤ 16 → ListedTo degrees places count v x i (set degrees' count' (i + l)) (set places' count' (getD x l 0)) (count' + 1) (l + 1)
@@ -217,11 +217,11 @@ module _ (degrees places : List ℕ) (count : ℕ) (v x : List ℕ) (i : ℕ) (d
               record {
                 number = omega (arith, s .all .number, ap length one-more, length-append (zerosFrom i (take l v)) ((i + l) ∷ []));
                 listed =
-                    ap (λ (k : ℕ). take k (set degrees' count' (i + l))) (add-one count') ∙ take-suc-set degrees' count' (i + l) (omega (arith, s .degrees-len, listed-room r))
+                    ap (λ (k : ℕ). take k (set degrees' count' (i + l))) (add-one count') ∙ take-suc-set degrees' count' (i + l) (omega (arith, s .degrees-len, listed-fits r))
                     ∙ ap (λ (m : List ℕ). m ++ (i + l) ∷ []) (s .all .listed) ∙ append-assoc (take count degrees) (zerosFrom i (take l v)) ((i + l) ∷ [])
                     ∙ ap (λ (m : List ℕ). take count degrees ++ m) one-more;
                 placed =
-                    ap (λ (k : ℕ). take k (set places' count' (getD x l 0))) (add-one count') ∙ take-suc-set places' count' (getD x l 0) (omega (arith, s .places-len, listed-room r))
+                    ap (λ (k : ℕ). take k (set places' count' (getD x l 0))) (add-one count') ∙ take-suc-set places' count' (getD x l 0) (omega (arith, s .places-len, listed-fits r))
                     ∙ ap (λ (m : List ℕ). m ++ getD x l 0 ∷ []) (s .all .placed)
                     ∙ append-assoc (take count places) (map (λ d. getD x (d - i) 0) (zerosFrom i (take l v))) (getD x l 0 ∷ [])
                     ∙ ap (λ (m : List ℕ). take count places ++ m)
@@ -256,8 +256,8 @@ module _ (u q degrees places : List ℕ) (count i : ℕ) (s : Searched u q degre
         ∙ ap₂ (λ (k : ℕ) (l : List ℕ). zerosFrom 0 (take i (valuesOf u q)) ++ zerosFrom k l)
         (zero-add (length (take i (valuesOf u q))) ∙ length-take-le i (valuesOf u q) (omega (arith, length-values u q))) (sym e)
 
-    pub searched-room : length (rootsOf u q) ≤ 16 → count + length (zerosFrom i v) ≤ 16
-    searched-room r =
+    pub searched-fits : length (rootsOf u q) ≤ 16 → count + length (zerosFrom i v) ≤ 16
+    searched-fits r =
         omega (arith, s .number, ap length more, length-append (zerosFrom 0 (take i (valuesOf u q))) (zerosFrom i v), zeros-front 0 (i + 16) (valuesOf u q))
 
     pub searched-more : (degrees' places' : List ℕ) (count' : ℕ) → Listed degrees places count v x i degrees' places' count' → Searched u q degrees' places' count' (i + 16)

@@ -15,7 +15,7 @@ use Rattle.algebra.proofs.Polynomial.{quotient, fromRoots}
 use Rattle.algebra.proofs.Syndromes.{Term, dot, syndrome}
 use Rattle.galois.specs.Field256.{pow}
 use Rattle.galois.proofs.Instance.{bytes, byte}
-use Rattle.byte_lanes.specs.Lanes.{elements, point}
+use Rattle.byte_lanes.specs.Lanes.{elements, alpha}
 
 -- the coefficients above d are zero
 pub record EndsAt (q : List ℕ) (d : ℕ) : Type 0 where
@@ -45,7 +45,7 @@ pub record Masked (m v w : List ℕ) : Type 0 where
 
 -- the values of a polynomial at the first 204 powers of 02, as numbers, and zero at the erasures, whose marks by degree are u
 unfoldable pub valuesOf : List ℕ → List ℕ → List ℕ
-valuesOf u q = listOf 204 (λ i. masked (getD u i 0) (eval (ops bytes) (elements q) (point i) .0))
+valuesOf u q = listOf 204 (λ i. masked (getD u i 0) (eval (ops bytes) (elements q) (alpha i) .0))
 
 -- the places of a list's zeros, the first element being at n
 unfoldable pub zerosFrom : ℕ → List ℕ → List ℕ
@@ -63,8 +63,8 @@ abbrev pub rootsOf : List ℕ → List ℕ → List ℕ
 rootsOf u q = zerosFrom 0 (valuesOf u q)
 
 -- the polynomial 1 vanishes nowhere: its roots are the erasures alone
-abbrev pub one : List ℕ
-one = 1 ∷ 0 ∷ 0 ∷ 0 ∷ 0 ∷ 0 ∷ 0 ∷ 0 ∷ 0 ∷ []
+abbrev pub onePolynomial : List ℕ
+onePolynomial = 1 ∷ 0 ∷ 0 ∷ 0 ∷ 0 ∷ 0 ∷ 0 ∷ 0 ∷ 0 ∷ []
 
 pub record FoundRoots (u q degrees places : List ℕ) (count : ℕ) : Type 0 where
   pub number : count ≡ length (rootsOf u q)

@@ -4,7 +4,7 @@ ghost use mathlib.Core.Path.{_≡_};
 ghost use mathlib.Core.List.{_∷_};
 ghost use Prim.Native.Nat.{ℕ, _+_, _-_, _<_, _≤_};
 ghost use lib.ListN.{length, getD, take, drop};
-ghost use Rattle.error_correction.specs.Correction.{EndsAt, Unmarked, ByDegree, masked, Masked, zerosFrom, Listed, rootsOf, one, FoundRoots, monic, RootProduct, FractionsAt, ErrorValues, sumOf, Explained, correctedBy, changedIn};
+ghost use Rattle.error_correction.specs.Correction.{EndsAt, Unmarked, ByDegree, masked, Masked, zerosFrom, Listed, rootsOf, onePolynomial, FoundRoots, monic, RootProduct, FractionsAt, ErrorValues, sumOf, Explained, correctedBy, changedIn};
 
 // The degrees of the erasures and those at which the locator vanishes, in order, their places, and how many they are. The places after them are zero.
 pub struct Roots {
@@ -146,8 +146,8 @@ pub fn find_roots(u: &[u8], f: usize, q: [u8; 9]) -> Roots
 
 // The degrees of the erasures alone; count says how many they are, and without any there is nothing to search.
 pub fn find_erasures(u: &[u8], count: usize) -> Roots
-    requires { ⌜ (length (now u) ≡ 208) × (length (rootsOf (now u) one) ≡ count) × (count ≤ 16) ⌝ }
-    ensures { λ r. ⌜ FoundRoots (now (u .entry)) one (r .degrees) (r .places) count ⌝ }
+    requires { ⌜ (length (now u) ≡ 208) × (length (rootsOf (now u) onePolynomial) ≡ count) × (count ≤ 16) ⌝ }
+    ensures { λ r. ⌜ FoundRoots (now (u .entry)) onePolynomial (r .degrees) (r .places) count ⌝ }
 {
     if count == 0 {
         let degrees = [0u8; 16];

@@ -20,7 +20,7 @@ use Rattle.galois.specs.Field256.{numbers, mul, scaled}
 use Rattle.galois.proofs.Instance.{bytes, byte, byte-inj, byte-zero, byte-one, byte-add, byte-mul}
 use Rattle.byte_lanes.proofs.Words.{length-sum, sum-at, length-products, products-at}
 use Rattle.byte_lanes.specs.Lanes.{elements, productsOf}
-use Rattle.error_locator.specs.Locator.{mat, FirstPivot, combinedOf, Kept, Pivoted, Cleared, Eliminated, Filled, SolutionAt, Solution, Located}
+use Rattle.error_locator.specs.Locator.{mat, FirstPivot, combinedOf, Reduced, Pivoted, Cleared, Eliminated, Filled, SolutionAt, Solution, Located}
 
 -- ---- a row written anew
 
@@ -200,7 +200,7 @@ cleared-done o m size k i h C = let e : i ≡ size = omega (arith, C .most) in s
 
 -- ---- all columns
 
-pub kept-start : (m : List ℕ) (size : ℕ) → length m ≡ 128 → Kept m m size 0 (byte 1)
+pub kept-start : (m : List ℕ) (size : ℕ) → length m ≡ 128 → Reduced m m size 0 (byte 1)
 kept-start m size l = record {
   len = l;
   reach = λ v s. s;
@@ -208,8 +208,8 @@ kept-start m size l = record {
   nonzero = λ z. bytes .one·ne·zero (sym byte-one ∙ z);
 }
 
-pub kept-more : (o m n p q : List ℕ) (size k : ℕ) (d e : Fin 256) → size ≤ 8 → k < size → Kept o m size k d → Pivoted m n size k true → Cleared n p size k size → length q ≡ 128
-    → MulRow bytes 8 9 k d (mat p) (mat q) → e ≡ mat q k k → Kept o q size (k + 1) e
+pub kept-more : (o m n p q : List ℕ) (size k : ℕ) (d e : Fin 256) → size ≤ 8 → k < size → Reduced o m size k d → Pivoted m n size k true → Cleared n p size k size → length q ≡ 128
+    → MulRow bytes 8 9 k d (mat p) (mat q) → e ≡ mat q k k → Reduced o q size (k + 1) e
 kept-more o m n p q size k d e z l P Q C len A f = record {
   len = len;
   reach = λ v s. P .reach v (Q .reach v (C .reach v (reach-mul bytes size 9 k d (mat p) (mat q) (P .nonzero) few v s)));
@@ -223,14 +223,14 @@ kept-more o m n p q size k d e z l P Q C len A f = record {
     element : e ≡ bytes .mul d (mat n k k)
     element = f ∙ A .row k (omega arith) ∙ ap (λ u. bytes .mul d u) (C .swept .own k (omega arith))
 
-pub eliminated : (o m n : List ℕ) (size k : ℕ) (d : Fin 256) → k < size → Kept o m size k d → Pivoted m n size k false → Eliminated o n size k d
+pub eliminated : (o m n : List ℕ) (size k : ℕ) (d : Fin 256) → k < size → Reduced o m size k d → Pivoted m n size k false → Eliminated o n size k d
 eliminated o m n size k d l P Q = record {
   kept = record { len = Q .len; reach = λ v s. P .reach v (Q .reach v s); diagonal = Q .diagonal d (P .diagonal); nonzero = P .nonzero };
   most = omega arith;
   none = Q .outcome;
 }
 
-pub eliminated-all : (o m : List ℕ) (size k : ℕ) (d : Fin 256) → size ≤ k → k ≤ size → Kept o m size k d → Eliminated o m size k d
+pub eliminated-all : (o m : List ℕ) (size k : ℕ) (d : Fin 256) → size ≤ k → k ≤ size → Reduced o m size k d → Eliminated o m size k d
 eliminated-all o m size k d h l P = record { kept = P; most = l; none = λ r a b. absurd (omega arith) }
 
 -- ---- the matrix of the key equations, and the solution read from it

@@ -49,7 +49,7 @@ pub record Cleared (old new : List ℕ) (size k i : ℕ) : Type 0 where
   pub swept : Swept bytes size 9 k i (mat old) (mat new)
 
 -- the columns below k are those of d times the unit matrix
-pub record Kept (old new : List ℕ) (size k : ℕ) (d : Fin 256) : Type 0 where
+pub record Reduced (old new : List ℕ) (size k : ℕ) (d : Fin 256) : Type 0 where
   pub len : length new ≡ 128
   pub reach : Reach bytes size 9 (mat old) (mat new)
   pub diagonal : Diagonal bytes size k d (mat new)
@@ -57,7 +57,7 @@ pub record Kept (old new : List ℕ) (size k : ℕ) (d : Fin 256) : Type 0 where
 
 -- the elimination has ended: column k has no pivot
 pub record Eliminated (old new : List ℕ) (size k : ℕ) (d : Fin 256) : Type 0 where
-  pub kept : Kept old new size k d
+  pub kept : Reduced old new size k d
   pub most : k ≤ size
   pub none : (r : ℕ) → k ≤ r → r < size → mat new r k ≡ bytes .𝟘
 

@@ -33,7 +33,7 @@ pub record Refused (came left count after : List ℕ) (number wanted : ℕ) : Ty
 -- 3 for a block that is not 204 bytes, then 4 where fewer than two bytes are lent for the counts, then the decoding
 pub data DecodeExported (came left count after : List ℕ) (number : ℕ) : Type 0 where
   block-length : (length came ≡ 204 → ⊥) → Refused came left count after number 3 → DecodeExported came left count after number
-  no-room : length came ≡ 204 → length count < 2 → Refused came left count after number 4 → DecodeExported came left count after number
+  count-short : length came ≡ 204 → length count < 2 → Refused came left count after number 4 → DecodeExported came left count after number
   answered : length came ≡ 204 → 2 ≤ length count → Answered (Decodes came left) count after number → DecodeExported came left count after number
 
 -- with marks: 20 after 3, where there is not a mark, 0 or 1, for each byte

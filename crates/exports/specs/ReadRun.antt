@@ -5,7 +5,7 @@ use mathlib.Core.List.{List, [], _∷_, _++_}
 use Prim.Native.Nat.{ℕ, _≤_, _<_}
 use lib.Ieee.{Float}
 use lib.ListN.{length, drop}
-use Rattle.run_reader.specs.Read.{Reads, ReadsSoft}
+use Rattle.run_reader.specs.Read.{ReadsHard, ReadsSoft}
 use Rattle.count_bytes.specs.Bytes.{byteAt}
 
 -- the number of the answer, the memory, and the cost in four bytes, the lowest first. A cost is at most 14 for each symbol, of which there are at most
@@ -15,15 +15,15 @@ resultBytes number memory cost = number ∷ memory ∷ byteAt 0 cost ∷ byteAt 
 
 -- Where fewer than six bytes are lent for the result, nothing is read and nothing is written. Else the run is answered as the reader promises,
 -- and the result says how.
-pub data RunExported (Promised : ℕ → ℕ → ℕ → ℕ → List ℕ → Type 0) (room exit result left : List ℕ) (r : ℕ) : Type 0 where
-  no-room : length result < 6 → r ≡ 0 → exit ≡ room → left ≡ result → RunExported Promised room exit result left r
+pub data ReadExported (Promised : ℕ → ℕ → ℕ → ℕ → List ℕ → Type 0) (output exit result left : List ℕ) (r : ℕ) : Type 0 where
+  result-short : length result < 6 → r ≡ 0 → exit ≡ output → left ≡ result → ReadExported Promised output exit result left r
   answered : 6 ≤ length result → (number after cost : ℕ) → Promised number after cost r exit → left ≡ resultBytes number after cost ++ drop 6 result
-      → RunExported Promised room exit result left r
+      → ReadExported Promised output exit result left r
 
 -- by hard decisions
 abbrev pub ReadRunExported : ℕ → ℕ → List ℕ → List ℕ → List ℕ → List ℕ → List ℕ → ℕ → Type 0
-ReadRunExported rate memory symbols room = RunExported (Reads rate memory symbols room) room
+ReadRunExported rate memory symbols output = ReadExported (ReadsHard rate memory symbols output) output
 
 -- by soft decisions
 abbrev pub SoftRunExported : ℕ → ℕ → List Float → List Float → List ℕ → List ℕ → List ℕ → List ℕ → List ℕ → ℕ → Type 0
-SoftRunExported rate memory is qs lost room = RunExported (ReadsSoft rate memory is qs lost room) room
+SoftRunExported rate memory is qs lost output = ReadExported (ReadsSoft rate memory is qs lost output) output

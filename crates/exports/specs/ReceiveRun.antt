@@ -8,28 +8,28 @@ use lib.ListN.{length, drop, set}
 use Rattle.common.specs.Choice.{pick}
 use Rattle.receiver.specs.Receive.{freshReceiver}
 use Rattle.receiver.specs.declared.Receiver.{Receiver}
-use Rattle.recording.specs.Recording.{Takes, recordingNumber, marksFor}
+use Rattle.recording.specs.Recording.{TakesRecording, recordingNumber, marksFor}
 use Rattle.count_bytes.specs.Bytes.{countBytes}
 
 -- the number of the answer: 4 where there are too few bytes for the counts, then what the run answers
 abbrev pub receiveRunNumber : List ℕ → List ℕ → List ℕ → ℕ
-receiveRunNumber blocks room counts = pick (ltb (length counts) 64) 4 (recordingNumber freshReceiver blocks room)
+receiveRunNumber blocks output counts = pick (ltb (length counts) 64) 4 (recordingNumber freshReceiver blocks output)
 
 -- with marks: 20 before it, where there is not a mark, 0 or 1, for each byte
 abbrev pub markedRunNumber : List ℕ → List ℕ → List ℕ → List ℕ → ℕ
-markedRunNumber blocks marks room counts = pick (marksFor blocks marks) (receiveRunNumber blocks room counts) 20
+markedRunNumber blocks marks output counts = pick (marksFor blocks marks) (receiveRunNumber blocks output counts) 20
 
 -- Where no byte is lent for the answer's number, nothing is done. Where the run is refused, its number alone is written. Else the packets,
 -- the counts and 0 are.
-pub data RunExported (blocks marks room exit counts after answer told : List ℕ) (refusal r : ℕ) : Type 0 where
-  untold : length answer < 1 → r ≡ 0 → exit ≡ room → after ≡ counts → told ≡ answer → RunExported blocks marks room exit counts after answer told refusal r
-  refused : 1 ≤ length answer → 0 < refusal → r ≡ 0 → exit ≡ room → after ≡ counts → told ≡ set answer 0 refusal
-      → RunExported blocks marks room exit counts after answer told refusal r
-  taken : 1 ≤ length answer → refusal ≡ 0 → (last : Receiver) → Takes freshReceiver blocks marks room r last exit
-      → after ≡ countBytes (last .counts) ++ drop 64 counts → told ≡ set answer 0 0 → RunExported blocks marks room exit counts after answer told refusal r
+pub data ReceiveExported (blocks marks output exit counts after answer told : List ℕ) (refusal r : ℕ) : Type 0 where
+  untold : length answer < 1 → r ≡ 0 → exit ≡ output → after ≡ counts → told ≡ answer → ReceiveExported blocks marks output exit counts after answer told refusal r
+  refused : 1 ≤ length answer → 0 < refusal → r ≡ 0 → exit ≡ output → after ≡ counts → told ≡ set answer 0 refusal
+      → ReceiveExported blocks marks output exit counts after answer told refusal r
+  taken : 1 ≤ length answer → refusal ≡ 0 → (last : Receiver) → TakesRecording freshReceiver blocks marks output r last exit
+      → after ≡ countBytes (last .counts) ++ drop 64 counts → told ≡ set answer 0 0 → ReceiveExported blocks marks output exit counts after answer told refusal r
 
 abbrev pub ReceiveRunExported : List ℕ → List ℕ → List ℕ → List ℕ → List ℕ → List ℕ → List ℕ → ℕ → Type 0
-ReceiveRunExported blocks room exit counts after answer told r = RunExported blocks [] room exit counts after answer told (receiveRunNumber blocks room counts) r
+ReceiveRunExported blocks output exit counts after answer told r = ReceiveExported blocks [] output exit counts after answer told (receiveRunNumber blocks output counts) r
 
 abbrev pub ReceiveMarkedRunExported : List ℕ → List ℕ → List ℕ → List ℕ → List ℕ → List ℕ → List ℕ → List ℕ → ℕ → Type 0
-ReceiveMarkedRunExported blocks marks room exit counts after answer told r = RunExported blocks marks room exit counts after answer told (markedRunNumber blocks marks room counts) r
+ReceiveMarkedRunExported blocks marks output exit counts after answer told r = ReceiveExported blocks marks output exit counts after answer told (markedRunNumber blocks marks output counts) r

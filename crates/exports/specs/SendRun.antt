@@ -5,16 +5,16 @@ use Prim.Native.Nat.{ℕ}
 use lib.Dec.{ltb}
 use lib.ListN.{length, set}
 use Rattle.common.specs.Choice.{pick}
-use Rattle.transmission.specs.Run.{runNumber, runCount, runRoom}
+use Rattle.transmission.specs.Run.{runNumber, runCount, runOutput}
 
 -- the number of symbols written
 abbrev pub sendRunCount : ℕ → List ℕ → List ℕ → List ℕ → ℕ
-sendRunCount rate packets room answer = pick (ltb (length answer) 1) 0 (runCount rate packets room)
+sendRunCount rate packets output answer = pick (ltb (length answer) 1) 0 (runCount rate packets output)
 
--- the room after it
-abbrev pub sendRunRoom : ℕ → List ℕ → List ℕ → List ℕ → List ℕ
-sendRunRoom rate packets room answer = pick (ltb (length answer) 1) room (runRoom rate packets room)
+-- the output after it
+abbrev pub sendRunOutput : ℕ → List ℕ → List ℕ → List ℕ → List ℕ
+sendRunOutput rate packets output answer = pick (ltb (length answer) 1) output (runOutput rate packets output)
 
 -- the lent bytes after it: the answer's number is in the first
 abbrev pub sendRunAnswer : ℕ → List ℕ → List ℕ → List ℕ → List ℕ
-sendRunAnswer rate packets room answer = pick (ltb (length answer) 1) answer (set answer 0 (runNumber rate packets room))
+sendRunAnswer rate packets output answer = pick (ltb (length answer) 1) answer (set answer 0 (runNumber rate packets output))

@@ -1,8 +1,8 @@
 // Functions for C and Rust, on numbers and byte slices. A slice is a pointer and a length; slices of one call must not overlap.
 // Their declarations for C are in include/dvbs.h.
 ghost use mathlib.Core.Path.{_≡_};
-ghost use Rattle.reed_solomon.specs.Encode.{encodeNumber, encodeRoom};
-ghost use Rattle.randomizer.specs.Packet.{randomizeNumber, randomizeRoom, derandomizeNumber, derandomizeRoom};
+ghost use Rattle.reed_solomon.specs.Encode.{encodeNumber, encodeOutput};
+ghost use Rattle.randomizer.specs.Packet.{randomizeNumber, randomizeOutput, derandomizeNumber, derandomizeOutput};
 ghost use Prim.Native.Nat.{_≤_};
 ghost use mathlib.Core.List.{_++_};
 ghost use lib.Dec.{eqb};
@@ -12,7 +12,7 @@ ghost use Rattle.answer.specs.Number.{numberOf};
 ghost use Rattle.reed_solomon.specs.Decode.{decodedNumber};
 ghost use Rattle.count_bytes.specs.Bytes.{countBytes};
 ghost use Rattle.exports.specs.Decode.{countAfter, DecodeExported, DecodeMarkedExported};
-ghost use Rattle.exports.specs.SendRun.{sendRunCount, sendRunRoom, sendRunAnswer};
+ghost use Rattle.exports.specs.SendRun.{sendRunCount, sendRunOutput, sendRunAnswer};
 ghost use Rattle.exports.specs.ReceiveRun.{ReceiveRunExported, ReceiveMarkedRunExported};
 ghost use Rattle.exports.specs.RecordingBlock.{RecordingBlockExported};
 ghost use Rattle.exports.specs.ReadRun.{resultBytes, ReadRunExported, SoftRunExported};
@@ -23,34 +23,34 @@ use reed_solomon::Decoded;
 
 // Randomizes a packet at a place of its group: the number of the answer.
 #[no_mangle]
-pub extern "C" fn dvbs_randomize(place: u8, packet: &[u8], room: &mut [u8]) -> u8
+pub extern "C" fn dvbs_randomize(place: u8, packet: &[u8], output: &mut [u8]) -> u8
     ensures { λ r. ⌜
-        (r ≡ randomizeNumber place (now (packet .entry)) (now (room .entry)))
-        × (now (room .exit) ≡ randomizeRoom place (now (packet .entry)) (now (room .entry))) ⌝ }
+        (r ≡ randomizeNumber place (now (packet .entry)) (now (output .entry)))
+        × (now (output .exit) ≡ randomizeOutput place (now (packet .entry)) (now (output .entry))) ⌝ }
 {
-    let answer = randomizer::randomize(place, packet, room);
+    let answer = randomizer::randomize(place, packet, output);
     answer.number()
 }
 
 // Derandomizes a packet at a place of its group: the number of the answer.
 #[no_mangle]
-pub extern "C" fn dvbs_derandomize(place: u8, packet: &[u8], room: &mut [u8]) -> u8
+pub extern "C" fn dvbs_derandomize(place: u8, packet: &[u8], output: &mut [u8]) -> u8
     ensures { λ r. ⌜
-        (r ≡ derandomizeNumber place (now (packet .entry)) (now (room .entry)))
-        × (now (room .exit) ≡ derandomizeRoom place (now (packet .entry)) (now (room .entry))) ⌝ }
+        (r ≡ derandomizeNumber place (now (packet .entry)) (now (output .entry)))
+        × (now (output .exit) ≡ derandomizeOutput place (now (packet .entry)) (now (output .entry))) ⌝ }
 {
-    let answer = randomizer::derandomize(place, packet, room);
+    let answer = randomizer::derandomize(place, packet, output);
     answer.number()
 }
 
 // Codes 188 bytes to a block of 204: the number of the answer.
 #[no_mangle]
-pub extern "C" fn dvbs_rs_encode(message: &[u8], room: &mut [u8]) -> u8
+pub extern "C" fn dvbs_rs_encode(message: &[u8], output: &mut [u8]) -> u8
     ensures { λ r. ⌜
-        (r ≡ encodeNumber (now (message .entry)) (now (room .entry)))
-        × (now (room .exit) ≡ encodeRoom (now (message .entry)) (now (room .entry))) ⌝ }
+        (r ≡ encodeNumber (now (message .entry)) (now (output .entry)))
+        × (now (output .exit) ≡ encodeOutput (now (message .entry)) (now (output .entry))) ⌝ }
 {
-    let answer = reed_solomon::encode(message, room);
+    let answer = reed_solomon::encode(message, output);
     answer.number()
 }
 
@@ -108,16 +108,21 @@ pub extern "C" fn dvbs_rs_decode_marked(block: &mut [u8], marks: &[u8], count: &
 
 // Sends a whole list of packets with a fresh sender: the number of symbols written. The first byte of answer has the number of the answer.
 #[no_mangle]
-pub extern "C" fn dvbs_send_run(rate: u8, packets: &[u8], room: &mut [u8], answer: &mut [u8]) -> u64
+pub extern "C" fn dvbs_send_run(
+    rate: u8,
+    packets: &[u8],
+    output: &mut [u8],
+    answer: &mut [u8],
+) -> u64
     ensures { λ r. ⌜
-        (r ≡ sendRunCount rate (now (packets .entry)) (now (room .entry)) (now (answer .entry)))
-        × (now (room .exit) ≡ sendRunRoom rate (now (packets .entry)) (now (room .entry)) (now (answer .entry)))
-        × (now (answer .exit) ≡ sendRunAnswer rate (now (packets .entry)) (now (room .entry)) (now (answer .entry))) ⌝ }
+        (r ≡ sendRunCount rate (now (packets .entry)) (now (output .entry)) (now (answer .entry)))
+        × (now (output .exit) ≡ sendRunOutput rate (now (packets .entry)) (now (output .entry)) (now (answer .entry)))
+        × (now (answer .exit) ≡ sendRunAnswer rate (now (packets .entry)) (now (output .entry)) (now (answer .entry))) ⌝ }
 {
     if answer.len() < 1 {
         return 0;
     }
-    let run = transmission::send_run(rate, packets, room);
+    let run = transmission::send_run(rate, packets, output);
     let number = run.answer;
     answer[0] = number.number();
     run.count as u64
@@ -149,12 +154,12 @@ fn put_recorded(recorded: Recorded, counts: &mut [u8], answer: &mut [u8]) -> u64
 #[no_mangle]
 pub extern "C" fn dvbs_receive_run(
     blocks: &[u8],
-    room: &mut [u8],
+    output: &mut [u8],
     counts: &mut [u8],
     answer: &mut [u8],
 ) -> u64
     ensures { λ r. ⌜
-        ReceiveRunExported (now (blocks .entry)) (now (room .entry)) (now (room .exit)) (now (counts .entry)) (now (counts .exit)) (now (answer .entry)) (now (answer .exit)) r ⌝ }
+        ReceiveRunExported (now (blocks .entry)) (now (output .entry)) (now (output .exit)) (now (counts .entry)) (now (counts .exit)) (now (answer .entry)) (now (answer .exit)) r ⌝ }
 {
     if answer.len() < 1 {
         return 0;
@@ -163,7 +168,7 @@ pub extern "C" fn dvbs_receive_run(
         answer[0] = 4;
         return 0;
     }
-    let recorded = recording::receive_run(blocks, room);
+    let recorded = recording::receive_run(blocks, output);
     put_recorded(recorded, counts, answer)
 }
 
@@ -172,12 +177,12 @@ pub extern "C" fn dvbs_receive_run(
 pub extern "C" fn dvbs_receive_run_marked(
     blocks: &[u8],
     marks: &[u8],
-    room: &mut [u8],
+    output: &mut [u8],
     counts: &mut [u8],
     answer: &mut [u8],
 ) -> u64
     ensures { λ r. ⌜
-        ReceiveMarkedRunExported (now (blocks .entry)) (now (marks .entry)) (now (room .entry)) (now (room .exit)) (now (counts .entry)) (now (counts .exit)) (now (answer .entry)) (now (answer .exit)) r ⌝ }
+        ReceiveMarkedRunExported (now (blocks .entry)) (now (marks .entry)) (now (output .entry)) (now (output .exit)) (now (counts .entry)) (now (counts .exit)) (now (answer .entry)) (now (answer .exit)) r ⌝ }
 {
     if answer.len() < 1 {
         return 0;
@@ -190,36 +195,36 @@ pub extern "C" fn dvbs_receive_run_marked(
         answer[0] = 4;
         return 0;
     }
-    let recorded = recording::receive_marked_run(blocks, marks, room);
+    let recorded = recording::receive_marked_run(blocks, marks, output);
     put_recorded(recorded, counts, answer)
 }
 
-// Block p of a recording that has so many whole blocks, repaired into the room: the number of the answer. Where it is 0, the first
+// Block p of a recording that has so many whole blocks, corrected into the output: the number of the answer. Where it is 0, the first
 // two bytes of count have the numbers of bytes and bits changed.
 #[no_mangle]
 pub extern "C" fn dvbs_recording_block(
     recording: &[u8],
     blocks: u64,
     p: u64,
-    room: &mut [u8],
+    output: &mut [u8],
     count: &mut [u8],
 ) -> u8
     ensures { λ r. ⌜
-        RecordingBlockExported (now (recording .entry)) blocks p (now (room .entry)) (now (room .exit)) (now (count .entry)) (now (count .exit)) r ⌝ }
+        RecordingBlockExported (now (recording .entry)) blocks p (now (output .entry)) (now (output .exit)) (now (count .entry)) (now (count .exit)) r ⌝ }
 {
     if count.len() < 2 {
         // As with no room at all: 5 and 16 come before 4.
         let mut none = [0u8; 0];
-        let refused = recorded_block::repaired_block(recording, blocks, p, &mut none);
+        let refused = recorded_block::decoded_block(recording, blocks, p, &mut none);
         let answer = refused.answer;
         return answer.number();
     }
-    let repaired = recorded_block::repaired_block(recording, blocks, p, room);
-    let answer = repaired.answer;
+    let decoded = recorded_block::decoded_block(recording, blocks, p, output);
+    let answer = decoded.answer;
     let number = answer.number();
     if number == 0 {
-        count[0] = repaired.changed.bytes;
-        count[1] = repaired.changed.bits;
+        count[0] = decoded.changed.bytes;
+        count[1] = decoded.changed.bits;
     }
     number
 }
@@ -244,16 +249,16 @@ pub extern "C" fn dvbs_read_run(
     rate: u8,
     memory: u8,
     symbols: &[u8],
-    room: &mut [u8],
+    output: &mut [u8],
     result: &mut [u8],
 ) -> u64
     ensures { λ r. ⌜
-        ReadRunExported rate memory (now (symbols .entry)) (now (room .entry)) (now (room .exit)) (now (result .entry)) (now (result .exit)) r ⌝ }
+        ReadRunExported rate memory (now (symbols .entry)) (now (output .entry)) (now (output .exit)) (now (result .entry)) (now (result .exit)) r ⌝ }
 {
     if result.len() < 6 {
         return 0;
     }
-    let read = run_reader::read_run(rate, memory, symbols, room);
+    let read = run_reader::read_run(rate, memory, symbols, output);
     let answer = read.answer;
     put_result(answer.number(), read.memory, read.cost, result);
     read.count as u64
@@ -268,16 +273,16 @@ pub extern "C" fn dvbs_read_soft_run(
     i: &[f32],
     q: &[f32],
     lost: &[u8],
-    room: &mut [u8],
+    output: &mut [u8],
     result: &mut [u8],
 ) -> u64
     ensures { λ r. ⌜
-        SoftRunExported rate memory (now (i .entry)) (now (q .entry)) (now (lost .entry)) (now (room .entry)) (now (room .exit)) (now (result .entry)) (now (result .exit)) r ⌝ }
+        SoftRunExported rate memory (now (i .entry)) (now (q .entry)) (now (lost .entry)) (now (output .entry)) (now (output .exit)) (now (result .entry)) (now (result .exit)) r ⌝ }
 {
     if result.len() < 6 {
         return 0;
     }
-    let read = run_reader::read_soft_run(rate, memory, i, q, lost, room);
+    let read = run_reader::read_soft_run(rate, memory, i, q, lost, output);
     let answer = read.answer;
     put_result(answer.number(), read.memory, read.cost, result);
     read.count as u64

@@ -15,8 +15,8 @@ use Rattle.group_sync.specs.Group.{dueByte, placeAfter, knownAfter, fres
 use Rattle.group_sync.specs.Stream.{outcomes, sentFrom}
 use Rattle.group_sync.specs.declared.Place.{Place}
 use Rattle.group_sync.specs.declared.Place.the-variants.{NotKnown, Known}
-use Rattle.group_sync.specs.declared.Repair.{Repair}
-use Rattle.group_sync.specs.declared.Repair.the-variants as repair
+use Rattle.group_sync.specs.declared.BlockDecoding.{BlockDecoding}
+use Rattle.group_sync.specs.declared.BlockDecoding.the-variants as decoding
 use Rattle.group_sync.specs.declared.Outcome.{Outcome}
 use Rattle.group_sync.specs.declared.Outcome.the-variants.{Delivered, Lost, Waiting, OutOfStep}
 use Rattle.group_sync.specs.declared.GroupSync.{GroupSync}
@@ -34,38 +34,38 @@ stepBefore outcome place = record { outcome = outcome; place = place }
 
 -- Accepted with the place not known: B8 first makes it place 0 and gives the packet, any other first byte is waited over.
 -- Accepted with the place known: where the byte that is due is not there, the place becomes not known.
-abbrev pub ruleBefore : Place → Repair → StepBefore
-ruleBefore place repair.Lost = stepBefore Lost (knownAfter place)
-ruleBefore NotKnown (repair.Accepted first) = pick (eqb first 0xB8) (stepBefore (Delivered 0) (Known 1)) (stepBefore Waiting NotKnown)
-ruleBefore (Known p) (repair.Accepted first) =
+abbrev pub ruleBefore : Place → BlockDecoding → StepBefore
+ruleBefore place decoding.Lost = stepBefore Lost (knownAfter place)
+ruleBefore NotKnown (decoding.Accepted first) = pick (eqb first 0xB8) (stepBefore (Delivered 0) (Known 1)) (stepBefore Waiting NotKnown)
+ruleBefore (Known p) (decoding.Accepted first) =
     pick (eqb first (dueByte p)) (stepBefore (Delivered p) (Known (placeAfter p))) (stepBefore OutOfStep NotKnown)
 
-abbrev pub outcomesBefore : Place → List Repair → List Outcome
+abbrev pub outcomesBefore : Place → List BlockDecoding → List Outcome
 outcomesBefore place [] = []
 outcomesBefore place (r ∷ rs) = ruleBefore place r .outcome ∷ outcomesBefore (ruleBefore place r .place) rs
 
 -- ---- both on blocks in order
 
 -- each block of a sender from its block n on is lost or begins with the sync byte of its place
-abbrev pub InOrder : ℕ → List Repair → Type 0
+abbrev pub InOrder : ℕ → List BlockDecoding → Type 0
 InOrder n [] = Unit {0}
-InOrder n (r ∷ rs) = ((r ≡ repair.Lost) ⊎ (r ≡ sent n)) × InOrder (n + 1) rs
+InOrder n (r ∷ rs) = ((r ≡ decoding.Lost) ⊎ (r ≡ sent n)) × InOrder (n + 1) rs
 
 -- no group start was seen, or block n is due
 abbrev Due : ℕ → GroupSync → Type 0
 Due n s = (s ≡ freshSync) ⊎ (s ≡ knownSync (n % 8) 0)
 
 -- one block comes to the same
-record Alike (n : ℕ) (s : GroupSync) (r : Repair) : Type 0 where
+record Alike (n : ℕ) (s : GroupSync) (r : BlockDecoding) : Type 0 where
   pub both : GroupStep
   pub now : groupStep s r ≡ both
   pub before : ruleBefore (s .place) r ≡ stepBefore (both .outcome) (both .sync .place)
   pub next : Due (n + 1) (both .sync)
 
-lost-fresh : (n : ℕ) → Alike n freshSync repair.Lost
+lost-fresh : (n : ℕ) → Alike n freshSync decoding.Lost
 lost-fresh n = record { both = step Lost NotKnown 0; now = refl; before = refl; next = inl refl }
 
-lost-known : (n : ℕ) → Alike n (knownSync (n % 8) 0) repair.Lost
+lost-known : (n : ℕ) → Alike n (knownSync (n % 8) 0) decoding.Lost
 lost-known n = record {
   both = step Lost (Known ((n + 1) % 8)) 0;
   now = ap (λ (p : ℕ). step Lost (Known p) 0) (next-place n);
@@ -90,13 +90,13 @@ sent-known n = record {
   next = inr refl;
 }
 
-alike : (n : ℕ) (s : GroupSync) (r : Repair) → Due n s → (r ≡ repair.Lost) ⊎ (r ≡ sent n) → Alike n s r
+alike : (n : ℕ) (s : GroupSync) (r : BlockDecoding) → Due n s → (r ≡ decoding.Lost) ⊎ (r ≡ sent n) → Alike n s r
 alike n s r (inl d) (inl e) = rw (d, e) (lost-fresh n)
 alike n s r (inl d) (inr e) = rw (d, e) (sent-fresh n)
 alike n s r (inr d) (inl e) = rw (d, e) (lost-known n)
 alike n s r (inr d) (inr e) = rw (d, e) (sent-known n)
 
-same-outcomes : (n : ℕ) (s : GroupSync) (rs : List Repair) → Due n s → InOrder n rs → outcomes s rs ≡ outcomesBefore (s .place) rs
+same-outcomes : (n : ℕ) (s : GroupSync) (rs : List BlockDecoding) → Due n s → InOrder n rs → outcomes s rs ≡ outcomesBefore (s .place) rs
 same-outcomes n s [] d o = refl
 same-outcomes n s (r ∷ rs) d o =
     let a = alike n s r d (o .0) in
@@ -105,7 +105,7 @@ same-outcomes n s (r ∷ rs) d o =
     ∙ sym (ap (λ (b : StepBefore). b .outcome ∷ outcomesBefore (b .place) rs) (a .before))
 
 -- the theorem: begun at any block of a sender
-pub as-before : (n : ℕ) (rs : List Repair) → InOrder n rs → outcomes freshSync rs ≡ outcomesBefore NotKnown rs
+pub as-before : (n : ℕ) (rs : List BlockDecoding) → InOrder n rs → outcomes freshSync rs ≡ outcomesBefore NotKnown rs
 as-before n rs o = same-outcomes n freshSync rs (inl refl) o
 
 -- unharmed blocks are in order

@@ -11,8 +11,8 @@ use lib.ListN.{take, replicate}
 use Rattle.group_sync.specs.Group.{dueByte, placeAfter, freshSync, knownSync, step, groupStep}
 use Rattle.group_sync.specs.Stream.{outcomes, sentFrom, deliveredFrom, beforeGroup}
 use Rattle.group_sync.specs.declared.Place.the-variants.{NotKnown, Known}
-use Rattle.group_sync.specs.declared.Repair.{Repair}
-use Rattle.group_sync.specs.declared.Repair.the-variants as repair
+use Rattle.group_sync.specs.declared.BlockDecoding.{BlockDecoding}
+use Rattle.group_sync.specs.declared.BlockDecoding.the-variants as decoding
 use Rattle.group_sync.specs.declared.Outcome.{Outcome}
 use Rattle.group_sync.specs.declared.Outcome.the-variants.{Delivered, Waiting, OutOfStep}
 use Rattle.group_sync.specs.declared.GroupSync.{GroupSync}
@@ -28,8 +28,8 @@ next-place n = by (decLt (n % 8) 7)
     by (no h) = simp (le-ltb (n % 8) 7 (omega arith)) (omega arith)
 
 -- block n, with the sync byte that is due
-abbrev pub sent : ℕ → Repair
-sent n = repair.Accepted (dueByte (n % 8))
+abbrev pub sent : ℕ → BlockDecoding
+sent n = decoding.Accepted (dueByte (n % 8))
 
 -- it is given at its place
 abbrev pub onStep : ℕ → GroupStep
@@ -53,7 +53,7 @@ waits n z = simp (ne-eqb (n % 8) 0 z)
 -- ---- a sender's blocks
 
 -- what comes after a step that is known
-after-step : (s : GroupSync) (r : Repair) (rs : List Repair) (g : GroupStep) (os : List Outcome) → groupStep s r ≡ g → outcomes (g .sync) rs ≡ os
+after-step : (s : GroupSync) (r : BlockDecoding) (rs : List BlockDecoding) (g : GroupStep) (os : List Outcome) → groupStep s r ≡ g → outcomes (g .sync) rs ≡ os
     → outcomes s (r ∷ rs) ≡ g .outcome ∷ os
 after-step s r rs g os e o = ap (λ (x : GroupStep). x .outcome ∷ outcomes (x .sync) rs) e ∙ ap (λ (x : List Outcome). g .outcome ∷ x) o
 
@@ -88,10 +88,10 @@ begun-anywhere n k m h = fresh-given n (beforeGroup n) k m (omega arith) (omega 
 -- ---- one block with neither sync byte first, among good ones
 
 odd-step : (n first : ℕ) → (first ≡ 0xB8 → ⊥) → (first ≡ 0x47 → ⊥)
-    → groupStep (knownSync (n % 8) 0) (repair.Accepted first) ≡ step OutOfStep (Known ((n + 1) % 8)) 1
+    → groupStep (knownSync (n % 8) 0) (decoding.Accepted first) ≡ step OutOfStep (Known ((n + 1) % 8)) 1
 odd-step n first h l = by (ℕ-discrete (n % 8) 0)
   where
-    by : Dec (n % 8 ≡ 0) → groupStep (knownSync (n % 8) 0) (repair.Accepted first) ≡ step OutOfStep (Known ((n + 1) % 8)) 1
+    by : Dec (n % 8 ≡ 0) → groupStep (knownSync (n % 8) 0) (decoding.Accepted first) ≡ step OutOfStep (Known ((n + 1) % 8)) 1
     by (yes z) = let y : (n + 1) % 8 ≡ 1 = omega arith in simp (ne-eqb first 0xB8 h, ne-eqb first 0x47 l, z, y)
     by (no z) = simp (ne-eqb first 0xB8 h, ne-eqb first 0x47 l, ne-eqb (n % 8) 0 z, next-place n)
 
@@ -102,18 +102,18 @@ all-taken n (suc k) = ap (λ (x : List Outcome). Delivered (n % 8) ∷ x) (all-t
 -- It costs its own packet and no other: the a blocks before it and the b after it are given.
 -- One at least before it is good, or nothing was missed.
 pub one-odd : (n missed a b first : ℕ) → (a ≡ 0 → missed ≡ 0) → (first ≡ 0xB8 → ⊥) → (first ≡ 0x47 → ⊥)
-    → outcomes (knownSync (n % 8) missed) (sentFrom n a ++ repair.Accepted first ∷ sentFrom (n + a + 1) b)
+    → outcomes (knownSync (n % 8) missed) (sentFrom n a ++ decoding.Accepted first ∷ sentFrom (n + a + 1) b)
     ≡ deliveredFrom n a ++ OutOfStep ∷ deliveredFrom (n + a + 1) b
 one-odd n missed zero b first m h l =
     let e : n + 0 + 1 ≡ n + 1 = omega arith in
-    ap (λ (i : ℕ). outcomes (knownSync (n % 8) missed) (repair.Accepted first ∷ sentFrom i b)) e
-    ∙ after-step (knownSync (n % 8) missed) (repair.Accepted first) (sentFrom (n + 1) b) (step OutOfStep (Known ((n + 1) % 8)) 1) (deliveredFrom (n + 1) b)
-    (ap (λ (i : ℕ). groupStep (knownSync (n % 8) i) (repair.Accepted first)) (m refl) ∙ odd-step n first h l)
+    ap (λ (i : ℕ). outcomes (knownSync (n % 8) missed) (decoding.Accepted first ∷ sentFrom i b)) e
+    ∙ after-step (knownSync (n % 8) missed) (decoding.Accepted first) (sentFrom (n + 1) b) (step OutOfStep (Known ((n + 1) % 8)) 1) (deliveredFrom (n + 1) b)
+    (ap (λ (i : ℕ). groupStep (knownSync (n % 8) i) (decoding.Accepted first)) (m refl) ∙ odd-step n first h l)
     (all-given (n + 1) 1 b b (omega arith) ∙ all-taken (n + 1) b)
     ∙ ap (λ (i : ℕ). OutOfStep ∷ deliveredFrom i b) (sym e)
 one-odd n missed (suc a) b first m h l =
     let e : n + suc a + 1 ≡ n + 1 + a + 1 = omega arith in
-    ap (λ (i : ℕ). outcomes (knownSync (n % 8) missed) (sentFrom n (suc a) ++ repair.Accepted first ∷ sentFrom i b)) e
-    ∙ after-step (knownSync (n % 8) missed) (sent n) (sentFrom (n + 1) a ++ repair.Accepted first ∷ sentFrom (n + 1 + a + 1) b) (onStep n)
+    ap (λ (i : ℕ). outcomes (knownSync (n % 8) missed) (sentFrom n (suc a) ++ decoding.Accepted first ∷ sentFrom i b)) e
+    ∙ after-step (knownSync (n % 8) missed) (sent n) (sentFrom (n + 1) a ++ decoding.Accepted first ∷ sentFrom (n + 1 + a + 1) b) (onStep n)
     (deliveredFrom (n + 1) a ++ OutOfStep ∷ deliveredFrom (n + 1 + a + 1) b) (in-step n missed) (one-odd (n + 1) 0 a b first (λ _. refl) h l)
     ∙ ap (λ (i : ℕ). deliveredFrom n (suc a) ++ OutOfStep ∷ deliveredFrom i b) (sym e)

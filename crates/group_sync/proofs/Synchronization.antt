@@ -15,8 +15,8 @@ use Rattle.group_sync.specs.declared.Place.{Place}
 use Rattle.group_sync.specs.declared.Place.the-variants.{NotKnown, Known}
 use Rattle.group_sync.specs.declared.FirstByte.{FirstByte}
 use Rattle.group_sync.specs.declared.FirstByte.the-variants.{InvertedSync, Sync, Neither}
-use Rattle.group_sync.specs.declared.Repair.{Repair}
-use Rattle.group_sync.specs.declared.Repair.the-variants as repair
+use Rattle.group_sync.specs.declared.BlockDecoding.{BlockDecoding}
+use Rattle.group_sync.specs.declared.BlockDecoding.the-variants as decoding
 use Rattle.group_sync.specs.declared.Outcome.{Outcome}
 use Rattle.group_sync.specs.declared.Outcome.the-variants.{Delivered, Waiting, OutOfStep}
 use Rattle.group_sync.specs.declared.GroupSync.{GroupSync}
@@ -73,18 +73,18 @@ lost-in-range (Known p) missed h =
 -- ---- what the receiver builds on
 
 -- a step keeps the state in its ranges
-pub sync-in-range : (s : GroupSync) (r : Repair) → syncInRange s ≡ true → syncInRange (groupStep s r .sync) ≡ true
-sync-in-range s repair.Lost h = lost-in-range (s .place) (s .missed) h
-sync-in-range s (repair.Accepted first) h =
+pub sync-in-range : (s : GroupSync) (r : BlockDecoding) → syncInRange s ≡ true → syncInRange (groupStep s r .sync) ≡ true
+sync-in-range s decoding.Lost h = lost-in-range (s .place) (s .missed) h
+sync-in-range s (decoding.Accepted first) h =
     accepted-lines (λ g. syncInRange (g .sync) ≡ true) (λ p l. rw (after-small p l)) refl (λ p l. rw (after-small p l)) refl
     (s .place) (s .missed) (firstByte first) h
 
 -- an accepted block is delivered at a place of a group, waited over or out of step
 pub accepted-outcome : (P : Outcome → Type 0) (s : GroupSync) (first : ℕ) → ((p : ℕ) → p ≤ 7 → P (Delivered p)) → P Waiting → P OutOfStep
-    → syncInRange s ≡ true → P (groupStep s (repair.Accepted first) .outcome)
+    → syncInRange s ≡ true → P (groupStep s (decoding.Accepted first) .outcome)
 accepted-outcome P s first d w o h = accepted-lines (λ g. P (g .outcome)) d w (λ p l. o) o (s .place) (s .missed) (firstByte first) h
 
 -- a packet given has a place of a group
-pub outcome-place : (s : GroupSync) (r : Repair) → syncInRange s ≡ true → PlaceOf (groupStep s r .outcome)
-outcome-place s repair.Lost h = tt
-outcome-place s (repair.Accepted first) h = accepted-outcome PlaceOf s first (λ p l. l) tt tt h
+pub outcome-place : (s : GroupSync) (r : BlockDecoding) → syncInRange s ≡ true → PlaceOf (groupStep s r .outcome)
+outcome-place s decoding.Lost h = tt
+outcome-place s (decoding.Accepted first) h = accepted-outcome PlaceOf s first (λ p l. l) tt tt h

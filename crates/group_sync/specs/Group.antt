@@ -10,8 +10,8 @@ use Rattle.group_sync.specs.declared.Place.{Place}
 use Rattle.group_sync.specs.declared.Place.the-variants.{NotKnown, Known}
 use Rattle.group_sync.specs.declared.FirstByte.{FirstByte}
 use Rattle.group_sync.specs.declared.FirstByte.the-variants.{InvertedSync, Sync, Neither}
-use Rattle.group_sync.specs.declared.Repair.{Repair}
-use Rattle.group_sync.specs.declared.Repair.the-variants as repair
+use Rattle.group_sync.specs.declared.BlockDecoding.{BlockDecoding}
+use Rattle.group_sync.specs.declared.BlockDecoding.the-variants as decoding
 use Rattle.group_sync.specs.declared.Outcome.{Outcome}
 use Rattle.group_sync.specs.declared.Outcome.the-variants.{Filling, Delivered, Lost, Waiting, OutOfStep}
 use Rattle.group_sync.specs.declared.GroupSync.{GroupSync}
@@ -81,9 +81,9 @@ acceptedStep NotKnown missed first = searching first
 acceptedStep (Known p) missed first = pick (eqb p 0) (startDue missed first) (packetDue p missed first)
 
 -- One block after filling. A lost block neither sets nor clears the mark, and a place that is known goes on over it.
-abbrev pub groupStep : GroupSync → Repair → GroupStep
-groupStep s repair.Lost = step Lost (knownAfter (s .place)) (s .missed)
-groupStep s (repair.Accepted first) = acceptedStep (s .place) (s .missed) (firstByte first)
+abbrev pub groupStep : GroupSync → BlockDecoding → GroupStep
+groupStep s decoding.Lost = step Lost (knownAfter (s .place)) (s .missed)
+groupStep s (decoding.Accepted first) = acceptedStep (s .place) (s .missed) (firstByte first)
 
 -- a packet given has a place of a group
 abbrev pub PlaceOf : Outcome → Type 0

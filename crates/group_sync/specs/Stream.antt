@@ -3,21 +3,21 @@
 use mathlib.Core.List.{List, [], _∷_}
 use Prim.Native.Nat.{ℕ, zero, suc, _+_, _-_, _%_}
 use Rattle.group_sync.specs.Group.{dueByte, groupStep}
-use Rattle.group_sync.specs.declared.Repair.{Repair}
-use Rattle.group_sync.specs.declared.Repair.the-variants as repair
+use Rattle.group_sync.specs.declared.BlockDecoding.{BlockDecoding}
+use Rattle.group_sync.specs.declared.BlockDecoding.the-variants as decoding
 use Rattle.group_sync.specs.declared.Outcome.{Outcome}
 use Rattle.group_sync.specs.declared.Outcome.the-variants.{Delivered}
 use Rattle.group_sync.specs.declared.GroupSync.{GroupSync}
 
 -- what blocks come to, one after another
-abbrev pub outcomes : GroupSync → List Repair → List Outcome
+abbrev pub outcomes : GroupSync → List BlockDecoding → List Outcome
 outcomes s [] = []
 outcomes s (r ∷ rs) = groupStep s r .outcome ∷ outcomes (groupStep s r .sync) rs
 
 -- k blocks of a sender from its block n on, each a codeword with the sync byte of its place in the group
-abbrev pub sentFrom : ℕ → ℕ → List Repair
+abbrev pub sentFrom : ℕ → ℕ → List BlockDecoding
 sentFrom n zero = []
-sentFrom n (suc k) = repair.Accepted (dueByte (n % 8)) ∷ sentFrom (n + 1) k
+sentFrom n (suc k) = decoding.Accepted (dueByte (n % 8)) ∷ sentFrom (n + 1) k
 
 -- each of them delivered at its place
 abbrev pub deliveredFrom : ℕ → ℕ → List Outcome

@@ -8,8 +8,8 @@ pub enum Place {
     Known(u8),
 }
 
-// What the repair made of a block.
-pub enum Repair {
+// What the outer decoder made of a block.
+pub enum BlockDecoding {
     // No codeword is within eight bytes.
     Lost,
     // A codeword, with this first byte.
@@ -193,13 +193,13 @@ impl GroupSync {
         }
     }
 
-    // One block, by what the repair made of it.
-    pub fn step(self, repair: Repair) -> GroupStep
-        ensures { λ r. ⌜ r ≡ groupStep self repair ⌝ }
+    // One block, by what the outer decoder made of it.
+    pub fn step(self, decoding: BlockDecoding) -> GroupStep
+        ensures { λ r. ⌜ r ≡ groupStep self decoding ⌝ }
     {
-        match repair {
-            Repair::Lost => self.moved(),
-            Repair::Accepted(first) => self.accepted(first),
+        match decoding {
+            BlockDecoding::Lost => self.moved(),
+            BlockDecoding::Accepted(first) => self.accepted(first),
         }
     }
 }

@@ -54,19 +54,19 @@ refusing r exit p h l =
 
 -- Invented counts of changed bytes and bits: where 2 e + f is at most 16 for some codeword and the block and marks that the branches give,
 -- the counts grow by the bytes and bits in which they differ, and by nothing else.
-pub invented-changes : (s : Receiver) (block marks room : List ℕ) (r : Received) (exit : List ℕ) → ReceivesMarked s block marks room r exit → Ready s block marks room
+pub invented-changes : (s : Receiver) (block marks output : List ℕ) (r : Received) (exit : List ℕ) → ReceivesMarked s block marks output r exit → Ready s block marks output
     → 11 ≤ s .counts .taken → (c : List ℕ) → Codeword c → cost (delayedMarks s marks) (delayedBlock s block) c ≤ 16
     → ((r .receiver .counts .changed ≡ s .counts .changed + differ (delayedBlock s block) c)
     × (r .receiver .counts .bits ≡ s .counts .bits + differBits (delayedBlock s block) c) → ⊥) → ⊥
 unfolding stateAfter
-invented-changes s block marks room r exit p y h c w l n =
+invented-changes s block marks output r exit p y h c w l n =
     n (
       ap (λ (x : Receiver). x .counts .changed) state ∙ ap (λ (k : ℕ). s .counts .changed + k) (added (λ x. x .bytes) refl),
       ap (λ (x : Receiver). x .counts .bits) state ∙ ap (λ (k : ℕ). s .counts .bits + k) (added (λ x. x .bits) refl),
     )
   where
     state : r .receiver ≡ stateAfter s block marks (p .left) (p .decoded)
-    state = p .state ∙ ready-state s block marks room y (p .left) (p .decoded)
+    state = p .state ∙ ready-state s block marks output y (p .left) (p .decoded)
 
     same : Same (p .left) c (p .decoded) (Corrected (changes (delayedBlock s block) c))
     same =
@@ -76,7 +76,7 @@ invented-changes s block marks room r exit p y h c w l n =
     added : (f : Changed → ℕ) → f noChange ≡ 0
         → ofAccepted (stepOf s (p .left) (p .decoded) .outcome) (f (changes (delayedBlock s block) (p .left))) ≡ f (changes (delayedBlock s block) c)
     added f z =
-        simp (le-ltb _ _ h) (sym (changed-is s block marks room y f z (p .left) (p .decoded) (p .decodes)) ∙ ap (λ (x : Decoded). f (changedBy x)) (same .answer))
+        simp (le-ltb _ _ h) (sym (changed-is s block marks output y f z (p .left) (p .decoded) (p .decodes)) ∙ ap (λ (x : Decoded). f (changedBy x)) (same .answer))
 
 -- A receiver that never gives a packet, whatever its answers are (8, 9 or 10 for all, say): of twelve packets that were sent the first is given.
 pub giving-none : (packets : List (List ℕ)) → All Packet packets → 11 < length packets → length packets ≤ 4294967295 → (numbers : List ℕ) (last : Receiver)
@@ -90,15 +90,15 @@ giving-none packets ws h l numbers last k =
 pub record Left : Type 0 where
   pub number : ℕ
   pub count : ℕ
-  pub room : List ℕ
+  pub output : List ℕ
 
--- a program: what it leaves for the bytes of a recording and a room
+-- a program: what it leaves for the bytes of a recording and an output
 abbrev pub Program : Type 0
 Program = List ℕ → List ℕ → Left
 
 -- it gives packets back as `receive_run` promises
 abbrev pub Keeps : Program → Type 0
-Keeps f = (bytes room : List ℕ) → Returns bytes room (f bytes room .number) (f bytes room .count) (f bytes room .room)
+Keeps f = (bytes output : List ℕ) → Returns bytes output (f bytes output .number) (f bytes output .count) (f bytes output .output)
 
 -- k + 12 packets, of which k + 1 are given back
 sent : ℕ → ℕ → List (List ℕ)
@@ -125,53 +125,53 @@ sent-given : (k v : ℕ) → take (length (sent k v) - 11) (sent k v) ≡ sample
 unfolding sent
 sent-given k v = take-at (samples k v) (replicate 11 (sample 0)) (length (sent k v) - 11) (omega (arith, samples-length k v, sent-length k v))
 
-room-of : ℕ → ℕ → List ℕ
-room-of k w = replicate (188 * (k + 12)) w
+output-of : ℕ → ℕ → List ℕ
+output-of k w = replicate (188 * (k + 12)) w
 
 module _ (f : Program) (keeps : Keeps f) (k : ℕ) (few : k + 12 ≤ 4294967294) where
   given : (n v w : ℕ) → n ≤ k + 1 → v < 256
-      → (f (sentBytes (sent n v)) (room-of n w) .count ≡ 188 * (n + 1))
-      × (f (sentBytes (sent n v)) (room-of n w) .room ≡ flatten (samples n v) ++ drop (188 * (n + 1)) (room-of n w))
-  unfolding room-of
+      → (f (sentBytes (sent n v)) (output-of n w) .count ≡ 188 * (n + 1))
+      × (f (sentBytes (sent n v)) (output-of n w) .output ≡ flatten (samples n v) ++ drop (188 * (n + 1)) (output-of n w))
+  unfolding output-of
   given n v w h l =
       let e = sent-length n v in
-      let r = keeps (sentBytes (sent n v)) (room-of n w) .back (sent n v) (sent-packets n v l) (omega arith) refl (omega (arith, length-replicate {A = ℕ} (188 * (n + 12)) w)) in
-      let c : f (sentBytes (sent n v)) (room-of n w) .count ≡ 188 * (n + 1) = omega (arith, r .1) in
-      (c, r .2 ∙ ap₂ (λ (a : List (List ℕ)) (m : ℕ). flatten a ++ drop m (room-of n w)) (sent-given n v) c)
+      let r = keeps (sentBytes (sent n v)) (output-of n w) .back (sent n v) (sent-packets n v l) (omega arith) refl (omega (arith, length-replicate {A = ℕ} (188 * (n + 12)) w)) in
+      let c : f (sentBytes (sent n v)) (output-of n w) .count ≡ 188 * (n + 1) = omega (arith, r .1) in
+      (c, r .2 ∙ ap₂ (λ (a : List (List ℕ)) (m : ℕ). flatten a ++ drop m (output-of n w)) (sent-given n v) c)
 
   -- one answer for all recordings of more than k packets
-  pub one-answer : (left : Left) → ((ps : List (List ℕ)) → All Packet ps → k < length ps → (room : List ℕ) → f (sentBytes ps) room ≡ left) → ⊥
+  pub one-answer : (left : Left) → ((ps : List (List ℕ)) → All Packet ps → k < length ps → (output : List ℕ) → f (sentBytes ps) output ≡ left) → ⊥
   one-answer left same = omega (arith, count k (omega arith) (omega arith), count (k + 1) (omega arith) (omega arith))
     where
       count : (n : ℕ) → k ≤ n → n ≤ k + 1 → left .count ≡ 188 * (n + 1)
       count n h m =
-          sym (ap (λ (x : Left). x .count) (same (sent n 0) (sent-packets n 0 (omega arith)) (omega (arith, sent-length n 0)) (room-of n 0)))
+          sym (ap (λ (x : Left). x .count) (same (sent n 0) (sent-packets n 0 (omega arith)) (omega (arith, sent-length n 0)) (output-of n 0)))
           ∙ given n 0 0 m (omega arith) .0
 
-  first-byte : (w : ℕ) → getD (f (sentBytes (sent k 0)) (room-of k w) .room) 0 0 ≡ getD (flatten (samples k 0)) 0 0
+  first-byte : (w : ℕ) → getD (f (sentBytes (sent k 0)) (output-of k w) .output) 0 0 ≡ getD (flatten (samples k 0)) 0 0
   first-byte w =
       ap (λ (l : List ℕ). getD l 0 0) (given k 0 w (omega arith) (omega arith) .1)
-      ∙ List·getD-append (flatten (samples k 0)) (drop (188 * (k + 1)) (room-of k w)) 0 0
+      ∙ List·getD-append (flatten (samples k 0)) (drop (188 * (k + 1)) (output-of k w)) 0 0
       (omega (arith, length-flatten 188 (samples k 0) (packet-lengths (samples k 0) (samples-packets k 0 (omega arith))), samples-length k 0))
 
   -- nothing is written for recordings of more than k packets
-  pub writes-nothing : ((ps : List (List ℕ)) → All Packet ps → k < length ps → (room : List ℕ) → f (sentBytes ps) room .room ≡ room) → ⊥
-  unfolding room-of
+  pub writes-nothing : ((ps : List (List ℕ)) → All Packet ps → k < length ps → (output : List ℕ) → f (sentBytes ps) output .output ≡ output) → ⊥
+  unfolding output-of
   writes-nothing same = let z : _≡_ {A = ℕ} 0 1 = sym (first 0) ∙ first 1 in omega arith
     where
       first : (w : ℕ) → getD (flatten (samples k 0)) 0 0 ≡ w
       first w =
           sym (first-byte w)
-          ∙ ap (λ (l : List ℕ). getD l 0 0) (same (sent k 0) (sent-packets k 0 (omega arith)) (omega (arith, sent-length k 0)) (room-of k w))
+          ∙ ap (λ (l : List ℕ). getD l 0 0) (same (sent k 0) (sent-packets k 0 (omega arith)) (omega (arith, sent-length k 0)) (output-of k w))
           ∙ getD-replicate (188 * (k + 12)) 0 w 0 (omega arith)
 
   -- The first k packets, and how many there are, decide what is written: a program that gives the first ones and pretends after.
-  pub pretends-after : ((ps qs : List (List ℕ)) → All Packet ps → All Packet qs → take k ps ≡ take k qs → length ps ≡ length qs → (room : List ℕ)
-      → f (sentBytes ps) room .room ≡ f (sentBytes qs) room .room) → ⊥
+  pub pretends-after : ((ps qs : List (List ℕ)) → All Packet ps → All Packet qs → take k ps ≡ take k qs → length ps ≡ length qs → (output : List ℕ)
+      → f (sentBytes ps) output .output ≡ f (sentBytes qs) output .output) → ⊥
   unfolding sent samples sample flatten
   pretends-after same =
       let e =
-      same (sent k 0) (sent k 1) (sent-packets k 0 (omega arith)) (sent-packets k 1 (omega arith)) (front 0 ∙ sym (front 1)) (sent-length k 0 ∙ sym (sent-length k 1)) (room-of k 0) in
+      same (sent k 0) (sent k 1) (sent-packets k 0 (omega arith)) (sent-packets k 1 (omega arith)) (front 0 ∙ sym (front 1)) (sent-length k 0 ∙ sym (sent-length k 1)) (output-of k 0) in
       let d = sym (given k 0 0 (omega arith) (omega arith) .1) ∙ e ∙ given k 1 0 (omega arith) (omega arith) .1 in
       let z : _≡_ {A = ℕ} 0 1 = sym (last 0 (omega arith)) ∙ ap (λ (l : List ℕ). getD l (188 * k + 12) 0) d ∙ last 1 (omega arith) in
       omega arith
@@ -182,10 +182,10 @@ module _ (f : Program) (keeps : Keeps f) (k : ℕ) (few : k + 12 ≤ 4294967294)
           ∙ take-at (replicate k (sample 0)) ((sample v ∷ []) ++ replicate 11 (sample 0)) k (length-replicate {A = List ℕ} k (sample 0))
 
       -- byte 12 of the last packet given
-      last : (v : ℕ) → v < 256 → getD (flatten (samples k v) ++ drop (188 * (k + 1)) (room-of k 0)) (188 * k + 12) 0 ≡ v
+      last : (v : ℕ) → v < 256 → getD (flatten (samples k v) ++ drop (188 * (k + 1)) (output-of k 0)) (188 * k + 12) 0 ≡ v
       last v h =
           let a = flatten (replicate k (sample 0)) in
-          let rest = drop (188 * (k + 1)) (room-of k 0) in
+          let rest = drop (188 * (k + 1)) (output-of k 0) in
           let n : length a ≡ 188 * k =
           length-flatten 188 (replicate k (sample 0)) (packet-lengths (replicate k (sample 0)) (zeros k))
           ∙ ap (λ (m : ℕ). 188 * m) (length-replicate {A = List ℕ} k (sample 0)) in

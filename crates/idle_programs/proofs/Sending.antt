@@ -30,7 +30,7 @@ use Rattle.sender.specs.Input.{packetsFor}
 use Rattle.sender.proofs.Inputs.{packets-kept}
 use Rattle.sender.proofs.Counts.{block-bits, length-on-air}
 use Rattle.sender.proofs.Distinct.{same-bits}
-use Rattle.transmission.specs.Run.{packetsOf, runSymbols, runRefusal, Runs}
+use Rattle.transmission.specs.Run.{packetsOf, runSymbols, runRefusal, SendsRun}
 use Rattle.transmission.proofs.Buffers.{packets-none, packets-more}
 use Rattle.idle_programs.proofs.Samples.{samples, samples-packets, samples-length, samples-front, last-byte}
 
@@ -38,15 +38,15 @@ use Rattle.idle_programs.proofs.Samples.{samples, samples-packets, samp
 pub record Left : Type 0 where
   pub number : ℕ
   pub count : ℕ
-  pub room : List ℕ
+  pub output : List ℕ
 
--- a program: what it leaves for a rate, the bytes of the packets and a room
+-- a program: what it leaves for a rate, the bytes of the packets and an output
 abbrev pub Program : Type 0
 Program = ℕ → List ℕ → List ℕ → Left
 
 -- it keeps the promise of `send_run`
 abbrev pub Keeps : Program → Type 0
-Keeps f = (rate : ℕ) (bytes room : List ℕ) → Runs rate bytes room (f rate bytes room .number) (f rate bytes room .count) (f rate bytes room .room)
+Keeps f = (rate : ℕ) (bytes output : List ℕ) → SendsRun rate bytes output (f rate bytes output .number) (f rate bytes output .count) (f rate bytes output .output)
 
 -- ---- the packets of a list, one after the other
 
@@ -82,23 +82,23 @@ whole-patterns (suc (suc (suc (suc (suc rate))))) j h = absurd (omega arith)
 -- ---- what the promise says of a list of packets
 
 -- just room enough for n packets
-roomFor : ℕ → ℕ → List ℕ
-roomFor rate n = replicate (symbolsIn rate 0 (blockBits rate * n)) 0
+outputFor : ℕ → ℕ → List ℕ
+outputFor rate n = replicate (symbolsIn rate 0 (blockBits rate * n)) 0
 
 module _ (f : Program) (keeps : Keeps f) (rate : ℕ) (h : rate < 5) (q : modeOf rate .sent ≡ true) where
-  kept : (ps : List (List ℕ)) → All Packet ps → f rate (flatten ps) (roomFor rate (length ps)) .room ≡ onAir (modeOf rate) ps
-  unfolding roomFor
+  kept : (ps : List (List ℕ)) → All Packet ps → f rate (flatten ps) (outputFor rate (length ps)) .output ≡ onAir (modeOf rate) ps
+  unfolding outputFor
   kept ps g =
       let l = packet-lengths ps g in
-      let room = roomFor rate (length ps) in
+      let output = outputFor rate (length ps) in
       let e : packetsFor (packetsOf (flatten ps)) ≡ ps = ap packetsFor (packets-flatten ps l) ∙ packets-kept ps g in
       let n : length (runSymbols rate (flatten ps)) ≡ symbolsIn rate 0 (blockBits rate * length ps) = ap (λ (x : List (List ℕ)). length (onAir (modeOf rate) x)) e ∙ length-on-air rate (up rate h) ps in
-      let k : length room ≡ symbolsIn rate 0 (blockBits rate * length ps) = length-replicate {A = ℕ} (symbolsIn rate 0 (blockBits rate * length ps)) 0 in
+      let k : length output ≡ symbolsIn rate 0 (blockBits rate * length ps) = length-replicate {A = ℕ} (symbolsIn rate 0 (blockBits rate * length ps)) 0 in
       let w : length (flatten ps) % 188 ≡ 0 = (let m = length-flatten 188 ps l in omega arith) in
-      let t : length (runSymbols rate (flatten ps)) ≤ length room = omega arith in
-      let z : runRefusal rate (flatten ps) room ≡ 0 = simp (q, eq-eqb _ _ w, le-ltb _ _ t) in
-      keeps rate (flatten ps) room .written ∙ simp z
-      (ap (λ (d : List ℕ). runSymbols rate (flatten ps) ++ d) (drop-of-length-le room {i = length (runSymbols rate (flatten ps))} (omega arith))
+      let t : length (runSymbols rate (flatten ps)) ≤ length output = omega arith in
+      let z : runRefusal rate (flatten ps) output ≡ 0 = simp (q, eq-eqb _ _ w, le-ltb _ _ t) in
+      keeps rate (flatten ps) output .written ∙ simp z
+      (ap (λ (d : List ℕ). runSymbols rate (flatten ps) ++ d) (drop-of-length-le output {i = length (runSymbols rate (flatten ps))} (omega arith))
       ∙ append-nil (runSymbols rate (flatten ps)) ∙ ap (onAir (modeOf rate)) e)
 
   module _ (k : ℕ) where
@@ -110,8 +110,8 @@ module _ (f : Program) (keeps : Keeps f) (rate : ℕ) (h : rate < 5) (q : modeOf
     unfolding before
     size v = samples-length before v ∙ omega arith
 
-    room : List ℕ
-    room = roomFor rate (35 * (k + 1))
+    output : List ℕ
+    output = outputFor rate (35 * (k + 1))
 
     -- the bytes of the interleaved blocks, and that their bits make whole patterns
     sent : ℕ → List ℕ
@@ -122,14 +122,14 @@ module _ (f : Program) (keeps : Keeps f) (rate : ℕ) (h : rate < 5) (q : modeOf
     whole v = ap (λ (n : ℕ). n % patternLength rate) (block-bits (samples before v) ∙ ap (λ (n : ℕ). 1632 * n) (size v)) ∙ whole-patterns rate (k + 1) h
 
     -- the two lists are told apart
-    told-apart : f rate (flatten (samples before 0)) room .room ≡ f rate (flatten (samples before 1)) room .room → ⊥
-    unfolding room onAir sent
+    told-apart : f rate (flatten (samples before 0)) output .output ≡ f rate (flatten (samples before 1)) output .output → ⊥
+    unfolding output onAir sent
     told-apart e =
         let h0 = samples-packets before 0 (omega arith) in
         let h1 = samples-packets before 1 (omega arith) in
         let air : onAir (modeOf rate) (samples before 0) ≡ onAir (modeOf rate) (samples before 1) =
-        sym (kept (samples before 0) h0) ∙ ap (λ (n : ℕ). f rate (flatten (samples before 0)) (roomFor rate n) .room) (size 0)
-        ∙ e ∙ ap (λ (n : ℕ). f rate (flatten (samples before 1)) (roomFor rate n) .room) (sym (size 1)) ∙ kept (samples before 1) h1 in
+        sym (kept (samples before 0) h0) ∙ ap (λ (n : ℕ). f rate (flatten (samples before 0)) (outputFor rate n) .output) (size 0)
+        ∙ e ∙ ap (λ (n : ℕ). f rate (flatten (samples before 1)) (outputFor rate n) .output) (sym (size 1)) ∙ kept (samples before 1) h1 in
         let s = decided rate h (bits-bits (sent 0)) (bits-bits (sent 1)) (whole 0) (whole 1) (sym (stream-qpsk rate h (sent 0)) ∙ air ∙ stream-qpsk rate h (sent 1)) in
         let b =
         same-bits (samples before 0) (samples before 1) (packet-lengths (samples before 0) h0) (packet-lengths (samples before 1) h1) s before
@@ -141,25 +141,25 @@ module _ (f : Program) (keeps : Keeps f) (rate : ℕ) (h : rate < 5) (q : modeOf
     many v = omega (arith, size v)
 
     -- one answer for all lists of more than k packets
-    pub one-answer : (left : Left) → ((ps : List (List ℕ)) → All Packet ps → k < length ps → (room : List ℕ) → f rate (flatten ps) room ≡ left) → ⊥
-    one-answer left same = told-apart (ap (λ (x : Left). x .room) (at 0 (omega arith) ∙ sym (at 1 (omega arith))))
+    pub one-answer : (left : Left) → ((ps : List (List ℕ)) → All Packet ps → k < length ps → (output : List ℕ) → f rate (flatten ps) output ≡ left) → ⊥
+    one-answer left same = told-apart (ap (λ (x : Left). x .output) (at 0 (omega arith) ∙ sym (at 1 (omega arith))))
       where
-        at : (v : ℕ) → v < 256 → f rate (flatten (samples before v)) room ≡ left
-        at v l = same (samples before v) (samples-packets before v l) (many v) room
+        at : (v : ℕ) → v < 256 → f rate (flatten (samples before v)) output ≡ left
+        at v l = same (samples before v) (samples-packets before v l) (many v) output
 
     -- nothing is written for lists of more than k packets
-    pub writes-nothing : ((ps : List (List ℕ)) → All Packet ps → k < length ps → (room : List ℕ) → f rate (flatten ps) room .room ≡ room) → ⊥
+    pub writes-nothing : ((ps : List (List ℕ)) → All Packet ps → k < length ps → (output : List ℕ) → f rate (flatten ps) output .output ≡ output) → ⊥
     writes-nothing same = told-apart (at 0 (omega arith) ∙ sym (at 1 (omega arith)))
       where
-        at : (v : ℕ) → v < 256 → f rate (flatten (samples before v)) room .room ≡ room
-        at v l = same (samples before v) (samples-packets before v l) (many v) room
+        at : (v : ℕ) → v < 256 → f rate (flatten (samples before v)) output .output ≡ output
+        at v l = same (samples before v) (samples-packets before v l) (many v) output
 
     -- The first k packets, and how many there are, decide what is written. With k = 1 that is a program that codes the first packet and
     -- pretends after.
-    pub pretends-after : ((ps qs : List (List ℕ)) → All Packet ps → All Packet qs → take k ps ≡ take k qs → length ps ≡ length qs → (room : List ℕ)
-        → f rate (flatten ps) room .room ≡ f rate (flatten qs) room .room) → ⊥
+    pub pretends-after : ((ps qs : List (List ℕ)) → All Packet ps → All Packet qs → take k ps ≡ take k qs → length ps ≡ length qs → (output : List ℕ)
+        → f rate (flatten ps) output .output ≡ f rate (flatten qs) output .output) → ⊥
     unfolding before
     pretends-after same =
         told-apart
         (same (samples before 0) (samples before 1) (samples-packets before 0 (omega arith)) (samples-packets before 1 (omega arith))
-        (samples-front k before 0 (omega arith) ∙ sym (samples-front k before 1 (omega arith))) (size 0 ∙ sym (size 1)) room)
+        (samples-front k before 0 (omega arith) ∙ sym (samples-front k before 1 (omega arith))) (size 0 ∙ sym (size 1)) output)

@@ -15,12 +15,12 @@ use Rattle.convolutional_code.specs.Code.{tapsX, tapsY, nextMemory, coded, moth
 use Rattle.convolutional_code.proofs.Bits.{length-mother}
 use Rattle.puncturing.specs.Mode.{Mode, modeOf, blockBits, blockBitsBy, completed}
 use Rattle.puncturing.specs.WellFormed.{Beside, alone, paired, WellFormed}
-use Rattle.puncturing.specs.Step.{nextBy, listOf, countBy, nextPlace, punctured, heldAfter, symbolsIn}
-use Rattle.puncturing.specs.Run.{sentSymbols, placeAfter, heldBehind}
+use Rattle.puncturing.specs.Step.{nextBy, symbolList, countBy, nextPlace, punctured, heldAfter, symbolsIn}
+use Rattle.puncturing.specs.Run.{puncturedSymbols, patternPlaceAfter, heldBehind}
 use Rattle.puncturing.proofs.Places.{known}
 use Rattle.puncturing.proofs.WellFormed.{well-formed, next-by-lt, symbol-count-by, held-by-range}
 use Rattle.inner_code.specs.Converter.{encodedBits, uncodedNumbers, sequenced}
-use Rattle.inner_code.specs.Step.{inRangeBy, InRangeBy, stepBy, symbolBy, symbolsBy, coderBy, inRange, InRange, coderStep, symbolStep, symbolsOf, coderAfter}
+use Rattle.inner_code.specs.Step.{inRangeBy, InRangeBy, stepBy, symbolBy, symbolsBy, coderBy, coderInRange, CoderInRange, coderStep, symbolStep, symbolsOf, coderAfter}
 use Rattle.inner_code.specs.Encode.{freshCoder, blockSymbolsBy, blockCoderBy, blockSymbols, blockCoder}
 use Rattle.inner_code.specs.declared.InnerCoder.{InnerCoder}
 use Rattle.inner_code.proofs.Converter.{encoded-bits, length-encoded, length-uncoded, length-block-encoded, uncoded-none, encoded-append, uncoded-append, sequenced-append, length-sequenced, encoded-qpsk, uncoded-qpsk}
@@ -39,17 +39,17 @@ module _ (m : Mode) (c : InnerCoder) where
   unfolding inRangeBy
   range-test-by g = simp (lt-ltb _ _ (g .memory), lt-ltb _ _ (g .place), le-leb _ _ (g .held))
 
-pub in-range : (c : InnerCoder) → inRange c ≡ true → InRange c
+pub in-range : (c : InnerCoder) → coderInRange c ≡ true → CoderInRange c
 in-range c = in-range-by (modeOf (c .rate)) c
 
-pub range-test : (c : InnerCoder) → InRange c → inRange c ≡ true
+pub range-test : (c : InnerCoder) → CoderInRange c → coderInRange c ≡ true
 range-test c = range-test-by (modeOf (c .rate)) c
 
 -- the rate is that of a mode, which is well formed
-pub rate-known : (c : InnerCoder) → InRange c → c .rate < 6
+pub rate-known : (c : InnerCoder) → CoderInRange c → c .rate < 6
 rate-known c g = known (c .rate) (c .place) (g .place)
 
-pub formed : (c : InnerCoder) → InRange c → WellFormed (modeOf (c .rate))
+pub formed : (c : InnerCoder) → CoderInRange c → WellFormed (modeOf (c .rate))
 formed c g = well-formed (c .rate) (rate-known c g)
 
 parity-small : (n : ℕ) → n % 2 < 2
@@ -79,18 +79,18 @@ module _ {m : Mode} (w : WellFormed m) where
   unfolding symbolsBy countBy
   length-symbols-by c g none = refl
   length-symbols-by c g (more {b} {l} h t) =
-      length-append (listOf (symbolBy m c b)) (symbolsBy m (stepBy m c b) l)
+      length-append (symbolList (symbolBy m c b)) (symbolsBy m (stepBy m c b) l)
       ∙ ap₂ (λ (i j : ℕ). i + j)
       (symbol-count-by w (c .place) (g .place) (coded tapsX (c .memory) b) (coded tapsY (c .memory) b) (c .held))
       (length-symbols-by (stepBy m c b) (step-in-range-by c b g h) t)
 
-pub fresh-in-range : (r : ℕ) → r < 6 → InRange (freshCoder r)
+pub fresh-in-range : (r : ℕ) → r < 6 → CoderInRange (freshCoder r)
 fresh-in-range r h = fresh-in-range-by (well-formed r h) r
 
-pub step-in-range : (c : InnerCoder) (b : ℕ) → InRange c → b < 2 → InRange (coderStep c b)
+pub step-in-range : (c : InnerCoder) (b : ℕ) → CoderInRange c → b < 2 → CoderInRange (coderStep c b)
 step-in-range c b g h = step-in-range-by (formed c g) c b g h
 
-pub length-symbols : (c : InnerCoder) {bits : List ℕ} → InRange c → Bits bits → length (symbolsOf c bits) ≡ symbolsIn (c .rate) (c .place) (length bits)
+pub length-symbols : (c : InnerCoder) {bits : List ℕ} → CoderInRange c → Bits bits → length (symbolsOf c bits) ≡ symbolsIn (c .rate) (c .place) (length bits)
 length-symbols c g t = length-symbols-by (formed c g) c g t
 
 -- ---- where the coder stands
@@ -103,12 +103,12 @@ coder-rate-by m c (b ∷ bs) = coder-rate-by m (stepBy m c b) bs
 pub coder-rate : (c : InnerCoder) (bits : List ℕ) → coderAfter c bits .rate ≡ c .rate
 coder-rate c bits = coder-rate-by (modeOf (c .rate)) c bits
 
-pub coder-in-range : (c : InnerCoder) {bits : List ℕ} → InRange c → Bits bits → InRange (coderAfter c bits)
+pub coder-in-range : (c : InnerCoder) {bits : List ℕ} → CoderInRange c → Bits bits → CoderInRange (coderAfter c bits)
 coder-in-range c {bits} g t =
     subst (λ (r : ℕ). InRangeBy (modeOf r) (coderAfter c bits)) (sym (coder-rate c bits)) (coder-in-range-by (formed c g) c g t)
 
-pub coder-place : (c : InnerCoder) (bits : List ℕ) → coderAfter c bits .place ≡ placeAfter (c .rate) (c .place) (length bits)
-unfolding coderBy placeAfter
+pub coder-place : (c : InnerCoder) (bits : List ℕ) → coderAfter c bits .place ≡ patternPlaceAfter (c .rate) (c .place) (length bits)
+unfolding coderBy patternPlaceAfter
 coder-place c [] = refl
 coder-place c (b ∷ bs) = coder-place (coderStep c b) bs
 
@@ -161,7 +161,7 @@ module _ {m : Mode} (w : WellFormed m) where
       → length (blockSymbolsBy m c block) ≡ countBy m (c .place) (blockBitsBy m)
   length-block-by c block g h = length-coded c g block ∙ ap (countBy m (c .place)) (length-block-encoded m block h)
 
-pub length-block : (c : InnerCoder) (block : List ℕ) → InRange c → length block ≡ 204
+pub length-block : (c : InnerCoder) (block : List ℕ) → CoderInRange c → length block ≡ 204
     → length (blockSymbols c block) ≡ symbolsIn (c .rate) (c .place) (blockBits (c .rate))
 length-block c block g h = length-block-by (formed c g) c block g h
 
@@ -172,8 +172,8 @@ unfolding symbolsBy coderBy
 symbols-append-by m [] b c = refl
 symbols-append-by m (x ∷ a) b c =
     let next = stepBy m c x in
-    ap (λ (l : List ℕ). listOf (symbolBy m c x) ++ l) (symbols-append-by m a b next)
-    ∙ sym (append-assoc (listOf (symbolBy m c x)) (symbolsBy m next a) (symbolsBy m (coderBy m next a) b))
+    ap (λ (l : List ℕ). symbolList (symbolBy m c x) ++ l) (symbols-append-by m a b next)
+    ∙ sym (append-assoc (symbolList (symbolBy m c x)) (symbolsBy m next a) (symbolsBy m (coderBy m next a) b))
 
 pub symbols-append : (a b : List ℕ) (c : InnerCoder) → symbolsOf c (a ++ b) ≡ symbolsOf c a ++ symbolsOf (coderAfter c a) b
 symbols-append a b c =
@@ -247,31 +247,31 @@ holds-block m bits n =
     (λ i h. ap (λ (k : ℕ). getD (x ++ y) (k + i) 0) (sym size) ∙ getD-append-add x y i 0)
 
 symbols-held : (c : InnerCoder) (l : List ℕ) {n : ℕ} {bits : List ℕ} → Holds l n (c .memory) bits
-    → symbolsOf c bits ≡ sentSymbols (c .rate) (c .place) (c .held) l n (length bits)
-unfolding symbolsBy sentSymbols
+    → symbolsOf c bits ≡ puncturedSymbols (c .rate) (c .place) (c .held) l n (length bits)
+unfolding symbolsBy puncturedSymbols
 symbols-held c l nothing = refl
 symbols-held c l (also {n} {b = b} {bs} ex ey t) =
-    ap (λ (s : List ℕ). listOf (symbolStep c b) ++ s) (symbols-held (coderStep c b) l t)
+    ap (λ (s : List ℕ). symbolList (symbolStep c b) ++ s) (symbols-held (coderStep c b) l t)
     ∙ (λ i.
-    listOf (punctured (c .rate) (c .place) (sym ex i) (sym ey i) (c .held))
-    ++ sentSymbols (c .rate) (nextPlace (c .rate) (c .place)) (heldAfter (c .rate) (c .place) (sym ex i) (sym ey i) (c .held)) l (suc n) (length bs))
+    symbolList (punctured (c .rate) (c .place) (sym ex i) (sym ey i) (c .held))
+    ++ puncturedSymbols (c .rate) (nextPlace (c .rate) (c .place)) (heldAfter (c .rate) (c .place) (sym ex i) (sym ey i) (c .held)) l (suc n) (length bs))
 
 coder-held : (c : InnerCoder) (l : List ℕ) {n : ℕ} {bits : List ℕ} → Holds l n (c .memory) bits
     → coderAfter c bits
     ≡ record {
       rate = c .rate;
       memory = memoryAfter (c .memory) bits;
-      place = placeAfter (c .rate) (c .place) (length bits);
+      place = patternPlaceAfter (c .rate) (c .place) (length bits);
       held = heldBehind (c .rate) (c .place) (c .held) l n (length bits);
     }
-unfolding coderBy memoryAfter placeAfter heldBehind
+unfolding coderBy memoryAfter patternPlaceAfter heldBehind
 coder-held c l nothing = refl
 coder-held c l (also {n} {b = b} {bs} ex ey t) =
     coder-held (coderStep c b) l t
     ∙ (λ i. record {
       rate = c .rate;
       memory = memoryAfter (nextMemory (c .memory) b) bs;
-      place = placeAfter (c .rate) (nextPlace (c .rate) (c .place)) (length bs);
+      place = patternPlaceAfter (c .rate) (nextPlace (c .rate) (c .place)) (length bs);
       held = heldBehind (c .rate) (nextPlace (c .rate) (c .place)) (heldAfter (c .rate) (c .place) (sym ex i) (sym ey i) (c .held)) l (suc n) (length bs);
     })
 
@@ -286,16 +286,16 @@ module _ (c : InnerCoder) (h : c .rate < 5) (block : List ℕ) where
 
 -- a block of 1,632 bits
 module _ (c : InnerCoder) (bits : List ℕ) (n : length bits ≡ 1632) where
-  pub symbols-serial : symbolsOf c bits ≡ sentSymbols (c .rate) (c .place) (c .held) (blockMother (c .memory) bits) 0 1632
+  pub symbols-serial : symbolsOf c bits ≡ puncturedSymbols (c .rate) (c .place) (c .held) (blockMother (c .memory) bits) 0 1632
   symbols-serial =
       symbols-held c (blockMother (c .memory) bits) (holds-block (c .memory) bits n)
-      ∙ ap (sentSymbols (c .rate) (c .place) (c .held) (blockMother (c .memory) bits) 0) n
+      ∙ ap (puncturedSymbols (c .rate) (c .place) (c .held) (blockMother (c .memory) bits) 0) n
 
   pub coder-serial : coderAfter c bits
       ≡ record {
         rate = c .rate;
         memory = memoryAfter (c .memory) bits;
-        place = placeAfter (c .rate) (c .place) 1632;
+        place = patternPlaceAfter (c .rate) (c .place) 1632;
         held = heldBehind (c .rate) (c .place) (c .held) (blockMother (c .memory) bits) 0 1632;
       }
   coder-serial =
@@ -304,7 +304,7 @@ module _ (c : InnerCoder) (bits : List ℕ) (n : length bits ≡ 1632) where
       (λ (k : ℕ). record {
         rate = c .rate;
         memory = memoryAfter (c .memory) bits;
-        place = placeAfter (c .rate) (c .place) k;
+        place = patternPlaceAfter (c .rate) (c .place) k;
         held = heldBehind (c .rate) (c .place) (c .held) (blockMother (c .memory) bits) 0 k;
       })
       n

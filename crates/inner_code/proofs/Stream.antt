@@ -19,7 +19,7 @@ use Rattle.convolutional_code.specs.Code.{tapsX, tapsY, convolved, recent, next
 use Rattle.convolutional_code.proofs.Bits.{bits-at}
 use Rattle.puncturing.specs.Mode.{CodedBit, X, Y, Mode, modeOf, completed, begun, binary}
 use Rattle.puncturing.specs.WellFormed.{AtHand, newest, held, First, WellFormed}
-use Rattle.puncturing.specs.Step.{nextBy, valueAt, listOf, puncturedBy, firstOf, heldBy}
+use Rattle.puncturing.specs.Step.{nextBy, valueAt, symbolList, puncturedBy, firstOf, heldBy}
 use Rattle.puncturing.proofs.Places.{up}
 use Rattle.puncturing.proofs.WellFormed.{well-formed, punctured-list, next-begun}
 use Rattle.inner_code.specs.Converter.{uncodedNumbers, sequenced}
@@ -152,7 +152,7 @@ module _ (m : Mode) (p : ℕ) (past : List ℕ) (b : ℕ) where
 
 -- one bit: the symbol that it completes, and the held bit after it, are those of the stream
 record Streamed (m : Mode) (p : ℕ) (past : List ℕ) (b : ℕ) : Type 0 where
-  sent : listOf (puncturedBy m p (convolved tapsX (b ∷ past)) (convolved tapsY (b ∷ past)) (heldBit m p past)) ≡ sentAt m (p + 1) (b ∷ past)
+  sent : symbolList (puncturedBy m p (convolved tapsX (b ∷ past)) (convolved tapsY (b ∷ past)) (heldBit m p past)) ≡ sentAt m (p + 1) (b ∷ past)
   holds : heldBy m p (convolved tapsX (b ∷ past)) (convolved tapsY (b ∷ past)) (heldBit m p past) ≡ heldBit m (nextBy m p) (b ∷ past)
 
 held-on : {m : Mode} (w : WellFormed m) (p : ℕ) → p < m .bits → (past : List ℕ)
@@ -208,9 +208,9 @@ module _ {m : Mode} (w : WellFormed m) where
     y-stream : coded tapsY (c .memory) b ≡ convolved tapsY (b ∷ past)
     y-stream = ap (λ (k : ℕ). coded tapsY k b) (s .memory) ∙ y-is past (s .bits) b
 
-    symbol-stream : listOf (symbolBy m c b) ≡ sentAt m (length past % m .bits + 1) (b ∷ past)
+    symbol-stream : symbolList (symbolBy m c b) ≡ sentAt m (length past % m .bits + 1) (b ∷ past)
     symbol-stream =
-        (λ i. listOf (puncturedBy m (c .place) (x-stream i) (y-stream i) (s .held i)))
+        (λ i. symbolList (puncturedBy m (c .place) (x-stream i) (y-stream i) (s .held i)))
         ∙ streamed .sent
         ∙ ap (λ (p : ℕ). sentAt m (p + 1) (b ∷ past)) (s .place)
 

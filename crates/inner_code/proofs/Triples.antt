@@ -16,7 +16,7 @@ use Rattle.puncturing.specs.Mode.{modeOf}
 use Rattle.puncturing.specs.Step.{patternLength, heldCount, puncturedBy, heldBy, heldCountBy}
 use Rattle.puncturing.proofs.WellFormed.{well-formed}
 use Rattle.inner_code.specs.Converter.{groups, encodedGroup, encodedBits, uncodedGroup, uncodedNumbers, sequenced}
-use Rattle.inner_code.specs.Step.{InRange, symbolsOf, coderAfter, symbolsBy, coderBy}
+use Rattle.inner_code.specs.Step.{CoderInRange, symbolsOf, coderAfter, symbolsBy, coderBy}
 use Rattle.inner_code.specs.Encode.{blockSymbols, blockCoder}
 use Rattle.inner_code.specs.Triples.{firsts, groupPairs, pairs, numbered, codedBits}
 use Rattle.inner_code.specs.Stream.{symbols, streamSymbols}
@@ -90,7 +90,7 @@ nothing : (n : ℕ) → n ≤ heldCount 5 0 → n ≡ 0
 unfolding heldCountBy modeOf
 nothing n h = omega arith
 
-pub is-qam : (c : InnerCoder) → InRange c → c .rate ≡ 5 → c ≡ qam (c .memory)
+pub is-qam : (c : InnerCoder) → CoderInRange c → c .rate ≡ 5 → c ≡ qam (c .memory)
 is-qam c g e =
     let p : c .place < patternLength 5 = rw (← e) (g .place) in
     let q : c .place ≡ 0 = first (c .place) p in
@@ -255,7 +255,7 @@ paired-all {block} {uncoded} {i} u e =
 
 -- ---- a block
 
-module _ (c : InnerCoder) (g : InRange c) (e : c .rate ≡ 5) (block : List ℕ) (h : length block ≡ 204) where
+module _ (c : InnerCoder) (g : CoderInRange c) (e : c .rate ≡ 5) (block : List ℕ) (h : length block ≡ 204) where
   bits : List ℕ
   bits = bitsOf (firsts 68 block)
 

@@ -1,4 +1,4 @@
--- What each call gives: its answer, by its tests in the order of document 01, the coder, and the room.
+-- What each call gives: its answer, by its tests in the order of document 01, the coder, and the output.
 -- Assumes nothing.
 use mathlib.Core.Bool.{Bool, true, false}
 use mathlib.Core.List.{List, [], _∷_, _++_}
@@ -11,7 +11,7 @@ use Rattle.puncturing.specs.Step.{countBy}
 use Rattle.puncturing.specs.declared.Symbol.{Symbol}
 use Rattle.puncturing.specs.declared.Symbol.the-variants.{None}
 use Rattle.inner_code.specs.Converter.{encodedBits, uncodedNumbers, sequenced}
-use Rattle.inner_code.specs.Step.{inRangeBy, symbolsBy, coderBy, inRange, coderStep, symbolStep}
+use Rattle.inner_code.specs.Step.{inRangeBy, symbolsBy, coderBy, coderInRange, coderStep, symbolStep}
 use Rattle.inner_code.specs.declared.InnerCoder.{InnerCoder}
 
 -- a coder at a rate, with memory, place and held bit 0
@@ -29,7 +29,7 @@ bitValue true = 1
 bitValue false = 0
 
 abbrev pub stepNumber : InnerCoder → ℕ
-stepNumber c = pick (inRange c) (pick (modeOf (c .rate) .sent) 0 6) 5
+stepNumber c = pick (coderInRange c) (pick (modeOf (c .rate) .sent) 0 6) 5
 
 abbrev pub stepCoder : InnerCoder → Bool → InnerCoder
 stepCoder c bit = pick (eqb (stepNumber c) 0) (coderStep c (bitValue bit)) c
@@ -65,17 +65,17 @@ blockCoder c = blockCoderBy (modeOf (c .rate)) c
 abbrev pub symbolCount : InnerCoder → ℕ
 symbolCount c = symbolCountBy (modeOf (c .rate)) c
 
-abbrev pub encodeNumber : InnerCoder → List ℕ → List ℕ → ℕ
-encodeNumber c block room =
-    pick (inRange c)
-    (pick (modeOf (c .rate) .sent) (pick (eqb (length block) 204) (pick (ltb (length room) (length (blockSymbols c block))) 4 0) 3) 6) 5
+abbrev pub innerEncodeNumber : InnerCoder → List ℕ → List ℕ → ℕ
+innerEncodeNumber c block output =
+    pick (coderInRange c)
+    (pick (modeOf (c .rate) .sent) (pick (eqb (length block) 204) (pick (ltb (length output) (length (blockSymbols c block))) 4 0) 3) 6) 5
 
 abbrev pub encodeCoder : InnerCoder → List ℕ → List ℕ → InnerCoder
-encodeCoder c block room = pick (eqb (encodeNumber c block room) 0) (blockCoder c block) c
+encodeCoder c block output = pick (eqb (innerEncodeNumber c block output) 0) (blockCoder c block) c
 
 abbrev pub encodeCount : InnerCoder → List ℕ → List ℕ → ℕ
-encodeCount c block room = pick (eqb (encodeNumber c block room) 0) (length (blockSymbols c block)) 0
+encodeCount c block output = pick (eqb (innerEncodeNumber c block output) 0) (length (blockSymbols c block)) 0
 
--- the symbols, and what stood in the room beyond them
-abbrev pub encodeRoom : InnerCoder → List ℕ → List ℕ → List ℕ
-encodeRoom c block room = pick (eqb (encodeNumber c block room) 0) (blockSymbols c block ++ drop (length (blockSymbols c block)) room) room
+-- the symbols, and what stood in the output beyond them
+abbrev pub innerEncodeOutput : InnerCoder → List ℕ → List ℕ → List ℕ
+innerEncodeOutput c block output = pick (eqb (innerEncodeNumber c block output) 0) (blockSymbols c block ++ drop (length (blockSymbols c block)) output) output

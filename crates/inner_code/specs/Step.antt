@@ -7,7 +7,7 @@ use lib.Dec.{ltb, leb}
 use Rattle.common.specs.Choice.{pick}
 use Rattle.convolutional_code.specs.Code.{tapsX, tapsY, nextMemory, coded}
 use Rattle.puncturing.specs.Mode.{Mode, modeOf}
-use Rattle.puncturing.specs.Step.{nextBy, heldCountBy, listOf, puncturedBy, heldBy}
+use Rattle.puncturing.specs.Step.{nextBy, heldCountBy, symbolList, puncturedBy, heldBy}
 use Rattle.puncturing.specs.declared.Symbol.{Symbol}
 use Rattle.inner_code.specs.declared.InnerCoder.{InnerCoder}
 
@@ -35,7 +35,7 @@ symbolBy m c bit = puncturedBy m (c .place) (coded tapsX (c .memory) bit) (coded
 -- the symbols of a list of bits, and the coder after them
 unfoldable pub symbolsBy : Mode → InnerCoder → List ℕ → List ℕ
 symbolsBy m c [] = []
-symbolsBy m c (b ∷ bs) = listOf (symbolBy m c b) ++ symbolsBy m (stepBy m c b) bs
+symbolsBy m c (b ∷ bs) = symbolList (symbolBy m c b) ++ symbolsBy m (stepBy m c b) bs
 
 unfoldable pub coderBy : Mode → InnerCoder → List ℕ → InnerCoder
 coderBy m c [] = c
@@ -44,11 +44,11 @@ coderBy m c (b ∷ bs) = coderBy m (stepBy m c b) bs
 -- ---- in the mode that the coder's rate is the number of
 
 -- The rate is in its range too: the pattern of a number that is no mode has no bits, so it has no place.
-abbrev pub inRange : InnerCoder → Bool
-inRange c = inRangeBy (modeOf (c .rate)) c
+abbrev pub coderInRange : InnerCoder → Bool
+coderInRange c = inRangeBy (modeOf (c .rate)) c
 
-abbrev pub InRange : InnerCoder → Type 0
-InRange c = InRangeBy (modeOf (c .rate)) c
+abbrev pub CoderInRange : InnerCoder → Type 0
+CoderInRange c = InRangeBy (modeOf (c .rate)) c
 
 abbrev pub coderStep : InnerCoder → ℕ → InnerCoder
 coderStep c = stepBy (modeOf (c .rate)) c

@@ -4,8 +4,8 @@ ghost use Prim.Native.Nat.{_<_, _≤_};
 ghost use mathlib.Core.List.{_++_};
 ghost use lib.ListN.{length, drop};
 ghost use Rattle.answer.specs.Number.{numberOf};
-ghost use Rattle.inner_code.specs.Step.{InRange, inRange};
-ghost use Rattle.inner_code.specs.Encode.{freshCoder, newNumber, bitValue, stepNumber, stepCoder, stepSymbol, blockSymbols, blockCoder, symbolCount, encodeNumber, encodeCoder, encodeCount, encodeRoom};
+ghost use Rattle.inner_code.specs.Step.{CoderInRange, coderInRange};
+ghost use Rattle.inner_code.specs.Encode.{freshCoder, newNumber, bitValue, stepNumber, stepCoder, stepSymbol, blockSymbols, blockCoder, symbolCount, innerEncodeNumber, encodeCoder, encodeCount, innerEncodeOutput};
 
 mod qam;
 
@@ -81,7 +81,7 @@ impl InnerCoder {
 
     // Whether each number is in its range.
     pub fn in_range(self) -> bool
-        ensures { λ r. ⌜ r ≡ inRange self ⌝ }
+        ensures { λ r. ⌜ r ≡ coderInRange self ⌝ }
     {
         let rate = self.rate;
         let memory = self.memory;
@@ -149,13 +149,13 @@ impl InnerCoder {
         }
     }
 
-    // Codes a block of 204 bytes into the room.
-    pub fn encode(self, block: &[u8], room: &mut [u8]) -> Encoded
+    // Codes a block of 204 bytes into the output.
+    pub fn encode(self, block: &[u8], output: &mut [u8]) -> Encoded
         ensures { λ r. ⌜
-            (numberOf (r .answer) ≡ encodeNumber self (now (block .entry)) (now (room .entry)))
-            × (r .coder ≡ encodeCoder self (now (block .entry)) (now (room .entry)))
-            × (r .count ≡ encodeCount self (now (block .entry)) (now (room .entry)))
-            × (now (room .exit) ≡ encodeRoom self (now (block .entry)) (now (room .entry))) ⌝ }
+            (numberOf (r .answer) ≡ innerEncodeNumber self (now (block .entry)) (now (output .entry)))
+            × (r .coder ≡ encodeCoder self (now (block .entry)) (now (output .entry)))
+            × (r .count ≡ encodeCount self (now (block .entry)) (now (output .entry)))
+            × (now (output .exit) ≡ innerEncodeOutput self (now (block .entry)) (now (output .entry))) ⌝ }
     {
         if !self.in_range() {
             return Encoded {
@@ -179,14 +179,14 @@ impl InnerCoder {
                 count: 0,
             };
         }
-        if room.len() < self.symbol_count() {
+        if output.len() < self.symbol_count() {
             return Encoded {
-                answer: Answer::RoomLength,
+                answer: Answer::OutputLength,
                 coder: self,
                 count: 0,
             };
         }
-        encode_block(self, block, room)
+        encode_block(self, block, output)
     }
 }
 
@@ -197,13 +197,13 @@ fn bit_value(bit: bool) -> u8
 }
 
 // Codes a block at one of the five QPSK rates.
-fn encode_qpsk(coder: InnerCoder, block: &[u8], room: &mut [u8]) -> Encoded
-    requires { ⌜ (InRange coder) × (coder .rate < 5) × (length (now block) ≡ 204) × (length (blockSymbols coder (now block)) ≤ length (now room)) ⌝ }
+fn encode_qpsk(coder: InnerCoder, block: &[u8], output: &mut [u8]) -> Encoded
+    requires { ⌜ (CoderInRange coder) × (coder .rate < 5) × (length (now block) ≡ 204) × (length (blockSymbols coder (now block)) ≤ length (now output)) ⌝ }
     ensures { λ r. ⌜
         (numberOf (r .answer) ≡ 0)
         × (r .coder ≡ blockCoder coder (now (block .entry)))
         × (r .count ≡ length (blockSymbols coder (now (block .entry))))
-        × (now (room .exit) ≡ blockSymbols coder (now (block .entry)) ++ drop (length (blockSymbols coder (now (block .entry)))) (now (room .entry))) ⌝ }
+        × (now (output .exit) ≡ blockSymbols coder (now (block .entry)) ++ drop (length (blockSymbols coder (now (block .entry)))) (now (output .entry))) ⌝ }
 {
     let rate = coder.rate;
     let memory = coder.memory;
@@ -212,7 +212,7 @@ fn encode_qpsk(coder: InnerCoder, block: &[u8], room: &mut [u8]) -> Encoded
     let mut history = [0u8; 1638];
     let mut coded = [0u8; 3264];
     let next = code_bytes(memory, block, &mut history, &mut coded);
-    let progress = puncture_block(rate, place, held, &coded, room);
+    let progress = puncture_block(rate, place, held, &coded, output);
     Encoded {
         answer: Answer::Done,
         coder: InnerCoder {
@@ -226,17 +226,17 @@ fn encode_qpsk(coder: InnerCoder, block: &[u8], room: &mut [u8]) -> Encoded
 }
 
 // Codes a block at 16QAM 3/4: nothing is held, and the place stays 0.
-fn encode_qam(coder: InnerCoder, block: &[u8], room: &mut [u8]) -> Encoded
-    requires { ⌜ (InRange coder) × (coder .rate ≡ 5) × (length (now block) ≡ 204) × (length (blockSymbols coder (now block)) ≤ length (now room)) ⌝ }
+fn encode_qam(coder: InnerCoder, block: &[u8], output: &mut [u8]) -> Encoded
+    requires { ⌜ (CoderInRange coder) × (coder .rate ≡ 5) × (length (now block) ≡ 204) × (length (blockSymbols coder (now block)) ≤ length (now output)) ⌝ }
     ensures { λ r. ⌜
         (numberOf (r .answer) ≡ 0)
         × (r .coder ≡ blockCoder coder (now (block .entry)))
         × (r .count ≡ length (blockSymbols coder (now (block .entry))))
-        × (now (room .exit) ≡ blockSymbols coder (now (block .entry)) ++ drop (length (blockSymbols coder (now (block .entry)))) (now (room .entry))) ⌝ }
+        × (now (output .exit) ≡ blockSymbols coder (now (block .entry)) ++ drop (length (blockSymbols coder (now (block .entry)))) (now (output .entry))) ⌝ }
 {
     let rate = coder.rate;
     let memory = coder.memory;
-    let next = code_qam(memory, block, room);
+    let next = code_qam(memory, block, output);
     Encoded {
         answer: Answer::Done,
         coder: InnerCoder {
@@ -249,18 +249,18 @@ fn encode_qam(coder: InnerCoder, block: &[u8], room: &mut [u8]) -> Encoded
     }
 }
 
-// Codes a block into a room that is long enough.
-fn encode_block(coder: InnerCoder, block: &[u8], room: &mut [u8]) -> Encoded
-    requires { ⌜ (InRange coder) × (length (now block) ≡ 204) × (length (blockSymbols coder (now block)) ≤ length (now room)) ⌝ }
+// Codes a block into an output that is long enough.
+fn encode_block(coder: InnerCoder, block: &[u8], output: &mut [u8]) -> Encoded
+    requires { ⌜ (CoderInRange coder) × (length (now block) ≡ 204) × (length (blockSymbols coder (now block)) ≤ length (now output)) ⌝ }
     ensures { λ r. ⌜
         (numberOf (r .answer) ≡ 0)
         × (r .coder ≡ blockCoder coder (now (block .entry)))
         × (r .count ≡ length (blockSymbols coder (now (block .entry))))
-        × (now (room .exit) ≡ blockSymbols coder (now (block .entry)) ++ drop (length (blockSymbols coder (now (block .entry)))) (now (room .entry))) ⌝ }
+        × (now (output .exit) ≡ blockSymbols coder (now (block .entry)) ++ drop (length (blockSymbols coder (now (block .entry)))) (now (output .entry))) ⌝ }
 {
     let rate = coder.rate;
     if rate < 5 {
-        return encode_qpsk(coder, block, room);
+        return encode_qpsk(coder, block, output);
     }
-    encode_qam(coder, block, room)
+    encode_qam(coder, block, output)
 }

@@ -21,18 +21,18 @@ fn encoded_bytes(block: &[u8], bytes: &mut [u8])
 }
 
 // The bit pairs of two bytes, NE2 counting 2 and NE1 counting 1.
-fn unpack_pairs(b: u8, d: u8, room: &mut [u8])
-    requires { ⌜ 8 ≤ length (now room) ⌝ }
-    ensures { λ r. ⌜ now (room .exit) ≡ groupPairs b d ++ drop 8 (now (room .entry)) ⌝ }
+fn unpack_pairs(b: u8, d: u8, output: &mut [u8])
+    requires { ⌜ 8 ≤ length (now output) ⌝ }
+    ensures { λ r. ⌜ now (output .exit) ≡ groupPairs b d ++ drop 8 (now (output .entry)) ⌝ }
 {
-    room[0] = b / 64 % 4;
-    room[1] = b / 16 % 4;
-    room[2] = b / 4 % 4;
-    room[3] = b % 4;
-    room[4] = d / 64 % 4;
-    room[5] = d / 16 % 4;
-    room[6] = d / 4 % 4;
-    room[7] = d % 4;
+    output[0] = b / 64 % 4;
+    output[1] = b / 16 % 4;
+    output[2] = b / 4 % 4;
+    output[3] = b % 4;
+    output[4] = d / 64 % 4;
+    output[5] = d / 16 % 4;
+    output[6] = d / 4 % 4;
+    output[7] = d % 4;
 }
 
 // The bit pairs of a block.
@@ -57,29 +57,29 @@ fn number(u: u8, c2: u8, c1: u8) -> u8
 }
 
 // The symbols: the pairs beside Y and X of each bit.
-fn sequence(uncoded: &[u8], coded: &[u8], room: &mut [u8])
+fn sequence(uncoded: &[u8], coded: &[u8], output: &mut [u8])
     requires { ⌜
         ((n : ℕ) → getD (now uncoded) n 0 < 4)
         × (Bits (now coded))
         × (length (now uncoded) ≡ 544)
         × (length (now coded) ≡ 1088)
-        × (544 ≤ length (now room)) ⌝ }
-    ensures { λ r. ⌜ now (room .exit) ≡ numbered (now (uncoded .entry)) (now (coded .entry)) 0 544 ++ drop 544 (now (room .entry)) ⌝ }
+        × (544 ≤ length (now output)) ⌝ }
+    ensures { λ r. ⌜ now (output .exit) ≡ numbered (now (uncoded .entry)) (now (coded .entry)) 0 544 ++ drop 544 (now (output .entry)) ⌝ }
 {
     let mut n: usize = 0;
     while n < 544 {
-        room[n] = number(uncoded[n], coded[544 + n], coded[n]);
+        output[n] = number(uncoded[n], coded[544 + n], coded[n]);
         n += 1;
     }
 }
 
 // Codes a block, and gives the memory after it.
-pub fn code_qam(memory: u8, block: &[u8], room: &mut [u8]) -> u8
-    requires { ⌜ (memory < 64) × (length (now block) ≡ 204) × (544 ≤ length (now room)) ⌝ }
+pub fn code_qam(memory: u8, block: &[u8], output: &mut [u8]) -> u8
+    requires { ⌜ (memory < 64) × (length (now block) ≡ 204) × (544 ≤ length (now output)) ⌝ }
     ensures { λ r. ⌜
         (r ≡ memoryAfter memory (bitsOf (firsts 68 (now (block .entry)))))
-        × (now (room .exit)
-        ≡ numbered (pairs 68 (now (block .entry))) (blockMother memory (bitsOf (firsts 68 (now (block .entry))))) 0 544 ++ drop 544 (now (room .entry))) ⌝ }
+        × (now (output .exit)
+        ≡ numbered (pairs 68 (now (block .entry))) (blockMother memory (bitsOf (firsts 68 (now (block .entry))))) 0 544 ++ drop 544 (now (output .entry))) ⌝ }
 {
     let mut bytes = [0u8; 68];
     encoded_bytes(block, &mut bytes);
@@ -88,6 +88,6 @@ pub fn code_qam(memory: u8, block: &[u8], room: &mut [u8]) -> u8
     let mut history = [0u8; 550];
     let mut coded = [0u8; 1088];
     let next = code_bytes(memory, &bytes, &mut history, &mut coded);
-    sequence(&uncoded, &coded, room);
+    sequence(&uncoded, &coded, output);
     next
 }

@@ -11,10 +11,10 @@ struct Compared {
 
 fn compare_block(coder: InnerCoder, input: i32, wanted: i32) -> Compared {
     let mut block = [0u8; 204];
-    let mut room = [0u8; 1632];
+    let mut output = [0u8; 1632];
     let mut expected = [0u8; 1632];
     let got = io::read_full(input, &mut block);
-    let encoded = coder.encode(&block, &mut room);
+    let encoded = coder.encode(&block, &mut output);
     let count = encoded.count;
     let answer = encoded.answer;
     let next = encoded.coder;
@@ -24,7 +24,7 @@ fn compare_block(coder: InnerCoder, input: i32, wanted: i32) -> Compared {
             same: false,
         };
     }
-    let same = vector_files::same_symbols(wanted, &room, &mut expected, count);
+    let same = vector_files::same_symbols(wanted, &output, &mut expected, count);
     Compared { coder: next, same }
 }
 
@@ -69,28 +69,28 @@ fn answer_new(name: &[u8], rate: u8) {
     vector_files::print_line(name, answer.number() as u64);
 }
 
-// The answer to a block and a room.
-fn answer_encode(name: &[u8], coder: InnerCoder, block: &[u8], room: &mut [u8]) {
-    let encoded = coder.encode(block, room);
+// The answer to a block and an output.
+fn answer_encode(name: &[u8], coder: InnerCoder, block: &[u8], output: &mut [u8]) {
+    let encoded = coder.encode(block, output);
     let answer = encoded.answer;
     vector_files::print_line(name, answer.number() as u64);
 }
 
 // The answer to a block of so many bytes.
 fn answer_block(name: &[u8], rate: u8, bytes: &[u8], length: usize) {
-    let mut room = [0u8; 1632];
+    let mut output = [0u8; 1632];
     if length > bytes.len() {
         return;
     }
     let created = InnerCoder::new(rate);
     let coder = created.coder;
-    answer_encode(name, coder, &bytes[..length], &mut room);
+    answer_encode(name, coder, &bytes[..length], &mut output);
 }
 
-// The answer to a room of so many bytes, from a place of the pattern.
-fn answer_room(name: &[u8], rate: u8, place: u8, room: &mut [u8], length: usize) {
+// The answer to an output of so many bytes, from a place of the pattern.
+fn answer_output(name: &[u8], rate: u8, place: u8, output: &mut [u8], length: usize) {
     let block = [0u8; 204];
-    if length > room.len() {
+    if length > output.len() {
         return;
     }
     let coder = InnerCoder {
@@ -99,7 +99,7 @@ fn answer_room(name: &[u8], rate: u8, place: u8, room: &mut [u8], length: usize)
         place,
         held: 0,
     };
-    answer_encode(name, coder, &block, &mut room[..length]);
+    answer_encode(name, coder, &block, &mut output[..length]);
 }
 
 fn print_symbol(symbol: Symbol) {
@@ -133,7 +133,7 @@ fn main() {
     compare(2, b"symbols_rate2.bin");
     compare(3, b"symbols_rate3.bin");
     let bytes = [0u8; 205];
-    let mut room = [0u8; 980];
+    let mut output = [0u8; 980];
     answer_new(b"fresh coder at rate 3: ", 3);
     answer_new(b"fresh coder at rate 4: ", 4);
     answer_new(b"fresh coder of mode 5: ", 5);
@@ -142,17 +142,17 @@ fn main() {
     answer_block(b"block of 203 bytes: ", 0, &bytes, 203);
     answer_block(b"block of 204 bytes: ", 0, &bytes, 204);
     answer_block(b"block of 205 bytes: ", 0, &bytes, 205);
-    answer_room(b"rate 3, place 0, room of 978: ", 3, 0, &mut room, 978);
-    answer_room(b"rate 3, place 0, room of 979: ", 3, 0, &mut room, 979);
-    answer_room(b"rate 3, place 4, room of 979: ", 3, 4, &mut room, 979);
-    answer_room(b"rate 3, place 4, room of 980: ", 3, 4, &mut room, 980);
-    answer_room(b"rate 4, place 0, room of 933: ", 4, 0, &mut room, 933);
-    answer_room(b"rate 4, place 0, no room: ", 4, 0, &mut room, 0);
-    answer_room(b"rate 4, place 7, room of 933: ", 4, 7, &mut room, 933);
+    answer_output(b"rate 3, place 0, room of 978: ", 3, 0, &mut output, 978);
+    answer_output(b"rate 3, place 0, room of 979: ", 3, 0, &mut output, 979);
+    answer_output(b"rate 3, place 4, room of 979: ", 3, 4, &mut output, 979);
+    answer_output(b"rate 3, place 4, room of 980: ", 3, 4, &mut output, 980);
+    answer_output(b"rate 4, place 0, room of 933: ", 4, 0, &mut output, 933);
+    answer_output(b"rate 4, place 0, no room: ", 4, 0, &mut output, 0);
+    answer_output(b"rate 4, place 7, room of 933: ", 4, 7, &mut output, 933);
     answer_block(b"rate 4, block of 203 bytes: ", 4, &bytes, 203);
-    answer_room(b"mode 5, place 0, room of 543: ", 5, 0, &mut room, 543);
-    answer_room(b"mode 5, place 0, room of 544: ", 5, 0, &mut room, 544);
-    answer_room(b"mode 5, place 1, room of 544: ", 5, 1, &mut room, 544);
+    answer_output(b"mode 5, place 0, room of 543: ", 5, 0, &mut output, 543);
+    answer_output(b"mode 5, place 0, room of 544: ", 5, 0, &mut output, 544);
+    answer_output(b"mode 5, place 1, room of 544: ", 5, 1, &mut output, 544);
     print_steps(b"80 hex bit by bit, rate 2:", 2);
     print_steps(b"80 hex bit by bit, rate 4:", 4);
     print_steps(b"80 hex bit by bit, mode 5:", 5);

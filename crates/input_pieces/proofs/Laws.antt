@@ -10,14 +10,14 @@ use lib.IntN.{ℤ, pos, negsuc}
 use lib.Signed.{ltZ}
 use Rattle.io.specs.Counts.{clamped}
 use Rattle.libc.specs.Io.{Moved}
-use Rattle.input_pieces.specs.Read.{Reads}
+use Rattle.input_pieces.specs.Read.{ReadsPiece}
 use Rattle.input_pieces.specs.declared.Piece.{Piece}
 
 clamped-most : (z : ℤ) (most : ℕ) → clamped z most ≤ most
 clamped-most (pos k) most = min-le-right k most
 clamped-most (negsuc k) most = omega arith
 
-pub read-most : {most : ℕ} {before buffer : List ℕ} {r : Piece} → Reads most before buffer r → r .length ≤ most
+pub read-most : {most : ℕ} {before buffer : List ℕ} {r : Piece} → ReadsPiece most before buffer r → r .length ≤ most
 read-most {most} {r = r} h = subst (λ (n : ℕ). n ≤ most) (sym (h .length-is)) (clamped-most (r .got) most)
 
 none-moved : (z : ℤ) (most : ℕ) → Moved most z → ltZ z (pos 0) ≡ false → clamped z most ≡ 0 → z ≡ pos 0
@@ -25,5 +25,5 @@ none-moved (pos k) most m w h = ap pos (sym (min-eq-left m) ∙ h)
 none-moved (negsuc k) most m w h = absurd (true≢false w)
 
 -- a read that did not fail and brought nothing answered 0
-pub nothing-read : {most : ℕ} {before buffer : List ℕ} {r : Piece} → Reads most before buffer r → ltZ (r .got) (pos 0) ≡ false → r .length ≡ 0 → r .got ≡ pos 0
+pub nothing-read : {most : ℕ} {before buffer : List ℕ} {r : Piece} → ReadsPiece most before buffer r → ltZ (r .got) (pos 0) ≡ false → r .length ≡ 0 → r .got ≡ pos 0
 nothing-read {most} {r = r} d w h = none-moved (r .got) most (d .moved) w (sym (d .length-is) ∙ h)

@@ -11,7 +11,7 @@ use Rattle.input_pieces.specs.declared.Piece.{Piece}
 
 -- A read of at most so many bytes. Its answer is kept, the length is what it answered, and nothing of the buffer was lent to it but its front.
 -- Which bytes a read puts there no contract can say.
-pub record Reads (most : ℕ) (before buffer : List ℕ) (r : Piece) : Type 0 where
+pub record ReadsPiece (most : ℕ) (before buffer : List ℕ) (r : Piece) : Type 0 where
   pub moved : Moved most (r .got)
   pub length-is : r .length ≡ clamped (r .got) most
   pub beyond : drop most buffer ≡ drop most before

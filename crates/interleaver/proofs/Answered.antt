@@ -5,13 +5,13 @@ use mathlib.Core.List.{List, _++_}
 use Prim.Native.Nat.{ℕ, _≤_}
 use borrow.Author.Tests.{eq-eqb, le-ltb}
 use lib.ListN.{length, drop}
-use Rattle.delay_branches.specs.Block.{blockOut, after}
+use Rattle.delay_branches.specs.Block.{blockOut, branchesAfter}
 use Rattle.delay_branches.specs.declared.Side.{Side}
 use Rattle.delay_branches.specs.declared.Branches.{Branches}
 use Rattle.delay_branches.proofs.Blocks.{Good}
-use Rattle.interleaver.specs.Call.{passBranches, passRoom}
+use Rattle.interleaver.specs.Call.{passBranches, passOutput}
 
-pub pass-done : (side : Side) (s : Branches) (block room : List ℕ) → Good side s → length block ≡ 204 → 204 ≤ length room
-    → (passBranches side s block room ≡ after side s block)
-    × (passRoom side s block room ≡ blockOut side s block ++ drop 204 room)
-pass-done side s block room g n l = simp (g .range, eq-eqb _ _ n, le-ltb _ _ l) (refl, refl)
+pub pass-done : (side : Side) (s : Branches) (block output : List ℕ) → Good side s → length block ≡ 204 → 204 ≤ length output
+    → (passBranches side s block output ≡ branchesAfter side s block)
+    × (passOutput side s block output ≡ blockOut side s block ++ drop 204 output)
+pass-done side s block output g n l = simp (g .range, eq-eqb _ _ n, le-ltb _ _ l) (refl, refl)

@@ -12,9 +12,9 @@ use lib.Seq.{getD-append-add, ext-getD}
 use Rattle.common.specs.Lists.{Entries, listOf}
 use Rattle.common.proofs.Entries.{entries-below}
 use Rattle.common.proofs.Lists.{length-listOf, getD-listOf}
-use Rattle.delay_branches.specs.Branch.{delayOf, sizeOf, within, queue}
+use Rattle.delay_branches.specs.Branch.{delayOf, sizeOf, positionsWithin, queue}
 use Rattle.delay_branches.specs.Column.{column}
-use Rattle.delay_branches.specs.Block.{fresh, blockOut, after}
+use Rattle.delay_branches.specs.Block.{fresh, blockOut, branchesAfter}
 use Rattle.delay_branches.specs.declared.Side.{Side}
 use Rattle.delay_branches.specs.declared.Side.the-variants.{Sending, Receiving}
 use Rattle.delay_branches.specs.declared.Branches.{Branches}
@@ -55,7 +55,7 @@ pub queue-laws : (side : Side) (s : Branches) (blocks : List (List ℕ)) → Goo
 unfolding run runAfter
 queue-laws side s [] g j h = append-nil (queue side s j)
 queue-laws side s (block ∷ blocks) g j h =
-    let next = after side s block in
+    let next = branchesAfter side s block in
     let q = queue side s j in
     sym (append-assoc q (column j block) (columns j blocks))
     ∙ ap (λ (l : List ℕ). l ++ columns j blocks) (queue-law side s block g j h)
@@ -66,18 +66,18 @@ queue-laws side s (block ∷ blocks) g j h =
 pub length-run : (side : Side) (s : Branches) (blocks : List (List ℕ)) → length (run side s blocks) ≡ length blocks
 unfolding run
 length-run side s [] = refl
-length-run side s (block ∷ blocks) = ap suc (length-run side (after side s block) blocks)
+length-run side s (block ∷ blocks) = ap suc (length-run side (branchesAfter side s block) blocks)
 
 length-run-block : (side : Side) (s : Branches) (blocks : List (List ℕ)) (b : ℕ) → b < length blocks → length (getD (run side s blocks) b []) ≡ 204
 unfolding run
 length-run-block side s [] b h = absurd (not-suc-le-zero h)
 length-run-block side s (block ∷ blocks) zero h = length-out side s block
-length-run-block side s (block ∷ blocks) (suc b) h = length-run-block side (after side s block) blocks b (omega arith)
+length-run-block side s (block ∷ blocks) (suc b) h = length-run-block side (branchesAfter side s block) blocks b (omega arith)
 
 -- ---- fresh branches
 
 pub good-fresh : (side : Side) → Good side fresh
-unfolding fresh within
+unfolding fresh positionsWithin
 good-fresh Sending = record { cells = refl; positions = refl; range = refl }
 good-fresh Receiving = record { cells = refl; positions = refl; range = refl }
 

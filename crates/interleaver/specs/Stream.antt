@@ -7,7 +7,7 @@ use lib.ListN.{length, getD, take, replicate}
 use Rattle.common.specs.Choice.{pick}
 use Rattle.common.specs.Lists.{listOf}
 use Rattle.delay_branches.specs.Branch.{delayOf}
-use Rattle.delay_branches.specs.Block.{blockOut, after}
+use Rattle.delay_branches.specs.Block.{blockOut, branchesAfter}
 use Rattle.delay_branches.specs.declared.Side.{Side}
 use Rattle.delay_branches.specs.declared.Side.the-variants.{Sending, Receiving}
 use Rattle.delay_branches.specs.declared.Branches.{Branches}
@@ -43,12 +43,12 @@ elevenLate blocks = take (length blocks) (replicate 11 zeroBlock ++ blocks)
 
 -- call after call
 unfoldable pub run : Side → Branches → List (List ℕ) → List (List ℕ)
-unfolding blockOut after
+unfolding blockOut branchesAfter
 run side s [] = []
-run side s (block ∷ blocks) = blockOut side s block ∷ run side (after side s block) blocks
+run side s (block ∷ blocks) = blockOut side s block ∷ run side (branchesAfter side s block) blocks
 
 -- the state after them
 unfoldable pub runAfter : Side → Branches → List (List ℕ) → Branches
-unfolding after
+unfolding branchesAfter
 runAfter side s [] = s
-runAfter side s (block ∷ blocks) = runAfter side (after side s block) blocks
+runAfter side s (block ∷ blocks) = runAfter side (branchesAfter side s block) blocks

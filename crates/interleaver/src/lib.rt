@@ -1,9 +1,9 @@
 // Convolutional interleaving and its removal: EN 300 421, 4.4.2.
 ghost use mathlib.Core.Path.{_≡_};
 ghost use Rattle.answer.specs.Number.{numberOf};
-ghost use Rattle.delay_branches.specs.Branch.{inRange};
+ghost use Rattle.delay_branches.specs.Branch.{branchesInRange};
 ghost use Rattle.delay_branches.specs.Block.{fresh};
-ghost use Rattle.interleaver.specs.Call.{passNumber, passBranches, passRoom};
+ghost use Rattle.interleaver.specs.Call.{passNumber, passBranches, passOutput};
 use answer::Answer;
 use delay_branches::Branches;
 use delay_branches::Side;
@@ -39,11 +39,11 @@ pub struct Deinterleaved {
 }
 
 // The tests, and the work.
-fn pass(side: Side, branches: Branches, block: &[u8], room: &mut [u8]) -> Passed
+fn pass(side: Side, branches: Branches, block: &[u8], output: &mut [u8]) -> Passed
     ensures { λ r. ⌜
-        (numberOf (r .answer) ≡ passNumber side branches (now (block .entry)) (now (room .entry)))
-        × (r .branches ≡ passBranches side branches (now (block .entry)) (now (room .entry)))
-        × (now (room .exit) ≡ passRoom side branches (now (block .entry)) (now (room .entry))) ⌝ }
+        (numberOf (r .answer) ≡ passNumber side branches (now (block .entry)) (now (output .entry)))
+        × (r .branches ≡ passBranches side branches (now (block .entry)) (now (output .entry)))
+        × (now (output .exit) ≡ passOutput side branches (now (block .entry)) (now (output .entry))) ⌝ }
 {
     let positions = branches.positions;
     if !positions_within(side, positions) {
@@ -58,13 +58,13 @@ fn pass(side: Side, branches: Branches, block: &[u8], room: &mut [u8]) -> Passed
             branches,
         };
     }
-    if room.len() < 204 {
+    if output.len() < 204 {
         return Passed {
-            answer: Answer::RoomLength,
+            answer: Answer::OutputLength,
             branches,
         };
     }
-    let next = pass_block(side, branches, block, room);
+    let next = pass_block(side, branches, block, output);
     Passed {
         answer: Answer::Done,
         branches: next,
@@ -82,7 +82,7 @@ impl Interleaver {
 
     // Whether each position is within its branch.
     pub fn in_range(self) -> bool
-        ensures { λ r. ⌜ r ≡ inRange Side.Sending (self .branches) ⌝ }
+        ensures { λ r. ⌜ r ≡ branchesInRange Side.Sending (self .branches) ⌝ }
     {
         let branches = self.branches;
         let positions = branches.positions;
@@ -90,14 +90,14 @@ impl Interleaver {
     }
 
     // Puts a block in, and writes the block that leaves.
-    pub fn interleave(self, block: &[u8], room: &mut [u8]) -> Interleaved
+    pub fn interleave(self, block: &[u8], output: &mut [u8]) -> Interleaved
         ensures { λ r. ⌜
-            (numberOf (r .answer) ≡ passNumber Side.Sending (self .branches) (now (block .entry)) (now (room .entry)))
-            × (r .interleaver .branches ≡ passBranches Side.Sending (self .branches) (now (block .entry)) (now (room .entry)))
-            × (now (room .exit) ≡ passRoom Side.Sending (self .branches) (now (block .entry)) (now (room .entry))) ⌝ }
+            (numberOf (r .answer) ≡ passNumber Side.Sending (self .branches) (now (block .entry)) (now (output .entry)))
+            × (r .interleaver .branches ≡ passBranches Side.Sending (self .branches) (now (block .entry)) (now (output .entry)))
+            × (now (output .exit) ≡ passOutput Side.Sending (self .branches) (now (block .entry)) (now (output .entry))) ⌝ }
     {
         let before = self.branches;
-        let passed = pass(Side::Sending, before, block, room);
+        let passed = pass(Side::Sending, before, block, output);
         let answer = passed.answer;
         let branches = passed.branches;
         let interleaver = Interleaver { branches };
@@ -119,7 +119,7 @@ impl Deinterleaver {
 
     // Whether each position is within its branch.
     pub fn in_range(self) -> bool
-        ensures { λ r. ⌜ r ≡ inRange Side.Receiving (self .branches) ⌝ }
+        ensures { λ r. ⌜ r ≡ branchesInRange Side.Receiving (self .branches) ⌝ }
     {
         let branches = self.branches;
         let positions = branches.positions;
@@ -127,14 +127,14 @@ impl Deinterleaver {
     }
 
     // Puts a block in, and writes the block that leaves.
-    pub fn deinterleave(self, block: &[u8], room: &mut [u8]) -> Deinterleaved
+    pub fn deinterleave(self, block: &[u8], output: &mut [u8]) -> Deinterleaved
         ensures { λ r. ⌜
-            (numberOf (r .answer) ≡ passNumber Side.Receiving (self .branches) (now (block .entry)) (now (room .entry)))
-            × (r .deinterleaver .branches ≡ passBranches Side.Receiving (self .branches) (now (block .entry)) (now (room .entry)))
-            × (now (room .exit) ≡ passRoom Side.Receiving (self .branches) (now (block .entry)) (now (room .entry))) ⌝ }
+            (numberOf (r .answer) ≡ passNumber Side.Receiving (self .branches) (now (block .entry)) (now (output .entry)))
+            × (r .deinterleaver .branches ≡ passBranches Side.Receiving (self .branches) (now (block .entry)) (now (output .entry)))
+            × (now (output .exit) ≡ passOutput Side.Receiving (self .branches) (now (block .entry)) (now (output .entry))) ⌝ }
     {
         let before = self.branches;
-        let passed = pass(Side::Receiving, before, block, room);
+        let passed = pass(Side::Receiving, before, block, output);
         let answer = passed.answer;
         let branches = passed.branches;
         let deinterleaver = Deinterleaver { branches };

@@ -16,12 +16,12 @@ codedSymbols rate bytes = streamSymbols (modeOf rate) (flatten (wholeBlocks byte
 
 -- a mode that is not sent, or less room than a symbol for each bit
 abbrev pub refused : ℕ → List ℕ → List ℕ → Bool
-refused rate bytes room = pick (modeOf rate .sent) (ltb (length room / 8) (length bytes)) true
+refused rate bytes output = pick (modeOf rate .sent) (ltb (length output / 8) (length bytes)) true
 
--- how many symbols are written, and the room then
+-- how many symbols are written, and the output then
 abbrev pub codeCount : ℕ → List ℕ → List ℕ → ℕ
-codeCount rate bytes room = pick (refused rate bytes room) 0 (length (codedSymbols rate bytes))
+codeCount rate bytes output = pick (refused rate bytes output) 0 (length (codedSymbols rate bytes))
 
-abbrev pub codeRoom : ℕ → List ℕ → List ℕ → List ℕ
-codeRoom rate bytes room =
-    pick (refused rate bytes room) room (codedSymbols rate bytes ++ drop (length (codedSymbols rate bytes)) room)
+abbrev pub codeOutput : ℕ → List ℕ → List ℕ → List ℕ
+codeOutput rate bytes output =
+    pick (refused rate bytes output) output (codedSymbols rate bytes ++ drop (length (codedSymbols rate bytes)) output)

@@ -13,7 +13,7 @@ use Rattle.kernels.specs.Blocks.{wholeBlocks}
 unfoldable pub delayedBytes : Side → List ℕ → List ℕ
 delayedBytes side bytes = flatten (delayed side (wholeBlocks bytes))
 
--- they stand in the room, unless it is shorter than the buffer
-abbrev pub delayRoom : Side → List ℕ → List ℕ → List ℕ
-delayRoom side bytes room =
-    pick (ltb (length room) (length bytes)) room (delayedBytes side bytes ++ drop (204 * (length bytes / 204)) room)
+-- they stand in the output, unless it is shorter than the buffer
+abbrev pub delayOutput : Side → List ℕ → List ℕ → List ℕ
+delayOutput side bytes output =
+    pick (ltb (length output) (length bytes)) output (delayedBytes side bytes ++ drop (204 * (length bytes / 204)) output)

@@ -13,5 +13,5 @@ scaledBy [] a = a
 scaledBy (f ∷ fs) a = scaledBy fs (scaled f a)
 
 -- the first sixteen bytes, and those beyond them as before; all as before where there are fewer
-abbrev pub scaleRoom : List ℕ → List ℕ → List ℕ
-scaleRoom factors lanes = pick (ltb (length lanes) 16) lanes (scaledBy factors (take 16 lanes) ++ drop 16 lanes)
+abbrev pub scaleOutput : List ℕ → List ℕ → List ℕ
+scaleOutput factors lanes = pick (ltb (length lanes) 16) lanes (scaledBy factors (take 16 lanes) ++ drop 16 lanes)

@@ -9,11 +9,11 @@ ghost use Rattle.kernels.specs.Code.{codedSymbols};
 use inner_code::InnerCoder;
 
 // Gives the number of symbols.
-pub fn code_blocks(rate: u8, blocks: &[u8], room: &mut [u8]) -> usize
-    requires { ⌜ (modeOf rate .sent ≡ true) × (8 * length (now blocks) ≤ length (now room)) ⌝ }
+pub fn code_blocks(rate: u8, blocks: &[u8], output: &mut [u8]) -> usize
+    requires { ⌜ (modeOf rate .sent ≡ true) × (8 * length (now blocks) ≤ length (now output)) ⌝ }
     ensures { λ r. ⌜
         (r ≡ length (codedSymbols rate (now (blocks .entry))))
-        × (now (room .exit) ≡ codedSymbols rate (now (blocks .entry)) ++ drop (length (codedSymbols rate (now (blocks .entry)))) (now (room .entry))) ⌝ }
+        × (now (output .exit) ≡ codedSymbols rate (now (blocks .entry)) ++ drop (length (codedSymbols rate (now (blocks .entry)))) (now (output .entry))) ⌝ }
 {
     let created = InnerCoder::new(rate);
     let mut coder = created.coder;
@@ -21,7 +21,7 @@ pub fn code_blocks(rate: u8, blocks: &[u8], room: &mut [u8]) -> usize
     let mut count: usize = 0;
     while blocks.len() - at >= 204 {
         let end = at + 204;
-        let encoded = coder.encode(&blocks[at..end], &mut room[count..]);
+        let encoded = coder.encode(&blocks[at..end], &mut output[count..]);
         coder = encoded.coder;
         count += encoded.count;
         at = end;

@@ -7,15 +7,15 @@ ghost use Rattle.delay_branches.specs.declared.Side.the-variants.{Sending};
 ghost use Rattle.kernels.specs.Delay.{delayedBytes};
 use interleaver::Interleaver;
 
-pub fn interleave_blocks(blocks: &[u8], room: &mut [u8])
-    requires { ⌜ length (now blocks) ≤ length (now room) ⌝ }
-    ensures { λ _. ⌜ now (room .exit) ≡ delayedBytes Sending (now (blocks .entry)) ++ drop (204 * (length (now (blocks .entry)) / 204)) (now (room .entry)) ⌝ }
+pub fn interleave_blocks(blocks: &[u8], output: &mut [u8])
+    requires { ⌜ length (now blocks) ≤ length (now output) ⌝ }
+    ensures { λ _. ⌜ now (output .exit) ≡ delayedBytes Sending (now (blocks .entry)) ++ drop (204 * (length (now (blocks .entry)) / 204)) (now (output .entry)) ⌝ }
 {
     let mut interleaver = Interleaver::new();
     let mut at: usize = 0;
     while blocks.len() - at >= 204 {
         let end = at + 204;
-        let passed = interleaver.interleave(&blocks[at..end], &mut room[at..end]);
+        let passed = interleaver.interleave(&blocks[at..end], &mut output[at..end]);
         interleaver = passed.interleaver;
         at = end;
     }

@@ -11,11 +11,11 @@ use lib.IntN.{ℤ, pos}
 use lib.ListN.{length, take, drop, length-append}
 use lib.Seq.{length-take-le}
 use Rattle.common.specs.Choice.{pick}
-use Rattle.input_pieces.specs.Read.{Reads}
+use Rattle.input_pieces.specs.Read.{ReadsPiece}
 use Rattle.input_pieces.specs.declared.Piece.{Piece}
 use Rattle.input_pieces.proofs.Laws.{read-most}
-use Rattle.stream_receiver.specs.Feed.{freshStream, capacityOf, streamInRange, feedNumber, Feeds, refused, fed}
-use Rattle.stream_receiver.specs.History.{Reception, Came}
+use Rattle.stream_receiver.specs.Feed.{freshStream, capacityOf, streamInRange, receiverFeedNumber, FeedsReceiver, refused, fed}
+use Rattle.stream_receiver.specs.History.{Reception, ReceiverCame}
 use Rattle.stream_receiver.specs.declared.StreamReceiver.{StreamReceiver}
 use Rattle.stream_receiver.proofs.Laws.{reception-none, reception-range, reception-capacity}
 use Rattle.stream_receiver.proofs.Histories.{reception-number, reception-feeds}
@@ -24,34 +24,34 @@ use Rattle.pass.specs.declared.Turn.{Turn}
 
 -- ---- a turn
 
-pub capacity-is : {s : StreamReceiver} → Came s → {n : ℕ} → n ≡ pick (streamInRange s) (capacityOf s) 0 → n ≡ capacityOf s
+pub capacity-is : {s : StreamReceiver} → ReceiverCame s → {n : ℕ} → n ≡ pick (streamInRange s) (capacityOf s) 0 → n ≡ capacityOf s
 capacity-is {s} k e = e ∙ ap (λ (t : Bool). pick t (capacityOf s) 0) (reception-range (k .reception))
 
-module _ {s : StreamReceiver} (k : Came s) (piece room : List ℕ) (fits : length piece ≤ capacityOf s) (few : length piece ≤ 65536) (enough : length room ≡ 65536) where
-  none-refuses : feedNumber s piece room ≡ 0
+module _ {s : StreamReceiver} (k : ReceiverCame s) (piece output : List ℕ) (fits : length piece ≤ capacityOf s) (few : length piece ≤ 65536) (enough : length output ≡ 65536) where
+  none-refuses : receiverFeedNumber s piece output ≡ 0
   none-refuses =
       let r = k .reception in
       let b = k .bytes in
-      let p : 188 * ((length b % 204 + length piece) / 204) ≤ length room = omega arith in
+      let p : 188 * ((length b % 204 + length piece) / 204) ≤ length output = omega arith in
       let q : length piece ≤ 204 * 4294967295 - length b = omega (arith, reception-capacity r) in
-      reception-number r piece room ∙ simp (le-ltb _ _ p, le-ltb _ _ q)
+      reception-number r piece output ∙ simp (le-ltb _ _ p, le-ltb _ _ q)
 
-  done : {number count : ℕ} {next : StreamReceiver} {exit : List ℕ} → Feeds s piece room number count next exit → number ≡ 0
+  done : {number count : ℕ} {next : StreamReceiver} {exit : List ℕ} → FeedsReceiver s piece output number count next exit → number ≡ 0
   done (refused n h c t w) = absurd (omega (arith, n, none-refuses))
   done (fed z n t) = n
 
-pub turns : {s : StreamReceiver} → Came s → (before buffer room exit : List ℕ) (piece : Piece) (most number count : ℕ) (next : StreamReceiver)
-    → length before ≡ 65536 → length buffer ≡ 65536 → length room ≡ 65536 → most ≡ min (capacityOf s) (length before)
-    → Reads most before buffer piece → Feeds s (take (piece .length) buffer) room number count next exit
-    → Turns s before buffer room exit (record { piece = piece; count = count; stream = next })
-turns {s} k before buffer room exit piece most number count next a b o m r f =
+pub turns : {s : StreamReceiver} → ReceiverCame s → (before buffer output exit : List ℕ) (piece : Piece) (most number count : ℕ) (next : StreamReceiver)
+    → length before ≡ 65536 → length buffer ≡ 65536 → length output ≡ 65536 → most ≡ min (capacityOf s) (length before)
+    → ReadsPiece most before buffer piece → FeedsReceiver s (take (piece .length) buffer) output number count next exit
+    → Turns s before buffer output exit (record { piece = piece; count = count; stream = next })
+turns {s} k before buffer output exit piece most number count next a b o m r f =
     let n = read-most r in
     let w : piece .length ≤ length buffer = omega (arith, min-le-right (capacityOf s) (length before)) in
     let l = length-take-le (piece .length) buffer w in
-    let z = done k (take (piece .length) buffer) room (omega (arith, min-le-left (capacityOf s) (length before))) (omega arith) o f in
+    let z = done k (take (piece .length) buffer) output (omega (arith, min-le-left (capacityOf s) (length before))) (omega arith) o f in
     record {
-      read = subst (λ (n : ℕ). Reads n before buffer piece) m r;
-      fed = subst (λ (n : ℕ). Feeds s (take (piece .length) buffer) room n count next exit) z f;
+      read = subst (λ (n : ℕ). ReadsPiece n before buffer piece) m r;
+      fed = subst (λ (n : ℕ). FeedsReceiver s (take (piece .length) buffer) output n count next exit) z f;
     }
 
 -- ---- the loop
@@ -66,20 +66,20 @@ pub record Passing (s : StreamReceiver) (came : ℕ) : Type 0 where
 pub passing-none : {s : StreamReceiver} → s ≡ freshStream → Passing s 0
 passing-none {s} e = record { bytes = []; written = []; reception = subst (Reception [] []) (sym e) reception-none; all = refl }
 
-pub passing-came : {s : StreamReceiver} {came : ℕ} → Passing s came → Came s
+pub passing-came : {s : StreamReceiver} {came : ℕ} → Passing s came → ReceiverCame s
 passing-came p = record { bytes = p .bytes; written = p .written; reception = p .reception }
 
-written-fits : {s : StreamReceiver} {piece room exit : List ℕ} {number count : ℕ} {next : StreamReceiver} → Feeds s piece room number count next exit
+written-fits : {s : StreamReceiver} {piece output exit : List ℕ} {number count : ℕ} {next : StreamReceiver} → FeedsReceiver s piece output number count next exit
     → count ≤ length exit
 written-fits (refused n h c t w) = omega arith
-written-fits {room = room} {count = count} (fed z n t) =
+written-fits {output = output} {count = count} (fed z n t) =
     let k = t .takes in
-    omega (arith, k .counted, ap length (k .written), length-append (flatten (k .packets)) (drop count room))
+    omega (arith, k .counted, ap length (k .written), length-append (flatten (k .packets)) (drop count output))
 
 less : (m a b n : ℕ) → b ≡ a + n → b ≤ m → (n ≡ 0 → ⊥) → m - b < m - a
 less m a b n e h z = omega arith
 
-module _ {s : StreamReceiver} {came : ℕ} (p : Passing s came) {before buffer room packets : List ℕ} {r : Turn} (t : Turns s before buffer room packets r)
+module _ {s : StreamReceiver} {came : ℕ} (p : Passing s came) {before buffer output packets : List ℕ} {r : Turn} (t : Turns s before buffer output packets r)
     (size : length buffer ≡ length before) where
   pub given-within : r .count ≤ length packets
   given-within = written-fits (t .fed)
@@ -91,7 +91,7 @@ module _ {s : StreamReceiver} {came : ℕ} (p : Passing s came) {before buffer r
   passing-more = record {
     bytes = p .bytes ++ take (r .piece .length) buffer;
     written = p .written ++ take (r .count) packets;
-    reception = reception-feeds (p .reception) (take (r .piece .length) buffer) room 0 (r .count) (r .stream) packets (t .fed);
+    reception = reception-feeds (p .reception) (take (r .piece .length) buffer) output 0 (r .count) (r .stream) packets (t .fed);
     all = omega (arith, length-append (p .bytes) (take (r .piece .length) buffer), length-take-le (r .piece .length) buffer within, p .all);
   }
 

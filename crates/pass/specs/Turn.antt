@@ -6,8 +6,8 @@ use mathlib.Core.List.{List}
 use Prim.Native.Nat.{ℕ, min}
 use lib.IntN.{pos}
 use lib.ListN.{length, take, drop}
-use Rattle.input_pieces.specs.Read.{Reads}
-use Rattle.stream_receiver.specs.Feed.{capacityOf, Feeds}
+use Rattle.input_pieces.specs.Read.{ReadsPiece}
+use Rattle.stream_receiver.specs.Feed.{capacityOf, FeedsReceiver}
 use Rattle.stream_receiver.specs.History.{Reception}
 use Rattle.stream_receiver.specs.declared.StreamReceiver.{StreamReceiver}
 use Rattle.pass.specs.declared.Turn.{Turn}
@@ -15,9 +15,9 @@ use Rattle.pass.specs.declared.Pass.{Pass}
 
 -- One read of at most as many bytes as the buffer has and as can still come; the bytes that came, at the front of the buffer, are fed and
 -- not refused. What is given stands at the front of the packets.
-pub record Turns (s : StreamReceiver) (before buffer room packets : List ℕ) (r : Turn) : Type 0 where
-  pub read : Reads (min (capacityOf s) (length before)) before buffer (r .piece)
-  pub fed : Feeds s (take (r .piece .length) buffer) room 0 (r .count) (r .stream) packets
+pub record Turns (s : StreamReceiver) (before buffer output packets : List ℕ) (r : Turn) : Type 0 where
+  pub read : ReadsPiece (min (capacityOf s) (length before)) before buffer (r .piece)
+  pub fed : FeedsReceiver s (take (r .piece .length) buffer) output 0 (r .count) (r .stream) packets
 
 -- What a pass promises. So many bytes came in all, and this is what they come to. Unless a read or a write failed, the last read answered
 -- 0: at the end of the input, or where no block more can be counted.

@@ -5,7 +5,7 @@ ghost use mathlib.Core.Path.{_≡_};
 ghost use Prim.Native.Nat.{_≤_, min};
 ghost use lib.ListN.{length};
 ghost use Rattle.pass.specs.Turn.{Turns, Passes};
-ghost use Rattle.stream_receiver.specs.History.{Came};
+ghost use Rattle.stream_receiver.specs.History.{ReceiverCame};
 use input_pieces::Piece;
 use libc::STDOUT_FILENO;
 use stream_receiver::StreamReceiver;
@@ -41,7 +41,7 @@ fn smaller(capacity: u64, length: usize) -> usize
 
 // Reads once and takes what came. Nothing is read past the blocks that can be counted.
 fn receive_piece(fd: i32, stream: StreamReceiver, buffer: &mut [u8], packets: &mut [u8]) -> Turn
-    requires { ⌜ (Came stream) × (length (now buffer) ≡ 65536) × (length (now packets) ≡ 65536) ⌝ }
+    requires { ⌜ (ReceiverCame stream) × (length (now buffer) ≡ 65536) × (length (now packets) ≡ 65536) ⌝ }
     ensures { λ r. ⌜ Turns stream (now (buffer .entry)) (now (buffer .exit)) (now (packets .entry)) (now (packets .exit)) r ⌝ }
 {
     let most = smaller(stream.capacity(), buffer.len());

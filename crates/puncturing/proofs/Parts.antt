@@ -11,8 +11,8 @@ use Rattle.common.proofs.Computed as computed
 use Rattle.convolutional_code.specs.Bits.{Bits}
 use Rattle.convolutional_code.proofs.Bits.{bits-at}
 use Rattle.puncturing.specs.Mode.{modeOf, completed}
-use Rattle.puncturing.specs.Step.{patternLength, nextPlace, heldCount, listOf, punctured, heldAfter, symbolsIn, puncturedBy, heldBy, heldCountBy, countBy}
-use Rattle.puncturing.specs.Run.{sentSymbols, placeAfter, heldBehind, patternSymbols, patternsSymbols, iBits, qBits}
+use Rattle.puncturing.specs.Step.{patternLength, nextPlace, heldCount, symbolList, punctured, heldAfter, symbolsIn, puncturedBy, heldBy, heldCountBy, countBy}
+use Rattle.puncturing.specs.Run.{puncturedSymbols, patternPlaceAfter, heldBehind, patternSymbols, patternsSymbols, iBits, qBits}
 use Rattle.puncturing.proofs.Places.{tested-at, agreed-at, up, end, _&_, Below, below}
 use Rattle.puncturing.proofs.Steps.{some-bits, next-lt, held-in-range}
 use Rattle.puncturing.proofs.Patterns.{length-pattern}
@@ -21,40 +21,40 @@ use Rattle.puncturing.proofs.Rates.{table}
 -- ---- one run after another
 
 pub sent-append : (r p h : ℕ) (l : List ℕ) (n j k : ℕ)
-    → sentSymbols r p h l n (j + k) ≡ sentSymbols r p h l n j ++ sentSymbols r (placeAfter r p j) (heldBehind r p h l n j) l (n + j) k
-unfolding sentSymbols placeAfter heldBehind
-sent-append r p h l n zero k = ap₂ (λ (m i : ℕ). sentSymbols r p h l m i) (sym (add-zero n)) (zero-add k)
+    → puncturedSymbols r p h l n (j + k) ≡ puncturedSymbols r p h l n j ++ puncturedSymbols r (patternPlaceAfter r p j) (heldBehind r p h l n j) l (n + j) k
+unfolding puncturedSymbols patternPlaceAfter heldBehind
+sent-append r p h l n zero k = ap₂ (λ (m i : ℕ). puncturedSymbols r p h l m i) (sym (add-zero n)) (zero-add k)
 sent-append r p h l n (suc j) k =
     let x = getD l n 0 in
     let y = getD l (1632 + n) 0 in
     let p′ = nextPlace r p in
     let h′ = heldAfter r p x y h in
-    ap (sentSymbols r p h l n) (suc-add j k)
-    ∙ ap (λ (s : List ℕ). listOf (punctured r p x y h) ++ s) (sent-append r p′ h′ l (suc n) j k)
-    ∙ sym (append-assoc (listOf (punctured r p x y h)) (sentSymbols r p′ h′ l (suc n) j) _)
+    ap (puncturedSymbols r p h l n) (suc-add j k)
+    ∙ ap (λ (s : List ℕ). symbolList (punctured r p x y h) ++ s) (sent-append r p′ h′ l (suc n) j k)
+    ∙ sym (append-assoc (symbolList (punctured r p x y h)) (puncturedSymbols r p′ h′ l (suc n) j) _)
     ∙ ap
-    (λ (m : ℕ). listOf (punctured r p x y h) ++ sentSymbols r p′ h′ l (suc n) j ++ sentSymbols r (placeAfter r p′ j) (heldBehind r p′ h′ l (suc n) j) l m k)
+    (λ (m : ℕ). symbolList (punctured r p x y h) ++ puncturedSymbols r p′ h′ l (suc n) j ++ puncturedSymbols r (patternPlaceAfter r p′ j) (heldBehind r p′ h′ l (suc n) j) l m k)
     (suc-add n j ∙ sym (add-suc n j))
 
-pub place-append : (r p j k : ℕ) → placeAfter r p (j + k) ≡ placeAfter r (placeAfter r p j) k
-unfolding placeAfter
-place-append r p zero k = ap (placeAfter r p) (zero-add k)
-place-append r p (suc j) k = ap (placeAfter r p) (suc-add j k) ∙ place-append r (nextPlace r p) j k
+pub place-append : (r p j k : ℕ) → patternPlaceAfter r p (j + k) ≡ patternPlaceAfter r (patternPlaceAfter r p j) k
+unfolding patternPlaceAfter
+place-append r p zero k = ap (patternPlaceAfter r p) (zero-add k)
+place-append r p (suc j) k = ap (patternPlaceAfter r p) (suc-add j k) ∙ place-append r (nextPlace r p) j k
 
 pub held-append : (r p h : ℕ) (l : List ℕ) (n j k : ℕ)
-    → heldBehind r p h l n (j + k) ≡ heldBehind r (placeAfter r p j) (heldBehind r p h l n j) l (n + j) k
-unfolding placeAfter heldBehind
+    → heldBehind r p h l n (j + k) ≡ heldBehind r (patternPlaceAfter r p j) (heldBehind r p h l n j) l (n + j) k
+unfolding patternPlaceAfter heldBehind
 held-append r p h l n zero k = ap₂ (λ (m i : ℕ). heldBehind r p h l m i) (sym (add-zero n)) (zero-add k)
 held-append r p h l n (suc j) k =
     let p′ = nextPlace r p in
     let h′ = heldAfter r p (getD l n 0) (getD l (1632 + n) 0) h in
     ap (heldBehind r p h l n) (suc-add j k)
     ∙ held-append r p′ h′ l (suc n) j k
-    ∙ ap (λ (m : ℕ). heldBehind r (placeAfter r p′ j) (heldBehind r p′ h′ l (suc n) j) l m k) (suc-add n j ∙ sym (add-suc n j))
+    ∙ ap (λ (m : ℕ). heldBehind r (patternPlaceAfter r p′ j) (heldBehind r p′ h′ l (suc n) j) l m k) (suc-add n j ∙ sym (add-suc n j))
 
 pub held-behind : (r p h : ℕ) (l : List ℕ) (n k : ℕ) → r < 5 → p < patternLength r → h ≤ heldCount r p → Bits l
-    → heldBehind r p h l n k ≤ heldCount r (placeAfter r p k)
-unfolding placeAfter heldBehind
+    → heldBehind r p h l n k ≤ heldCount r (patternPlaceAfter r p k)
+unfolding patternPlaceAfter heldBehind
 held-behind r p h l n zero hr hp hh t = hh
 held-behind r p h l n (suc k) hr hp hh t =
     held-behind r (nextPlace r p) (heldAfter r p (getD l n 0) (getD l (1632 + n) 0) h) l (suc n) k hr (next-lt r p hp)
@@ -62,17 +62,17 @@ held-behind r p h l n (suc k) hr hp hh t =
 
 -- ---- how many symbols
 
-pub symbols-in-append : (r p j k : ℕ) → symbolsIn r p (j + k) ≡ symbolsIn r p j + symbolsIn r (placeAfter r p j) k
-unfolding countBy placeAfter
+pub symbols-in-append : (r p j k : ℕ) → symbolsIn r p (j + k) ≡ symbolsIn r p j + symbolsIn r (patternPlaceAfter r p j) k
+unfolding countBy patternPlaceAfter
 symbols-in-append r p zero k = ap (symbolsIn r p) (zero-add k) ∙ sym (zero-add _)
 symbols-in-append r p (suc j) k =
     ap (symbolsIn r p) (suc-add j k)
     ∙ ap (λ (m : ℕ). length (completed (modeOf r) (p + 1)) + m) (symbols-in-append r (nextPlace r p) j k)
-    ∙ sym (add-assoc (length (completed (modeOf r) (p + 1))) (symbolsIn r (nextPlace r p) j) (symbolsIn r (placeAfter r (nextPlace r p) j) k))
+    ∙ sym (add-assoc (length (completed (modeOf r) (p + 1))) (symbolsIn r (nextPlace r p) j) (symbolsIn r (patternPlaceAfter r (nextPlace r p) j) k))
 
 -- the pattern goes round
-pub place-after : (r p k : ℕ) → p < patternLength r → placeAfter r p k ≡ (p + k) % patternLength r
-unfolding placeAfter
+pub place-after : (r p k : ℕ) → p < patternLength r → patternPlaceAfter r p k ≡ (p + k) % patternLength r
+unfolding patternPlaceAfter
 place-after r p zero h = sym (ap (λ (n : ℕ). n % patternLength r) (add-zero p) ∙ mod-eq-of-lt h)
 place-after r p (suc k) h =
     let e : p + 1 + k ≡ p + suc k = omega arith in
@@ -92,7 +92,7 @@ unfolding countBy
 whole-count r zero h = rw (mul-zero, mul-zero)
 whole-count r (suc q) h =
     let n = patternLength r in
-    let e : placeAfter r 0 (n * q) ≡ 0 = place-after r 0 (n * q) (some-bits r h) ∙ (ap (λ (k : ℕ). k % n) (zero-add (n * q)) ∙ mul-mod-right n q) in
+    let e : patternPlaceAfter r 0 (n * q) ≡ 0 = place-after r 0 (n * q) (some-bits r h) ∙ (ap (λ (k : ℕ). k % n) (zero-add (n * q)) ∙ mul-mod-right n q) in
     ap (symbolsIn r 0) (mul-suc n q)
     ∙ (symbols-in-append r 0 (n * q) n
     ∙ (ap (λ (p : ℕ). symbolsIn r 0 (n * q) + symbolsIn r p n) e
@@ -104,20 +104,20 @@ pub none-held : (r : ℕ) → r < 5 → heldCount r 0 ≡ 0
 unfolding heldCountBy modeOf
 none-held r h = computed.agree-at (λ r. heldCount r 0) (λ r. 0) 5 tt r h
 
-pub to-start : (r p : ℕ) → r < 5 → p < patternLength r → placeAfter r p ((patternLength r - p) % patternLength r) ≡ 0
-unfolding placeAfter modeOf
-to-start r p h k = agreed-at (λ r p. placeAfter r p ((patternLength r - p) % patternLength r)) (λ r p. 0) tt r p h k
+pub to-start : (r p : ℕ) → r < 5 → p < patternLength r → patternPlaceAfter r p ((patternLength r - p) % patternLength r) ≡ 0
+unfolding patternPlaceAfter modeOf
+to-start r p h k = agreed-at (λ r p. patternPlaceAfter r p ((patternLength r - p) % patternLength r)) (λ r p. 0) tt r p h k
 
-around : (r : ℕ) → r < 5 → placeAfter r 0 (patternLength r) ≡ 0
-unfolding placeAfter modeOf
-around r h = computed.agree-at (λ r. placeAfter r 0 (patternLength r)) (λ r. 0) 5 tt r h
+around : (r : ℕ) → r < 5 → patternPlaceAfter r 0 (patternLength r) ≡ 0
+unfolding patternPlaceAfter modeOf
+around r h = computed.agree-at (λ r. patternPlaceAfter r 0 (patternLength r)) (λ r. 0) 5 tt r h
 
 -- at the start of a pattern nothing is held
-held-start : (r p h : ℕ) (l : List ℕ) (n k : ℕ) → r < 5 → p < patternLength r → h ≤ heldCount r p → Bits l → placeAfter r p k ≡ 0
+held-start : (r p h : ℕ) (l : List ℕ) (n k : ℕ) → r < 5 → p < patternLength r → h ≤ heldCount r p → Bits l → patternPlaceAfter r p k ≡ 0
     → heldBehind r p h l n k ≡ 0
 held-start r p h l n k hr hp hh t e =
-    let a : heldBehind r p h l n k ≤ heldCount r (placeAfter r p k) = held-behind r p h l n k hr hp hh t in
-    let b : heldCount r (placeAfter r p k) ≡ 0 = ap (heldCount r) e ∙ none-held r hr in
+    let a : heldBehind r p h l n k ≤ heldCount r (patternPlaceAfter r p k) = held-behind r p h l n k hr hp hh t in
+    let b : heldCount r (patternPlaceAfter r p k) ≡ 0 = ap (heldCount r) e ∙ none-held r hr in
     omega arith
 
 -- ---- one pattern
@@ -126,19 +126,19 @@ held-start r p h l n k hr hp hh t e =
 abbrev sentNear : ℕ → ℕ → ℕ → List ℕ → ℕ → ℕ → ℕ → List ℕ
 sentNear r p h l n j zero = []
 sentNear r p h l n j (suc k) =
-    listOf (punctured r p (getD l (n + j) 0) (getD l (n + (1632 + j)) 0) h)
+    symbolList (punctured r p (getD l (n + j) 0) (getD l (n + (1632 + j)) 0) h)
     ++ sentNear r (nextPlace r p) (heldAfter r p (getD l (n + j) 0) (getD l (n + (1632 + j)) 0) h) l n (suc j) k
 
-near : (r p h : ℕ) (l : List ℕ) (m n j k : ℕ) → m ≡ n + j → sentSymbols r p h l m k ≡ sentNear r p h l n j k
-unfolding sentSymbols
+near : (r p h : ℕ) (l : List ℕ) (m n j k : ℕ) → m ≡ n + j → puncturedSymbols r p h l m k ≡ sentNear r p h l n j k
+unfolding puncturedSymbols
 near r p h l m n j zero e = refl
 near r p h l m n j (suc k) e =
     let f : 1632 + m ≡ n + (1632 + j) = omega arith in
     let g : suc m ≡ n + suc j = omega arith in
     (λ i.
-    listOf (punctured r p (getD l (e i) 0) (getD l (f i) 0) h)
-    ++ sentSymbols r (nextPlace r p) (heldAfter r p (getD l (e i) 0) (getD l (f i) 0) h) l (suc m) k)
-    ∙ ap (λ (s : List ℕ). listOf (punctured r p (getD l (n + j) 0) (getD l (n + (1632 + j)) 0) h) ++ s)
+    symbolList (punctured r p (getD l (e i) 0) (getD l (f i) 0) h)
+    ++ puncturedSymbols r (nextPlace r p) (heldAfter r p (getD l (e i) 0) (getD l (f i) 0) h) l (suc m) k)
+    ∙ ap (λ (s : List ℕ). symbolList (punctured r p (getD l (n + j) 0) (getD l (n + (1632 + j)) 0) h) ++ s)
     (near r (nextPlace r p) (heldAfter r p (getD l (n + j) 0) (getD l (n + (1632 + j)) 0) h) l (suc m) n (suc j) k g)
 
 -- a pattern gives each symbol of its mode
@@ -149,7 +149,7 @@ wholes : Below Whole 5
 unfolding patternSymbols iBits qBits puncturedBy heldBy modeOf
 wholes = (λ l n. refl) & (λ l n. refl) & (λ l n. refl) & (λ l n. refl) & (λ l n. refl) & end
 
-pattern-sent : (r : ℕ) (l : List ℕ) (n : ℕ) → r < 5 → patternSymbols (iBits r) (qBits r) l n ≡ sentSymbols r 0 0 l n (patternLength r)
+pattern-sent : (r : ℕ) (l : List ℕ) (n : ℕ) → r < 5 → patternSymbols (iBits r) (qBits r) l n ≡ puncturedSymbols r 0 0 l n (patternLength r)
 pattern-sent r l n h = below Whole 5 wholes r h l n ∙ sym (near r 0 0 l n n 0 (patternLength r) (sym (add-zero n)))
 
 -- ---- patterns
@@ -173,13 +173,13 @@ module _ (r : ℕ) (l : List ℕ) (hr : r < 5) (bits : Bits l) where
       swap : (a b : ℕ) → a + b ≡ b + a
       swap a b = omega arith
 
-  pub patterns-place : (t : ℕ) → placeAfter r 0 (t * patternLength r) ≡ 0
-  unfolding placeAfter
-  patterns-place zero = ap (placeAfter r 0) (zero-mul (patternLength r))
+  pub patterns-place : (t : ℕ) → patternPlaceAfter r 0 (t * patternLength r) ≡ 0
+  unfolding patternPlaceAfter
+  patterns-place zero = ap (patternPlaceAfter r 0) (zero-mul (patternLength r))
   patterns-place (suc t) =
-      ap (placeAfter r 0) (turns-more t)
+      ap (patternPlaceAfter r 0) (turns-more t)
       ∙ place-append r 0 (patternLength r) (t * patternLength r)
-      ∙ ap (λ (p : ℕ). placeAfter r p (t * patternLength r)) (around r hr)
+      ∙ ap (λ (p : ℕ). patternPlaceAfter r p (t * patternLength r)) (around r hr)
       ∙ patterns-place t
 
   starts : 0 < patternLength r
@@ -188,54 +188,54 @@ module _ (r : ℕ) (l : List ℕ) (hr : r < 5) (bits : Bits l) where
   pub patterns-held : (n t : ℕ) → heldBehind r 0 0 l n (t * patternLength r) ≡ 0
   patterns-held n t = held-start r 0 0 l n (t * patternLength r) hr starts (omega arith) bits (patterns-place t)
 
-  pub patterns-sent : (n t : ℕ) → patternsSymbols (iBits r) (qBits r) l (patternLength r) n t ≡ sentSymbols r 0 0 l n (t * patternLength r)
-  unfolding patternsSymbols sentSymbols
-  patterns-sent n zero = ap (sentSymbols r 0 0 l n) (sym (zero-mul (patternLength r)))
+  pub patterns-sent : (n t : ℕ) → patternsSymbols (iBits r) (qBits r) l (patternLength r) n t ≡ puncturedSymbols r 0 0 l n (t * patternLength r)
+  unfolding patternsSymbols puncturedSymbols
+  patterns-sent n zero = ap (puncturedSymbols r 0 0 l n) (sym (zero-mul (patternLength r)))
   patterns-sent n (suc t) =
       let len = patternLength r in
       ap₂ (λ (a b : List ℕ). a ++ b) (pattern-sent r l n hr) (patterns-sent (n + len) t)
       ∙ sym
-      (ap (sentSymbols r 0 0 l n) (turns-more t)
+      (ap (puncturedSymbols r 0 0 l n) (turns-more t)
       ∙ sent-append r 0 0 l n len (t * len)
-      ∙ ap₂ (λ (p h : ℕ). sentSymbols r 0 0 l n len ++ sentSymbols r p h l (n + len) (t * len)) (around r hr)
+      ∙ ap₂ (λ (p h : ℕ). puncturedSymbols r 0 0 l n len ++ puncturedSymbols r p h l (n + len) (t * len)) (around r hr)
       (held-start r 0 0 l n len hr starts (omega arith) bits (around r hr)))
 
   -- ---- a block in three parts
-  module _ (p h head turns rest : ℕ) (hp : p < patternLength r) (hh : h ≤ heldCount r p) (start : placeAfter r p head ≡ 0) (all : head + (turns * patternLength r + rest) ≡ 1632) where
+  module _ (p h head turns rest : ℕ) (hp : p < patternLength r) (hh : h ≤ heldCount r p) (start : patternPlaceAfter r p head ≡ 0) (all : head + (turns * patternLength r + rest) ≡ 1632) where
     len : ℕ
     len = turns * patternLength r
 
     nothing : heldBehind r p h l 0 head ≡ 0
     nothing = held-start r p h l 0 head hr hp hh bits start
 
-    pub parts-symbols : sentSymbols r p h l 0 1632
-        ≡ sentSymbols r p h l 0 head
+    pub parts-symbols : puncturedSymbols r p h l 0 1632
+        ≡ puncturedSymbols r p h l 0 head
         ++ patternsSymbols (iBits r) (qBits r) l (patternLength r) head turns
-        ++ sentSymbols r 0 0 l (head + turns * patternLength r) rest
+        ++ puncturedSymbols r 0 0 l (head + turns * patternLength r) rest
     unfolding len
     parts-symbols =
-        let a = sentSymbols r p h l 0 head in
-        let b = sentSymbols r 0 0 l head len in
-        let c = sentSymbols r 0 0 l (head + len) rest in
-        let two : sentSymbols r 0 0 l head (len + rest) ≡ b ++ c
+        let a = puncturedSymbols r p h l 0 head in
+        let b = puncturedSymbols r 0 0 l head len in
+        let c = puncturedSymbols r 0 0 l (head + len) rest in
+        let two : puncturedSymbols r 0 0 l head (len + rest) ≡ b ++ c
         = sent-append r 0 0 l head len rest
-        ∙ ap₂ (λ (p h : ℕ). b ++ sentSymbols r p h l (head + len) rest) (patterns-place turns) (patterns-held head turns)
+        ∙ ap₂ (λ (p h : ℕ). b ++ puncturedSymbols r p h l (head + len) rest) (patterns-place turns) (patterns-held head turns)
         in
-        ap (sentSymbols r p h l 0) (sym all)
+        ap (puncturedSymbols r p h l 0) (sym all)
         ∙ sent-append r p h l 0 head (len + rest)
-        ∙ (λ i. a ++ sentSymbols r (start i) (nothing i) l (zero-add head i) (len + rest))
+        ∙ (λ i. a ++ puncturedSymbols r (start i) (nothing i) l (zero-add head i) (len + rest))
         ∙ ap (λ (s : List ℕ). a ++ s) two
         ∙ sym (append-assoc a b c)
         ∙ ap (λ (s : List ℕ). a ++ s ++ c) (sym (patterns-sent head turns))
 
-    pub parts-place : placeAfter r p 1632 ≡ placeAfter r 0 rest
+    pub parts-place : patternPlaceAfter r p 1632 ≡ patternPlaceAfter r 0 rest
     unfolding len
     parts-place =
-        ap (placeAfter r p) (sym all)
+        ap (patternPlaceAfter r p) (sym all)
         ∙ place-append r p head (len + rest)
-        ∙ ap (λ (q : ℕ). placeAfter r q (len + rest)) start
+        ∙ ap (λ (q : ℕ). patternPlaceAfter r q (len + rest)) start
         ∙ place-append r 0 len rest
-        ∙ ap (λ (q : ℕ). placeAfter r q rest) (patterns-place turns)
+        ∙ ap (λ (q : ℕ). patternPlaceAfter r q rest) (patterns-place turns)
 
     pub parts-held : heldBehind r p h l 0 1632 ≡ heldBehind r 0 0 l (head + turns * patternLength r) rest
     unfolding len

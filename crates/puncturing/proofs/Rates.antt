@@ -45,7 +45,7 @@ table r h = record {
 
 -- what a run of whole patterns asks for
 abbrev Asked : ℕ → List ℕ → List ℕ → ℕ → ℕ → ℕ → Type 0
-Asked r l room from turns at =
+Asked r l output from turns at =
     (Bits l)
     × (length l ≡ 3264)
     × (length (iBits r) ≤ 4)
@@ -53,21 +53,21 @@ Asked r l room from turns at =
     × ((j : ℕ) → getD (iBits r) j 0 < 1632 + patternLength r)
     × ((j : ℕ) → getD (qBits r) j 0 < 1632 + patternLength r)
     × (from + turns * patternLength r ≤ 1632)
-    × (at + turns * length (iBits r) ≤ length room)
+    × (at + turns * length (iBits r) ≤ length output)
 
-pub asked : (k r : ℕ) (l room : List ℕ) (from turns at : ℕ) → r ≡ k → r < 5 → Bits l → length l ≡ 3264 → from + turns * patternLength r ≤ 1632
-    → at + turns * length (iBits r) ≤ length room → Asked k l room from turns at
-asked k r l room from turns at e h b n f g =
+pub asked : (k r : ℕ) (l output : List ℕ) (from turns at : ℕ) → r ≡ k → r < 5 → Bits l → length l ≡ 3264 → from + turns * patternLength r ≤ 1632
+    → at + turns * length (iBits r) ≤ length output → Asked k l output from turns at
+asked k r l output from turns at e h b n f g =
     let t = table r h in
-    subst (λ (r : ℕ). Asked r l room from turns at) e (b, n, t .few, t .same, t .i-under, t .q-under, f, g)
+    subst (λ (r : ℕ). Asked r l output from turns at) e (b, n, t .few, t .same, t .i-under, t .q-under, f, g)
 
 -- what it gives
 abbrev Given : ℕ → List ℕ → List ℕ → List ℕ → ℕ → ℕ → ℕ → ℕ → Type 0
-Given r l room room′ from turns at k =
-    (k ≡ at + turns * length (iBits r)) × (room′ ≡ placed room at (patternsSymbols (iBits r) (qBits r) l (patternLength r) from turns))
+Given r l output output′ from turns at k =
+    (k ≡ at + turns * length (iBits r)) × (output′ ≡ placed output at (patternsSymbols (iBits r) (qBits r) l (patternLength r) from turns))
 
-pub given : (k r : ℕ) (l room room′ : List ℕ) (from turns at n : ℕ) → r ≡ k → Given k l room room′ from turns at n → Given r l room room′ from turns at n
-given k r l room room′ from turns at n e g = subst (λ (r : ℕ). Given r l room room′ from turns at n) (sym e) g
+pub given : (k r : ℕ) (l output output′ : List ℕ) (from turns at n : ℕ) → r ≡ k → Given k l output output′ from turns at n → Given r l output output′ from turns at n
+given k r l output output′ from turns at n e g = subst (λ (r : ℕ). Given r l output output′ from turns at n) (sym e) g
 
 -- the last of the five rates
 pub four : (r : ℕ) → r < 5 → (r ≡ 0 → ⊥) → (r ≡ 1 → ⊥) → (r ≡ 2 → ⊥) → (r ≡ 3 → ⊥) → r ≡ 4

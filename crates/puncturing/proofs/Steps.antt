@@ -7,7 +7,7 @@ use lib.Dec.{eqb}
 use lib.ListN.{length}
 use Rattle.common.specs.Choice.{pick}
 use Rattle.puncturing.specs.Mode.{modeOf, completed}
-use Rattle.puncturing.specs.Step.{patternLength, nextPlace, heldCount, listOf, punctured, heldAfter, heldBy, heldCountBy}
+use Rattle.puncturing.specs.Step.{patternLength, nextPlace, heldCount, symbolList, punctured, heldAfter, heldBy, heldCountBy}
 use Rattle.puncturing.proofs.Places.{up, end, _&_, EverywhereOf, everywhere-of}
 use Rattle.puncturing.proofs.WellFormed.{well-formed, next-by-lt, held-by-le, symbol-count-by}
 
@@ -53,5 +53,5 @@ module _ (r p x y h : ℕ) (hr : r < 6) (hp : p < patternLength r) where
   held-in-range k = rw held-is (times-le (heldCount r (nextPlace r p)) y (held-le r (nextPlace r p) hr (next-lt r p hp)) k)
 
 -- a bit completes one symbol or none
-pub symbol-count : (r p x y h : ℕ) → r < 6 → p < patternLength r → length (listOf (punctured r p x y h)) ≡ length (completed (modeOf r) (p + 1))
+pub symbol-count : (r p x y h : ℕ) → r < 6 → p < patternLength r → length (symbolList (punctured r p x y h)) ≡ length (completed (modeOf r) (p + 1))
 symbol-count r p x y h hr hp = symbol-count-by (well-formed r hr) p hp x y h

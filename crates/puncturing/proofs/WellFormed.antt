@@ -15,7 +15,7 @@ use Rattle.common.proofs.Computed.{both, both-left, both-right}
 use Rattle.common.proofs.Computed as computed
 use Rattle.puncturing.specs.Mode.{CodedBit, X, Y, bitOf, Mode, modeOf, completed, begun, binary}
 use Rattle.puncturing.specs.WellFormed.{AtHand, newest, held, First, Beside, alone, paired, WellFormed}
-use Rattle.puncturing.specs.Step.{nextBy, heldCountBy, valueAt, symbolOf, listOf, puncturedBy, firstOf, heldBy}
+use Rattle.puncturing.specs.Step.{nextBy, heldCountBy, valueAt, symbolOf, symbolList, puncturedBy, firstOf, heldBy}
 
 -- ---- the test
 
@@ -151,7 +151,7 @@ well-formed r h = well-formed-by (modeOf r) (computed.below-at (λ r. wellFormed
 
 -- ---- the puncturing of one bit
 
-singled : (l : List ℕ) → length l ≤ 1 → listOf (symbolOf l) ≡ l
+singled : (l : List ℕ) → length l ≤ 1 → symbolList (symbolOf l) ≡ l
 singled [] h = refl
 singled (x ∷ []) h = refl
 singled (x ∷ y ∷ l) h = absurd (omega arith)
@@ -161,7 +161,7 @@ next-by-lt m h place = mod-lt (place + 1) h
 
 module _ {m : Mode} (w : WellFormed m) (place : ℕ) (k : place < m .bits) where
   -- the symbols that the bit completes
-  pub punctured-list : (x y h : ℕ) → listOf (puncturedBy m place x y h)
+  pub punctured-list : (x y h : ℕ) → symbolList (puncturedBy m place x y h)
       ≡ map (λ (s : List CodedBit). binary (map (valueAt (place + 1) x y h) s)) (completed m (place + 1))
   unfolding puncturedBy
   punctured-list x y h =
@@ -169,7 +169,7 @@ module _ {m : Mode} (w : WellFormed m) (place : ℕ) (k : place < m .bits) where
       let n : length (map f (completed m (place + 1))) ≤ 1 = rw (length-map (completed m (place + 1)) f) (w .one-completed place k) in
       singled (map f (completed m (place + 1))) n
 
-  pub symbol-count-by : (x y h : ℕ) → length (listOf (puncturedBy m place x y h)) ≡ length (completed m (place + 1))
+  pub symbol-count-by : (x y h : ℕ) → length (symbolList (puncturedBy m place x y h)) ≡ length (completed m (place + 1))
   symbol-count-by x y h =
       ap length (punctured-list x y h)
       ∙ length-map (completed m (place + 1)) (λ (s : List CodedBit). binary (map (valueAt (place + 1) x y h) s))

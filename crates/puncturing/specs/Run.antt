@@ -4,7 +4,7 @@ use mathlib.Core.List.{List, [], _∷_, _++_, map}
 use Prim.Native.Nat.{ℕ, zero, suc, _+_, _-_, _*_}
 use lib.ListN.{length, getD}
 use Rattle.puncturing.specs.Mode.{CodedBit, X, Y, modeOf}
-use Rattle.puncturing.specs.Step.{nextPlace, listOf, punctured, heldAfter}
+use Rattle.puncturing.specs.Step.{nextPlace, symbolList, punctured, heldAfter}
 use Rattle.puncturing.specs.declared.Symbol.{Symbol}
 use Rattle.puncturing.specs.declared.Symbol.the-variants.{None, One}
 use Rattle.puncturing.specs.declared.Punctured.{Punctured}
@@ -26,28 +26,28 @@ punctureStep rate place held x y = record {
 }
 
 -- the symbols of k bits from bit n on, where X of bit n is at n of the list and Y at 1632 + n
-unfoldable pub sentSymbols : ℕ → ℕ → ℕ → List ℕ → ℕ → ℕ → List ℕ
-sentSymbols rate place held l n zero = []
-sentSymbols rate place held l n (suc k) =
-    listOf (punctured rate place (getD l n 0) (getD l (1632 + n) 0) held)
-    ++ sentSymbols rate (nextPlace rate place) (heldAfter rate place (getD l n 0) (getD l (1632 + n) 0) held) l (suc n) k
+unfoldable pub puncturedSymbols : ℕ → ℕ → ℕ → List ℕ → ℕ → ℕ → List ℕ
+puncturedSymbols rate place held l n zero = []
+puncturedSymbols rate place held l n (suc k) =
+    symbolList (punctured rate place (getD l n 0) (getD l (1632 + n) 0) held)
+    ++ puncturedSymbols rate (nextPlace rate place) (heldAfter rate place (getD l n 0) (getD l (1632 + n) 0) held) l (suc n) k
 
 -- the place in the pattern and the held bit after them
-unfoldable pub placeAfter : ℕ → ℕ → ℕ → ℕ
-placeAfter rate place zero = place
-placeAfter rate place (suc k) = placeAfter rate (nextPlace rate place) k
+unfoldable pub patternPlaceAfter : ℕ → ℕ → ℕ → ℕ
+patternPlaceAfter rate place zero = place
+patternPlaceAfter rate place (suc k) = patternPlaceAfter rate (nextPlace rate place) k
 
 unfoldable pub heldBehind : ℕ → ℕ → ℕ → List ℕ → ℕ → ℕ → ℕ
 heldBehind rate place held l n zero = held
 heldBehind rate place held l n (suc k) =
     heldBehind rate (nextPlace rate place) (heldAfter rate place (getD l n 0) (getD l (1632 + n) 0) held) l (suc n) k
 
--- where the puncturing stands after k bits, and how many symbols are in the room
+-- where the puncturing stands after k bits, and how many symbols are in the output
 abbrev pub progress : ℕ → ℕ → ℕ → List ℕ → ℕ → ℕ → ℕ → Progress
 progress rate place held l n k at = record {
-  place = placeAfter rate place k;
+  place = patternPlaceAfter rate place k;
   held = heldBehind rate place held l n k;
-  count = at + length (sentSymbols rate place held l n k);
+  count = at + length (puncturedSymbols rate place held l n k);
 }
 
 -- the symbols of one pattern whose first bit is bit n: where the I and the Q of each stand, from n on

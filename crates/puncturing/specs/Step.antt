@@ -25,9 +25,9 @@ abbrev pub symbolOf : List ℕ → Symbol
 symbolOf [] = None
 symbolOf (s ∷ ss) = One s
 
-abbrev pub listOf : Symbol → List ℕ
-listOf None = []
-listOf (One s) = s ∷ []
+abbrev pub symbolList : Symbol → List ℕ
+symbolList None = []
+symbolList (One s) = s ∷ []
 
 -- the symbol that the bit at a place completes
 unfoldable pub puncturedBy : Mode → ℕ → ℕ → ℕ → ℕ → Symbol

@@ -7,7 +7,7 @@ ghost use Rattle.common.specs.Lists.{placed};
 ghost use Rattle.convolutional_code.specs.Bits.{Bits};
 ghost use Rattle.puncturing.specs.Mode.{modeOf, blockBits};
 ghost use Rattle.puncturing.specs.Step.{patternLength, nextPlace, heldCount, punctured, symbolsIn};
-ghost use Rattle.puncturing.specs.Run.{byKind, punctureStep, sentSymbols, placeAfter, progress};
+ghost use Rattle.puncturing.specs.Run.{byKind, punctureStep, puncturedSymbols, patternPlaceAfter, progress};
 
 mod tables;
 mod whole;
@@ -131,14 +131,14 @@ pub fn puncture(rate: u8, place: u8, held: u8, x: u8, y: u8) -> Punctured
     }
 }
 
-// Where the puncturing stands after a run, and how many symbols are in the room.
+// Where the puncturing stands after a run, and how many symbols are in the output.
 pub struct Progress {
     pub place: u8,
     pub held: u8,
     pub count: usize,
 }
 
-// Bits from .. to, one by one, into a room that has space for their symbols from at on.
+// Bits from .. to, one by one, into an output that has space for their symbols from at on.
 fn puncture_bits(
     rate: u8,
     place: u8,
@@ -146,7 +146,7 @@ fn puncture_bits(
     coded: &[u8],
     from: usize,
     to: usize,
-    room: &mut [u8],
+    output: &mut [u8],
     at: usize,
 ) -> Progress
     requires { ⌜
@@ -157,10 +157,10 @@ fn puncture_bits(
         × (length (now coded) ≡ 3264)
         × (from ≤ to)
         × (to ≤ 1632)
-        × (at + length (sentSymbols rate place held (now coded) from (to - from)) ≤ length (now room)) ⌝ }
+        × (at + length (puncturedSymbols rate place held (now coded) from (to - from)) ≤ length (now output)) ⌝ }
     ensures { λ r. ⌜
         (r ≡ progress rate place held (now (coded .entry)) from (to - from) at)
-        × (now (room .exit) ≡ placed (now (room .entry)) at (sentSymbols rate place held (now (coded .entry)) from (to - from))) ⌝ }
+        × (now (output .exit) ≡ placed (now (output .entry)) at (puncturedSymbols rate place held (now (coded .entry)) from (to - from))) ⌝ }
 {
     let mut p = place;
     let mut i = held;
@@ -170,7 +170,7 @@ fn puncture_bits(
         let punctured = puncture(rate, p, i, coded[n], coded[1632 + n]);
         let symbol = punctured.symbol;
         if let Symbol::One(v) = symbol {
-            room[count] = v;
+            output[count] = v;
             count += 1;
         }
         p = punctured.place;
@@ -193,7 +193,7 @@ fn puncture_parts(
     head: usize,
     turns: usize,
     tail: usize,
-    room: &mut [u8],
+    output: &mut [u8],
 ) -> Progress
     requires { ⌜
         (rate < 5)
@@ -201,31 +201,31 @@ fn puncture_parts(
         × (held ≤ heldCount rate place)
         × (Bits (now coded))
         × (length (now coded) ≡ 3264)
-        × (placeAfter rate place head ≡ 0)
+        × (patternPlaceAfter rate place head ≡ 0)
         × (tail ≡ head + turns * patternLength rate)
         × (tail ≤ 1632)
-        × (length (sentSymbols rate place held (now coded) 0 1632) ≤ length (now room)) ⌝ }
+        × (length (puncturedSymbols rate place held (now coded) 0 1632) ≤ length (now output)) ⌝ }
     ensures { λ r. ⌜
         (r ≡ progress rate place held (now (coded .entry)) 0 1632 0)
-        × (now (room .exit) ≡ placed (now (room .entry)) 0 (sentSymbols rate place held (now (coded .entry)) 0 1632)) ⌝ }
+        × (now (output .exit) ≡ placed (now (output .entry)) 0 (puncturedSymbols rate place held (now (coded .entry)) 0 1632)) ⌝ }
 {
-    let first = puncture_bits(rate, place, held, coded, 0, head, room, 0);
-    let next = whole_patterns(rate, coded, head, turns, room, first.count);
-    puncture_bits(rate, 0, 0, coded, tail, 1632, room, next)
+    let first = puncture_bits(rate, place, held, coded, 0, head, output, 0);
+    let next = whole_patterns(rate, coded, head, turns, output, first.count);
+    puncture_bits(rate, 0, 0, coded, tail, 1632, output, next)
 }
 
-// X and Y of each bit of a block, into a room that is long enough.
-pub fn puncture_block(rate: u8, place: u8, held: u8, coded: &[u8], room: &mut [u8]) -> Progress
+// X and Y of each bit of a block, into an output that is long enough.
+pub fn puncture_block(rate: u8, place: u8, held: u8, coded: &[u8], output: &mut [u8]) -> Progress
     requires { ⌜
         (rate < 5)
         × (place < patternLength rate)
         × (held ≤ heldCount rate place)
         × (Bits (now coded))
         × (length (now coded) ≡ 3264)
-        × (length (sentSymbols rate place held (now coded) 0 1632) ≤ length (now room)) ⌝ }
+        × (length (puncturedSymbols rate place held (now coded) 0 1632) ≤ length (now output)) ⌝ }
     ensures { λ r. ⌜
         (r ≡ progress rate place held (now (coded .entry)) 0 1632 0)
-        × (now (room .exit) ≡ placed (now (room .entry)) 0 (sentSymbols rate place held (now (coded .entry)) 0 1632)) ⌝ }
+        × (now (output .exit) ≡ placed (now (output .entry)) 0 (puncturedSymbols rate place held (now (coded .entry)) 0 1632)) ⌝ }
 {
     let len = pattern_length(rate) as usize;
     let head = (len - place as usize) % len;
@@ -238,6 +238,6 @@ pub fn puncture_block(rate: u8, place: u8, held: u8, coded: &[u8], room: &mut [u
         head,
         turns,
         head + turns * len,
-        room,
+        output,
     )
 }

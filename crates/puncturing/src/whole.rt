@@ -27,24 +27,24 @@ const Y4: usize = 1635;
 const Y6: usize = 1637;
 
 // One pattern whose first bit is bit n: each symbol from where its I and its Q stand.
-fn pattern(coded: &[u8], n: usize, i: &[usize], q: &[usize], room: &mut [u8], at: usize)
+fn pattern(coded: &[u8], n: usize, i: &[usize], q: &[usize], output: &mut [u8], at: usize)
     requires { ⌜
         (Bits (now coded))
         × (length (now i) ≤ 4)
         × (length (now i) ≡ length (now q))
         × ((j : ℕ) → n + getD (now i) j 0 < length (now coded))
         × ((j : ℕ) → n + getD (now q) j 0 < length (now coded))
-        × (at + length (now i) ≤ length (now room)) ⌝ }
-    ensures { λ r. ⌜ now (room .exit) ≡ placed (now (room .entry)) at (patternSymbols (now (i .entry)) (now (q .entry)) (now (coded .entry)) n) ⌝ }
+        × (at + length (now i) ≤ length (now output)) ⌝ }
+    ensures { λ r. ⌜ now (output .exit) ≡ placed (now (output .entry)) at (patternSymbols (now (i .entry)) (now (q .entry)) (now (coded .entry)) n) ⌝ }
 {
     let mut j: usize = 0;
     while j < i.len() {
-        room[at + j] = 2 * coded[n + i[j]] + coded[n + q[j]];
+        output[at + j] = 2 * coded[n + i[j]] + coded[n + q[j]];
         j += 1;
     }
 }
 
-// Patterns of the given length, one after another, from bit from on. Gives how far the room is written.
+// Patterns of the given length, one after another, from bit from on. Gives how far the output is written.
 fn patterns(
     coded: &[u8],
     from: usize,
@@ -52,7 +52,7 @@ fn patterns(
     q: &[usize],
     len: usize,
     turns: usize,
-    room: &mut [u8],
+    output: &mut [u8],
     at: usize,
 ) -> usize
     requires { ⌜
@@ -63,17 +63,17 @@ fn patterns(
         × ((j : ℕ) → getD (now i) j 0 < 1632 + len)
         × ((j : ℕ) → getD (now q) j 0 < 1632 + len)
         × (from + turns * len ≤ 1632)
-        × (at + turns * length (now i) ≤ length (now room)) ⌝ }
+        × (at + turns * length (now i) ≤ length (now output)) ⌝ }
     ensures { λ r. ⌜
         (r ≡ at + turns * length (now (i .entry)))
-        × (now (room .exit)
-        ≡ placed (now (room .entry)) at (patternsSymbols (now (i .entry)) (now (q .entry)) (now (coded .entry)) len from turns)) ⌝ }
+        × (now (output .exit)
+        ≡ placed (now (output .entry)) at (patternsSymbols (now (i .entry)) (now (q .entry)) (now (coded .entry)) len from turns)) ⌝ }
 {
     let mut n = from;
     let mut k = at;
     let mut left = turns;
     while 0 < left {
-        pattern(coded, n, i, q, room, k);
+        pattern(coded, n, i, q, output, k);
         n += len;
         k += i.len();
         left -= 1;
@@ -87,7 +87,7 @@ pub fn whole_patterns(
     coded: &[u8],
     from: usize,
     turns: usize,
-    room: &mut [u8],
+    output: &mut [u8],
     at: usize,
 ) -> usize
     requires { ⌜
@@ -95,14 +95,14 @@ pub fn whole_patterns(
         × (Bits (now coded))
         × (length (now coded) ≡ 3264)
         × (from + turns * patternLength rate ≤ 1632)
-        × (at + turns * length (iBits rate) ≤ length (now room)) ⌝ }
+        × (at + turns * length (iBits rate) ≤ length (now output)) ⌝ }
     ensures { λ r. ⌜
         (r ≡ at + turns * length (iBits rate))
-        × (now (room .exit)
-        ≡ placed (now (room .entry)) at (patternsSymbols (iBits rate) (qBits rate) (now (coded .entry)) (patternLength rate) from turns)) ⌝ }
+        × (now (output .exit)
+        ≡ placed (now (output .entry)) at (patternsSymbols (iBits rate) (qBits rate) (now (coded .entry)) (patternLength rate) from turns)) ⌝ }
 {
     if rate == 0 {
-        return patterns(coded, from, &[X1], &[Y1], 1, turns, room, at);
+        return patterns(coded, from, &[X1], &[Y1], 1, turns, output, at);
     }
     if rate == 1 {
         return patterns(
@@ -112,12 +112,12 @@ pub fn whole_patterns(
             &[Y1, X3, Y4],
             4,
             turns,
-            room,
+            output,
             at,
         );
     }
     if rate == 2 {
-        return patterns(coded, from, &[X1, Y2], &[Y1, X3], 3, turns, room, at);
+        return patterns(coded, from, &[X1, Y2], &[Y1, X3], 3, turns, output, at);
     }
     if rate == 3 {
         return patterns(
@@ -127,7 +127,7 @@ pub fn whole_patterns(
             &[Y1, X3, X5],
             5,
             turns,
-            room,
+            output,
             at,
         );
     }
@@ -138,7 +138,7 @@ pub fn whole_patterns(
         &[Y1, Y3, X5, X7],
         7,
         turns,
-        room,
+        output,
         at,
     )
 }

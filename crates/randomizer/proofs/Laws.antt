@@ -14,8 +14,8 @@ use lib.Seq.{getD-drop}
 use Rattle.common.specs.Choice.{pick}
 use Rattle.common.specs.Lists.{ByteEntries}
 use Rattle.common.proofs.Entries.{entries-drop}
-use Rattle.randomizer.specs.Prbs.{loaded, output, stepped, steps, bits, sequence, generator, enabled, masks}
-use Rattle.randomizer.specs.Packet.{randomized, derandomized, randomizeNumber, randomizeRoom, derandomizeNumber, derandomizeRoom}
+use Rattle.randomizer.specs.Prbs.{loaded, outputBit, stepped, steps, stepBits, sequence, period, enabled, masks}
+use Rattle.randomizer.specs.Packet.{randomized, derandomized, randomizeNumber, randomizeOutput, derandomizeNumber, derandomizeOutput}
 use Rattle.randomizer.proofs.Xors.{length-xors, getD-xors, bytes-xors, xors-undo}
 
 -- ---- the masks
@@ -31,16 +31,16 @@ length-sequence zero r = refl
 length-sequence (suc n) r = ap suc (length-sequence n (steps 8 r))
 
 pub length-masks : length masks ≡ 1504
-unfolding masks generator
-length-masks = ap suc (length-enabled 1 generator ∙ length-sequence 1503 loaded)
+unfolding masks period
+length-masks = ap suc (length-enabled 1 period ∙ length-sequence 1503 loaded)
 
-output-lt : (register : List ℕ) → output register < 2
-unfolding output
-output-lt r = mod-lt (getD r 13 0 + getD r 14 0) (omega arith)
+output-bit-lt : (register : List ℕ) → outputBit register < 2
+unfolding outputBit
+output-bit-lt r = mod-lt (getD r 13 0 + getD r 14 0) (omega arith)
 
 -- eight bits make a byte
-byte-lt : (register : List ℕ) → bits 8 0 register < 256
-unfolding bits
+byte-lt : (register : List ℕ) → stepBits 8 0 register < 256
+unfolding stepBits
 byte-lt r =
     let r1 = stepped r in
     let r2 = stepped r1 in
@@ -49,8 +49,8 @@ byte-lt r =
     let r5 = stepped r4 in
     let r6 = stepped r5 in
     let r7 = stepped r6 in
-    eight (output r) (output r1) (output r2) (output r3) (output r4) (output r5) (output r6) (output r7) (output-lt r) (output-lt r1) (output-lt r2) (output-lt r3)
-    (output-lt r4) (output-lt r5) (output-lt r6) (output-lt r7)
+    eight (outputBit r) (outputBit r1) (outputBit r2) (outputBit r3) (outputBit r4) (outputBit r5) (outputBit r6) (outputBit r7) (output-bit-lt r) (output-bit-lt r1) (output-bit-lt r2) (output-bit-lt r3)
+    (output-bit-lt r4) (output-bit-lt r5) (output-bit-lt r6) (output-bit-lt r7)
   where
     eight : (a b c d e f g h : ℕ) → a < 2 → b < 2 → c < 2 → d < 2 → e < 2 → f < 2 → g < 2 → h < 2
         → (((((((0 * 2 + a) * 2 + b) * 2 + c) * 2 + d) * 2 + e) * 2 + f) * 2 + g) * 2 + h < 256
@@ -73,9 +73,9 @@ bytes-enabled n (b ∷ bs) h zero = picked (eqb (n % 188) 0) b (h 0)
 bytes-enabled n (b ∷ bs) h (suc i) = bytes-enabled (n + 1) bs (λ k. h (suc k)) i
 
 bytes-masks : ByteEntries masks
-unfolding masks generator
+unfolding masks period
 bytes-masks zero = omega arith
-bytes-masks (suc i) = bytes-enabled 1 generator (bytes-sequence 1503 loaded) i
+bytes-masks (suc i) = bytes-enabled 1 period (bytes-sequence 1503 loaded) i
 
 -- the sequence is disabled at the sync bytes
 disabled : (n i : ℕ) (l : List ℕ) → (n + i) % 188 ≡ 0 → getD (enabled n l) i 0 ≡ 0
@@ -94,7 +94,7 @@ sync zero = refl
 sync (suc p) =
     let e : 188 * suc p ≡ suc (188 * p + 187) = omega arith in
     ap (λ (k : ℕ). bitXor 0x47 (getD masks k 0)) e
-    ∙ ap (bitXor 0x47) (disabled 1 (188 * p + 187) generator (omega arith))
+    ∙ ap (bitXor 0x47) (disabled 1 (188 * p + 187) period (omega arith))
     ∙ simp (ne-eqb (suc p) 0 (λ z. omega arith))
 
 -- ---- a packet
@@ -131,15 +131,15 @@ module _ (place : ℕ) (packet : List ℕ) (h : place ≤ 7) (n : length packet 
       headed (x ∷ xs) k e = ap (λ (a : ℕ). a ∷ xs) (sym e)
 
   -- a call at that place, with room enough, is answered
-  module _ (room : List ℕ) (l : 188 ≤ length room) where
+  module _ (output : List ℕ) (l : 188 ≤ length output) where
     pub randomize-done : getD packet 0 0 ≡ 0x47
-        → (randomizeNumber place packet room ≡ 0) × (randomizeRoom place packet room ≡ randomized place packet ++ drop 188 room)
+        → (randomizeNumber place packet output ≡ 0) × (randomizeOutput place packet output ≡ randomized place packet ++ drop 188 output)
     randomize-done e = simp (le-ltb _ _ h, eq-eqb _ _ n, eq-eqb _ _ e, le-ltb _ _ l) (refl, refl)
 
-    pub derandomize-done : (derandomizeNumber place packet room ≡ 0) × (derandomizeRoom place packet room ≡ derandomized place packet ++ drop 188 room)
+    pub derandomize-done : (derandomizeNumber place packet output ≡ 0) × (derandomizeOutput place packet output ≡ derandomized place packet ++ drop 188 output)
     derandomize-done = simp (le-ltb _ _ h, eq-eqb _ _ n, le-ltb _ _ l) (refl, refl)
 
--- the room when the sync byte is set
+-- the output when the sync byte is set
 pub first-set : (xs ys : List ℕ) (v : ℕ) → 0 < length xs → set (xs ++ ys) 0 v ≡ (v ∷ drop 1 xs) ++ ys
 first-set [] ys v h = absurd (not-suc-le-zero h)
 first-set (x ∷ xs) ys v h = refl

@@ -3,7 +3,7 @@
 use mathlib.Core.Path.{_≡_, refl, ap}
 use mathlib.Core.List.{List, [], _∷_}
 use Prim.Native.Nat.{ℕ, zero, suc, _+_, _*_, _%_}
-use Rattle.randomizer.specs.Prbs.{loaded, sequence, generator, enabled, masks}
+use Rattle.randomizer.specs.Prbs.{loaded, sequence, period, enabled, masks}
 
 -- Some bytes of the sequence, from the fifteen stages of the register: a is stage 1 and o is stage 15.
 -- The eight bits of a byte, p first, hang only on the stages before it.
@@ -31,5 +31,5 @@ unfolding run enabled
 quick = 0xFF ∷ enabled 1 (run 1503 1 0 0 1 0 1 0 1 0 0 0 0 0 0 0)
 
 pub masks-quick : masks ≡ quick
-unfolding quick masks generator loaded
+unfolding quick masks period loaded
 masks-quick = ap (λ (l : List ℕ). 0xFF ∷ enabled 1 l) (sequence-run 1503 1 0 0 1 0 1 0 1 0 0 0 0 0 0 0)

@@ -20,21 +20,21 @@ derandomized place packet = 0x47 ∷ drop 1 (randomized place packet)
 
 -- the number of the answer, by the tests in the order of document 01
 abbrev pub randomizeNumber : ℕ → List ℕ → List ℕ → ℕ
-randomizeNumber place packet room =
+randomizeNumber place packet output =
     pick (ltb 7 place) 5
     (pick (eqb (length packet) 188)
-    (pick (eqb (getD packet 0 0) 0x47) (pick (ltb (length room) 188) 4 0) 2)
+    (pick (eqb (getD packet 0 0) 0x47) (pick (ltb (length output) 188) 4 0) 2)
     1)
 
 abbrev pub derandomizeNumber : ℕ → List ℕ → List ℕ → ℕ
-derandomizeNumber place packet room =
-    pick (ltb 7 place) 5 (pick (eqb (length packet) 188) (pick (ltb (length room) 188) 4 0) 1)
+derandomizeNumber place packet output =
+    pick (ltb 7 place) 5 (pick (eqb (length packet) 188) (pick (ltb (length output) 188) 4 0) 1)
 
--- the room after the call
-abbrev pub randomizeRoom : ℕ → List ℕ → List ℕ → List ℕ
-randomizeRoom place packet room =
-    pick (eqb (randomizeNumber place packet room) 0) (randomized place packet ++ drop 188 room) room
+-- the output after the call
+abbrev pub randomizeOutput : ℕ → List ℕ → List ℕ → List ℕ
+randomizeOutput place packet output =
+    pick (eqb (randomizeNumber place packet output) 0) (randomized place packet ++ drop 188 output) output
 
-abbrev pub derandomizeRoom : ℕ → List ℕ → List ℕ → List ℕ
-derandomizeRoom place packet room =
-    pick (eqb (derandomizeNumber place packet room) 0) (derandomized place packet ++ drop 188 room) room
+abbrev pub derandomizeOutput : ℕ → List ℕ → List ℕ → List ℕ
+derandomizeOutput place packet output =
+    pick (eqb (derandomizeNumber place packet output) 0) (derandomized place packet ++ drop 188 output) output

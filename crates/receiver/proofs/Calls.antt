@@ -21,50 +21,50 @@ use Rattle.reed_solomon.specs.declared.Decoded.the-variants.{Corrected, Uncorre
 use Rattle.reed_solomon.proofs.Codewords.{codeword-length}
 use Rattle.reed_solomon.proofs.Laws.{FewChanges, total}
 use Rattle.delay_branches.specs.Branch as branch
-use Rattle.delay_branches.specs.Block.{after}
+use Rattle.delay_branches.specs.Block.{branchesAfter}
 use Rattle.delay_branches.specs.declared.Branches.{Branches}
 use Rattle.delay_branches.specs.declared.Side.the-variants.{Receiving}
 use Rattle.interleaver.specs.declared.Deinterleaver.{Deinterleaver}
 use Rattle.group_sync.specs.Group.{syncInRange, groupStep}
-use Rattle.group_sync.specs.declared.Repair.the-variants as repair
+use Rattle.group_sync.specs.declared.BlockDecoding.the-variants as decoding
 use Rattle.group_sync.specs.declared.GroupSync.{GroupSync}
 use Rattle.group_sync.specs.declared.GroupStep.{GroupStep}
 use Rattle.group_sync.proofs.Synchronization.{accepted-outcome}
-use Rattle.reception_counts.specs.Counts.{countsInRange, outcomeNumber, counted, Room}
+use Rattle.reception_counts.specs.Counts.{countsInRange, outcomeNumber, counted, CountsFit}
 use Rattle.reception_counts.specs.declared.Counts.{Counts}
-use Rattle.reception_counts.proofs.Ranges.{counts-range, counts-room}
-use Rattle.receiver.specs.Receive.{inRange, marksIn, delayedBlock, delayedMarks, repairOf, ofAccepted, stepOf, stateAfter, roomAfter, refusal, Ready, receiveNumber, receiveState, receiveRoom, ReceivesMarked}
+use Rattle.reception_counts.proofs.Ranges.{counts-range, counts-fit}
+use Rattle.receiver.specs.Receive.{receiverInRange, marksIn, delayedBlock, delayedMarks, decodingOf, ofAccepted, stepOf, stateAfter, outputAfter, receiveRefusal, Ready, receiveNumber, receiveState, receiveOutput, ReceivesMarked}
 use Rattle.receiver.specs.declared.Receiver.{Receiver}
 
 -- the parts of a state in range
 pub record StateRange (s : Receiver) : Type 0 where
-  pub branches : branch.inRange Receiving (s .deinterleaver .branches) ≡ true
+  pub branches : branch.branchesInRange Receiving (s .deinterleaver .branches) ≡ true
   pub marks : largest (s .marks) < 2
   pub sync : syncInRange (s .sync) ≡ true
   pub counts : countsInRange (s .counts) ≡ true
 
-pub state-range : (s : Receiver) → inRange s ≡ true → StateRange s
-unfolding inRange
+pub state-range : (s : Receiver) → receiverInRange s ≡ true → StateRange s
+unfolding receiverInRange
 state-range s e =
     let a = both-true _ _ e in
     let m = both-true _ _ (a .1) in
     let b = both-true _ _ (m .1) in
     record { branches = a .0; marks = ltb-true _ _ (m .0); sync = b .0; counts = b .1 }
 
-pub state-in-range : (s : Receiver) → StateRange s → inRange s ≡ true
-unfolding inRange
+pub state-in-range : (s : Receiver) → StateRange s → receiverInRange s ≡ true
+unfolding receiverInRange
 state-in-range s r = simp (r .branches, lt-ltb _ _ (r .marks), r .sync, r .counts)
 
 -- the test of a state by its parts, where most is the largest of the marks in the delays
 pub parts-range : (s : Receiver) (most : ℕ) (r : Bool) → most ≡ largest (s .marks)
-    → r ≡ pick (branch.within Receiving (s .deinterleaver .branches .positions) 12) (pick (ltb most 2) (pick (syncInRange (s .sync)) (countsInRange (s .counts)) false) false) false
-    → r ≡ inRange s
-unfolding inRange
+    → r ≡ pick (branch.positionsWithin Receiving (s .deinterleaver .branches .positions) 12) (pick (ltb most 2) (pick (syncInRange (s .sync)) (countsInRange (s .counts)) false) false) false
+    → r ≡ receiverInRange s
+unfolding receiverInRange
 parts-range s most r e f =
-    f ∙ ap (λ (k : ℕ). pick (branch.within Receiving (s .deinterleaver .branches .positions) 12) (pick (ltb k 2) (pick (syncInRange (s .sync)) (countsInRange (s .counts)) false) false) false) e
+    f ∙ ap (λ (k : ℕ). pick (branch.positionsWithin Receiving (s .deinterleaver .branches .positions) 12) (pick (ltb k 2) (pick (syncInRange (s .sync)) (countsInRange (s .counts)) false) false) false) e
 
 -- an accepted block is in the sums over the accepted blocks
-pub accepted-whole : (s : GroupSync) (first n : ℕ) → syncInRange s ≡ true → ofAccepted (groupStep s (repair.Accepted first) .outcome) n ≡ n
+pub accepted-whole : (s : GroupSync) (first n : ℕ) → syncInRange s ≡ true → ofAccepted (groupStep s (decoding.Accepted first) .outcome) n ≡ n
 accepted-whole s first n h = accepted-outcome (λ o. ofAccepted o n ≡ n) s first (λ p l. refl) refl refl h
 
 -- a state by its parts
@@ -76,22 +76,22 @@ states g {d} {k} {l} {n} {m} {b} q j e =
 
 -- ---- a call that no test refuses
 
-module _ (s : Receiver) (block marks room : List ℕ) (y : Ready s block marks room) where
+module _ (s : Receiver) (block marks output : List ℕ) (y : Ready s block marks output) where
   module _ (left : List ℕ) (decoded : Decoded) where
-    pub ready-number : receiveNumber s block marks room left decoded ≡ outcomeNumber (stepOf s left decoded .outcome)
+    pub ready-number : receiveNumber s block marks output left decoded ≡ outcomeNumber (stepOf s left decoded .outcome)
     ready-number = simp (y .range, eq-eqb _ _ (y .size), y .marked, le-ltb _ _ (y .enough), lt-ltb _ _ (y .more))
 
-    pub ready-state : receiveState s block marks room left decoded ≡ stateAfter s block marks left decoded
+    pub ready-state : receiveState s block marks output left decoded ≡ stateAfter s block marks left decoded
     ready-state = simp (y .range, eq-eqb _ _ (y .size), y .marked, le-ltb _ _ (y .enough), lt-ltb _ _ (y .more))
 
-    pub ready-room : receiveRoom s block marks room left decoded ≡ roomAfter (stepOf s left decoded .outcome) left room
-    ready-room = simp (y .range, eq-eqb _ _ (y .size), y .marked, le-ltb _ _ (y .enough), lt-ltb _ _ (y .more))
+    pub ready-output : receiveOutput s block marks output left decoded ≡ outputAfter (stepOf s left decoded .outcome) left output
+    ready-output = simp (y .range, eq-eqb _ _ (y .size), y .marked, le-ltb _ _ (y .enough), lt-ltb _ _ (y .more))
 
   -- the call while filling, whatever the block decodes to
   pub filling-call : s .counts .taken < 11 → (a : Answer) (d : Deinterleaver) (k : List ℕ) (n : Counts) (exit : List ℕ)
-      → numberOf a ≡ 9 → d .branches ≡ after Receiving (s .deinterleaver .branches) block → k ≡ after Receiving (marksIn s) marks .cells
-      → n ≡ counted (s .counts) 9 0 0 → exit ≡ room
-      → ReceivesMarked s block marks room (record { answer = a; receiver = record { deinterleaver = d; marks = k; sync = s .sync; counts = n } }) exit
+      → numberOf a ≡ 9 → d .branches ≡ branchesAfter Receiving (s .deinterleaver .branches) block → k ≡ branchesAfter Receiving (marksIn s) marks .cells
+      → n ≡ counted (s .counts) 9 0 0 → exit ≡ output
+      → ReceivesMarked s block marks output (record { answer = a; receiver = record { deinterleaver = d; marks = k; sync = s .sync; counts = n } }) exit
   unfolding stateAfter
   filling-call h a d k n exit p q j e w =
       let t = total (delayedMarks s marks) (delayedBlock s block) in
@@ -101,12 +101,12 @@ module _ (s : Receiver) (block marks room : List ℕ) (y : Ready s block marks r
         decodes = t .decodes;
         number = p ∙ sym (ready-number (t .left) (t .answer) ∙ simp (lt-ltb _ _ h));
         state = states (s .sync) q j e ∙ sym (ready-state (t .left) (t .answer) ∙ simp (lt-ltb _ _ h));
-        written = w ∙ sym (ready-room (t .left) (t .answer) ∙ simp (lt-ltb _ _ h));
+        written = w ∙ sym (ready-output (t .left) (t .answer) ∙ simp (lt-ltb _ _ h));
       }
 
   -- of each number of changes that decoding tells, the sum over the accepted blocks takes what differs
   pub changed-is : (f : Changed → ℕ) → f noChange ≡ 0 → (left : List ℕ) (decoded : Decoded) → DecodesMarked (delayedMarks s marks) (delayedBlock s block) left decoded
-      → f (changedBy decoded) ≡ ofAccepted (groupStep (s .sync) (repairOf decoded (getD left 0 0)) .outcome) (f (changes (delayedBlock s block) left))
+      → f (changedBy decoded) ≡ ofAccepted (groupStep (s .sync) (decodingOf decoded (getD left 0 0)) .outcome) (f (changes (delayedBlock s block) left))
   changed-is f z left (Corrected changed) d =
       ap f (d .2 .counted) ∙ sym (accepted-whole (s .sync) (getD left 0 0) (f (changes (delayedBlock s block) left)) (state-range s (y .range) .sync))
   changed-is f z left Uncorrectable d = z
@@ -114,17 +114,17 @@ module _ (s : Receiver) (block marks room : List ℕ) (y : Ready s block marks r
   changed-is f z left MarkValue d = z
 
   -- the call after filling
-  pub repairing-call : 11 ≤ s .counts .taken → (left : List ℕ) (decoded : Decoded) → DecodesMarked (delayedMarks s marks) (delayedBlock s block) left decoded
-      → (g : GroupStep) → g ≡ groupStep (s .sync) (repairOf decoded (getD left 0 0))
+  pub decoding-call : 11 ≤ s .counts .taken → (left : List ℕ) (decoded : Decoded) → DecodesMarked (delayedMarks s marks) (delayedBlock s block) left decoded
+      → (g : GroupStep) → g ≡ groupStep (s .sync) (decodingOf decoded (getD left 0 0))
       → (a : Answer) (d : Deinterleaver) (k : List ℕ) (n : Counts) (exit : List ℕ)
       → numberOf a ≡ outcomeNumber (g .outcome)
-      → d .branches ≡ after Receiving (s .deinterleaver .branches) block
-      → k ≡ after Receiving (marksIn s) marks .cells
+      → d .branches ≡ branchesAfter Receiving (s .deinterleaver .branches) block
+      → k ≡ branchesAfter Receiving (marksIn s) marks .cells
       → n ≡ counted (s .counts) (outcomeNumber (g .outcome)) (changedBy decoded .bytes) (changedBy decoded .bits)
-      → exit ≡ roomAfter (g .outcome) left room
-      → ReceivesMarked s block marks room (record { answer = a; receiver = record { deinterleaver = d; marks = k; sync = g .sync; counts = n } }) exit
+      → exit ≡ outputAfter (g .outcome) left output
+      → ReceivesMarked s block marks output (record { answer = a; receiver = record { deinterleaver = d; marks = k; sync = g .sync; counts = n } }) exit
   unfolding stateAfter
-  repairing-call h left decoded c g i a d k n exit p q j e w =
+  decoding-call h left decoded c g i a d k n exit p q j e w =
       let o : stepOf s left decoded ≡ g = simp (le-ltb _ _ h) (sym i) in
       record {
         left = left;
@@ -132,13 +132,13 @@ module _ (s : Receiver) (block marks room : List ℕ) (y : Ready s block marks r
         decodes = c;
         number = p ∙ sym (ready-number left decoded ∙ ap (λ (x : GroupStep). outcomeNumber (x .outcome)) o);
         state = states (g .sync) q j (e ∙ changed) ∙ sym (ready-state left decoded ∙ ap whole o);
-        written = w ∙ sym (ready-room left decoded ∙ ap (λ (x : GroupStep). roomAfter (x .outcome) left room) o);
+        written = w ∙ sym (ready-output left decoded ∙ ap (λ (x : GroupStep). outputAfter (x .outcome) left output) o);
       }
     where
       whole : GroupStep → Receiver
       whole x = record {
-        deinterleaver = record { branches = after Receiving (s .deinterleaver .branches) block };
-        marks = after Receiving (marksIn s) marks .cells;
+        deinterleaver = record { branches = branchesAfter Receiving (s .deinterleaver .branches) block };
+        marks = branchesAfter Receiving (marksIn s) marks .cells;
         sync = x .sync;
         counts =
             counted (s .counts) (outcomeNumber (x .outcome))
@@ -157,13 +157,13 @@ module _ (s : Receiver) (block marks room : List ℕ) (y : Ready s block marks r
   -- ---- the parts of the work
 
   -- there is room for the block in the counts
-  pub room-for : (changed : Changed) → FewChanges changed → Room (s .counts) (changed .bytes) (changed .bits)
-  room-for changed f =
-      counts-room (s .counts) (changed .bytes) (changed .bits) (counts-range (s .counts) (state-range s (y .range) .counts)) (y .more) (f .few) (f .most)
+  pub output-for : (changed : Changed) → FewChanges changed → CountsFit (s .counts) (changed .bytes) (changed .bits)
+  output-for changed f =
+      counts-fit (s .counts) (changed .bytes) (changed .bits) (counts-range (s .counts) (state-range s (y .range) .counts)) (y .more) (f .few) (f .most)
 
--- a room that is filled whole
-pub room-filled : (l room exit : List ℕ) → length room ≡ 204 → exit ≡ l ++ drop 204 room → exit ≡ l
-room-filled l room exit n e = e ∙ ap (λ (x : List ℕ). l ++ x) (drop-of-length-le room {i = 204} (omega arith)) ∙ append-nil l
+-- an output that is filled whole
+pub output-filled : (l output exit : List ℕ) → length output ≡ 204 → exit ≡ l ++ drop 204 output → exit ≡ l
+output-filled l output exit n e = e ∙ ap (λ (x : List ℕ). l ++ x) (drop-of-length-le output {i = 204} (omega arith)) ∙ append-nil l
 
 -- decoding keeps the length
 pub left-length : (marks came left : List ℕ) (decoded : Decoded) → DecodesMarked marks came left decoded → length came ≡ 204 → length left ≡ 204
@@ -174,8 +174,8 @@ left-length marks came left MarkValue d n = ap length (d .2) ∙ n
 
 -- ---- a call that is refused
 
-pub refused-call : (s : Receiver) (block marks room : List ℕ) (a : Answer) (exit : List ℕ) → numberOf a ≡ refusal s block marks room
-    → eqb (refusal s block marks room) 0 ≡ false → exit ≡ room → ReceivesMarked s block marks room (record { answer = a; receiver = s }) exit
-refused-call s block marks room a exit n e w =
+pub refused-call : (s : Receiver) (block marks output : List ℕ) (a : Answer) (exit : List ℕ) → numberOf a ≡ receiveRefusal s block marks output
+    → eqb (receiveRefusal s block marks output) 0 ≡ false → exit ≡ output → ReceivesMarked s block marks output (record { answer = a; receiver = s }) exit
+refused-call s block marks output a exit n e w =
     let t = total (delayedMarks s marks) (delayedBlock s block) in
     record { left = t .left; decoded = t .answer; decodes = t .decodes; number = n ∙ simp e; state = simp e; written = w ∙ simp e }

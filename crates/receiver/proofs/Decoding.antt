@@ -1,4 +1,4 @@
--- The blocks of a sender's packets, as the branches give them with at most eight bytes wrong in each, are repaired to what was sent.
+-- The blocks of a sender's packets, as the branches give them with at most eight bytes wrong in each, are corrected to what was sent.
 -- Assumes nothing.
 use mathlib.Core.Path.{_≡_, refl, sym, ap, ap₂, _∙_, subst}
 use mathlib.Core.List.{List, [], _∷_, map}
@@ -27,11 +27,11 @@ use Rattle.delay_branches.proofs.Blocks.{length-out}
 use Rattle.interleaver.specs.Stream.{run}
 use Rattle.group_sync.specs.Group.{dueByte}
 use Rattle.group_sync.specs.Stream.{sentFrom}
-use Rattle.group_sync.specs.declared.Repair.{Repair}
-use Rattle.group_sync.specs.declared.Repair.the-variants as repair
-use Rattle.receiver.specs.Receive.{Unmarked, delayedBlock, delayedMarks, repairOf}
-use Rattle.receiver.specs.Run.{Call, after, blocksOf, Plain}
-use Rattle.receiver.specs.Begun.{lefts, repairs}
+use Rattle.group_sync.specs.declared.BlockDecoding.{BlockDecoding}
+use Rattle.group_sync.specs.declared.BlockDecoding.the-variants as decoding
+use Rattle.receiver.specs.Receive.{NoMarks, delayedBlock, delayedMarks, decodingOf}
+use Rattle.receiver.specs.Run.{Call, afterCall, lentBlocks, Plain}
+use Rattle.receiver.specs.Begun.{lefts, decodings}
 use Rattle.receiver.specs.declared.Receiver.{Receiver}
 use Rattle.receiver.proofs.MarkDelays.{none-decodes}
 use Rattle.receiver.proofs.Outcomes.{Unrefused, next-unrefused, branches-after, unmarked-after}
@@ -59,7 +59,7 @@ module _ (n : ℕ) (p : List ℕ) (w : Packet p) where
   pub coded-back : derandomized (n % 8) (take 188 (encoded sent)) ≡ p
   coded-back = ap (derandomized (n % 8)) (take-at sent (checkBytes sent) 188 sent-length) ∙ back (n % 8) p small (w .size) (w .sync)
 
-  -- a block near it is repaired to it
+  -- a block near it is corrected to it
   module _ (came left : List ℕ) (decoded : Decoded) (size : length came ≡ 204) (near : differ came (encoded sent) ≤ 8) (d : Decodes came left decoded) where
     same : Same left (encoded sent) decoded (Corrected (changes came (encoded sent)))
     same = decodes-near came (encoded sent) left decoded size (encoded-codeword sent sent-length sent-bytes) near d
@@ -67,9 +67,9 @@ module _ (n : ℕ) (p : List ℕ) (w : Packet p) where
     near-left : left ≡ encoded sent
     near-left = same .block
 
-    near-repair : repairOf decoded (getD left 0 0) ≡ repair.Accepted (dueByte (n % 8))
-    near-repair =
-        ap₂ (λ (r : Decoded) (x : ℕ). repairOf r x) (same .answer) (ap (λ (x : List ℕ). getD x 0 0) near-left ∙ coded-first)
+    near-decoding : decodingOf decoded (getD left 0 0) ≡ decoding.Accepted (dueByte (n % 8))
+    near-decoding =
+        ap₂ (λ (r : Decoded) (x : ℕ). decodingOf r x) (same .answer) (ap (λ (x : List ℕ). getD x 0 0) near-left ∙ coded-first)
 
 -- ---- a list of them
 
@@ -85,42 +85,42 @@ nears-of (x ∷ xs) [] h f = absurd (not-suc-le-zero h)
 nears-of (x ∷ xs) (y ∷ ys) h f = (f zero (omega arith), nears-of xs ys (omega arith) (λ i l. f (suc i) (omega arith)))
 
 -- the calls of a list decode to the coded packets of a sender from its packet n on
-pub record Repaired (n : ℕ) (ps : List (List ℕ)) (cs : List Call) : Type 0 where
+pub record CorrectedFrom (n : ℕ) (ps : List (List ℕ)) (cs : List Call) : Type 0 where
   pub blocks : lefts cs ≡ take (length cs) (map encoded (randomizedFrom n ps))
-  pub accepted : repairs cs ≡ sentFrom n (length cs)
+  pub accepted : decodings cs ≡ sentFrom n (length cs)
 
 -- a call without marks from a state without one decodes as without marks
-pub plain-decodes : (s : Receiver) (c : Call) (cs : List Call) → Unrefused s (c ∷ cs) → Unmarked s → Plain c → Decodes (delayedBlock s (c .block)) (c .left) (c .decoded)
+pub plain-decodes : (s : Receiver) (c : Call) (cs : List Call) → Unrefused s (c ∷ cs) → NoMarks s → Plain c → Decodes (delayedBlock s (c .block)) (c .left) (c .decoded)
 plain-decodes s c cs u z e =
     none-decodes s (delayedBlock s (c .block)) (c .left) (c .decoded) z
     (subst (λ (m : List ℕ). DecodesMarked (delayedMarks s m) (delayedBlock s (c .block)) (c .left) (c .decoded)) e (u .decodes .0))
 
-repaired : (n : ℕ) (ps : List (List ℕ)) (cs : List Call) (s : Receiver) → Unrefused s cs → Unmarked s → All Plain cs → All Packet ps
-    → Nears (run Receiving (s .deinterleaver .branches) (blocksOf cs)) (map encoded (randomizedFrom n ps)) → Repaired n ps cs
+corrected : (n : ℕ) (ps : List (List ℕ)) (cs : List Call) (s : Receiver) → Unrefused s cs → NoMarks s → All Plain cs → All Packet ps
+    → Nears (run Receiving (s .deinterleaver .branches) (lentBlocks cs)) (map encoded (randomizedFrom n ps)) → CorrectedFrom n ps cs
 unfolding run randomizedFrom
-repaired n ps [] s u z pl ws q = record { blocks = refl; accepted = refl }
-repaired n [] (c ∷ cs) s u z pl ws q = absurd q
-repaired n (p ∷ ps) (c ∷ cs) s u z pl ws q =
+corrected n ps [] s u z pl ws q = record { blocks = refl; accepted = refl }
+corrected n [] (c ∷ cs) s u z pl ws q = absurd q
+corrected n (p ∷ ps) (c ∷ cs) s u z pl ws q =
     let k : length (delayedBlock s (c .block)) ≡ 204 = length-out Receiving (s .deinterleaver .branches) (c .block) in
     let d = plain-decodes s c cs u z (pl .0) in
     let r =
-    repaired (n + 1) ps cs (after s c) (next-unrefused s c cs u) (unmarked-after s c cs u z (pl .0)) (pl .1) (ws .1)
-    (subst (λ (b : Branches). Nears (run Receiving b (blocksOf cs)) (map encoded (randomizedFrom (n + 1) ps))) (sym (branches-after s c cs u)) (q .1)) in
+    corrected (n + 1) ps cs (afterCall s c) (next-unrefused s c cs u) (unmarked-after s c cs u z (pl .0)) (pl .1) (ws .1)
+    (subst (λ (b : Branches). Nears (run Receiving b (lentBlocks cs)) (map encoded (randomizedFrom (n + 1) ps))) (sym (branches-after s c cs u)) (q .1)) in
     record {
       blocks =
           ap₂ (λ (x : List ℕ) (xs : List (List ℕ)). x ∷ xs)
           (near-left n p (ws .0) (delayedBlock s (c .block)) (c .left) (c .decoded) k (q .0) d) (r .blocks);
       accepted =
-          ap₂ (λ (x : Repair) (xs : List Repair). x ∷ xs)
-          (near-repair n p (ws .0) (delayedBlock s (c .block)) (c .left) (c .decoded) k (q .0) d) (r .accepted);
+          ap₂ (λ (x : BlockDecoding) (xs : List BlockDecoding). x ∷ xs)
+          (near-decoding n p (ws .0) (delayedBlock s (c .block)) (c .left) (c .decoded) k (q .0) d) (r .accepted);
     }
 
 -- after k calls
-pub repaired-after : (k n : ℕ) (ps : List (List ℕ)) (cs : List Call) (s : Receiver) → Unrefused s cs → Unmarked s → All Plain cs → All Packet ps
-    → Nears (drop k (run Receiving (s .deinterleaver .branches) (blocksOf cs))) (map encoded (randomizedFrom n ps)) → Repaired n ps (drop k cs)
+pub corrected-after : (k n : ℕ) (ps : List (List ℕ)) (cs : List Call) (s : Receiver) → Unrefused s cs → NoMarks s → All Plain cs → All Packet ps
+    → Nears (drop k (run Receiving (s .deinterleaver .branches) (lentBlocks cs))) (map encoded (randomizedFrom n ps)) → CorrectedFrom n ps (drop k cs)
 unfolding run
-repaired-after zero n ps cs s u z pl ws q = repaired n ps cs s u z pl ws q
-repaired-after (suc k) n ps [] s u z pl ws q = record { blocks = refl; accepted = refl }
-repaired-after (suc k) n ps (c ∷ cs) s u z pl ws q =
-    repaired-after k n ps cs (after s c) (next-unrefused s c cs u) (unmarked-after s c cs u z (pl .0)) (pl .1) ws
-    (subst (λ (b : Branches). Nears (drop k (run Receiving b (blocksOf cs))) (map encoded (randomizedFrom n ps))) (sym (branches-after s c cs u)) q)
+corrected-after zero n ps cs s u z pl ws q = corrected n ps cs s u z pl ws q
+corrected-after (suc k) n ps [] s u z pl ws q = record { blocks = refl; accepted = refl }
+corrected-after (suc k) n ps (c ∷ cs) s u z pl ws q =
+    corrected-after k n ps cs (afterCall s c) (next-unrefused s c cs u) (unmarked-after s c cs u z (pl .0)) (pl .1) ws
+    (subst (λ (b : Branches). Nears (drop k (run Receiving b (lentBlocks cs))) (map encoded (randomizedFrom n ps))) (sym (branches-after s c cs u)) q)

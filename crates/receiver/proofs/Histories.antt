@@ -15,8 +15,8 @@ use Rattle.group_sync.specs.declared.Outcome.{Outcome}
 use Rattle.group_sync.specs.declared.Outcome.the-variants.{Filling, Delivered, Lost, Waiting, OutOfStep}
 use Rattle.reception_counts.specs.Counts.{one, outcomeNumber, counted}
 use Rattle.reception_counts.specs.declared.Counts.{Counts}
-use Rattle.receiver.specs.Receive.{freshReceiver, delayedBlock, ofAccepted, stepOf, stateAfter, refusal, Ready}
-use Rattle.receiver.specs.Run.{Call, answerOf, after, afterCalls, Event, history, answered, takenBy, takenIn, acceptedBy, overAccepted, countsOf}
+use Rattle.receiver.specs.Receive.{freshReceiver, delayedBlock, ofAccepted, stepOf, stateAfter, receiveRefusal, Ready}
+use Rattle.receiver.specs.Run.{Call, answerOf, afterCall, afterCalls, Event, history, answered, takenBy, takenIn, acceptedBy, overAccepted, countsOf}
 use Rattle.receiver.specs.declared.Receiver.{Receiver}
 use Rattle.receiver.proofs.Calls.{ready-number, ready-state}
 use Rattle.receiver.proofs.Reached.{Refused, ready-or-refused, refused-state}
@@ -105,25 +105,25 @@ taken-event n o came left =
       bits = n .bits + acceptedBy (outcomeNumber o) * differBits came left;
     }) (sym (taken-outcome o))
 
-pub call-counts : (s : Receiver) (c : Call) → after s c .counts ≡ with-event (s .counts) (eventOf s c)
+pub call-counts : (s : Receiver) (c : Call) → afterCall s c .counts ≡ with-event (s .counts) (eventOf s c)
 unfolding stateAfter
-call-counts s c = by (ready-or-refused s (c .block) (c .marks) (c .room))
+call-counts s c = by (ready-or-refused s (c .block) (c .marks) (c .output))
   where
     unpicked : (k : ℕ) → 0 < k → (o : ℕ) → pick (eqb k 0) o k ≡ k
     unpicked k h o = simp (ne-eqb k 0 (λ e. omega arith))
 
-    by : Ready s (c .block) (c .marks) (c .room) ⊎ Refused s (c .block) (c .marks) (c .room) → after s c .counts ≡ with-event (s .counts) (eventOf s c)
+    by : Ready s (c .block) (c .marks) (c .output) ⊎ Refused s (c .block) (c .marks) (c .output) → afterCall s c .counts ≡ with-event (s .counts) (eventOf s c)
     by (inl y) =
-        ap (λ (r : Receiver). r .counts) (ready-state s (c .block) (c .marks) (c .room) y (c .left) (c .decoded))
+        ap (λ (r : Receiver). r .counts) (ready-state s (c .block) (c .marks) (c .output) y (c .left) (c .decoded))
         ∙ taken-event (s .counts) (stepOf s (c .left) (c .decoded) .outcome) (delayedBlock s (c .block)) (c .left)
         ∙ ap (λ (k : ℕ). with-event (s .counts) (record { number = k; changed = changes (delayedBlock s (c .block)) (c .left) }))
-        (sym (ready-number s (c .block) (c .marks) (c .room) y (c .left) (c .decoded)))
+        (sym (ready-number s (c .block) (c .marks) (c .output) y (c .left) (c .decoded)))
     by (inr f) =
-        ap (λ (r : Receiver). r .counts) (refused-state s (c .block) (c .marks) (c .room) (c .left) (c .decoded) f)
+        ap (λ (r : Receiver). r .counts) (refused-state s (c .block) (c .marks) (c .output) (c .left) (c .decoded) f)
         ∙ sym
         (ap (λ (k : ℕ). with-event (s .counts) (record { number = k; changed = changes (delayedBlock s (c .block)) (c .left) }))
-        (unpicked (refusal s (c .block) (c .marks) (c .room)) (f .some) (outcomeNumber (stepOf s (c .left) (c .decoded) .outcome)))
-        ∙ refused-event (s .counts) (refusal s (c .block) (c .marks) (c .room)) (changes (delayedBlock s (c .block)) (c .left)) (f .some) (f .apart))
+        (unpicked (receiveRefusal s (c .block) (c .marks) (c .output)) (f .some) (outcomeNumber (stepOf s (c .left) (c .decoded) .outcome)))
+        ∙ refused-event (s .counts) (receiveRefusal s (c .block) (c .marks) (c .output)) (changes (delayedBlock s (c .block)) (c .left)) (f .some) (f .apart))
 
 -- ---- a list of calls
 
@@ -149,9 +149,9 @@ none-history n = simp add-zero
 pub calls-counts : (s : Receiver) (cs : List Call) → afterCalls s cs .counts ≡ with-history (s .counts) (history s cs)
 calls-counts s [] = none-history (s .counts)
 calls-counts s (c ∷ cs) =
-    calls-counts (after s c) cs
-    ∙ ap (λ (n : Counts). with-history n (history (after s c) cs)) (call-counts s c)
-    ∙ event-history (s .counts) (eventOf s c) (history (after s c) cs)
+    calls-counts (afterCall s c) cs
+    ∙ ap (λ (n : Counts). with-history n (history (afterCall s c) cs)) (call-counts s c)
+    ∙ event-history (s .counts) (eventOf s c) (history (afterCall s c) cs)
 
 -- the counts of a state reached from the fresh one are those of its history, for every list of calls
 pub history-counts : (cs : List Call) → afterCalls freshReceiver cs .counts ≡ countsOf (history freshReceiver cs)

@@ -14,11 +14,11 @@ use Rattle.reed_solomon.specs.declared.Decoded.{Decoded}
 use Rattle.reed_solomon.proofs.Marks.{largest-least, largest-most}
 use Rattle.reed_solomon.proofs.MarkedDistance.{without-marks}
 use Rattle.delay_branches.specs.Branch.{laid}
-use Rattle.delay_branches.specs.Block.{blockOut, after}
+use Rattle.delay_branches.specs.Block.{blockOut, branchesAfter}
 use Rattle.delay_branches.specs.declared.Branches.{Branches}
 use Rattle.delay_branches.specs.declared.Side.the-variants.{Receiving}
 use Rattle.delay_branches.proofs.Blocks.{Good, good-after, length-out, entries-out, entries-after}
-use Rattle.receiver.specs.Receive.{Unmarked, delayedMarks}
+use Rattle.receiver.specs.Receive.{NoMarks, delayedMarks}
 use Rattle.receiver.specs.declared.Receiver.{Receiver}
 
 -- ---- none
@@ -34,11 +34,11 @@ module _ (positions : List ℕ) where
   pub none-leaves : blockOut Receiving none noMarks ≡ noMarks
   none-leaves = zeros-only 204 (blockOut Receiving none noMarks) (length-out Receiving none noMarks) (entries-out (λ x. x ≡ 0) refl Receiving none noMarks (zeros-at 1122) (zeros-at 204))
 
-  pub none-stays : Good Receiving none → after Receiving none noMarks .cells ≡ replicate 1122 0
-  none-stays g = zeros-only 1122 (after Receiving none noMarks .cells) (good-after Receiving none noMarks g .cells) (entries-after (λ x. x ≡ 0) refl Receiving none noMarks (zeros-at 1122) (zeros-at 204))
+  pub none-stays : Good Receiving none → branchesAfter Receiving none noMarks .cells ≡ replicate 1122 0
+  none-stays g = zeros-only 1122 (branchesAfter Receiving none noMarks .cells) (good-after Receiving none noMarks g .cells) (entries-after (λ x. x ≡ 0) refl Receiving none noMarks (zeros-at 1122) (zeros-at 204))
 
 -- a state without a mark and a block without one: what is decoded has none, and decoding is that without marks
-pub none-decodes : (s : Receiver) (came left : List ℕ) (decoded : Decoded) → Unmarked s → DecodesMarked (delayedMarks s noMarks) came left decoded → Decodes came left decoded
+pub none-decodes : (s : Receiver) (came left : List ℕ) (decoded : Decoded) → NoMarks s → DecodesMarked (delayedMarks s noMarks) came left decoded → Decodes came left decoded
 none-decodes s came left decoded u d =
     without-marks came left decoded
     (subst (λ (m : List ℕ). DecodesMarked m came left decoded)
@@ -60,5 +60,5 @@ module _ (s : Branches) (marks : List ℕ) (h : largest (s .cells) < 2) (m : Mar
   pub leave-marks : Marks (blockOut Receiving s marks)
   leave-marks = record { size = length-out Receiving s marks; bits = λ i b. entries-out (λ x. x ≤ 1) (omega arith) Receiving s marks (bits-of (s .cells) h) bits i }
 
-  pub stay-marks : largest (after Receiving s marks .cells) < 2
-  stay-marks = bits-largest (after Receiving s marks .cells) (entries-after (λ x. x ≤ 1) (omega arith) Receiving s marks (bits-of (s .cells) h) bits)
+  pub stay-marks : largest (branchesAfter Receiving s marks .cells) < 2
+  stay-marks = bits-largest (branchesAfter Receiving s marks .cells) (entries-after (λ x. x ≤ 1) (omega arith) Receiving s marks (bits-of (s .cells) h) bits)

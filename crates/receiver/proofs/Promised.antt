@@ -13,7 +13,7 @@ use Rattle.reed_solomon.specs.Marks.{noMarks}
 use Rattle.randomizer.specs.Stream.{Packet, randomizedStream}
 use Rattle.interleaver.specs.Stream.{interleaved}
 use Rattle.receiver.specs.Receive.{freshReceiver}
-use Rattle.receiver.specs.Run.{Call, afterCalls, Calls, packetsGiven, blocksOf, answers, Plain, Roomy}
+use Rattle.receiver.specs.Run.{Call, afterCalls, DecodedCalls, packetsGiven, lentBlocks, answers, Plain, OutputFits}
 use Rattle.receiver.specs.Kept.{Kept, none, call}
 use Rattle.receiver.specs.declared.Receiver.{Receiver}
 use Rattle.receiver.proofs.Reception.{stream-received}
@@ -21,27 +21,27 @@ use Rattle.receiver.proofs.Reception.{stream-received}
 -- calls of a history with these blocks, answers, packets and this state after them
 pub record CallsOf (s : Receiver) (blocks : List (List ℕ)) (numbers : List ℕ) (packets : List (List ℕ)) (last : Receiver) : Type 0 where
   pub calls : List Call
-  pub lent : blocksOf calls ≡ blocks
+  pub lent : lentBlocks calls ≡ blocks
   pub plain : All Plain calls
-  pub roomy : All Roomy calls
-  pub decodes : Calls s calls
+  pub output-fits : All OutputFits calls
+  pub decodes : DecodedCalls s calls
   pub answered : answers s calls ≡ numbers
   pub given : packetsGiven s calls ≡ packets
   pub state : afterCalls s calls ≡ last
 
 pub kept-calls : {s last : Receiver} {blocks : List (List ℕ)} {numbers : List ℕ} {packets : List (List ℕ)} → Kept s blocks numbers packets last
     → CallsOf s blocks numbers packets last
-kept-calls none = record { calls = []; lent = refl; plain = tt; roomy = tt; decodes = tt; answered = refl; given = refl; state = refl }
-kept-calls {s} (call block room exit r h p k) =
-    let c : Call = record { block = block; marks = noMarks; room = room; left = p .left; decoded = p .decoded } in
+kept-calls none = record { calls = []; lent = refl; plain = tt; output-fits = tt; decodes = tt; answered = refl; given = refl; state = refl }
+kept-calls {s} (call block output exit r h p k) =
+    let c : Call = record { block = block; marks = noMarks; output = output; left = p .left; decoded = p .decoded } in
     let m = kept-calls k in
     let t = m .calls in
     record {
       calls = c ∷ t;
       lent = ap (λ (l : List (List ℕ)). block ∷ l) (m .lent);
       plain = (refl, m .plain);
-      roomy = (h, m .roomy);
-      decodes = (p .decodes, subst (λ (x : Receiver). Calls x t) (p .state) (m .decodes));
+      output-fits = (h, m .output-fits);
+      decodes = (p .decodes, subst (λ (x : Receiver). DecodedCalls x t) (p .state) (m .decodes));
       answered = ap₂ (λ (x : ℕ) (l : List ℕ). x ∷ l) (sym (p .number)) (ap (λ (x : Receiver). answers x t) (sym (p .state)) ∙ m .answered);
       given =
           ap₂ (λ (x : List (List ℕ)) (l : List (List ℕ)). x ++ l)
@@ -56,5 +56,5 @@ pub promised-received : (packets : List (List ℕ)) → All Packet packets → l
     → (numbers ≡ take (length packets) (replicate 11 9 ++ replicate (length packets) 0)) × (given ≡ take (length packets - 11) packets)
 promised-received packets ws l numbers given last k =
     let m = kept-calls k in
-    let r = stream-received packets ws l (m .calls) (m .lent) (m .plain) (m .roomy) (m .decodes) in
+    let r = stream-received packets ws l (m .calls) (m .lent) (m .plain) (m .output-fits) (m .decodes) in
     (sym (m .answered) ∙ r .0, sym (m .given) ∙ r .1)

@@ -24,8 +24,8 @@ use Rattle.group_sync.specs.Group.{syncInRange, groupStep}
 use Rattle.group_sync.proofs.Synchronization.{accepted-outcome, sync-in-range}
 use Rattle.reception_counts.specs.Counts.{outcomeNumber, one, counted}
 use Rattle.reception_counts.proofs.Ranges.{CountsRange, counts-in-range, filling-range, lost-range, accepted-range}
-use Rattle.receiver.specs.Receive.{freshReceiver, inRange, marksIn, delayedBlock, delayedMarks, repairOf, ofAccepted, stateAfter, refusal, Ready, receiveState}
-use Rattle.receiver.specs.Run.{Call, after, Calls, afterCalls}
+use Rattle.receiver.specs.Receive.{freshReceiver, receiverInRange, marksIn, delayedBlock, delayedMarks, decodingOf, ofAccepted, stateAfter, receiveRefusal, Ready, receiveState}
+use Rattle.receiver.specs.Run.{Call, afterCall, DecodedCalls, afterCalls}
 use Rattle.receiver.specs.declared.Receiver.{Receiver}
 use Rattle.receiver.proofs.Calls.{state-in-range, ready-state}
 use Rattle.receiver.proofs.MarkDelays.{stay-marks}
@@ -38,7 +38,7 @@ pub record Sound (s : Receiver) : Type 0 where
   pub sync : syncInRange (s .sync) ≡ true
   pub counts : CountsRange (s .counts)
 
-pub sound-range : (s : Receiver) → Sound s → inRange s ≡ true
+pub sound-range : (s : Receiver) → Sound s → receiverInRange s ≡ true
 sound-range s g = state-in-range s (record { branches = g .branches .range; marks = g .small; sync = g .sync; counts = counts-in-range (s .counts) (g .counts) })
 
 pub sound-fresh : Sound freshReceiver
@@ -53,18 +53,18 @@ sound-fresh = record {
 
 -- ---- a call is refused, or none of its tests refuses it
 
-pub record Refused (s : Receiver) (block marks room : List ℕ) : Type 0 where
-  pub some : 0 < refusal s block marks room
-  pub apart : (refusal s block marks room < 8) ⊎ (11 < refusal s block marks room)
+pub record Refused (s : Receiver) (block marks output : List ℕ) : Type 0 where
+  pub some : 0 < receiveRefusal s block marks output
+  pub apart : (receiveRefusal s block marks output < 8) ⊎ (11 < receiveRefusal s block marks output)
 
-pub ready-or-refused : (s : Receiver) (block marks room : List ℕ) → Ready s block marks room ⊎ Refused s block marks room
-ready-or-refused s block marks room = range (inRange s) refl
+pub ready-or-refused : (s : Receiver) (block marks output : List ℕ) → Ready s block marks output ⊎ Refused s block marks output
+ready-or-refused s block marks output = range (receiverInRange s) refl
   where
-    range : (t : Bool) → inRange s ≡ t → Ready s block marks room ⊎ Refused s block marks room
+    range : (t : Bool) → receiverInRange s ≡ t → Ready s block marks output ⊎ Refused s block marks output
     range false e = inr (record { some = simp e (omega arith); apart = simp e (inl (omega arith)) })
     range true e = size (ℕ-discrete (length block) 204)
       where
-        more : length block ≡ 204 → areMarks marks ≡ true → 188 ≤ length room → Dec (s .counts .taken < 4294967295) → Ready s block marks room ⊎ Refused s block marks room
+        more : length block ≡ 204 → areMarks marks ≡ true → 188 ≤ length output → Dec (s .counts .taken < 4294967295) → Ready s block marks output ⊎ Refused s block marks output
         more n m l (yes h) = inl (record { range = e; size = n; marked = m; enough = l; more = h })
         more n m l (no h) =
             let k : 4294967295 ≤ s .counts .taken = omega arith in
@@ -73,21 +73,21 @@ ready-or-refused s block marks room = range (inRange s) refl
               apart = simp (e, eq-eqb _ _ n, m, le-ltb _ _ l, le-ltb _ _ k) (inl (omega arith));
             })
 
-        enough : length block ≡ 204 → areMarks marks ≡ true → Dec (length room < 188) → Ready s block marks room ⊎ Refused s block marks room
+        enough : length block ≡ 204 → areMarks marks ≡ true → Dec (length output < 188) → Ready s block marks output ⊎ Refused s block marks output
         enough n m (yes h) =
             inr (record { some = simp (e, eq-eqb _ _ n, m, lt-ltb _ _ h) (omega arith); apart = simp (e, eq-eqb _ _ n, m, lt-ltb _ _ h) (inl (omega arith)) })
         enough n m (no h) = more n m (omega arith) (decLt (s .counts .taken) 4294967295)
 
-        marked : length block ≡ 204 → (t : Bool) → areMarks marks ≡ t → Ready s block marks room ⊎ Refused s block marks room
+        marked : length block ≡ 204 → (t : Bool) → areMarks marks ≡ t → Ready s block marks output ⊎ Refused s block marks output
         marked n false m = inr (record { some = simp (e, eq-eqb _ _ n, m) (omega arith); apart = simp (e, eq-eqb _ _ n, m) (inr (omega arith)) })
-        marked n true m = enough n m (decLt (length room) 188)
+        marked n true m = enough n m (decLt (length output) 188)
 
-        size : Dec (length block ≡ 204) → Ready s block marks room ⊎ Refused s block marks room
+        size : Dec (length block ≡ 204) → Ready s block marks output ⊎ Refused s block marks output
         size (yes n) = marked n (areMarks marks) refl
         size (no n) = inr (record { some = simp (e, ne-eqb _ _ n) (omega arith); apart = simp (e, ne-eqb _ _ n) (inl (omega arith)) })
 
-pub refused-state : (s : Receiver) (block marks room left : List ℕ) (decoded : Decoded) → Refused s block marks room → receiveState s block marks room left decoded ≡ s
-refused-state s block marks room left decoded f = unpicked (refusal s block marks room) (f .some)
+pub refused-state : (s : Receiver) (block marks output left : List ℕ) (decoded : Decoded) → Refused s block marks output → receiveState s block marks output left decoded ≡ s
+refused-state s block marks output left decoded f = unpicked (receiveRefusal s block marks output) (f .some)
   where
     unpicked : (n : ℕ) → 0 < n → pick (eqb n 0) (stateAfter s block marks left decoded) s ≡ s
     unpicked n h = simp (ne-eqb n 0 (λ e. omega arith))
@@ -101,9 +101,9 @@ sound-marks s g = record { cells = g .marks; positions = g .branches .positions;
 module _ (s : Receiver) (block marks left : List ℕ) (decoded : Decoded) (g : Sound s) (m : areMarks marks ≡ true) (l : s .counts .taken < 4294967295)
     (d : DecodesMarked (delayedMarks s marks) (delayedBlock s block) left decoded) where
   counts-after : 11 ≤ s .counts .taken → (decoded : Decoded) → DecodesMarked (delayedMarks s marks) (delayedBlock s block) left decoded
-      → CountsRange (counted (s .counts) (outcomeNumber (groupStep (s .sync) (repairOf decoded (getD left 0 0)) .outcome))
-      (ofAccepted (groupStep (s .sync) (repairOf decoded (getD left 0 0)) .outcome) (differ (delayedBlock s block) left))
-      (ofAccepted (groupStep (s .sync) (repairOf decoded (getD left 0 0)) .outcome) (differBits (delayedBlock s block) left)))
+      → CountsRange (counted (s .counts) (outcomeNumber (groupStep (s .sync) (decodingOf decoded (getD left 0 0)) .outcome))
+      (ofAccepted (groupStep (s .sync) (decodingOf decoded (getD left 0 0)) .outcome) (differ (delayedBlock s block) left))
+      (ofAccepted (groupStep (s .sync) (decodingOf decoded (getD left 0 0)) .outcome) (differBits (delayedBlock s block) left)))
   counts-after h (Corrected changed) d =
       accepted-outcome
       (λ o. CountsRange (counted (s .counts) (outcomeNumber o)
@@ -137,22 +137,22 @@ module _ (s : Receiver) (block marks left : List ℕ) (decoded : Decoded) (g : S
             branches = good-after Receiving (s .deinterleaver .branches) block (g .branches);
             marks = good-after Receiving (marksIn s) marks (sound-marks s g) .cells;
             small = stay-marks (marksIn s) marks (g .small) (marks-of marks m);
-            sync = simp (le-ltb _ _ k) (sync-in-range (s .sync) (repairOf decoded (getD left 0 0)) (g .sync));
+            sync = simp (le-ltb _ _ k) (sync-in-range (s .sync) (decodingOf decoded (getD left 0 0)) (g .sync));
             counts = simp (le-ltb _ _ k) (counts-after k decoded d);
           }
 
-pub sound-call : (s : Receiver) (c : Call) → Sound s → DecodesMarked (delayedMarks s (c .marks)) (delayedBlock s (c .block)) (c .left) (c .decoded) → Sound (after s c)
-sound-call s c g d = by (ready-or-refused s (c .block) (c .marks) (c .room))
+pub sound-call : (s : Receiver) (c : Call) → Sound s → DecodesMarked (delayedMarks s (c .marks)) (delayedBlock s (c .block)) (c .left) (c .decoded) → Sound (afterCall s c)
+sound-call s c g d = by (ready-or-refused s (c .block) (c .marks) (c .output))
   where
-    by : Ready s (c .block) (c .marks) (c .room) ⊎ Refused s (c .block) (c .marks) (c .room) → Sound (after s c)
+    by : Ready s (c .block) (c .marks) (c .output) ⊎ Refused s (c .block) (c .marks) (c .output) → Sound (afterCall s c)
     by (inl y) =
-        subst Sound (sym (ready-state s (c .block) (c .marks) (c .room) y (c .left) (c .decoded))) (sound-after s (c .block) (c .marks) (c .left) (c .decoded) g (y .marked) (y .more) d)
-    by (inr f) = subst Sound (sym (refused-state s (c .block) (c .marks) (c .room) (c .left) (c .decoded) f)) g
+        subst Sound (sym (ready-state s (c .block) (c .marks) (c .output) y (c .left) (c .decoded))) (sound-after s (c .block) (c .marks) (c .left) (c .decoded) g (y .marked) (y .more) d)
+    by (inr f) = subst Sound (sym (refused-state s (c .block) (c .marks) (c .output) (c .left) (c .decoded) f)) g
 
-sound-calls : (s : Receiver) (cs : List Call) → Sound s → Calls s cs → Sound (afterCalls s cs)
+sound-calls : (s : Receiver) (cs : List Call) → Sound s → DecodedCalls s cs → Sound (afterCalls s cs)
 sound-calls s [] g d = g
-sound-calls s (c ∷ cs) g d = sound-calls (after s c) cs (sound-call s c g (d .0)) (d .1)
+sound-calls s (c ∷ cs) g d = sound-calls (afterCall s c) cs (sound-call s c g (d .0)) (d .1)
 
 -- the theorem
-pub reached-in-range : (cs : List Call) → Calls freshReceiver cs → inRange (afterCalls freshReceiver cs) ≡ true
+pub reached-in-range : (cs : List Call) → DecodedCalls freshReceiver cs → receiverInRange (afterCalls freshReceiver cs) ≡ true
 reached-in-range cs d = sound-range (afterCalls freshReceiver cs) (sound-calls freshReceiver cs sound-fresh d)

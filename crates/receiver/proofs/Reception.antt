@@ -29,8 +29,8 @@ use Rattle.interleaver.proofs.Gathering.{gathered-front, run-gathered, sent-gat
 use Rattle.group_sync.specs.Group.{freshSync, knownSync}
 use Rattle.group_sync.specs.Stream.{outcomes, sentFrom, deliveredFrom, beforeGroup}
 use Rattle.group_sync.specs.declared.Place.the-variants.{NotKnown}
-use Rattle.group_sync.specs.declared.Repair.{Repair}
-use Rattle.group_sync.specs.declared.Repair.the-variants as repair
+use Rattle.group_sync.specs.declared.BlockDecoding.{BlockDecoding}
+use Rattle.group_sync.specs.declared.BlockDecoding.the-variants as decoding
 use Rattle.group_sync.specs.declared.Outcome.{Outcome}
 use Rattle.group_sync.specs.declared.Outcome.the-variants.{Filling, Waiting, OutOfStep}
 use Rattle.group_sync.specs.declared.GroupSync.{GroupSync}
@@ -38,21 +38,21 @@ use Rattle.group_sync.proofs.Streams as streams
 use Rattle.group_sync.proofs.AsBefore as before
 use Rattle.reception_counts.specs.Counts.{outcomeNumber}
 use Rattle.receiver.specs.Receive.{freshReceiver}
-use Rattle.receiver.specs.Run.{Call, Calls, packetsGiven, blocksOf, answers, Plain, Roomy}
-use Rattle.receiver.specs.Begun.{lefts, repairs, packetsOf, ComeTo, filledFirst, BegunAt}
+use Rattle.receiver.specs.Run.{Call, DecodedCalls, packetsGiven, lentBlocks, answers, Plain, OutputFits}
+use Rattle.receiver.specs.Begun.{lefts, decodings, deliveredPackets, ComeTo, filledFirst, BegunAt}
 use Rattle.receiver.specs.declared.Receiver.{Receiver}
 use Rattle.receiver.proofs.Reached.{sound-fresh}
 use Rattle.receiver.proofs.Outcomes.{Unrefused, plain-marked, come-to, filled-come-to}
-use Rattle.receiver.proofs.Decoding.{sent-length, sent-bytes, coded-back, Nears, nears-of, Repaired, repaired-after}
+use Rattle.receiver.proofs.Decoding.{sent-length, sent-bytes, coded-back, Nears, nears-of, CorrectedFrom, corrected-after}
 
 -- ---- as before
 
 -- where every block after the first eleven is lost or in order, the calls come to what they came to by the rule before document 02, P4
-pub in-order-as-before : (m : ℕ) (cs : List Call) → Unrefused freshReceiver cs → before.InOrder m (repairs (drop 11 cs))
-    → ComeTo freshReceiver cs (filledFirst 11 cs (before.outcomesBefore NotKnown (repairs (drop 11 cs))))
+pub in-order-as-before : (m : ℕ) (cs : List Call) → Unrefused freshReceiver cs → before.InOrder m (decodings (drop 11 cs))
+    → ComeTo freshReceiver cs (filledFirst 11 cs (before.outcomesBefore NotKnown (decodings (drop 11 cs))))
 unfolding freshReceiver
 in-order-as-before m cs u o =
-    subst (λ (x : List Outcome). ComeTo freshReceiver cs (filledFirst 11 cs x)) (before.as-before m (repairs (drop 11 cs)) o)
+    subst (λ (x : List Outcome). ComeTo freshReceiver cs (filledFirst 11 cs x)) (before.as-before m (decodings (drop 11 cs)) o)
     (filled-come-to 11 cs freshReceiver u refl)
 
 -- ---- the answers
@@ -79,13 +79,13 @@ numbers zero zero i (suc n) (suc m) = ap (λ (x : List ℕ). 0 ∷ x) (numbers z
 
 -- ---- the packets
 
-packets-filled : (k : ℕ) (cs : List Call) (os : List Outcome) → packetsOf (filledFirst k cs os) (lefts cs) ≡ packetsOf os (lefts (drop k cs))
-packets-filled zero cs os = ap (λ (x : List Outcome). packetsOf (x ++ os) (lefts cs)) (take-nil (length cs))
+packets-filled : (k : ℕ) (cs : List Call) (os : List Outcome) → deliveredPackets (filledFirst k cs os) (lefts cs) ≡ deliveredPackets os (lefts (drop k cs))
+packets-filled zero cs os = ap (λ (x : List Outcome). deliveredPackets (x ++ os) (lefts cs)) (take-nil (length cs))
 packets-filled (suc k) [] os = refl
 packets-filled (suc k) (c ∷ cs) os = packets-filled k cs os
 
 packets-given : (n j m : ℕ) (ps : List (List ℕ)) → All Packet ps → j ≤ m
-    → packetsOf (take j (deliveredFrom n m)) (take j (map encoded (randomizedFrom n ps))) ≡ take j ps
+    → deliveredPackets (take j (deliveredFrom n m)) (take j (map encoded (randomizedFrom n ps))) ≡ take j ps
 unfolding randomizedFrom
 packets-given n zero m ps ws h = refl
 packets-given n (suc j) zero ps ws h = absurd (not-suc-le-zero h)
@@ -94,19 +94,19 @@ packets-given n (suc j) (suc m) (p ∷ ps) ws h =
     ap₂ (λ (x : List ℕ) (xs : List (List ℕ)). x ∷ xs) (coded-back n p (ws .0)) (packets-given (n + 1) j m ps (ws .1) (omega arith))
 
 packets-late : (w n j m : ℕ) (ps : List (List ℕ)) → All Packet ps → j ≤ m
-    → packetsOf (take j (replicate w Waiting ++ deliveredFrom (n + w) m)) (take j (map encoded (randomizedFrom n ps))) ≡ take (j - w) (drop w ps)
+    → deliveredPackets (take j (replicate w Waiting ++ deliveredFrom (n + w) m)) (take j (map encoded (randomizedFrom n ps))) ≡ take (j - w) (drop w ps)
 unfolding randomizedFrom
 packets-late zero n j m ps ws h =
     let e : n + 0 ≡ n = omega arith in
     let f : j ≡ j - 0 = omega arith in
-    ap (λ (i : ℕ). packetsOf (take j (deliveredFrom i m)) (take j (map encoded (randomizedFrom n ps)))) e
+    ap (λ (i : ℕ). deliveredPackets (take j (deliveredFrom i m)) (take j (map encoded (randomizedFrom n ps)))) e
     ∙ packets-given n j m ps ws h ∙ ap (λ (i : ℕ). take i ps) f
 packets-late (suc w) n zero m ps ws h = let f : 0 ≡ 0 - suc w = omega arith in ap (λ (i : ℕ). take i (drop (suc w) ps)) f
 packets-late (suc w) n (suc j) m [] ws h = sym (take-nil (suc j - suc w))
 packets-late (suc w) n (suc j) m (p ∷ ps) ws h =
     let e : n + suc w ≡ n + 1 + w = omega arith in
     let f : j - w ≡ suc j - suc w = omega arith in
-    ap (λ (i : ℕ). packetsOf (take j (replicate w Waiting ++ deliveredFrom i m)) (take j (map encoded (randomizedFrom (n + 1) ps)))) e
+    ap (λ (i : ℕ). deliveredPackets (take j (replicate w Waiting ++ deliveredFrom i m)) (take j (map encoded (randomizedFrom (n + 1) ps)))) e
     ∙ packets-late w (n + 1) j m ps (ws .1) (omega arith) ∙ ap (λ (i : ℕ). take i (drop w ps)) f
 
 -- ---- the coded packets
@@ -130,25 +130,25 @@ unfolding randomizedFrom
 coded-count n [] = refl
 coded-count n (p ∷ ps) = ap suc (coded-count (n + 1) ps)
 
-pub blocks-count : (cs : List Call) → length (blocksOf cs) ≡ length cs
+pub blocks-count : (cs : List Call) → length (lentBlocks cs) ≡ length cs
 blocks-count [] = refl
 blocks-count (c ∷ cs) = ap suc (blocks-count cs)
 
--- ---- the blocks that are repaired
+-- ---- the blocks that are corrected
 
 module _ (cs : List Call) where
-  came-count : length (drop 11 (run Receiving fresh (blocksOf cs))) ≡ length cs - 11
+  came-count : length (drop 11 (run Receiving fresh (lentBlocks cs))) ≡ length cs - 11
   came-count =
-      length-drop 11 (run Receiving fresh (blocksOf cs))
-      ∙ ap (λ (i : ℕ). i - 11) (length-run Receiving fresh (blocksOf cs) ∙ blocks-count cs)
+      length-drop 11 (run Receiving fresh (lentBlocks cs))
+      ∙ ap (λ (i : ℕ). i - 11) (length-run Receiving fresh (lentBlocks cs) ∙ blocks-count cs)
 
-  -- call i + 12 repairs the block gathered from the bytes received
-  pub came-gathered : All (Length 204) (blocksOf cs) → (i : ℕ) → i + 11 < length cs
-      → getD (drop 11 (run Receiving fresh (blocksOf cs))) i [] ≡ gathered (flatten (blocksOf cs)) i
+  -- call i + 12 corrects the block gathered from the bytes received
+  pub came-gathered : All (Length 204) (lentBlocks cs) → (i : ℕ) → i + 11 < length cs
+      → getD (drop 11 (run Receiving fresh (lentBlocks cs))) i [] ≡ gathered (flatten (lentBlocks cs)) i
   came-gathered sizes i k =
       let e : 11 + i ≡ i + 11 = omega arith in
-      getD-drop 11 (run Receiving fresh (blocksOf cs)) i [] ∙ ap (λ (j : ℕ). getD (run Receiving fresh (blocksOf cs)) j []) e
-      ∙ run-gathered (blocksOf cs) sizes i (omega (arith, blocks-count cs))
+      getD-drop 11 (run Receiving fresh (lentBlocks cs)) i [] ∙ ap (λ (j : ℕ). getD (run Receiving fresh (lentBlocks cs)) j []) e
+      ∙ run-gathered (lentBlocks cs) sizes i (omega (arith, blocks-count cs))
 
 module _ (packets : List (List ℕ)) (ws : All Packet packets) where
   -- the coded packets, as the standard gives them and call after call
@@ -171,30 +171,30 @@ module _ (packets : List (List ℕ)) (ws : All Packet packets) where
       ∙ sent-gathered coded m i (omega (arith, coded-size)) (All-at (Length 204) coded [] (m + i) coded-blocks (omega (arith, coded-size)))
 
   pub coded-nears : (m : ℕ) (cs : List Call) → m + length cs ≤ length packets
-      → ((i : ℕ) → i + 11 < length cs → differ (getD (drop 11 (run Receiving fresh (blocksOf cs))) i []) (getD (drop m coded) i []) ≤ 8)
-      → Nears (drop 11 (run Receiving fresh (blocksOf cs))) (drop m coded)
+      → ((i : ℕ) → i + 11 < length cs → differ (getD (drop 11 (run Receiving fresh (lentBlocks cs))) i []) (getD (drop m coded) i []) ≤ 8)
+      → Nears (drop 11 (run Receiving fresh (lentBlocks cs))) (drop m coded)
   coded-nears m cs h f =
-      nears-of (drop 11 (run Receiving fresh (blocksOf cs))) (drop m coded) (omega (arith, came-count cs, length-drop m coded, coded-size))
+      nears-of (drop 11 (run Receiving fresh (lentBlocks cs))) (drop m coded) (omega (arith, came-count cs, length-drop m coded, coded-size))
       (λ i k. f i (omega (arith, came-count cs)))
 
   -- ---- at most eight bytes of each block wrong
 
-  module _ (m : ℕ) (cs : List Call) (u : Unrefused freshReceiver cs) (pl : All Plain cs) (q : Nears (drop 11 (run Receiving fresh (blocksOf cs))) (drop m coded)) where
+  module _ (m : ℕ) (cs : List Call) (u : Unrefused freshReceiver cs) (pl : All Plain cs) (q : Nears (drop 11 (run Receiving fresh (lentBlocks cs))) (drop m coded)) where
     dropped : drop m coded ≡ map encoded (randomizedFrom m (drop m packets))
     dropped =
         let e : 0 + m ≡ m = omega arith in
         ap (drop m) stream ∙ coded-drop m 0 packets ∙ ap (λ (i : ℕ). map encoded (randomizedFrom i (drop m packets))) e
 
-    late : Repaired m (drop m packets) (drop 11 cs)
+    late : CorrectedFrom m (drop m packets) (drop 11 cs)
     unfolding freshReceiver
     late =
-        repaired-after 11 m (drop m packets) cs freshReceiver u refl pl (All-drop Packet m packets ws)
-        (subst (Nears (drop 11 (run Receiving fresh (blocksOf cs)))) dropped q)
+        corrected-after 11 m (drop m packets) cs freshReceiver u refl pl (All-drop Packet m packets ws)
+        (subst (Nears (drop 11 (run Receiving fresh (lentBlocks cs)))) dropped q)
 
     fewer : length (drop 11 cs) ≡ length cs - 11
     fewer = length-drop 11 cs
 
-    pub near-accepted : repairs (drop 11 cs) ≡ sentFrom m (length cs - 11)
+    pub near-accepted : decodings (drop 11 cs) ≡ sentFrom m (length cs - 11)
     near-accepted = late .accepted ∙ ap (sentFrom m) fewer
 
     near-lefts : lefts (drop 11 cs) ≡ take (length cs - 11) (map encoded (randomizedFrom m (drop m packets)))
@@ -212,20 +212,20 @@ module _ (packets : List (List ℕ)) (ws : All Packet packets) where
         record {
           answered = t .answered ∙ ap (map outcomeNumber) (filled-take 11 (length cs) os) ∙ numbers 11 w (m + w) (length cs) (length cs);
           given =
-              t .given ∙ packets-filled 11 cs (take (length cs - 11) os) ∙ ap (packetsOf (take (length cs - 11) os)) near-lefts
+              t .given ∙ packets-filled 11 cs (take (length cs - 11) os) ∙ ap (deliveredPackets (take (length cs - 11) os)) near-lefts
               ∙ packets-late w m (length cs - 11) (length cs) (drop m packets) (All-drop Packet m packets ws) (omega arith)
               ∙ ap (take (length cs - 11 - w)) (drop-drop w m packets);
-          repaired = near-lefts ∙ ap (take (length cs - 11)) (sym dropped);
+          corrected = near-lefts ∙ ap (take (length cs - 11)) (sym dropped);
         }
 
   -- ---- no byte wrong
 
   module _ (m : ℕ) (cs : List Call) (h : m + length cs ≤ length packets) (l : length cs ≤ 4294967295)
-      (b : blocksOf cs ≡ take (length cs) (drop m (interleaved coded))) (pl : All Plain cs) (rs : All Roomy cs) (ds : Calls freshReceiver cs) where
+      (b : lentBlocks cs ≡ take (length cs) (drop m (interleaved coded))) (pl : All Plain cs) (rs : All OutputFits cs) (ds : DecodedCalls freshReceiver cs) where
     air : List (List ℕ)
     air = drop m (interleaved coded)
 
-    sizes : All (Length 204) (blocksOf cs)
+    sizes : All (Length 204) (lentBlocks cs)
     unfolding air
     sizes =
         subst (All (Length 204)) (sym b)
@@ -233,25 +233,25 @@ module _ (packets : List (List ℕ)) (ws : All Packet packets) where
 
     unharmed-calls : Unrefused freshReceiver cs
     unfolding freshReceiver
-    unharmed-calls = record { sound = sound-fresh; most = omega arith; sizes = sizes; marked = plain-marked cs pl; rooms = rs; decodes = ds }
+    unharmed-calls = record { sound = sound-fresh; most = omega arith; sizes = sizes; marked = plain-marked cs pl; outputs = rs; decodes = ds }
 
     -- the bytes received, and those sent after them
-    front : flatten air ≡ flatten (blocksOf cs) ++ flatten (drop (length cs) air)
+    front : flatten air ≡ flatten (lentBlocks cs) ++ flatten (drop (length cs) air)
     unfolding air
     front =
         ap flatten (sym (take-append-drop (length cs) air)) ∙ flatten-join (take (length cs) air) (drop (length cs) air)
         ∙ ap (λ (x : List (List ℕ)). flatten x ++ flatten (drop (length cs) air)) (sym b)
 
-    -- the block that call i + 12 repairs is the one that was sent
-    each : (i : ℕ) → i + 11 < length cs → getD (drop 11 (run Receiving fresh (blocksOf cs))) i [] ≡ getD (drop m coded) i []
+    -- the block that call i + 12 corrects is the one that was sent
+    each : (i : ℕ) → i + 11 < length cs → getD (drop 11 (run Receiving fresh (lentBlocks cs))) i [] ≡ getD (drop m coded) i []
     unfolding air
     each i k =
         came-gathered cs sizes i k
-        ∙ sym (gathered-front (flatten (blocksOf cs)) (flatten (drop (length cs) air)) i (omega (arith, length-flatten 204 (blocksOf cs) sizes, blocks-count cs)))
+        ∙ sym (gathered-front (flatten (lentBlocks cs)) (flatten (drop (length cs) air)) i (omega (arith, length-flatten 204 (lentBlocks cs) sizes, blocks-count cs)))
         ∙ ap (λ (x : List ℕ). gathered x i) (sym front)
         ∙ sym (coded-gathered m i (omega arith))
 
-    nears : Nears (drop 11 (run Receiving fresh (blocksOf cs))) (drop m coded)
+    nears : Nears (drop 11 (run Receiving fresh (lentBlocks cs))) (drop m coded)
     nears = coded-nears m cs h (λ i k. rw (each i k) (omega (arith, differ-none (getD (drop m coded) i []))))
 
     -- the theorem
@@ -259,14 +259,14 @@ module _ (packets : List (List ℕ)) (ws : All Packet packets) where
     begun-anywhere = near-received m cs unharmed-calls pl nears
 
     -- document 02, P4: the calls come to what they came to by the rule before it
-    pub as-before : ComeTo freshReceiver cs (filledFirst 11 cs (before.outcomesBefore NotKnown (repairs (drop 11 cs))))
+    pub as-before : ComeTo freshReceiver cs (filledFirst 11 cs (before.outcomesBefore NotKnown (decodings (drop 11 cs))))
     as-before =
         in-order-as-before m cs unharmed-calls
         (subst (before.InOrder m) (sym (near-accepted m cs unharmed-calls pl nears)) (before.sent-in-order m (length cs - 11)))
 
 -- demand 2, receiving: the case of block 0
 pub stream-received : (packets : List (List ℕ)) → All Packet packets → length packets ≤ 4294967295
-    → (cs : List Call) → blocksOf cs ≡ interleaved (map encoded (randomizedStream packets)) → All Plain cs → All Roomy cs → Calls freshReceiver cs
+    → (cs : List Call) → lentBlocks cs ≡ interleaved (map encoded (randomizedStream packets)) → All Plain cs → All OutputFits cs → DecodedCalls freshReceiver cs
     → (answers freshReceiver cs ≡ take (length packets) (replicate 11 9 ++ replicate (length packets) 0))
     × (packetsGiven freshReceiver cs ≡ take (length packets - 11) packets)
 stream-received packets ws l cs b pl rs ds =
@@ -283,7 +283,7 @@ stream-received packets ws l cs b pl rs ds =
 
 -- From a known place, such a block among good ones costs its own packet and no other.
 pub one-odd : (s : Receiver) (cs : List Call) → Unrefused s cs → 11 ≤ s .counts .taken → (n missed a b first : ℕ) → s .sync ≡ knownSync (n % 8) missed
-    → (a ≡ 0 → missed ≡ 0) → (first ≡ 0xB8 → ⊥) → (first ≡ 0x47 → ⊥) → repairs cs ≡ sentFrom n a ++ repair.Accepted first ∷ sentFrom (n + a + 1) b
+    → (a ≡ 0 → missed ≡ 0) → (first ≡ 0xB8 → ⊥) → (first ≡ 0x47 → ⊥) → decodings cs ≡ sentFrom n a ++ decoding.Accepted first ∷ sentFrom (n + a + 1) b
     → ComeTo s cs (deliveredFrom n a ++ OutOfStep ∷ deliveredFrom (n + a + 1) b)
 one-odd s cs u h n missed a b first at m f g e =
-    subst (ComeTo s cs) (ap₂ (λ (x : GroupSync) (rs : List Repair). outcomes x rs) at e ∙ streams.one-odd n missed a b first m f g) (come-to cs s u h)
+    subst (ComeTo s cs) (ap₂ (λ (x : GroupSync) (rs : List BlockDecoding). outcomes x rs) at e ∙ streams.one-odd n missed a b first m f g) (come-to cs s u h)

@@ -8,11 +8,11 @@ use Rattle.reed_solomon.specs.Encode.{encoded}
 use Rattle.randomizer.specs.Packet.{derandomized}
 use Rattle.randomizer.specs.Stream.{randomizedStream}
 use Rattle.group_sync.specs.Stream.{beforeGroup}
-use Rattle.group_sync.specs.declared.Repair.{Repair}
+use Rattle.group_sync.specs.declared.BlockDecoding.{BlockDecoding}
 use Rattle.group_sync.specs.declared.Outcome.{Outcome}
 use Rattle.group_sync.specs.declared.Outcome.the-variants.{Filling, Delivered, Lost, Waiting, OutOfStep}
 use Rattle.reception_counts.specs.Counts.{outcomeNumber}
-use Rattle.receiver.specs.Receive.{freshReceiver, repairOf}
+use Rattle.receiver.specs.Receive.{freshReceiver, decodingOf}
 use Rattle.receiver.specs.Run.{Call, packetsGiven, answers}
 use Rattle.receiver.specs.declared.Receiver.{Receiver}
 
@@ -21,8 +21,8 @@ abbrev pub lefts : List Call → List (List ℕ)
 lefts cs = map (λ c. c .left) cs
 
 -- what it means for the group
-abbrev pub repairs : List Call → List Repair
-repairs cs = map (λ c. repairOf (c .decoded) (getD (c .left) 0 0)) cs
+abbrev pub decodings : List Call → List BlockDecoding
+decodings cs = map (λ c. decodingOf (c .decoded) (getD (c .left) 0 0)) cs
 
 -- the packet that an outcome gives of what decoding left
 abbrev pub packetOf : Outcome → List ℕ → List (List ℕ)
@@ -32,23 +32,23 @@ packetOf Lost left = []
 packetOf Waiting left = []
 packetOf OutOfStep left = []
 
-abbrev pub packetsOf : List Outcome → List (List ℕ) → List (List ℕ)
-packetsOf [] ls = []
-packetsOf (o ∷ os) [] = []
-packetsOf (o ∷ os) (l ∷ ls) = packetOf o l ++ packetsOf os ls
+abbrev pub deliveredPackets : List Outcome → List (List ℕ) → List (List ℕ)
+deliveredPackets [] ls = []
+deliveredPackets (o ∷ os) [] = []
+deliveredPackets (o ∷ os) (l ∷ ls) = packetOf o l ++ deliveredPackets os ls
 
 -- the calls are answered, and give packets, as these outcomes say
 pub record ComeTo (s : Receiver) (cs : List Call) (os : List Outcome) : Type 0 where
   pub answered : answers s cs ≡ map outcomeNumber os
-  pub given : packetsGiven s cs ≡ packetsOf os (lefts cs)
+  pub given : packetsGiven s cs ≡ deliveredPackets os (lefts cs)
 
 -- the outcomes of calls of which the first k are filling
 abbrev pub filledFirst : ℕ → List Call → List Outcome → List Outcome
 filledFirst k cs os = take (length cs) (replicate k Filling) ++ os
 
 -- The blocks of a sender from block m on: eleven answers 9, answers 10 to the first start of a group, and from there every packet.
--- Every block after the eleven is repaired to the coded packet that was sent.
+-- Every block after the eleven is corrected to the coded packet that was sent.
 pub record BegunAt (m : ℕ) (packets : List (List ℕ)) (cs : List Call) : Type 0 where
   pub answered : answers freshReceiver cs ≡ take (length cs) (replicate 11 9 ++ replicate (beforeGroup m) 10 ++ replicate (length cs) 0)
   pub given : packetsGiven freshReceiver cs ≡ take (length cs - 11 - beforeGroup m) (drop (m + beforeGroup m) packets)
-  pub repaired : lefts (drop 11 cs) ≡ take (length cs - 11) (drop m (map encoded (randomizedStream packets)))
+  pub corrected : lefts (drop 11 cs) ≡ take (length cs - 11) (drop m (map encoded (randomizedStream packets)))

@@ -11,9 +11,9 @@ use Rattle.receiver.specs.declared.Receiver.{Receiver}
 use Rattle.receiver.specs.declared.Received.{Received}
 
 -- Each block is given to a call that keeps its promise and is lent room for a packet, with the receiver that the call before handed back.
--- The numbers are those of the answers, and the packets are those that calls answered 0 left in their room.
+-- The numbers are those of the answers, and the packets are those that calls answered 0 left in their output.
 pub data Kept : Receiver → List (List ℕ) → List ℕ → List (List ℕ) → Receiver → Type 0 where
   none : {s : Receiver} → Kept s [] [] [] s
-  call : {s last : Receiver} {blocks : List (List ℕ)} {numbers : List ℕ} {packets : List (List ℕ)} (block room exit : List ℕ) (r : Received)
-      → 188 ≤ length room → Receives s block room r exit → Kept (r .receiver) blocks numbers packets last
+  call : {s last : Receiver} {blocks : List (List ℕ)} {numbers : List ℕ} {packets : List (List ℕ)} (block output exit : List ℕ) (r : Received)
+      → 188 ≤ length output → Receives s block output r exit → Kept (r .receiver) blocks numbers packets last
       → Kept s (block ∷ blocks) (numberOf (r .answer) ∷ numbers) (pick (eqb (numberOf (r .answer)) 0) (take 188 exit ∷ []) [] ++ packets) last

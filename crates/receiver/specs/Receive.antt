@@ -13,13 +13,13 @@ use Rattle.reed_solomon.specs.Marks.{largest, areMarks, noMarks, DecodesMarked}
 use Rattle.reed_solomon.specs.declared.Decoded.{Decoded}
 use Rattle.reed_solomon.specs.declared.Decoded.the-variants.{Corrected, Uncorrectable, BlockLength, MarkValue}
 use Rattle.randomizer.specs.Packet.{derandomized}
-use Rattle.delay_branches.specs.Block.{fresh, blockOut, after}
+use Rattle.delay_branches.specs.Block.{fresh, blockOut, branchesAfter}
 use Rattle.delay_branches.specs.Branch as branch
 use Rattle.delay_branches.specs.declared.Branches.{Branches}
 use Rattle.delay_branches.specs.declared.Side.the-variants.{Receiving}
 use Rattle.group_sync.specs.Group.{syncInRange, freshSync, groupStep}
-use Rattle.group_sync.specs.declared.Repair.{Repair}
-use Rattle.group_sync.specs.declared.Repair.the-variants as repair
+use Rattle.group_sync.specs.declared.BlockDecoding.{BlockDecoding}
+use Rattle.group_sync.specs.declared.BlockDecoding.the-variants as decoding
 use Rattle.group_sync.specs.declared.Outcome.{Outcome}
 use Rattle.group_sync.specs.declared.Outcome.the-variants.{Filling, Delivered, Lost, Waiting, OutOfStep}
 use Rattle.group_sync.specs.declared.GroupStep.{GroupStep}
@@ -42,14 +42,14 @@ abbrev pub marksIn : Receiver → Branches
 marksIn s = branch.laid (s .marks) (s .deinterleaver .branches .positions)
 
 -- no mark is in the delays
-abbrev pub Unmarked : Receiver → Type 0
-Unmarked s = s .marks ≡ replicate 1122 0
+abbrev pub NoMarks : Receiver → Type 0
+NoMarks s = s .marks ≡ replicate 1122 0
 
 -- what documents 01 and 02 ask of the numbers of a state
-unfoldable pub inRange : Receiver → Bool
+unfoldable pub receiverInRange : Receiver → Bool
 unfolding countsInRange
-inRange s =
-    pick (branch.within Receiving (s .deinterleaver .branches .positions) 12)
+receiverInRange s =
+    pick (branch.positionsWithin Receiving (s .deinterleaver .branches .positions) 12)
     (pick (ltb (largest (s .marks)) 2)
     (pick (syncInRange (s .sync)) (countsInRange (s .counts)) false)
     false)
@@ -63,19 +63,19 @@ delayedBlock s block = blockOut Receiving (s .deinterleaver .branches) block
 abbrev pub delayedMarks : Receiver → List ℕ → List ℕ
 delayedMarks s marks = blockOut Receiving (marksIn s) marks
 
--- what the repair made of a block: a codeword, by its first byte, or none
-abbrev pub repairOf : Decoded → ℕ → Repair
-repairOf (Corrected changed) first = repair.Accepted first
-repairOf Uncorrectable first = repair.Lost
-repairOf BlockLength first = repair.Lost
-repairOf MarkValue first = repair.Lost
+-- what the outer decoder made of a block: a codeword, by its first byte, or none
+abbrev pub decodingOf : Decoded → ℕ → BlockDecoding
+decodingOf (Corrected changed) first = decoding.Accepted first
+decodingOf Uncorrectable first = decoding.Lost
+decodingOf BlockLength first = decoding.Lost
+decodingOf MarkValue first = decoding.Lost
 
--- What a block comes to, and the place after it. While filling, nothing is repaired and the place is untouched.
+-- What a block comes to, and the place after it. While filling, nothing is corrected and the place is untouched.
 -- Decoding the delayed block left these bytes and this answer.
 abbrev pub stepOf : Receiver → List ℕ → Decoded → GroupStep
 stepOf s left decoded =
     pick (ltb (s .counts .taken) 11) (record { outcome = Filling; sync = s .sync })
-    (groupStep (s .sync) (repairOf decoded (getD left 0 0)))
+    (groupStep (s .sync) (decodingOf decoded (getD left 0 0)))
 
 -- what a block that comes to this adds to a sum over the accepted blocks
 abbrev pub ofAccepted : Outcome → ℕ → ℕ
@@ -89,8 +89,8 @@ ofAccepted OutOfStep n = n
 unfoldable pub stateAfter : Receiver → List ℕ → List ℕ → List ℕ → Decoded → Receiver
 stateAfter s block marks left decoded =
     record {
-      deinterleaver = record { branches = after Receiving (s .deinterleaver .branches) block };
-      marks = after Receiving (marksIn s) marks .cells;
+      deinterleaver = record { branches = branchesAfter Receiving (s .deinterleaver .branches) block };
+      marks = branchesAfter Receiving (marksIn s) marks .cells;
       sync = stepOf s left decoded .sync;
       counts =
           counted (s .counts) (outcomeNumber (stepOf s left decoded .outcome))
@@ -98,54 +98,54 @@ stateAfter s block marks left decoded =
           (ofAccepted (stepOf s left decoded .outcome) (differBits (delayedBlock s block) left));
     }
 
--- the room after a block taken: a packet given is written to its front
-abbrev pub roomAfter : Outcome → List ℕ → List ℕ → List ℕ
-roomAfter Filling left room = room
-roomAfter (Delivered place) left room = derandomized place (take 188 left) ++ drop 188 room
-roomAfter Lost left room = room
-roomAfter Waiting left room = room
-roomAfter OutOfStep left room = room
+-- the output after a block taken: a packet given is written to its front
+abbrev pub outputAfter : Outcome → List ℕ → List ℕ → List ℕ
+outputAfter Filling left output = output
+outputAfter (Delivered place) left output = derandomized place (take 188 left) ++ drop 188 output
+outputAfter Lost left output = output
+outputAfter Waiting left output = output
+outputAfter OutOfStep left output = output
 
 -- the tests before the work, in the order of documents 01 and 02; 0 where none refuses
-abbrev pub refusal : Receiver → List ℕ → List ℕ → List ℕ → ℕ
-refusal s block marks room =
-    pick (inRange s)
+abbrev pub receiveRefusal : Receiver → List ℕ → List ℕ → List ℕ → ℕ
+receiveRefusal s block marks output =
+    pick (receiverInRange s)
     (pick (eqb (length block) 204)
     (pick (areMarks marks)
-    (pick (ltb (length room) 188) 4 (pick (ltb (s .counts .taken) 4294967295) 0 7))
+    (pick (ltb (length output) 188) 4 (pick (ltb (s .counts .taken) 4294967295) 0 7))
     20)
     3)
     5
 
 -- a call that no test refuses
-pub record Ready (s : Receiver) (block marks room : List ℕ) : Type 0 where
-  pub range : inRange s ≡ true
+pub record Ready (s : Receiver) (block marks output : List ℕ) : Type 0 where
+  pub range : receiverInRange s ≡ true
   pub size : length block ≡ 204
-  pub enough : 188 ≤ length room
+  pub enough : 188 ≤ length output
   pub marked : areMarks marks ≡ true
   pub more : s .counts .taken < 4294967295
 
--- the number of the answer, the state and the room after a call
+-- the number of the answer, the state and the output after a call
 abbrev pub receiveNumber : Receiver → List ℕ → List ℕ → List ℕ → List ℕ → Decoded → ℕ
-receiveNumber s block marks room left decoded =
-    pick (eqb (refusal s block marks room) 0) (outcomeNumber (stepOf s left decoded .outcome)) (refusal s block marks room)
+receiveNumber s block marks output left decoded =
+    pick (eqb (receiveRefusal s block marks output) 0) (outcomeNumber (stepOf s left decoded .outcome)) (receiveRefusal s block marks output)
 
 abbrev pub receiveState : Receiver → List ℕ → List ℕ → List ℕ → List ℕ → Decoded → Receiver
-receiveState s block marks room left decoded = pick (eqb (refusal s block marks room) 0) (stateAfter s block marks left decoded) s
+receiveState s block marks output left decoded = pick (eqb (receiveRefusal s block marks output) 0) (stateAfter s block marks left decoded) s
 
-abbrev pub receiveRoom : Receiver → List ℕ → List ℕ → List ℕ → List ℕ → Decoded → List ℕ
-receiveRoom s block marks room left decoded = pick (eqb (refusal s block marks room) 0) (roomAfter (stepOf s left decoded .outcome) left room) room
+abbrev pub receiveOutput : Receiver → List ℕ → List ℕ → List ℕ → List ℕ → Decoded → List ℕ
+receiveOutput s block marks output left decoded = pick (eqb (receiveRefusal s block marks output) 0) (outputAfter (stepOf s left decoded .outcome) left output) output
 
 -- The block that the branches give decodes, with the marks that they give, to an outcome, and the call is this function of it.
 -- Decoding is total and unique, so the call is decided.
-pub record ReceivesMarked (s : Receiver) (block marks room : List ℕ) (r : Received) (exit : List ℕ) : Type 0 where
+pub record ReceivesMarked (s : Receiver) (block marks output : List ℕ) (r : Received) (exit : List ℕ) : Type 0 where
   pub left : List ℕ
   pub decoded : Decoded
   pub decodes : DecodesMarked (delayedMarks s marks) (delayedBlock s block) left decoded
-  pub number : numberOf (r .answer) ≡ receiveNumber s block marks room left decoded
-  pub state : r .receiver ≡ receiveState s block marks room left decoded
-  pub written : exit ≡ receiveRoom s block marks room left decoded
+  pub number : numberOf (r .answer) ≡ receiveNumber s block marks output left decoded
+  pub state : r .receiver ≡ receiveState s block marks output left decoded
+  pub written : exit ≡ receiveOutput s block marks output left decoded
 
 -- A block without marks is one with none: marks that are still in the delays act.
 abbrev pub Receives : Receiver → List ℕ → List ℕ → Received → List ℕ → Type 0
-Receives s block room r exit = ReceivesMarked s block noMarks room r exit
+Receives s block output r exit = ReceivesMarked s block noMarks output r exit

@@ -13,36 +13,36 @@ use Rattle.reed_solomon.specs.declared.Changed.{Changed}
 use Rattle.reed_solomon.specs.declared.Decoded.{Decoded}
 use Rattle.reception_counts.specs.Counts.{one}
 use Rattle.reception_counts.specs.declared.Counts.{Counts}
-use Rattle.receiver.specs.Receive.{delayedBlock, delayedMarks, receiveNumber, receiveState, receiveRoom}
+use Rattle.receiver.specs.Receive.{delayedBlock, delayedMarks, receiveNumber, receiveState, receiveOutput}
 use Rattle.receiver.specs.declared.Receiver.{Receiver}
 
--- a call: the block, its marks and the room lent, and what decoding the block that the branches give leaves and answers
+-- a call: the block, its marks and the output lent, and what decoding the block that the branches give leaves and answers
 pub record Call : Type 0 where
   pub block : List ℕ
   pub marks : List ℕ
-  pub room : List ℕ
+  pub output : List ℕ
   pub left : List ℕ
   pub decoded : Decoded
 
--- the answer's number, the state and the room after a call
+-- the answer's number, the state and the output after a call
 abbrev pub answerOf : Receiver → Call → ℕ
-answerOf s c = receiveNumber s (c .block) (c .marks) (c .room) (c .left) (c .decoded)
+answerOf s c = receiveNumber s (c .block) (c .marks) (c .output) (c .left) (c .decoded)
 
-abbrev pub after : Receiver → Call → Receiver
-after s c = receiveState s (c .block) (c .marks) (c .room) (c .left) (c .decoded)
+abbrev pub afterCall : Receiver → Call → Receiver
+afterCall s c = receiveState s (c .block) (c .marks) (c .output) (c .left) (c .decoded)
 
-abbrev pub roomOf : Receiver → Call → List ℕ
-roomOf s c = receiveRoom s (c .block) (c .marks) (c .room) (c .left) (c .decoded)
+abbrev pub outputOf : Receiver → Call → List ℕ
+outputOf s c = receiveOutput s (c .block) (c .marks) (c .output) (c .left) (c .decoded)
 
 -- each call of the list has what its block decodes to
-abbrev pub Calls : Receiver → List Call → Type 0
-Calls s [] = Unit {0}
-Calls s (c ∷ cs) = DecodesMarked (delayedMarks s (c .marks)) (delayedBlock s (c .block)) (c .left) (c .decoded) × Calls (after s c) cs
+abbrev pub DecodedCalls : Receiver → List Call → Type 0
+DecodedCalls s [] = Unit {0}
+DecodedCalls s (c ∷ cs) = DecodesMarked (delayedMarks s (c .marks)) (delayedBlock s (c .block)) (c .left) (c .decoded) × DecodedCalls (afterCall s c) cs
 
 -- the state after the calls
 abbrev pub afterCalls : Receiver → List Call → Receiver
 afterCalls s [] = s
-afterCalls s (c ∷ cs) = afterCalls (after s c) cs
+afterCalls s (c ∷ cs) = afterCalls (afterCall s c) cs
 
 -- what is told of a call: its answer's number, and in how many bytes and bits the block left differs from the one that came out of the branches
 pub record Event : Type 0 where
@@ -51,12 +51,12 @@ pub record Event : Type 0 where
 
 abbrev pub history : Receiver → List Call → List Event
 history s [] = []
-history s (c ∷ cs) = record { number = answerOf s c; changed = changes (delayedBlock s (c .block)) (c .left) } ∷ history (after s c) cs
+history s (c ∷ cs) = record { number = answerOf s c; changed = changes (delayedBlock s (c .block)) (c .left) } ∷ history (afterCall s c) cs
 
 -- the packets given, one for each call answered 0
 abbrev pub packetsGiven : Receiver → List Call → List (List ℕ)
 packetsGiven s [] = []
-packetsGiven s (c ∷ cs) = pick (eqb (answerOf s c) 0) (take 188 (roomOf s c) ∷ []) [] ++ packetsGiven (after s c) cs
+packetsGiven s (c ∷ cs) = pick (eqb (answerOf s c) 0) (take 188 (outputOf s c) ∷ []) [] ++ packetsGiven (afterCall s c) cs
 
 -- ---- the counts of a history
 
@@ -97,19 +97,19 @@ countsOf es = record {
 -- ---- what a list of calls shows
 
 -- the blocks lent
-abbrev pub blocksOf : List Call → List (List ℕ)
-blocksOf [] = []
-blocksOf (c ∷ cs) = c .block ∷ blocksOf cs
+abbrev pub lentBlocks : List Call → List (List ℕ)
+lentBlocks [] = []
+lentBlocks (c ∷ cs) = c .block ∷ lentBlocks cs
 
 -- the numbers of the answers
 abbrev pub answers : Receiver → List Call → List ℕ
 answers s [] = []
-answers s (c ∷ cs) = answerOf s c ∷ answers (after s c) cs
+answers s (c ∷ cs) = answerOf s c ∷ answers (afterCall s c) cs
 
 -- a call in which no mark comes
 abbrev pub Plain : Call → Type 0
 Plain c = c .marks ≡ noMarks
 
--- a room long enough
-abbrev pub Roomy : Call → Type 0
-Roomy c = 188 ≤ length (c .room)
+-- an output long enough
+abbrev pub OutputFits : Call → Type 0
+OutputFits c = 188 ≤ length (c .output)

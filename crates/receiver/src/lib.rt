@@ -10,16 +10,16 @@ ghost use Rattle.group_sync.specs.Group.{syncInRange, PlaceOf};
 ghost use Rattle.reception_counts.specs.Counts.{countsInRange, outcomeNumber};
 ghost use Rattle.reed_solomon.specs.Marks.{noMarks, DecodesMarked};
 ghost use Rattle.delay_branches.specs.Branch as branch;
-ghost use Rattle.delay_branches.specs.Block.{blockOut, after};
-ghost use Rattle.receiver.specs.Receive.{freshReceiver, inRange, Unmarked, repairOf, roomAfter, Ready, ReceivesMarked, Receives};
+ghost use Rattle.delay_branches.specs.Block.{blockOut, branchesAfter};
+ghost use Rattle.receiver.specs.Receive.{freshReceiver, receiverInRange, NoMarks, decodingOf, outputAfter, Ready, ReceivesMarked, Receives};
 use answer::Answer;
 use delay_branches::Branches;
 use delay_branches::Side;
 use delay_branches::pass_cells;
 use delay_branches::positions_within;
+use group_sync::BlockDecoding;
 use group_sync::GroupSync;
 use group_sync::Outcome;
-use group_sync::Repair;
 use interleaver::Deinterleaver;
 use reception_counts::Counts;
 use reception_counts::count;
@@ -40,28 +40,28 @@ pub struct Received {
 }
 
 // What decoding means for the group: a codeword by its first byte, or none.
-fn repair_of(decoded: Decoded, first: u8) -> Repair
-    ensures { λ r. ⌜ r ≡ repairOf decoded first ⌝ }
+fn decoding_of(decoded: Decoded, first: u8) -> BlockDecoding
+    ensures { λ r. ⌜ r ≡ decodingOf decoded first ⌝ }
 {
     match decoded {
-        Decoded::Corrected(_) => Repair::Accepted(first),
-        Decoded::Uncorrectable => Repair::Lost,
-        Decoded::BlockLength => Repair::Lost,
-        Decoded::MarkValue => Repair::Lost,
+        Decoded::Corrected(_) => BlockDecoding::Accepted(first),
+        Decoded::Uncorrectable => BlockDecoding::Lost,
+        Decoded::BlockLength => BlockDecoding::Lost,
+        Decoded::MarkValue => BlockDecoding::Lost,
     }
 }
 
-// The answer for what a block came to. A packet is written to the room.
-fn deliver(outcome: Outcome, left: &[u8], room: &mut [u8]) -> Answer
-    requires { ⌜ (PlaceOf outcome) × (length (now left) ≡ 204) × (188 ≤ length (now room)) ⌝ }
+// The answer for what a block came to. A packet is written to the output.
+fn deliver(outcome: Outcome, left: &[u8], output: &mut [u8]) -> Answer
+    requires { ⌜ (PlaceOf outcome) × (length (now left) ≡ 204) × (188 ≤ length (now output)) ⌝ }
     ensures { λ r. ⌜
         (numberOf r ≡ outcomeNumber outcome)
-        × (now (room .exit) ≡ roomAfter outcome (now (left .entry)) (now (room .entry))) ⌝ }
+        × (now (output .exit) ≡ outputAfter outcome (now (left .entry)) (now (output .entry))) ⌝ }
 {
     match outcome {
         Outcome::Filling => Answer::Filling,
         Outcome::Delivered(place) => {
-            randomizer::derandomize(place, &left[..Receiver::PACKET_LENGTH], room);
+            randomizer::derandomize(place, &left[..Receiver::PACKET_LENGTH], output);
             Answer::Done
         }
         Outcome::Lost => Answer::Uncorrectable,
@@ -72,21 +72,21 @@ fn deliver(outcome: Outcome, left: &[u8], room: &mut [u8]) -> Answer
 
 // The marks of a block through the delay branches, as its bytes go: by the same positions, in cells of their own.
 // Where no mark comes and none is in the cells, none leaves, and the cells stay.
-fn delay_marks(cells: &mut [u8], positions: [u8; 12], marks: &[u8], none: bool, room: &mut [u8])
+fn delay_marks(cells: &mut [u8], positions: [u8; 12], marks: &[u8], none: bool, output: &mut [u8])
     requires { ⌜
-        (branch.within Side.Receiving positions 12 ≡ true)
+        (branch.positionsWithin Side.Receiving positions 12 ≡ true)
         × (length (now cells) ≡ 1122)
         × (length (now marks) ≡ 204)
-        × (now room ≡ noMarks)
+        × (now output ≡ noMarks)
         × (none ≡ true → (now cells ≡ replicate 1122 0) × (now marks ≡ noMarks)) ⌝ }
     ensures { λ _. ⌜
-        (now (cells .exit) ≡ after Side.Receiving (branch.laid (now (cells .entry)) positions) (now (marks .entry)) .cells)
-        × (now (room .exit) ≡ blockOut Side.Receiving (branch.laid (now (cells .entry)) positions) (now (marks .entry))) ⌝ }
+        (now (cells .exit) ≡ branchesAfter Side.Receiving (branch.laid (now (cells .entry)) positions) (now (marks .entry)) .cells)
+        × (now (output .exit) ≡ blockOut Side.Receiving (branch.laid (now (cells .entry)) positions) (now (marks .entry))) ⌝ }
 {
     if none {
         return;
     }
-    pass_cells(Side::Receiving, cells, positions, marks, room);
+    pass_cells(Side::Receiving, cells, positions, marks, output);
 }
 
 // Decodes a block with its marks. Without any it costs what decoding without marks does.
@@ -106,12 +106,12 @@ fn take_block(
     block: &[u8],
     marks: &[u8],
     none: bool,
-    room: &mut [u8],
+    output: &mut [u8],
 ) -> Received
     requires { ⌜
-        Ready receiver (now block) (now marks) (now room)
-        × (none ≡ true → Unmarked receiver × (now marks ≡ noMarks)) ⌝ }
-    ensures { λ r. ⌜ ReceivesMarked receiver (now (block .entry)) (now (marks .entry)) (now (room .entry)) r (now (room .exit)) ⌝ }
+        Ready receiver (now block) (now marks) (now output)
+        × (none ≡ true → NoMarks receiver × (now marks ≡ noMarks)) ⌝ }
+    ensures { λ r. ⌜ ReceivesMarked receiver (now (block .entry)) (now (marks .entry)) (now (output .entry)) r (now (output .exit)) ⌝ }
 {
     let before = receiver.deinterleaver;
     let branches = before.branches;
@@ -143,14 +143,14 @@ fn take_block(
         };
     }
     let decoded = decode_block(&mut delayed, &erased, none);
-    let step = sync.step(repair_of(decoded, delayed[0]));
+    let step = sync.step(decoding_of(decoded, delayed[0]));
     let outcome = step.outcome;
     let next = step.sync;
     let changed = decoded.changed();
     let bytes = changed.bytes;
     let bits = changed.bits;
     let counts = count(counts, outcome, bytes as u64, bits as u64);
-    let answer = deliver(outcome, &delayed, room);
+    let answer = deliver(outcome, &delayed, output);
     Received {
         answer,
         receiver: Receiver {
@@ -171,7 +171,7 @@ fn take_block(
 // By its parts, so that no state is copied.
 fn parts_in_range(positions: [u8; 12], most: u8, sync: GroupSync, counts: Counts) -> bool
     ensures { λ r. ⌜
-        r ≡ pick (branch.within Side.Receiving positions 12) (pick (ltb most 2) (pick (syncInRange sync) (countsInRange counts) false) false) false ⌝ }
+        r ≡ pick (branch.positionsWithin Side.Receiving positions 12) (pick (ltb most 2) (pick (syncInRange sync) (countsInRange counts) false) false) false ⌝ }
 {
     if !positions_within(Side::Receiving, positions) {
         return false;
@@ -210,7 +210,7 @@ impl Receiver {
 
     // Whether each number is in its range.
     pub fn in_range(self) -> bool
-        ensures { λ r. ⌜ r ≡ inRange self ⌝ }
+        ensures { λ r. ⌜ r ≡ receiverInRange self ⌝ }
     {
         let deinterleaver = self.deinterleaver;
         let branches = deinterleaver.branches;
@@ -222,8 +222,8 @@ impl Receiver {
     }
 
     // Takes a block of 204 interleaved bytes with a mark, 0 or 1, for each, and writes the packet that it completes.
-    pub fn receive_marked(self, block: &[u8], marks: &[u8], room: &mut [u8]) -> Received
-        ensures { λ r. ⌜ ReceivesMarked self (now (block .entry)) (now (marks .entry)) (now (room .entry)) r (now (room .exit)) ⌝ }
+    pub fn receive_marked(self, block: &[u8], marks: &[u8], output: &mut [u8]) -> Received
+        ensures { λ r. ⌜ ReceivesMarked self (now (block .entry)) (now (marks .entry)) (now (output .entry)) r (now (output .exit)) ⌝ }
     {
         let deinterleaver = self.deinterleaver;
         let branches = deinterleaver.branches;
@@ -251,9 +251,9 @@ impl Receiver {
                 receiver: self,
             };
         }
-        if room.len() < Receiver::PACKET_LENGTH {
+        if output.len() < Receiver::PACKET_LENGTH {
             return Received {
-                answer: Answer::RoomLength,
+                answer: Answer::OutputLength,
                 receiver: self,
             };
         }
@@ -264,14 +264,14 @@ impl Receiver {
             };
         }
         let none = most + reed_solomon::largest_mark(marks) == 0;
-        take_block(self, block, marks, none, room)
+        take_block(self, block, marks, none, output)
     }
 
     // The same without marks: where none come they are 0. Those that are still in the delays act.
-    pub fn receive(self, block: &[u8], room: &mut [u8]) -> Received
-        ensures { λ r. ⌜ Receives self (now (block .entry)) (now (room .entry)) r (now (room .exit)) ⌝ }
+    pub fn receive(self, block: &[u8], output: &mut [u8]) -> Received
+        ensures { λ r. ⌜ Receives self (now (block .entry)) (now (output .entry)) r (now (output .exit)) ⌝ }
     {
         let none = [0u8; Receiver::BLOCK_LENGTH];
-        self.receive_marked(block, &none, room)
+        self.receive_marked(block, &none, output)
     }
 }

@@ -6,7 +6,7 @@ use Prim.Native.Nat.{ℕ, _+_, _*_, _≤_, _<_, min}
 use native.Mathlib.Omega.{arith}
 use borrow.Author.Tests.{leb-true, eqb-true, le-leb, eq-eqb, ne-eqb}
 use Rattle.common.proofs.Choice.{both-true}
-use Rattle.reception_counts.specs.Counts.{middleFive, acceptedBlocks, countsInRange, one, counted, Room}
+use Rattle.reception_counts.specs.Counts.{middleFive, acceptedBlocks, countsInRange, one, counted, CountsFit}
 use Rattle.reception_counts.specs.declared.Counts.{Counts}
 
 -- the ranges, each by itself
@@ -54,8 +54,8 @@ module _ (n : Counts) where
   sum-fails e h = simp (le-leb _ _ h, ne-eqb _ _ e)
 
   -- room for a block more
-  pub counts-room : (changed bits : ℕ) → CountsRange n → n .taken < 4294967295 → changed ≤ 16 → bits ≤ 8 * changed → Room n changed bits
-  counts-room changed bits r l h k =
+  pub counts-fit : (changed bits : ℕ) → CountsRange n → n .taken < 4294967295 → changed ≤ 16 → bits ≤ 8 * changed → CountsFit n changed bits
+  counts-fit changed bits r l h k =
       let m = r .middle in
       let b = r .bytes in
       record { taken = l; middle = m; bytes = omega arith; eightfold = r .eightfold; few = h; few-bits = k }

@@ -62,7 +62,7 @@ counted n number changed bits = record {
 }
 
 -- another block can be counted, with so many bytes and bits changed, and no count wraps
-pub record Room (n : Counts) (changed bits : ℕ) : Type 0 where
+pub record CountsFit (n : Counts) (changed bits : ℕ) : Type 0 where
   pub taken : n .taken < 4294967295
   pub middle : middleFive n ≡ n .taken
   pub bytes : n .changed ≤ 16 * n .taken

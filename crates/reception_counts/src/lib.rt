@@ -2,7 +2,7 @@
 // Inner: its functions may require what the crates above have tested. docs/ARCHITECTURE.md names the public surface.
 ghost use mathlib.Core.Path.{_≡_};
 ghost use Prim.Native.Nat.{_+_, min};
-ghost use Rattle.reception_counts.specs.Counts.{Room, zeroCounts, countsInRange, outcomeNumber, counted};
+ghost use Rattle.reception_counts.specs.Counts.{CountsFit, zeroCounts, countsInRange, outcomeNumber, counted};
 use group_sync::Outcome;
 
 // How many blocks were taken, what each of them came to, and how many bytes and bits were changed in the accepted ones.
@@ -90,7 +90,7 @@ fn least(a: u64, b: u64) -> u64
 
 // The counts after a block that came to this, with so many bytes and bits changed.
 pub fn count(counts: Counts, outcome: Outcome, changed: u64, bits: u64) -> Counts
-    requires { ⌜ Room counts changed bits ⌝ }
+    requires { ⌜ CountsFit counts changed bits ⌝ }
     ensures { λ r. ⌜ r ≡ counted counts (outcomeNumber outcome) changed bits ⌝ }
 {
     let mut next = counts;

@@ -1,4 +1,4 @@
--- Block p of a recording is the very block that a fresh receiver repairs at its call p + 12, the first being call 1.
+-- Block p of a recording is the very block that a fresh receiver corrects at its call p + 12, the first being call 1.
 -- Assumes nothing.
 use mathlib.Core.Path.{_≡_, refl, sym, ap, ap₂, _∙_}
 use mathlib.Core.Bool.{false}
@@ -32,39 +32,39 @@ use Rattle.group_sync.specs.Group.{groupStep}
 use Rattle.group_sync.specs.declared.Outcome.{Outcome}
 use Rattle.group_sync.proofs.Synchronization.{accepted-outcome}
 use Rattle.reception_counts.specs.Counts.{outcomeNumber}
-use Rattle.receiver.specs.Receive.{freshReceiver, Unmarked, delayedBlock, repairOf, ofAccepted, stepOf, stateAfter, Ready, Receives}
-use Rattle.receiver.specs.Run.{Call, after, afterCalls, blocksOf, Plain}
+use Rattle.receiver.specs.Receive.{freshReceiver, NoMarks, delayedBlock, decodingOf, ofAccepted, stepOf, stateAfter, Ready, Receives}
+use Rattle.receiver.specs.Run.{Call, afterCall, afterCalls, lentBlocks, Plain}
 use Rattle.receiver.specs.declared.Receiver.{Receiver}
 use Rattle.receiver.specs.declared.Received.{Received}
 use Rattle.receiver.proofs.Calls.{state-range, ready-number, ready-state, changed-is}
 use Rattle.receiver.proofs.Outcomes.{Unrefused, next-unrefused, branches-after, taken-after, unmarked-after}
 use Rattle.receiver.proofs.MarkDelays.{none-decodes}
 use Rattle.receiver.proofs.Reception.{blocks-count}
-use Rattle.recorded_block.specs.Block.{blockRefusal, roomWith, GivesBlock}
-use Rattle.recorded_block.specs.declared.RepairedBlock.{RepairedBlock}
+use Rattle.recorded_block.specs.Block.{blockRefusal, outputWith, GivesBlock}
+use Rattle.recorded_block.specs.declared.DecodedBlock.{DecodedBlock}
 
 -- the branches after calls that are not refused
 branches-calls : (cs : List Call) (s : Receiver) → Unrefused s cs
-    → afterCalls s cs .deinterleaver .branches ≡ runAfter Receiving (s .deinterleaver .branches) (blocksOf cs)
+    → afterCalls s cs .deinterleaver .branches ≡ runAfter Receiving (s .deinterleaver .branches) (lentBlocks cs)
 unfolding runAfter
 branches-calls [] s u = refl
 branches-calls (c ∷ cs) s u =
-    branches-calls cs (after s c) (next-unrefused s c cs u) ∙ ap (λ (b : Branches). runAfter Receiving b (blocksOf cs)) (branches-after s c cs u)
+    branches-calls cs (afterCall s c) (next-unrefused s c cs u) ∙ ap (λ (b : Branches). runAfter Receiving b (lentBlocks cs)) (branches-after s c cs u)
 
 -- and as many blocks taken as there were calls
-unmarked-calls : (cs : List Call) (s : Receiver) → Unrefused s cs → Unmarked s → All Plain cs → Unmarked (afterCalls s cs)
+unmarked-calls : (cs : List Call) (s : Receiver) → Unrefused s cs → NoMarks s → All Plain cs → NoMarks (afterCalls s cs)
 unmarked-calls [] s u z pl = z
-unmarked-calls (c ∷ cs) s u z pl = unmarked-calls cs (after s c) (next-unrefused s c cs u) (unmarked-after s c cs u z (pl .0)) (pl .1)
+unmarked-calls (c ∷ cs) s u z pl = unmarked-calls cs (afterCall s c) (next-unrefused s c cs u) (unmarked-after s c cs u z (pl .0)) (pl .1)
 
 taken-calls : (cs : List Call) (s : Receiver) → Unrefused s cs → afterCalls s cs .counts .taken ≡ s .counts .taken + length cs
 taken-calls [] s u = omega arith
-taken-calls (c ∷ cs) s u = omega (arith, taken-calls cs (after s c) (next-unrefused s c cs u), taken-after s c cs u)
+taken-calls (c ∷ cs) s u = omega (arith, taken-calls cs (afterCall s c) (next-unrefused s c cs u), taken-after s c cs u)
 
 -- one block more
 run-last : (side : Side) (s : Branches) (bs : List (List ℕ)) (b : List ℕ) → getD (run side s (bs ++ b ∷ [])) (length bs) [] ≡ blockOut side (runAfter side s bs) b
 unfolding run runAfter
 run-last side s [] b = refl
-run-last side s (x ∷ bs) b = run-last side (block.after side s x) bs b
+run-last side s (x ∷ bs) b = run-last side (block.branchesAfter side s x) bs b
 
 all-last : (bs : List (List ℕ)) (b : List ℕ) → All (Length 204) bs → length b ≡ 204 → All (Length 204) (bs ++ b ∷ [])
 all-last [] b g h = (h, tt)
@@ -73,32 +73,32 @@ all-last (x ∷ bs) b g h = (g .0, all-last bs b (g .1) h)
 -- The calls before call p + 12, and its block. The recording begins with their blocks.
 module _ (p : ℕ) (before : List Call) (u : Unrefused freshReceiver before) (pl : All Plain before) (n : length before ≡ p + 11) (came : List ℕ) (z : length came ≡ 204) (rest : List ℕ) where
   abbrev recorded : List ℕ
-  recorded = flatten (blocksOf before) ++ (came ++ rest)
+  recorded = flatten (lentBlocks before) ++ (came ++ rest)
 
   whole : List (List ℕ)
-  whole = blocksOf before ++ came ∷ []
+  whole = lentBlocks before ++ came ∷ []
 
   sizes : All (Length 204) whole
   unfolding whole
-  sizes = all-last (blocksOf before) came (u .sizes) z
+  sizes = all-last (lentBlocks before) came (u .sizes) z
 
   count : length whole ≡ p + 12
   unfolding whole
-  count = length-append (blocksOf before) (came ∷ []) ∙ omega (arith, blocks-count before, n)
+  count = length-append (lentBlocks before) (came ∷ []) ∙ omega (arith, blocks-count before, n)
 
   front : flatten whole ++ rest ≡ recorded
   unfolding whole flatten
   front =
-      ap (λ (x : List ℕ). x ++ rest) (flatten-join (blocksOf before) (came ∷ []) ∙ ap (λ (x : List ℕ). flatten (blocksOf before) ++ x) (append-nil came))
-      ∙ append-assoc (flatten (blocksOf before)) came rest
+      ap (λ (x : List ℕ). x ++ rest) (flatten-join (lentBlocks before) (came ∷ []) ∙ ap (λ (x : List ℕ). flatten (lentBlocks before) ++ x) (append-nil came))
+      ∙ append-assoc (flatten (lentBlocks before)) came rest
 
-  -- the block that the call repairs
+  -- the block that the call corrects
   pub call-gathered : delayedBlock (afterCalls freshReceiver before) came ≡ gathered recorded p
   unfolding freshReceiver whole
   call-gathered =
-      let m : length (blocksOf before) ≡ p + 11 = blocks-count before ∙ n in
+      let m : length (lentBlocks before) ≡ p + 11 = blocks-count before ∙ n in
       ap (λ (x : Branches). blockOut Receiving x came) (branches-calls before freshReceiver u)
-      ∙ sym (run-last Receiving fresh (blocksOf before) came)
+      ∙ sym (run-last Receiving fresh (lentBlocks before) came)
       ∙ ap (λ (i : ℕ). getD (run Receiving fresh whole) i []) m
       ∙ run-gathered whole sizes p (omega (arith, count))
       ∙ sym (gathered-front (flatten whole) rest p (omega (arith, length-flatten 204 whole sizes, count)))
@@ -111,21 +111,21 @@ module _ (p : ℕ) (before : List Call) (u : Unrefused freshReceiver before) (pl
   plain lent exit′ received v =
       none-decodes (afterCalls freshReceiver before) (delayedBlock (afterCalls freshReceiver before) came) (v .left) (v .decoded) (unmarked-calls before freshReceiver u refl pl) (v .decodes)
 
-  -- so the block, the counts and the answer are those of that call's repair
+  -- so the block, the counts and the answer are those of that call's decoding
   pub as-receiver : (lent exit′ : List ℕ) (received : Received) (v : Receives (afterCalls freshReceiver before) came lent received exit′)
-      → (blocks : ℕ) (room : List ℕ) (r : RepairedBlock) (exit : List ℕ) → blockRefusal recorded blocks p room ≡ 0 → GivesBlock recorded blocks p room r exit
-      → (numberOf (r .answer) ≡ decodedNumber (v .decoded)) × (r .changed ≡ changedBy (v .decoded)) × (exit ≡ roomWith (v .decoded) (v .left) room)
-  as-receiver lent exit′ received v blocks room r exit e g =
+      → (blocks : ℕ) (output : List ℕ) (r : DecodedBlock) (exit : List ℕ) → blockRefusal recorded blocks p output ≡ 0 → GivesBlock recorded blocks p output r exit
+      → (numberOf (r .answer) ≡ decodedNumber (v .decoded)) × (r .changed ≡ changedBy (v .decoded)) × (exit ≡ outputWith (v .decoded) (v .left) output)
+  as-receiver lent exit′ received v blocks output r exit e g =
       let q = unique (gathered recorded p) (g .left) (v .left) (g .decoded) (v .decoded) (g .decodes) (rw call-gathered at (plain lent exit′ received v)) in (
         g .number ∙ simp e (ap decodedNumber (q .answer)),
         g .changed ∙ simp e (ap changedBy (q .answer)),
-        g .written ∙ simp e (ap₂ (λ (x : Decoded) (y : List ℕ). roomWith x y room) (q .answer) (q .block)),
+        g .written ∙ simp e (ap₂ (λ (x : Decoded) (y : List ℕ). outputWith x y output) (q .answer) (q .block)),
       )
 
   -- What the call shows of it: it is answered 8 where the block is, and its sums of changed bytes and bits grow by the block's.
   module _ (lent exit′ : List ℕ) (received : Received) (v : Receives (afterCalls freshReceiver before) came lent received exit′)
-      (y : Ready (afterCalls freshReceiver before) came noMarks lent) (blocks : ℕ) (room : List ℕ) (r : RepairedBlock) (exit : List ℕ)
-      (e : blockRefusal recorded blocks p room ≡ 0) (g : GivesBlock recorded blocks p room r exit) where
+      (y : Ready (afterCalls freshReceiver before) came noMarks lent) (blocks : ℕ) (output : List ℕ) (r : DecodedBlock) (exit : List ℕ)
+      (e : blockRefusal recorded blocks p output ≡ 0) (g : GivesBlock recorded blocks p output r exit) where
     past : Receiver
     past = afterCalls freshReceiver before
 
@@ -135,7 +135,7 @@ module _ (p : ℕ) (before : List Call) (u : Unrefused freshReceiver before) (pl
 
     outcome : Decoded → Outcome
     unfolding past
-    outcome decoded = groupStep (past .sync) (repairOf decoded (getD (v .left) 0 0)) .outcome
+    outcome decoded = groupStep (past .sync) (decodingOf decoded (getD (v .left) 0 0)) .outcome
 
     stepped : stepOf past (v .left) (v .decoded) .outcome ≡ outcome (v .decoded)
     unfolding past outcome
@@ -158,7 +158,7 @@ module _ (p : ℕ) (before : List Call) (u : Unrefused freshReceiver before) (pl
     pub lost-as-received : eqb (numberOf (r .answer)) 8 ≡ eqb (numberOf (received .answer)) 8
     unfolding past
     lost-as-received =
-        ap (λ (k : ℕ). eqb k 8) (as-receiver lent exit′ received v blocks room r exit e g .0)
+        ap (λ (k : ℕ). eqb k 8) (as-receiver lent exit′ received v blocks output r exit e g .0)
         ∙ sym (ap (λ (k : ℕ). eqb k 8) answered ∙ lost-or-not (v .decoded) (plain lent exit′ received v))
 
     -- of each number of changes, what the call adds to its sum is the block's
@@ -168,7 +168,7 @@ module _ (p : ℕ) (before : List Call) (u : Unrefused freshReceiver before) (pl
     added f z =
         ap (λ (o : Outcome). ofAccepted o (f (changes (delayedBlock past came) (v .left)))) stepped
         ∙ sym (changed-is past came noMarks lent y f z (v .left) (v .decoded) (v .decodes))
-        ∙ sym (ap f (as-receiver lent exit′ received v blocks room r exit e g .1))
+        ∙ sym (ap f (as-receiver lent exit′ received v blocks output r exit e g .1))
 
     pub changed-as-received : (received .receiver .counts .changed ≡ afterCalls freshReceiver before .counts .changed + r .changed .bytes)
         × (received .receiver .counts .bits ≡ afterCalls freshReceiver before .counts .bits + r .changed .bits)

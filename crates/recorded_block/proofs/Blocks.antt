@@ -23,93 +23,93 @@ use Rattle.reed_solomon.proofs.MarkedDistance.{without-marks}
 use Rattle.reed_solomon.proofs.Laws.{total, unique}
 use Rattle.interleaver.specs.Gathered.{placeIn, gathered}
 use Rattle.interleaver.proofs.Gathering.{gathered-same}
-use Rattle.recorded_block.specs.Block.{wholeBlocks, blockRefusal, roomWith, GivesBlock, Agree, partAt, SameBlock}
-use Rattle.recorded_block.specs.declared.RepairedBlock.{RepairedBlock}
+use Rattle.recorded_block.specs.Block.{blockCount, blockRefusal, outputWith, GivesBlock, Agree, partAt, SameBlock}
+use Rattle.recorded_block.specs.declared.DecodedBlock.{DecodedBlock}
 
 -- ---- the tests
 
-module _ (bytes : List ℕ) (blocks p : ℕ) (room : List ℕ) where
-  pub not-its-count : (blocks ≡ wholeBlocks bytes → ⊥) → blockRefusal bytes blocks p room ≡ 5
+module _ (bytes : List ℕ) (blocks p : ℕ) (output : List ℕ) where
+  pub not-its-count : (blocks ≡ blockCount bytes → ⊥) → blockRefusal bytes blocks p output ≡ 5
   not-its-count h = simp (ne-eqb _ _ h)
 
-  module _ (b : blocks ≡ wholeBlocks bytes) where
-    pub no-such-block : min blocks 4294967295 < p + 12 → blockRefusal bytes blocks p room ≡ 16
+  module _ (b : blocks ≡ blockCount bytes) where
+    pub no-such-block : min blocks 4294967295 < p + 12 → blockRefusal bytes blocks p output ≡ 16
     no-such-block h = simp (eq-eqb _ _ b, lt-ltb _ _ h)
 
-    past-tests : p + 12 ≤ min blocks 4294967295 → blockRefusal bytes blocks p room ≡ pick (ltb (length room) 204) 4 0
+    past-tests : p + 12 ≤ min blocks 4294967295 → blockRefusal bytes blocks p output ≡ pick (ltb (length output) 204) 4 0
     past-tests h = simp (eq-eqb _ _ b, le-ltb _ _ h)
 
-    pub short-room : p + 12 ≤ min blocks 4294967295 → length room < 204 → blockRefusal bytes blocks p room ≡ 4
-    short-room h l = past-tests h ∙ simp (lt-ltb _ _ l)
+    pub output-short : p + 12 ≤ min blocks 4294967295 → length output < 204 → blockRefusal bytes blocks p output ≡ 4
+    output-short h l = past-tests h ∙ simp (lt-ltb _ _ l)
 
-    pub no-refusal : p + 12 ≤ min blocks 4294967295 → 204 ≤ length room → blockRefusal bytes blocks p room ≡ 0
+    pub no-refusal : p + 12 ≤ min blocks 4294967295 → 204 ≤ length output → blockRefusal bytes blocks p output ≡ 0
     no-refusal h l = past-tests h ∙ simp (le-ltb _ _ l)
 
   -- ---- what the call gives
 
-  pub refused-with : (k : ℕ) (r : RepairedBlock) → blockRefusal bytes blocks p room ≡ k → 0 < k → numberOf (r .answer) ≡ k → r .changed ≡ noChange
-      → GivesBlock bytes blocks p room r room
+  pub refused-with : (k : ℕ) (r : DecodedBlock) → blockRefusal bytes blocks p output ≡ k → 0 < k → numberOf (r .answer) ≡ k → r .changed ≡ noChange
+      → GivesBlock bytes blocks p output r output
   refused-with k r e h n c =
       let t = total noMarks (gathered bytes p) in
-      let f : eqb (blockRefusal bytes blocks p room) 0 ≡ false = ap (λ (i : ℕ). eqb i 0) e ∙ ne-eqb k 0 (λ z. omega arith) in
+      let f : eqb (blockRefusal bytes blocks p output) 0 ≡ false = ap (λ (i : ℕ). eqb i 0) e ∙ ne-eqb k 0 (λ z. omega arith) in
       record { left = t .left; decoded = t .answer; decodes = without-marks (gathered bytes p) (t .left) (t .answer) (t .decodes); number = n ∙ sym e ∙ simp f; changed = c ∙ simp f; written = simp f }
 
-  pub given-block : blockRefusal bytes blocks p room ≡ 0 → (left : List ℕ) (decoded : Decoded) → Decodes (gathered bytes p) left decoded
-      → (r : RepairedBlock) (exit : List ℕ) → numberOf (r .answer) ≡ decodedNumber decoded → r .changed ≡ changedBy decoded
-      → exit ≡ roomWith decoded left room → GivesBlock bytes blocks p room r exit
+  pub given-block : blockRefusal bytes blocks p output ≡ 0 → (left : List ℕ) (decoded : Decoded) → Decodes (gathered bytes p) left decoded
+      → (r : DecodedBlock) (exit : List ℕ) → numberOf (r .answer) ≡ decodedNumber decoded → r .changed ≡ changedBy decoded
+      → exit ≡ outputWith decoded left output → GivesBlock bytes blocks p output r exit
   given-block e left decoded d r exit n c w =
       record { left = left; decoded = decoded; decodes = d; number = n ∙ simp e; changed = c ∙ simp e; written = w ∙ simp e }
 
-pub put-front : (came left room : List ℕ) (changed : Changed) → Decodes came left (Corrected changed)
-    → take 0 room ++ left ++ drop (0 + length left) room ≡ left ++ drop 204 room
-put-front came left room changed d =
+pub put-front : (came left output : List ℕ) (changed : Changed) → Decodes came left (Corrected changed)
+    → take 0 output ++ left ++ drop (0 + length left) output ≡ left ++ drop 204 output
+put-front came left output changed d =
     let e : 0 + length left ≡ 204 = omega (arith, codeword-length left (d .1 .codeword)) in
-    ap (λ (n : ℕ). left ++ drop n room) e
+    ap (λ (n : ℕ). left ++ drop n output) e
 
 -- ---- which bytes matter
 
 -- the call is decided by its refusal and by the 204 bytes gathered
-same-block : (a b : List ℕ) (blocks more p q : ℕ) (room : List ℕ) (r s : RepairedBlock) (x y : List ℕ)
-    → blockRefusal a blocks p room ≡ blockRefusal b more q room → gathered a p ≡ gathered b q
-    → GivesBlock a blocks p room r x → GivesBlock b more q room s y → SameBlock r s x y
-same-block a b blocks more p q room r s x y f g h k =
+same-block : (a b : List ℕ) (blocks more p q : ℕ) (output : List ℕ) (r s : DecodedBlock) (x y : List ℕ)
+    → blockRefusal a blocks p output ≡ blockRefusal b more q output → gathered a p ≡ gathered b q
+    → GivesBlock a blocks p output r x → GivesBlock b more q output s y → SameBlock r s x y
+same-block a b blocks more p q output r s x y f g h k =
     let u = unique (gathered b q) (h .left) (k .left) (h .decoded) (k .decoded) (rw g at (h .decodes)) (k .decodes) in
     record {
       number = h .number ∙ ap₂ (λ (n : ℕ) (d : Decoded). pick (eqb n 0) (decodedNumber d) n) f (u .answer) ∙ sym (k .number);
       changed = h .changed ∙ ap₂ (λ (n : ℕ) (d : Decoded). pick (eqb n 0) (changedBy d) noChange) f (u .answer) ∙ sym (k .changed);
       written =
-          h .written ∙ ap (λ (n : ℕ). pick (eqb n 0) (roomWith (h .decoded) (h .left) room) room) f
-          ∙ ap₂ (λ (l : List ℕ) (d : Decoded). pick (eqb (blockRefusal b more q room) 0) (roomWith d l room) room) (u .block) (u .answer) ∙ sym (k .written);
+          h .written ∙ ap (λ (n : ℕ). pick (eqb n 0) (outputWith (h .decoded) (h .left) output) output) f
+          ∙ ap₂ (λ (l : List ℕ) (d : Decoded). pick (eqb (blockRefusal b more q output) 0) (outputWith d l output) output) (u .block) (u .answer) ∙ sym (k .written);
     }
 
 -- two recordings with the same number of whole blocks that agree in those 204 bytes give the same
-pub agreeing : (a b : List ℕ) (blocks p : ℕ) (room : List ℕ) (r s : RepairedBlock) (x y : List ℕ) → wholeBlocks a ≡ wholeBlocks b → Agree a b p
-    → GivesBlock a blocks p room r x → GivesBlock b blocks p room s y → SameBlock r s x y
-agreeing a b blocks p room r s x y e g h k =
-    same-block a b blocks blocks p p room r s x y
-    (ap (λ (n : ℕ). pick (eqb blocks n) (pick (ltb (min blocks 4294967295) (p + 12)) 16 (pick (ltb (length room) 204) 4 0)) 5) e)
+pub agreeing : (a b : List ℕ) (blocks p : ℕ) (output : List ℕ) (r s : DecodedBlock) (x y : List ℕ) → blockCount a ≡ blockCount b → Agree a b p
+    → GivesBlock a blocks p output r x → GivesBlock b blocks p output s y → SameBlock r s x y
+agreeing a b blocks p output r s x y e g h k =
+    same-block a b blocks blocks p p output r s x y
+    (ap (λ (n : ℕ). pick (eqb blocks n) (pick (ltb (min blocks 4294967295) (p + 12)) 16 (pick (ltb (length output) 204) 4 0)) 5) e)
     (gathered-same a b p p g) h k
 
 -- ---- by seeking
 
 -- Block p of a recording is block 0 of that part, so a file need not be read from its start. Where there is no such block, there is
 -- none in the part either.
-pub by-seeking : (bytes : List ℕ) (p : ℕ) (room : List ℕ) (r s : RepairedBlock) (x y : List ℕ) → p + 12 ≤ 4294967295
-    → GivesBlock bytes (wholeBlocks bytes) p room r x → GivesBlock (partAt bytes p) (wholeBlocks (partAt bytes p)) 0 room s y → SameBlock r s x y
-by-seeking bytes p room r s x y m g k =
-    same-block bytes (partAt bytes p) (wholeBlocks bytes) (wholeBlocks (partAt bytes p)) p 0 room r s x y (by (decLt (length bytes) (204 * p + 2448)))
+pub by-seeking : (bytes : List ℕ) (p : ℕ) (output : List ℕ) (r s : DecodedBlock) (x y : List ℕ) → p + 12 ≤ 4294967295
+    → GivesBlock bytes (blockCount bytes) p output r x → GivesBlock (partAt bytes p) (blockCount (partAt bytes p)) 0 output s y → SameBlock r s x y
+by-seeking bytes p output r s x y m g k =
+    same-block bytes (partAt bytes p) (blockCount bytes) (blockCount (partAt bytes p)) p 0 output r s x y (by (decLt (length bytes) (204 * p + 2448)))
     (gathered-same bytes (partAt bytes p) p 0 there) g k
   where
     size : length (partAt bytes p) ≡ min 2448 (length bytes - 204 * p)
     size = length-take 2448 (drop (204 * p) bytes) ∙ ap (min 2448) (length-drop (204 * p) bytes)
 
-    by : Dec (length bytes < 204 * p + 2448) → blockRefusal bytes (wholeBlocks bytes) p room ≡ blockRefusal (partAt bytes p) (wholeBlocks (partAt bytes p)) 0 room
+    by : Dec (length bytes < 204 * p + 2448) → blockRefusal bytes (blockCount bytes) p output ≡ blockRefusal (partAt bytes p) (blockCount (partAt bytes p)) 0 output
     by (yes l) =
-        no-such-block bytes (wholeBlocks bytes) p room refl (omega arith)
-        ∙ sym (no-such-block (partAt bytes p) (wholeBlocks (partAt bytes p)) 0 room refl (omega (arith, size)))
+        no-such-block bytes (blockCount bytes) p output refl (omega arith)
+        ∙ sym (no-such-block (partAt bytes p) (blockCount (partAt bytes p)) 0 output refl (omega (arith, size)))
     by (no l) =
-        past-tests bytes (wholeBlocks bytes) p room refl (omega arith)
-        ∙ sym (past-tests (partAt bytes p) (wholeBlocks (partAt bytes p)) 0 room refl (omega (arith, size)))
+        past-tests bytes (blockCount bytes) p output refl (omega arith)
+        ∙ sym (past-tests (partAt bytes p) (blockCount (partAt bytes p)) 0 output refl (omega (arith, size)))
 
     there : (n : ℕ) → n < 204 → getD bytes (placeIn p n) 0 ≡ getD (partAt bytes p) (placeIn 0 n) 0
     there n l =

@@ -1,15 +1,15 @@
-// One block of a recording, repaired: document 02, P5. Twelve blocks of the recording are looked at, however long it is.
+// One block of a recording, corrected: document 02, P5. Twelve blocks of the recording are looked at, however long it is.
 ghost use mathlib.Core.Path.{_≡_};
 ghost use Prim.Native.Nat.{_+_, _*_, _≤_, min};
 ghost use lib.ListN.{length};
 ghost use Rattle.interleaver.specs.Gathered.{gathered};
-ghost use Rattle.recorded_block.specs.Block.{wholeBlocks, GivesBlock};
+ghost use Rattle.recorded_block.specs.Block.{blockCount, GivesBlock};
 use answer::Answer;
 use reed_solomon::Changed;
 use reed_solomon::Decoded;
 
 // The answer, and what was changed.
-pub struct RepairedBlock {
+pub struct DecodedBlock {
     pub answer: Answer,
     pub changed: Changed,
 }
@@ -34,17 +34,17 @@ fn least(a: u64, b: u64) -> u64
 
 // How many whole blocks a recording has.
 pub fn whole_blocks(bytes: &[u8]) -> u64
-    ensures { λ r. ⌜ r ≡ wholeBlocks (now (bytes .entry)) ⌝ }
+    ensures { λ r. ⌜ r ≡ blockCount (now (bytes .entry)) ⌝ }
 {
     (bytes.len() / 204) as u64
 }
 
-// Block p of a recording that is said to have so many whole blocks, repaired into the room.
-pub fn repaired_block(bytes: &[u8], blocks: u64, p: u64, room: &mut [u8]) -> RepairedBlock
-    ensures { λ r. ⌜ GivesBlock (now (bytes .entry)) blocks p (now (room .entry)) r (now (room .exit)) ⌝ }
+// Block p of a recording that is said to have so many whole blocks, corrected into the output.
+pub fn decoded_block(bytes: &[u8], blocks: u64, p: u64, output: &mut [u8]) -> DecodedBlock
+    ensures { λ r. ⌜ GivesBlock (now (bytes .entry)) blocks p (now (output .entry)) r (now (output .exit)) ⌝ }
 {
     if blocks != whole_blocks(bytes) {
-        return RepairedBlock {
+        return DecodedBlock {
             answer: Answer::StateRange,
             changed: Changed { bytes: 0, bits: 0 },
         };
@@ -52,20 +52,20 @@ pub fn repaired_block(bytes: &[u8], blocks: u64, p: u64, room: &mut [u8]) -> Rep
     // No sum here wraps, whatever p is.
     let most = least(blocks, 4294967295);
     if most < 12 {
-        return RepairedBlock {
+        return DecodedBlock {
             answer: Answer::NoSuchBlock,
             changed: Changed { bytes: 0, bits: 0 },
         };
     }
     if most - 12 < p {
-        return RepairedBlock {
+        return DecodedBlock {
             answer: Answer::NoSuchBlock,
             changed: Changed { bytes: 0, bits: 0 },
         };
     }
-    if room.len() < 204 {
-        return RepairedBlock {
-            answer: Answer::RoomLength,
+    if output.len() < 204 {
+        return DecodedBlock {
+            answer: Answer::OutputLength,
             changed: Changed { bytes: 0, bits: 0 },
         };
     }
@@ -74,21 +74,21 @@ pub fn repaired_block(bytes: &[u8], blocks: u64, p: u64, room: &mut [u8]) -> Rep
     let decoded = reed_solomon::decode(&mut block);
     match decoded {
         Decoded::Corrected(changed) => {
-            common::put(&block, 0, room);
-            RepairedBlock {
+            common::put(&block, 0, output);
+            DecodedBlock {
                 answer: Answer::Done,
                 changed,
             }
         }
-        Decoded::Uncorrectable => RepairedBlock {
+        Decoded::Uncorrectable => DecodedBlock {
             answer: Answer::Uncorrectable,
             changed: Changed { bytes: 0, bits: 0 },
         },
-        Decoded::BlockLength => RepairedBlock {
+        Decoded::BlockLength => DecodedBlock {
             answer: Answer::BlockLength,
             changed: Changed { bytes: 0, bits: 0 },
         },
-        Decoded::MarkValue => RepairedBlock {
+        Decoded::MarkValue => DecodedBlock {
             answer: Answer::MarkValue,
             changed: Changed { bytes: 0, bits: 0 },
         },
@@ -104,16 +104,16 @@ pub struct RecordingView<'a> {
 impl<'a> RecordingView<'a> {
     // A recording, with the number of its whole blocks.
     pub fn new(bytes: &'a [u8]) -> RecordingView<'a>
-        ensures { λ r. ⌜ (r .bytes ≡ bytes .entry) × (r .blocks ≡ wholeBlocks (now (bytes .entry))) ⌝ }
+        ensures { λ r. ⌜ (r .bytes ≡ bytes .entry) × (r .blocks ≡ blockCount (now (bytes .entry))) ⌝ }
     {
         let blocks = whole_blocks(bytes);
         RecordingView { bytes, blocks }
     }
 
-    // Block p, repaired into the room.
-    pub fn block(self, p: u64, room: &mut [u8]) -> RepairedBlock
-        ensures { λ r. ⌜ GivesBlock (now (self .entry .bytes)) (self .entry .blocks) p (now (room .entry)) r (now (room .exit)) ⌝ }
+    // Block p, corrected into the output.
+    pub fn block(self, p: u64, output: &mut [u8]) -> DecodedBlock
+        ensures { λ r. ⌜ GivesBlock (now (self .entry .bytes)) (self .entry .blocks) p (now (output .entry)) r (now (output .exit)) ⌝ }
     {
-        repaired_block(self.bytes, self.blocks, p, room)
+        decoded_block(self.bytes, self.blocks, p, output)
     }
 }

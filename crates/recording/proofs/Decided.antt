@@ -22,10 +22,10 @@ use Rattle.group_sync.specs.Group.{PlaceOf}
 use Rattle.group_sync.specs.declared.Outcome.{Outcome}
 use Rattle.group_sync.specs.declared.Outcome.the-variants.{Filling, Delivered, Lost, Waiting, OutOfStep}
 use Rattle.reception_counts.specs.Counts.{outcomeNumber}
-use Rattle.receiver.specs.Receive.{delayedBlock, delayedMarks, stepOf, stateAfter, roomAfter, refusal, Ready}
-use Rattle.receiver.specs.Run.{Call, Calls, answerOf, after, roomOf, afterCalls, Roomy, blocksOf, packetsGiven}
+use Rattle.receiver.specs.Receive.{delayedBlock, delayedMarks, stepOf, stateAfter, outputAfter, receiveRefusal, Ready}
+use Rattle.receiver.specs.Run.{Call, DecodedCalls, answerOf, afterCall, outputOf, afterCalls, OutputFits, lentBlocks, packetsGiven}
 use Rattle.receiver.specs.declared.Receiver.{Receiver}
-use Rattle.receiver.proofs.Calls.{ready-number, ready-state, ready-room, left-length}
+use Rattle.receiver.proofs.Calls.{ready-number, ready-state, ready-output, left-length}
 use Rattle.interleaver.proofs.Blocks.{length-flatten}
 use Rattle.receiver.proofs.Outcomes.{plain-marked, packet-length}
 use Rattle.receiver.proofs.Reception.{blocks-count}
@@ -37,7 +37,7 @@ use Rattle.recording.proofs.Joins.{recording-few}
 -- ---- a call on the same block, with room for a packet
 
 given-outcome : (o : Outcome) (left a b : List ℕ) → PlaceOf o → length left ≡ 204
-    → givenBy (outcomeNumber o) (roomAfter o left a) ≡ givenBy (outcomeNumber o) (roomAfter o left b)
+    → givenBy (outcomeNumber o) (outputAfter o left a) ≡ givenBy (outcomeNumber o) (outputAfter o left b)
 given-outcome Filling left a b h n = refl
 given-outcome (Delivered place) left a b h n =
     let d = derandomized place (take 188 left) in
@@ -51,54 +51,54 @@ given-refused : (n a : ℕ) (x y : List ℕ) → 0 < n → givenBy (pick (eqb n 
 given-refused n a x y h = let e = ne-eqb n 0 (λ e. omega arith) in simp e
 
 record Alike (s : Receiver) (c d : Call) : Type 0 where
-  pub state : after s c ≡ after s d
-  pub given : givenBy (answerOf s c) (roomOf s c) ≡ givenBy (answerOf s d) (roomOf s d)
+  pub state : afterCall s c ≡ afterCall s d
+  pub given : givenBy (answerOf s c) (outputOf s c) ≡ givenBy (answerOf s d) (outputOf s d)
 
--- the room has no part in what is given
+-- the output has no part in what is given
 module _ (s : Receiver) (block marks left : List ℕ) (decoded : Decoded) (a b : List ℕ) (p : 188 ≤ length a) (q : 188 ≤ length b)
     (d : DecodesMarked (delayedMarks s marks) (delayedBlock s block) left decoded) where
   abbrev first : Call
-  first = record { block = block; marks = marks; room = a; left = left; decoded = decoded }
+  first = record { block = block; marks = marks; output = a; left = left; decoded = decoded }
 
   abbrev second : Call
-  second = record { block = block; marks = marks; room = b; left = left; decoded = decoded }
+  second = record { block = block; marks = marks; output = b; left = left; decoded = decoded }
 
-  refusal-same : refusal s block marks a ≡ refusal s block marks b
+  refusal-same : receiveRefusal s block marks a ≡ receiveRefusal s block marks b
   refusal-same = simp (le-ltb _ _ p, le-ltb _ _ q)
 
   number-same : answerOf s first ≡ answerOf s second
   number-same = ap (λ (n : ℕ). pick (eqb n 0) (outcomeNumber (stepOf s left decoded .outcome)) n) refusal-same
 
-  room-alike : Alike s first second
-  room-alike = record {
+  output-alike : Alike s first second
+  output-alike = record {
     state = ap (λ (n : ℕ). pick (eqb n 0) (stateAfter s block marks left decoded) s) refusal-same;
     given = by (ready-or-refused s block marks a);
   }
     where
-      by : Ready s block marks a ⊎ Refused s block marks a → givenBy (answerOf s first) (roomOf s first) ≡ givenBy (answerOf s second) (roomOf s second)
+      by : Ready s block marks a ⊎ Refused s block marks a → givenBy (answerOf s first) (outputOf s first) ≡ givenBy (answerOf s second) (outputOf s second)
       by (inl y) =
           let z : Ready s block marks b = record { range = y .range; size = y .size; marked = y .marked; enough = q; more = y .more } in
           let o = stepOf s left decoded .outcome in
-          ap₂ givenBy (ready-number s block marks a y left decoded) (ready-room s block marks a y left decoded)
+          ap₂ givenBy (ready-number s block marks a y left decoded) (ready-output s block marks a y left decoded)
           ∙ given-outcome o left a b (step-place s first d y)
           (left-length (delayedMarks s marks) (delayedBlock s block) left decoded d (length-out Receiving (s .deinterleaver .branches) block))
-          ∙ sym (ap₂ givenBy (ready-number s block marks b z left decoded) (ready-room s block marks b z left decoded))
+          ∙ sym (ap₂ givenBy (ready-number s block marks b z left decoded) (ready-output s block marks b z left decoded))
       by (inr f) =
-          given-refused (refusal s block marks a) (outcomeNumber (stepOf s left decoded .outcome)) (roomOf s first) (roomOf s second) (f .some)
-          ∙ ap (λ (n : ℕ). givenBy n (roomOf s second)) number-same
+          given-refused (receiveRefusal s block marks a) (outcomeNumber (stepOf s left decoded .outcome)) (outputOf s first) (outputOf s second) (f .some)
+          ∙ ap (λ (n : ℕ). givenBy n (outputOf s second)) number-same
 
-call-alike : (s : Receiver) (c d : Call) → c .block ≡ d .block → c .marks ≡ d .marks → Roomy c → Roomy d
+call-alike : (s : Receiver) (c d : Call) → c .block ≡ d .block → c .marks ≡ d .marks → OutputFits c → OutputFits d
     → DecodesMarked (delayedMarks s (c .marks)) (delayedBlock s (c .block)) (c .left) (c .decoded)
     → DecodesMarked (delayedMarks s (d .marks)) (delayedBlock s (d .block)) (d .left) (d .decoded) → Alike s c d
 call-alike s c d e m p q x y =
     let y′ : DecodesMarked (delayedMarks s (c .marks)) (delayedBlock s (c .block)) (d .left) (d .decoded)
     = subst₂ (λ (k b : List ℕ). DecodesMarked (delayedMarks s k) (delayedBlock s b) (d .left) (d .decoded)) (sym m) (sym e) y in
     let u = unique-marked (delayedMarks s (c .marks)) (delayedBlock s (c .block)) (c .left) (d .left) (c .decoded) (d .decoded) x y′ in
-    let f : Call = record { block = c .block; marks = c .marks; room = d .room; left = c .left; decoded = c .decoded } in
+    let f : Call = record { block = c .block; marks = c .marks; output = d .output; left = c .left; decoded = c .decoded } in
     let w : f ≡ d
-    = ap₂ (λ (b k : List ℕ). record { block = b; marks = k; room = d .room; left = c .left; decoded = c .decoded }) e m
-    ∙ ap₂ (λ (l : List ℕ) (k : Decoded). record { block = d .block; marks = d .marks; room = d .room; left = l; decoded = k }) (u .block) (u .answer) in
-    subst (Alike s c) w (room-alike s (c .block) (c .marks) (c .left) (c .decoded) (c .room) (d .room) p q x)
+    = ap₂ (λ (b k : List ℕ). record { block = b; marks = k; output = d .output; left = c .left; decoded = c .decoded }) e m
+    ∙ ap₂ (λ (l : List ℕ) (k : Decoded). record { block = d .block; marks = d .marks; output = d .output; left = l; decoded = k }) (u .block) (u .answer) in
+    subst (Alike s c) w (output-alike s (c .block) (c .marks) (c .left) (c .decoded) (c .output) (d .output) p q x)
 
 -- ---- unique
 
@@ -108,55 +108,55 @@ record SameCalls (s : Receiver) (xs ys : List Call) : Type 0 where
 
 -- what is asked of the calls of a recording
 record Cut (s : Receiver) (bytes marks : List ℕ) (cs : List Call) (rest : List ℕ) : Type 0 where
-  pub whole : bytes ≡ flatten (blocksOf cs) ++ rest
-  pub sizes : All (Length 204) (blocksOf cs)
+  pub whole : bytes ≡ flatten (lentBlocks cs) ++ rest
+  pub sizes : All (Length 204) (lentBlocks cs)
   pub short : length rest < 204
   pub marked : MarkedBy marks cs
-  pub decodes : Calls s cs
-  pub roomy : All Roomy cs
+  pub decodes : DecodedCalls s cs
+  pub output-fits : All OutputFits cs
 
-cut-more : (s : Receiver) (bytes marks : List ℕ) (c : Call) (cs : List Call) (rest : List ℕ) → Cut s bytes marks (c ∷ cs) rest → Cut (after s c) (drop 204 bytes) (drop 204 marks) cs rest
+cut-more : (s : Receiver) (bytes marks : List ℕ) (c : Call) (cs : List Call) (rest : List ℕ) → Cut s bytes marks (c ∷ cs) rest → Cut (afterCall s c) (drop 204 bytes) (drop 204 marks) cs rest
 unfolding flatten
 cut-more s bytes marks c cs rest k = record {
   whole =
-      ap (drop 204) (k .whole ∙ append-assoc (c .block) (flatten (blocksOf cs)) rest)
-      ∙ drop-at (c .block) (flatten (blocksOf cs) ++ rest) 204 (k .sizes .0);
+      ap (drop 204) (k .whole ∙ append-assoc (c .block) (flatten (lentBlocks cs)) rest)
+      ∙ drop-at (c .block) (flatten (lentBlocks cs) ++ rest) 204 (k .sizes .0);
   sizes = k .sizes .1;
   short = k .short;
   marked = k .marked .1;
   decodes = k .decodes .1;
-  roomy = k .roomy .1;
+  output-fits = k .output-fits .1;
 }
 
 cut-block : (s : Receiver) (bytes marks : List ℕ) (c : Call) (cs : List Call) (rest : List ℕ) → Cut s bytes marks (c ∷ cs) rest → take 204 bytes ≡ c .block
 unfolding flatten
 cut-block s bytes marks c cs rest k =
-    ap (take 204) (k .whole ∙ append-assoc (c .block) (flatten (blocksOf cs)) rest)
-    ∙ take-at (c .block) (flatten (blocksOf cs) ++ rest) 204 (k .sizes .0)
+    ap (take 204) (k .whole ∙ append-assoc (c .block) (flatten (lentBlocks cs)) rest)
+    ∙ take-at (c .block) (flatten (lentBlocks cs) ++ rest) 204 (k .sizes .0)
 
 cut-length : (s : Receiver) (bytes marks : List ℕ) (cs : List Call) (rest : List ℕ) → Cut s bytes marks cs rest → length cs ≡ length bytes / 204
 cut-length s bytes marks cs rest k =
-    let w = flatten (blocksOf cs) in
-    omega (arith, length-flatten 204 (blocksOf cs) (k .sizes), blocks-count cs, ap length (k .whole), length-append w rest, k .short)
+    let w = flatten (lentBlocks cs) in
+    omega (arith, length-flatten 204 (lentBlocks cs) (k .sizes), blocks-count cs, ap length (k .whole), length-append w rest, k .short)
 
 cuts-same : (s : Receiver) (bytes marks : List ℕ) (xs ys : List Call) (r t : List ℕ) → Cut s bytes marks xs r → Cut s bytes marks ys t → SameCalls s xs ys
 cuts-same s bytes marks [] [] r t p q = record { given = refl; state = refl }
 cuts-same s bytes marks [] (d ∷ ys) r t p q = absurd (let a = cut-length s bytes marks [] r p in let b = cut-length s bytes marks (d ∷ ys) t q in omega arith)
 cuts-same s bytes marks (c ∷ xs) [] r t p q = absurd (let a = cut-length s bytes marks (c ∷ xs) r p in let b = cut-length s bytes marks [] t q in omega arith)
 cuts-same s bytes marks (c ∷ xs) (d ∷ ys) r t p q =
-    let e = call-alike s c d (sym (cut-block s bytes marks c xs r p) ∙ cut-block s bytes marks d ys t q) (p .marked .0 ∙ sym (q .marked .0)) (p .roomy .0) (q .roomy .0) (p .decodes .0) (q .decodes .0) in
-    let k : Cut (after s c) (drop 204 bytes) (drop 204 marks) ys t = subst (λ (m : Receiver). Cut m (drop 204 bytes) (drop 204 marks) ys t) (sym (e .state)) (cut-more s bytes marks d ys t q) in
-    let f = cuts-same (after s c) (drop 204 bytes) (drop 204 marks) xs ys r t (cut-more s bytes marks c xs r p) k in
+    let e = call-alike s c d (sym (cut-block s bytes marks c xs r p) ∙ cut-block s bytes marks d ys t q) (p .marked .0 ∙ sym (q .marked .0)) (p .output-fits .0) (q .output-fits .0) (p .decodes .0) (q .decodes .0) in
+    let k : Cut (afterCall s c) (drop 204 bytes) (drop 204 marks) ys t = subst (λ (m : Receiver). Cut m (drop 204 bytes) (drop 204 marks) ys t) (sym (e .state)) (cut-more s bytes marks d ys t q) in
+    let f = cuts-same (afterCall s c) (drop 204 bytes) (drop 204 marks) xs ys r t (cut-more s bytes marks c xs r p) k in
     record {
       given =
           ap₂ (λ (x y : List (List ℕ)). x ++ y) (e .given) (f .given)
-          ∙ ap (λ (m : Receiver). givenBy (answerOf s d) (roomOf s d) ++ packetsGiven m ys) (e .state);
+          ∙ ap (λ (m : Receiver). givenBy (answerOf s d) (outputOf s d) ++ packetsGiven m ys) (e .state);
       state = f .state ∙ ap (λ (m : Receiver). afterCalls m ys) (e .state);
     }
 
 module _ {s : Receiver} {bytes marks : List ℕ} {packets : List (List ℕ)} {last : Receiver} (r : Recording s bytes marks packets last) where
   cut-of : Cut s bytes marks (r .calls) (r .rest)
-  cut-of = record { whole = r .whole; sizes = r .sizes; short = r .short; marked = r .marked; decodes = r .decodes; roomy = r .roomy }
+  cut-of = record { whole = r .whole; sizes = r .sizes; short = r .short; marked = r .marked; decodes = r .decodes; output-fits = r .output-fits }
 
 pub record SameRecording (packets packets′ : List (List ℕ)) (last last′ : Receiver) : Type 0 where
   pub given : packets ≡ packets′
@@ -169,21 +169,21 @@ recording-unique {s} {bytes} {marks} a b =
 
 -- ---- each whole block is taken
 
-taken-calls : (s : Receiver) (cs : List Call) → Sound s → Calls s cs → All (Length 204) (blocksOf cs) → All (λ c. areMarks (c .marks) ≡ true) cs → All Roomy cs → s .counts .taken + length cs ≤ 4294967295
+taken-calls : (s : Receiver) (cs : List Call) → Sound s → DecodedCalls s cs → All (Length 204) (lentBlocks cs) → All (λ c. areMarks (c .marks) ≡ true) cs → All OutputFits cs → s .counts .taken + length cs ≤ 4294967295
     → Sound (afterCalls s cs) × (afterCalls s cs .counts .taken ≡ s .counts .taken + length cs)
 unfolding stateAfter
 taken-calls s [] g d n m o h = (g, omega arith)
 taken-calls s (c ∷ cs) g d n m o h =
-    let y : Ready s (c .block) (c .marks) (c .room) = record { range = sound-range s g; size = n .0; marked = m .0; enough = o .0; more = omega arith } in
-    let e : after s c .counts .taken ≡ s .counts .taken + 1 = ap (λ (m : Receiver). m .counts .taken) (ready-state s (c .block) (c .marks) (c .room) y (c .left) (c .decoded)) in
-    let r = taken-calls (after s c) cs (sound-call s c g (d .0)) (d .1) (n .1) (m .1) (o .1) (omega arith) in
+    let y : Ready s (c .block) (c .marks) (c .output) = record { range = sound-range s g; size = n .0; marked = m .0; enough = o .0; more = omega arith } in
+    let e : afterCall s c .counts .taken ≡ s .counts .taken + 1 = ap (λ (m : Receiver). m .counts .taken) (ready-state s (c .block) (c .marks) (c .output) y (c .left) (c .decoded)) in
+    let r = taken-calls (afterCall s c) cs (sound-call s c g (d .0)) (d .1) (n .1) (m .1) (o .1) (omega arith) in
     (r .0, omega (arith, r .1, e))
 
 pub recording-taken : {s : Receiver} {bytes : List ℕ} {packets : List (List ℕ)} {last : Receiver} → Sound s → Recording s bytes [] packets last
     → s .counts .taken + length bytes / 204 ≤ 4294967295 → Sound last × (last .counts .taken ≡ s .counts .taken + length bytes / 204)
 recording-taken {s} {bytes} {packets} {last} g r h =
     let l = cut-length s bytes [] (r .calls) (r .rest) (cut-of r) in
-    let t = taken-calls s (r .calls) g (r .decodes) (r .sizes) (plain-marked (r .calls) (none-marked (r .calls) (r .marked))) (r .roomy) (omega arith) in
+    let t = taken-calls s (r .calls) g (r .decodes) (r .sizes) (plain-marked (r .calls) (none-marked (r .calls) (r .marked))) (r .output-fits) (omega arith) in
     (subst Sound (sym (r .state)) (t .0), ap (λ (m : Receiver). m .counts .taken) (r .state) ∙ t .1 ∙ ap (λ (k : ℕ). s .counts .taken + k) l)
 
 -- ---- total
@@ -194,24 +194,24 @@ pub record RecordingOf (s : Receiver) (bytes marks : List ℕ) : Type 0 where
   pub recording : Recording s bytes marks packets last
 
 -- a call on the first block
-call-total : (s : Receiver) (bytes marks room left : List ℕ) (decoded : Decoded) → DecodesMarked (delayedMarks s (blockMarks marks)) (delayedBlock s (take 204 bytes)) left decoded → 188 ≤ length room
+call-total : (s : Receiver) (bytes marks output left : List ℕ) (decoded : Decoded) → DecodesMarked (delayedMarks s (blockMarks marks)) (delayedBlock s (take 204 bytes)) left decoded → 188 ≤ length output
     → 204 ≤ length bytes → ((t : Receiver) → RecordingOf t (drop 204 bytes) (drop 204 marks)) → RecordingOf s bytes marks
-call-total s bytes marks room left decoded d o h f =
-    let c : Call = record { block = take 204 bytes; marks = blockMarks marks; room = room; left = left; decoded = decoded } in
-    let r = f (after s c) in
+call-total s bytes marks output left decoded d o h f =
+    let c : Call = record { block = take 204 bytes; marks = blockMarks marks; output = output; left = left; decoded = decoded } in
+    let r = f (afterCall s c) in
     record {
-      packets = givenBy (answerOf s c) (roomOf s c) ++ r .packets;
+      packets = givenBy (answerOf s c) (outputOf s c) ++ r .packets;
       last = r .last;
       recording = recorded-more s c d bytes marks (r .packets) (r .last) refl refl h o (r .recording);
     }
 
-enough-room : 188 ≤ length (replicate 188 zero)
-enough-room = omega (arith, length-replicate 188 zero)
+packet-fits : 188 ≤ length (replicate 188 zero)
+packet-fits = omega (arith, length-replicate 188 zero)
 
 more-total : (s : Receiver) (bytes marks : List ℕ) → 204 ≤ length bytes → ((t : Receiver) → RecordingOf t (drop 204 bytes) (drop 204 marks)) → RecordingOf s bytes marks
 more-total s bytes marks h f =
     let t = total (delayedMarks s (blockMarks marks)) (delayedBlock s (take 204 bytes)) in
-    call-total s bytes marks (replicate 188 zero) (t .left) (t .answer) (t .decodes) enough-room h f
+    call-total s bytes marks (replicate 188 zero) (t .left) (t .answer) (t .decodes) packet-fits h f
 
 blocks-total : (n : ℕ) (s : Receiver) (bytes marks : List ℕ) → length bytes / 204 ≡ n → RecordingOf s bytes marks
 blocks-total zero s bytes marks e = record { packets = []; last = s; recording = recording-few s bytes marks (omega arith) }

@@ -13,10 +13,10 @@ use lib.Seq.{take-at, drop-at, drop-drop}
 use Rattle.common.specs.Choice.{pick}
 use Rattle.common.specs.Lists.{All, Length}
 use Rattle.interleaver.proofs.Blocks.{flatten-join, length-flatten}
-use Rattle.receiver.specs.Run.{Call, Calls, answerOf, roomOf, after, afterCalls, Roomy, blocksOf, packetsGiven}
+use Rattle.receiver.specs.Run.{Call, DecodedCalls, answerOf, outputOf, afterCall, afterCalls, OutputFits, lentBlocks, packetsGiven}
 use Rattle.receiver.specs.declared.Receiver.{Receiver}
 use Rattle.receiver.proofs.Reception.{blocks-count}
-use Rattle.recording.specs.Recording.{restOf, MarkedBy, Recording, Takes}
+use Rattle.recording.specs.Recording.{restOf, MarkedBy, Recording, TakesRecording}
 
 -- ---- calls after calls
 
@@ -24,27 +24,27 @@ all-join : {A : Type 0} (P : A → Type 0) (a b : List A) → All P a → All P 
 all-join P [] b p q = q
 all-join P (x ∷ a) b p q = (p .0, all-join P a b (p .1) q)
 
-blocks-join : (a b : List Call) → blocksOf (a ++ b) ≡ blocksOf a ++ blocksOf b
+blocks-join : (a b : List Call) → lentBlocks (a ++ b) ≡ lentBlocks a ++ lentBlocks b
 blocks-join [] b = refl
 blocks-join (c ∷ a) b = ap (λ (l : List (List ℕ)). c .block ∷ l) (blocks-join a b)
 
 after-join : (s : Receiver) (a b : List Call) → afterCalls s (a ++ b) ≡ afterCalls (afterCalls s a) b
 after-join s [] b = refl
-after-join s (c ∷ a) b = after-join (after s c) a b
+after-join s (c ∷ a) b = after-join (afterCall s c) a b
 
 marked-join : (a b : List Call) → MarkedBy [] a → MarkedBy [] b → MarkedBy [] (a ++ b)
 marked-join [] b p q = q
 marked-join (c ∷ a) b p q = (p .0, marked-join a b (p .1) q)
 
-calls-join : (s : Receiver) (a b : List Call) → Calls s a → Calls (afterCalls s a) b → Calls s (a ++ b)
+calls-join : (s : Receiver) (a b : List Call) → DecodedCalls s a → DecodedCalls (afterCalls s a) b → DecodedCalls s (a ++ b)
 calls-join s [] b p q = q
-calls-join s (c ∷ a) b p q = (p .0, calls-join (after s c) a b (p .1) q)
+calls-join s (c ∷ a) b p q = (p .0, calls-join (afterCall s c) a b (p .1) q)
 
 given-join : (s : Receiver) (a b : List Call) → packetsGiven s (a ++ b) ≡ packetsGiven s a ++ packetsGiven (afterCalls s a) b
 given-join s [] b = refl
 given-join s (c ∷ a) b =
-    let g = pick (eqb (answerOf s c) 0) (take 188 (roomOf s c) ∷ []) [] in
-    ap (λ (l : List (List ℕ)). g ++ l) (given-join (after s c) a b) ∙ sym (append-assoc g (packetsGiven (after s c) a) (packetsGiven (afterCalls (after s c) a) b))
+    let g = pick (eqb (answerOf s c) 0) (take 188 (outputOf s c) ∷ []) [] in
+    ap (λ (l : List (List ℕ)). g ++ l) (given-join (afterCall s c) a b) ∙ sym (append-assoc g (packetsGiven (afterCall s c) a) (packetsGiven (afterCalls (afterCall s c) a) b))
 
 -- ---- the rest
 
@@ -56,8 +56,8 @@ rest-at whole rest n e h =
 module _ {s : Receiver} {bytes marks : List ℕ} {packets : List (List ℕ)} {last : Receiver} (r : Recording s bytes marks packets last) where
   pub recording-rest : r .rest ≡ restOf bytes
   recording-rest =
-      let w = flatten (blocksOf (r .calls)) in
-      sym (ap restOf (r .whole) ∙ rest-at w (r .rest) (length (blocksOf (r .calls))) (length-flatten 204 (blocksOf (r .calls)) (r .sizes)) (r .short))
+      let w = flatten (lentBlocks (r .calls)) in
+      sym (ap restOf (r .whole) ∙ rest-at w (r .rest) (length (lentBlocks (r .calls))) (length-flatten 204 (lentBlocks (r .calls)) (r .sizes)) (r .short))
 
 -- ---- the join
 
@@ -66,20 +66,20 @@ module _ {s middle last : Receiver} {a : List ℕ} (b : List ℕ) {p q : List (L
   recording-join =
       let x = f .calls in
       let y = g .calls in
-      let t : Calls (afterCalls s x) y = subst (λ (m : Receiver). Calls m y) (f .state) (g .decodes) in
+      let t : DecodedCalls (afterCalls s x) y = subst (λ (m : Receiver). DecodedCalls m y) (f .state) (g .decodes) in
       record {
         calls = x ++ y;
         rest = g .rest;
         whole =
-            ap (λ (l : List ℕ). l ++ b) (f .whole) ∙ append-assoc (flatten (blocksOf x)) (f .rest) b
-            ∙ ap (λ (l : List ℕ). flatten (blocksOf x) ++ l) (ap (λ (l : List ℕ). l ++ b) (recording-rest f) ∙ g .whole)
-            ∙ sym (append-assoc (flatten (blocksOf x)) (flatten (blocksOf y)) (g .rest))
-            ∙ ap (λ (l : List ℕ). l ++ g .rest) (sym (flatten-join (blocksOf x) (blocksOf y)) ∙ ap flatten (sym (blocks-join x y)));
-        sizes = subst (All (Length 204)) (sym (blocks-join x y)) (all-join (Length 204) (blocksOf x) (blocksOf y) (f .sizes) (g .sizes));
+            ap (λ (l : List ℕ). l ++ b) (f .whole) ∙ append-assoc (flatten (lentBlocks x)) (f .rest) b
+            ∙ ap (λ (l : List ℕ). flatten (lentBlocks x) ++ l) (ap (λ (l : List ℕ). l ++ b) (recording-rest f) ∙ g .whole)
+            ∙ sym (append-assoc (flatten (lentBlocks x)) (flatten (lentBlocks y)) (g .rest))
+            ∙ ap (λ (l : List ℕ). l ++ g .rest) (sym (flatten-join (lentBlocks x) (lentBlocks y)) ∙ ap flatten (sym (blocks-join x y)));
+        sizes = subst (All (Length 204)) (sym (blocks-join x y)) (all-join (Length 204) (lentBlocks x) (lentBlocks y) (f .sizes) (g .sizes));
         short = g .short;
         marked = marked-join x y (f .marked) (g .marked);
         decodes = calls-join s x y (f .decodes) t;
-        roomy = all-join Roomy x y (f .roomy) (g .roomy);
+        output-fits = all-join OutputFits x y (f .output-fits) (g .output-fits);
         given =
             ap₂ (λ (u v : List (List ℕ)). u ++ v) (f .given) (g .given ∙ ap (λ (m : Receiver). packetsGiven m y) (f .state)) ∙ sym (given-join s x y);
         state = g .state ∙ ap (λ (m : Receiver). afterCalls m y) (f .state) ∙ sym (after-join s x y);
@@ -96,24 +96,24 @@ recording-few s bytes marks h = record {
   short = h;
   marked = tt;
   decodes = tt;
-  roomy = tt;
+  output-fits = tt;
   given = refl;
   state = refl;
 }
 
-pub takes-few : (s : Receiver) (bytes marks room : List ℕ) → length bytes < 204 → Takes s bytes marks room 0 s room
+pub takes-few : (s : Receiver) (bytes marks output : List ℕ) → length bytes < 204 → TakesRecording s bytes marks output 0 s output
 unfolding flatten
-takes-few s bytes marks room h = record { packets = []; recording = recording-few s bytes marks h; counted = refl; written = refl }
+takes-few s bytes marks output h = record { packets = []; recording = recording-few s bytes marks h; counted = refl; written = refl }
 
--- the room after two: the second is lent what the packets of the first leave of it
-module _ {s middle last : Receiver} {a : List ℕ} (b : List ℕ) {room exit exit′ : List ℕ} {m n : ℕ} where
-  pub takes-join : Takes s a [] room m middle exit → Takes middle (restOf a ++ b) [] (drop m exit) n last exit′
-      → Takes s (a ++ b) [] room (m + n) last (take m exit ++ exit′)
+-- the output after two: the second is lent what the packets of the first leave of it
+module _ {s middle last : Receiver} {a : List ℕ} (b : List ℕ) {output exit exit′ : List ℕ} {m n : ℕ} where
+  pub takes-join : TakesRecording s a [] output m middle exit → TakesRecording middle (restOf a ++ b) [] (drop m exit) n last exit′
+      → TakesRecording s (a ++ b) [] output (m + n) last (take m exit ++ exit′)
   takes-join f g =
       let x = flatten (f .packets) in
       let y = flatten (g .packets) in
-      let front : take m exit ≡ x = ap (take m) (f .written) ∙ take-at x (drop m room) m (sym (f .counted)) in
-      let back : drop m exit ≡ drop m room = ap (drop m) (f .written) ∙ drop-at x (drop m room) m (sym (f .counted)) in
+      let front : take m exit ≡ x = ap (take m) (f .written) ∙ take-at x (drop m output) m (sym (f .counted)) in
+      let back : drop m exit ≡ drop m output = ap (drop m) (f .written) ∙ drop-at x (drop m output) m (sym (f .counted)) in
       record {
         packets = f .packets ++ g .packets;
         recording = recording-join b (f .recording) (g .recording);
@@ -121,9 +121,9 @@ module _ {s middle last : Receiver} {a : List ℕ} (b : List ℕ) {room exit exi
             ap₂ (λ (i j : ℕ). i + j) (f .counted) (g .counted) ∙ sym (length-append x y) ∙ ap length (sym (flatten-join (f .packets) (g .packets)));
         written =
             ap₂ (λ (u v : List ℕ). u ++ v) front
-            (g .written ∙ ap (λ (l : List ℕ). y ++ drop n l) back ∙ ap (λ (l : List ℕ). y ++ l) (drop-drop n m room))
-            ∙ sym (append-assoc x y (drop (m + n) room))
-            ∙ ap (λ (l : List ℕ). l ++ drop (m + n) room) (sym (flatten-join (f .packets) (g .packets)));
+            (g .written ∙ ap (λ (l : List ℕ). y ++ drop n l) back ∙ ap (λ (l : List ℕ). y ++ l) (drop-drop n m output))
+            ∙ sym (append-assoc x y (drop (m + n) output))
+            ∙ ap (λ (l : List ℕ). l ++ drop (m + n) output) (sym (flatten-join (f .packets) (g .packets)));
       }
 
 -- ---- how many bytes of packets
@@ -135,26 +135,26 @@ given-few : (s : Receiver) (cs : List Call) → length (flatten (packetsGiven s 
 unfolding flatten
 given-few s [] = omega arith
 given-few s (c ∷ cs) =
-    let g = pick (eqb (answerOf s c) 0) (take 188 (roomOf s c) ∷ []) [] in
-    let j = ap length (flatten-join g (packetsGiven (after s c) cs)) ∙ length-append (flatten g) (flatten (packetsGiven (after s c) cs)) in
-    omega (arith, j, one (eqb (answerOf s c) 0), given-few (after s c) cs)
+    let g = pick (eqb (answerOf s c) 0) (take 188 (outputOf s c) ∷ []) [] in
+    let j = ap length (flatten-join g (packetsGiven (afterCall s c) cs)) ∙ length-append (flatten g) (flatten (packetsGiven (afterCall s c) cs)) in
+    omega (arith, j, one (eqb (answerOf s c) 0), given-few (afterCall s c) cs)
   where
-    one : (t : Bool) → length (flatten (pick t (take 188 (roomOf s c) ∷ []) [])) ≤ 188
-    one true = let l = length-append (take 188 (roomOf s c)) [] in omega (arith, l, length-take-most 188 (roomOf s c))
+    one : (t : Bool) → length (flatten (pick t (take 188 (outputOf s c) ∷ []) [])) ≤ 188
+    one true = let l = length-append (take 188 (outputOf s c)) [] in omega (arith, l, length-take-most 188 (outputOf s c))
     one false = omega arith
 
 -- at most a packet for each whole block
-pub takes-count : {s last : Receiver} {bytes marks room exit : List ℕ} {count : ℕ} → Takes s bytes marks room count last exit → count ≤ 188 * (length bytes / 204)
+pub takes-count : {s last : Receiver} {bytes marks output exit : List ℕ} {count : ℕ} → TakesRecording s bytes marks output count last exit → count ≤ 188 * (length bytes / 204)
 takes-count {s} {last} {bytes} t =
     let r = t .recording in
-    let w = flatten (blocksOf (r .calls)) in
-    let a = length-flatten 204 (blocksOf (r .calls)) (r .sizes) in
+    let w = flatten (lentBlocks (r .calls)) in
+    let a = length-flatten 204 (lentBlocks (r .calls)) (r .sizes) in
     let b = blocks-count (r .calls) in
     let l = ap length (r .whole) ∙ length-append w (r .rest) in
     let g : length (flatten (t .packets)) ≤ 188 * length (r .calls) = subst (λ (p : List (List ℕ)). length (flatten p) ≤ 188 * length (r .calls)) (sym (r .given)) (given-few s (r .calls)) in
     omega (arith, t .counted, r .short, a, b, l, g)
 
-pub takes-length : {s last : Receiver} {bytes marks room exit : List ℕ} {count : ℕ} → Takes s bytes marks room count last exit → 188 * (length bytes / 204) ≤ length room
-    → length exit ≡ length room
-takes-length {s} {last} {bytes} {marks} {room} {exit} {count} t h =
-    omega (arith, takes-count t, ap length (t .written), length-append (flatten (t .packets)) (drop count room), length-drop count room, t .counted)
+pub takes-length : {s last : Receiver} {bytes marks output exit : List ℕ} {count : ℕ} → TakesRecording s bytes marks output count last exit → 188 * (length bytes / 204) ≤ length output
+    → length exit ≡ length output
+takes-length {s} {last} {bytes} {marks} {output} {exit} {count} t h =
+    omega (arith, takes-count t, ap length (t .written), length-append (flatten (t .packets)) (drop count output), length-drop count output, t .counted)

@@ -16,7 +16,7 @@ use Rattle.interleaver.specs.Stream.{interleaved}
 use Rattle.interleaver.proofs.Blocks.{length-flatten, All-take}
 use Rattle.interleaver.proofs.Streams.{length-delayed, delayed-lengths}
 use Rattle.receiver.specs.Receive.{freshReceiver}
-use Rattle.receiver.specs.Run.{Call, Calls, blocksOf, Plain, Roomy}
+use Rattle.receiver.specs.Run.{Call, DecodedCalls, lentBlocks, Plain, OutputFits}
 use Rattle.receiver.specs.declared.Receiver.{Receiver}
 use Rattle.receiver.proofs.Reached.{sound-range, sound-fresh}
 use Rattle.receiver.proofs.Reception.{coded-size, stream-received}
@@ -53,18 +53,18 @@ module _ (packets : List (List ℕ)) (ws : All Packet packets) where
       ∙ ap (λ (n : ℕ). 204 * n) (length-delayed Sending (map encoded (randomizedStream packets)) ∙ coded-size packets ws)
 
   recorded-blocks : {s last : Receiver} {given : List (List ℕ)} (r : Recording s (sentBytes packets) [] given last)
-      → blocksOf (r .calls) ≡ interleaved (map encoded (randomizedStream packets))
+      → lentBlocks (r .calls) ≡ interleaved (map encoded (randomizedStream packets))
   unfolding sent
-  recorded-blocks r = same-blocks (blocksOf (r .calls)) sent (r .rest) (r .sizes) sent-sizes (r .short) (r .whole)
+  recorded-blocks r = same-blocks (lentBlocks (r .calls)) sent (r .rest) (r .sizes) sent-sizes (r .short) (r .whole)
 
   -- ---- the run
 
-  module _ (few : length packets ≤ 4294967295) (room : List ℕ) (fits : 188 * length packets ≤ length room) where
-    none-refuses : recordingNumber freshReceiver (sentBytes packets) room ≡ 0
+  module _ (few : length packets ≤ 4294967295) (output : List ℕ) (fits : 188 * length packets ≤ length output) where
+    none-refuses : recordingNumber freshReceiver (sentBytes packets) output ≡ 0
     unfolding freshReceiver
     none-refuses =
         let n : length (sentBytes packets) / 204 ≡ length packets = omega (arith, sent-length) in
-        let p : 188 * (length (sentBytes packets) / 204) ≤ length room = omega arith in
+        let p : 188 * (length (sentBytes packets) / 204) ≤ length output = omega arith in
         let q : length (sentBytes packets) / 204 ≤ 4294967295 - 0 = omega arith in
         simp (sound-range freshReceiver sound-fresh, le-ltb _ _ p, le-ltb _ _ q)
 
@@ -73,22 +73,22 @@ module _ (packets : List (List ℕ)) (ws : All Packet packets) where
         length-flatten 188 (take (length packets - 11) packets) (All-take (Length 188) (length packets - 11) packets (packet-lengths packets ws))
         ∙ ap (λ (n : ℕ). 188 * n) (length-take-le (length packets - 11) packets (omega arith))
 
-    given-back : {number count : ℕ} {last : Receiver} {exit : List ℕ} → ReceivesRecording freshReceiver (sentBytes packets) room number count last exit
-        → (number ≡ 0) × (count ≡ 188 * (length packets - 11)) × (exit ≡ flatten (take (length packets - 11) packets) ++ drop count room)
+    given-back : {number count : ℕ} {last : Receiver} {exit : List ℕ} → ReceivesRecording freshReceiver (sentBytes packets) output number count last exit
+        → (number ≡ 0) × (count ≡ 188 * (length packets - 11)) × (exit ≡ flatten (take (length packets - 11) packets) ++ drop count output)
     given-back (refused e h c l x) = absurd (omega (arith, e, none-refuses))
     given-back {count = count} (taken h e t) =
         let r = t .recording in
-        let g = r .given ∙ stream-received packets ws few (r .calls) (recorded-blocks r) (none-marked (r .calls) (r .marked)) (r .roomy) (r .decodes) .1 in (
+        let g = r .given ∙ stream-received packets ws few (r .calls) (recorded-blocks r) (none-marked (r .calls) (r .marked)) (r .output-fits) (r .decodes) .1 in (
           e,
           t .counted ∙ ap (λ (l : List (List ℕ)). length (flatten l)) g ∙ arrived-length,
-          t .written ∙ ap (λ (l : List (List ℕ)). flatten l ++ drop count room) g,
+          t .written ∙ ap (λ (l : List (List ℕ)). flatten l ++ drop count output) g,
         )
 
-pub returned : (bytes room : List ℕ) (number count : ℕ) (last : Receiver) (exit : List ℕ) → ReceivesRecording freshReceiver bytes room number count last exit
-    → Returns bytes room number count exit
-returned bytes room number count last exit p = record {
+pub returned : (bytes output : List ℕ) (number count : ℕ) (last : Receiver) (exit : List ℕ) → ReceivesRecording freshReceiver bytes output number count last exit
+    → Returns bytes output number count exit
+returned bytes output number count last exit p = record {
   back = λ packets ws few e fits.
-      given-back packets ws few room fits (subst (λ (b : List ℕ). ReceivesRecording freshReceiver b room number count last exit) e p);
+      given-back packets ws few output fits (subst (λ (b : List ℕ). ReceivesRecording freshReceiver b output number count last exit) e p);
 }
 
 -- ---- the history exists
@@ -96,12 +96,12 @@ returned bytes room number count last exit p = record {
 -- calls of a fresh receiver on the blocks of a sender, as `stream-received` asks for them
 pub record History (packets : List (List ℕ)) : Type 0 where
   pub calls : List Call
-  pub lent : blocksOf calls ≡ interleaved (map encoded (randomizedStream packets))
+  pub lent : lentBlocks calls ≡ interleaved (map encoded (randomizedStream packets))
   pub plain : All Plain calls
-  pub roomy : All Roomy calls
-  pub decodes : Calls freshReceiver calls
+  pub output-fits : All OutputFits calls
+  pub decodes : DecodedCalls freshReceiver calls
 
 pub history-exists : (packets : List (List ℕ)) → All Packet packets → History packets
 history-exists packets ws =
     let r = recording-total freshReceiver (sentBytes packets) [] .recording in
-    record { calls = r .calls; lent = recorded-blocks packets ws r; plain = none-marked (r .calls) (r .marked); roomy = r .roomy; decodes = r .decodes }
+    record { calls = r .calls; lent = recorded-blocks packets ws r; plain = none-marked (r .calls) (r .marked); output-fits = r .output-fits; decodes = r .decodes }

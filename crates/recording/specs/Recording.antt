@@ -10,8 +10,8 @@ use lib.ListN.{length, take, drop}
 use Rattle.common.specs.Choice.{pick}
 use Rattle.common.specs.Lists.{All, Length}
 use Rattle.reed_solomon.specs.Marks.{largest, noMarks}
-use Rattle.receiver.specs.Receive.{inRange}
-use Rattle.receiver.specs.Run.{Call, Calls, Roomy, blocksOf, packetsGiven, afterCalls}
+use Rattle.receiver.specs.Receive.{receiverInRange}
+use Rattle.receiver.specs.Run.{Call, DecodedCalls, OutputFits, lentBlocks, packetsGiven, afterCalls}
 use Rattle.receiver.specs.declared.Receiver.{Receiver}
 
 -- the bytes after the last whole block
@@ -32,21 +32,21 @@ MarkedBy marks (c ∷ cs) = (c .marks ≡ blockMarks marks) × MarkedBy (drop 20
 pub record Recording (s : Receiver) (bytes marks : List ℕ) (packets : List (List ℕ)) (last : Receiver) : Type 0 where
   pub calls : List Call
   pub rest : List ℕ
-  pub whole : bytes ≡ flatten (blocksOf calls) ++ rest
-  pub sizes : All (Length 204) (blocksOf calls)
+  pub whole : bytes ≡ flatten (lentBlocks calls) ++ rest
+  pub sizes : All (Length 204) (lentBlocks calls)
   pub short : length rest < 204
   pub marked : MarkedBy marks calls
-  pub decodes : Calls s calls
-  pub roomy : All Roomy calls
+  pub decodes : DecodedCalls s calls
+  pub output-fits : All OutputFits calls
   pub given : packets ≡ packetsGiven s calls
   pub state : last ≡ afterCalls s calls
 
--- the packets stand in the room, one after the other, and count is how many bytes they are
-pub record Takes (s : Receiver) (bytes marks room : List ℕ) (count : ℕ) (last : Receiver) (exit : List ℕ) : Type 0 where
+-- the packets stand in the output, one after the other, and count is how many bytes they are
+pub record TakesRecording (s : Receiver) (bytes marks output : List ℕ) (count : ℕ) (last : Receiver) (exit : List ℕ) : Type 0 where
   pub packets : List (List ℕ)
   pub recording : Recording s bytes marks packets last
   pub counted : count ≡ length (flatten packets)
-  pub written : exit ≡ flatten packets ++ drop count room
+  pub written : exit ≡ flatten packets ++ drop count output
 
 -- how many bytes of packet a call gives, by the number of its answer
 abbrev pub givenBytes : ℕ → ℕ
@@ -55,9 +55,9 @@ givenBytes number = pick (eqb number 0) 188 0
 -- The tests before the work, in the order of document 01, each for all the blocks: 5 for a state out of range, 4 where there is not room for
 -- a packet for each whole block, 7 where not all of them can be counted; 0 where none refuses.
 abbrev pub recordingNumber : Receiver → List ℕ → List ℕ → ℕ
-recordingNumber s bytes room =
-    pick (inRange s)
-    (pick (ltb (length room) (188 * (length bytes / 204))) 4 (pick (ltb (4294967295 - s .counts .taken) (length bytes / 204)) 7 0))
+recordingNumber s bytes output =
+    pick (receiverInRange s)
+    (pick (ltb (length output) (188 * (length bytes / 204))) 4 (pick (ltb (4294967295 - s .counts .taken) (length bytes / 204)) 7 0))
     5
 
 -- whether there is a mark, 0 or 1, for each byte
@@ -66,16 +66,16 @@ marksFor bytes marks = pick (eqb (length marks) (length bytes)) (ltb (largest ma
 
 -- with marks: 20 where they are not such, after 5
 abbrev pub markedNumber : Receiver → List ℕ → List ℕ → List ℕ → ℕ
-markedNumber s bytes marks room = pick (inRange s) (pick (marksFor bytes marks) (recordingNumber s bytes room) 20) 5
+markedNumber s bytes marks output = pick (receiverInRange s) (pick (marksFor bytes marks) (recordingNumber s bytes output) 20) 5
 
 -- what taking a recording promises, where its tests give the number refusal: all as before, or each whole block taken
-pub data Answers (s : Receiver) (bytes marks room : List ℕ) (refusal number count : ℕ) (last : Receiver) (exit : List ℕ) : Type 0 where
-  refused : number ≡ refusal → 0 < number → count ≡ 0 → last ≡ s → exit ≡ room → Answers s bytes marks room refusal number count last exit
-  taken : refusal ≡ 0 → number ≡ 0 → Takes s bytes marks room count last exit → Answers s bytes marks room refusal number count last exit
+pub data AnswersRecording (s : Receiver) (bytes marks output : List ℕ) (refusal number count : ℕ) (last : Receiver) (exit : List ℕ) : Type 0 where
+  refused : number ≡ refusal → 0 < number → count ≡ 0 → last ≡ s → exit ≡ output → AnswersRecording s bytes marks output refusal number count last exit
+  taken : refusal ≡ 0 → number ≡ 0 → TakesRecording s bytes marks output count last exit → AnswersRecording s bytes marks output refusal number count last exit
 
 -- without marks, none come
 abbrev pub ReceivesRecording : Receiver → List ℕ → List ℕ → ℕ → ℕ → Receiver → List ℕ → Type 0
-ReceivesRecording s bytes room number count last exit = Answers s bytes [] room (recordingNumber s bytes room) number count last exit
+ReceivesRecording s bytes output number count last exit = AnswersRecording s bytes [] output (recordingNumber s bytes output) number count last exit
 
 abbrev pub ReceivesMarkedRecording : Receiver → List ℕ → List ℕ → List ℕ → ℕ → ℕ → Receiver → List ℕ → Type 0
-ReceivesMarkedRecording s bytes marks room number count last exit = Answers s bytes marks room (markedNumber s bytes marks room) number count last exit
+ReceivesMarkedRecording s bytes marks output number count last exit = AnswersRecording s bytes marks output (markedNumber s bytes marks output) number count last exit

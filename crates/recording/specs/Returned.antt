@@ -14,6 +14,6 @@ abbrev pub sentBytes : List (List ℕ) → List ℕ
 sentBytes packets = flatten (interleaved (map encoded (randomizedStream packets)))
 
 -- What a run leaves, where the bytes are those of a sender and there is room for its packets.
-pub record Returns (bytes room : List ℕ) (number count : ℕ) (exit : List ℕ) : Type 0 where
-  pub back : (packets : List (List ℕ)) → All Packet packets → length packets ≤ 4294967295 → bytes ≡ sentBytes packets → 188 * length packets ≤ length room
-      → (number ≡ 0) × (count ≡ 188 * (length packets - 11)) × (exit ≡ flatten (take (length packets - 11) packets) ++ drop count room)
+pub record Returns (bytes output : List ℕ) (number count : ℕ) (exit : List ℕ) : Type 0 where
+  pub back : (packets : List (List ℕ)) → All Packet packets → length packets ≤ 4294967295 → bytes ≡ sentBytes packets → 188 * length packets ≤ length output
+      → (number ≡ 0) × (count ≡ 188 * (length packets - 11)) × (exit ≡ flatten (take (length packets - 11) packets) ++ drop count output)

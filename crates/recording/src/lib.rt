@@ -6,7 +6,7 @@ ghost use Prim.Native.Nat.{_+_, _*_, _/_, _≤_};
 ghost use lib.ListN.{length, take, drop};
 ghost use Rattle.answer.specs.Number.{numberOf};
 ghost use Rattle.receiver.specs.Receive.{freshReceiver, ReceivesMarked};
-ghost use Rattle.recording.specs.Recording.{givenBytes, blockMarks, marksFor, recordingNumber, Takes, Answers, ReceivesRecording, ReceivesMarkedRecording};
+ghost use Rattle.recording.specs.Recording.{givenBytes, blockMarks, marksFor, recordingNumber, TakesRecording, AnswersRecording, ReceivesRecording, ReceivesMarkedRecording};
 ghost use Rattle.recording.specs.Returned.{Returns};
 use answer::Answer;
 use receiver::Received;
@@ -56,31 +56,31 @@ fn receive_at(
     bytes: &[u8],
     marks: &[u8],
     at: usize,
-    room: &mut [u8],
+    output: &mut [u8],
 ) -> Received
     requires { ⌜
         (at + 204 ≤ length (now bytes))
         × ((length (now marks) ≡ 0) ⊎ (length (now marks) ≡ length (now bytes))) ⌝ }
     ensures { λ r. ⌜
-        ReceivesMarked receiver (take 204 (drop at (now (bytes .entry)))) (blockMarks (drop at (now (marks .entry)))) (now (room .entry)) r (now (room .exit)) ⌝ }
+        ReceivesMarked receiver (take 204 (drop at (now (bytes .entry)))) (blockMarks (drop at (now (marks .entry)))) (now (output .entry)) r (now (output .exit)) ⌝ }
 {
     let end = at + Receiver::BLOCK_LENGTH;
     let own = marks_at(marks, at);
-    receiver.receive_marked(&bytes[at..end], &own, room)
+    receiver.receive_marked(&bytes[at..end], &own, output)
 }
 
-// Takes the whole blocks, each with a call. Its packet goes into the room after the one before. There is a mark for each byte, or none at all.
-fn receive_marked_blocks(receiver: Receiver, bytes: &[u8], marks: &[u8], room: &mut [u8]) -> Batch
+// Takes the whole blocks, each with a call. Its packet goes into the output after the one before. There is a mark for each byte, or none at all.
+fn receive_marked_blocks(receiver: Receiver, bytes: &[u8], marks: &[u8], output: &mut [u8]) -> Batch
     requires { ⌜
-        (188 * (length (now bytes) / 204) ≤ length (now room))
+        (188 * (length (now bytes) / 204) ≤ length (now output))
         × ((length (now marks) ≡ 0) ⊎ (length (now marks) ≡ length (now bytes))) ⌝ }
-    ensures { λ r. ⌜ Takes receiver (now (bytes .entry)) (now (marks .entry)) (now (room .entry)) (r .count) (r .receiver) (now (room .exit)) ⌝ }
+    ensures { λ r. ⌜ TakesRecording receiver (now (bytes .entry)) (now (marks .entry)) (now (output .entry)) (r .count) (r .receiver) (now (output .exit)) ⌝ }
 {
     let mut state = receiver;
     let mut at: usize = 0;
     let mut count: usize = 0;
     while bytes.len() - at >= Receiver::BLOCK_LENGTH {
-        let received = receive_at(state, bytes, marks, at, &mut room[count..]);
+        let received = receive_at(state, bytes, marks, at, &mut output[count..]);
         let answer = received.answer;
         state = received.receiver;
         count += given_bytes(answer);
@@ -93,20 +93,20 @@ fn receive_marked_blocks(receiver: Receiver, bytes: &[u8], marks: &[u8], room: &
 }
 
 // The same with no mark for any byte.
-pub fn receive_blocks(receiver: Receiver, bytes: &[u8], room: &mut [u8]) -> Batch
-    requires { ⌜ 188 * (length (now bytes) / 204) ≤ length (now room) ⌝ }
-    ensures { λ r. ⌜ Takes receiver (now (bytes .entry)) [] (now (room .entry)) (r .count) (r .receiver) (now (room .exit)) ⌝ }
+pub fn receive_blocks(receiver: Receiver, bytes: &[u8], output: &mut [u8]) -> Batch
+    requires { ⌜ 188 * (length (now bytes) / 204) ≤ length (now output) ⌝ }
+    ensures { λ r. ⌜ TakesRecording receiver (now (bytes .entry)) [] (now (output .entry)) (r .count) (r .receiver) (now (output .exit)) ⌝ }
 {
     let none = [0u8; 0];
-    receive_marked_blocks(receiver, bytes, &none, room)
+    receive_marked_blocks(receiver, bytes, &none, output)
 }
 
 // Takes the whole blocks of a recording, and writes their packets one after the other. Bytes after the last whole block are not taken.
 // Nothing is taken unless there is room for a packet for each of them, and all of them can be counted.
-fn take_recording(receiver: Receiver, bytes: &[u8], marks: &[u8], room: &mut [u8]) -> Recorded
+fn take_recording(receiver: Receiver, bytes: &[u8], marks: &[u8], output: &mut [u8]) -> Recorded
     requires { ⌜ (length (now marks) ≡ 0) ⊎ (length (now marks) ≡ length (now bytes)) ⌝ }
     ensures { λ r. ⌜
-        Answers receiver (now (bytes .entry)) (now (marks .entry)) (now (room .entry)) (recordingNumber receiver (now (bytes .entry)) (now (room .entry))) (numberOf (r .answer)) (r .count) (r .receiver) (now (room .exit)) ⌝ }
+        AnswersRecording receiver (now (bytes .entry)) (now (marks .entry)) (now (output .entry)) (recordingNumber receiver (now (bytes .entry)) (now (output .entry))) (numberOf (r .answer)) (r .count) (r .receiver) (now (output .exit)) ⌝ }
 {
     let counts = receiver.counts;
     let taken = counts.taken;
@@ -118,9 +118,9 @@ fn take_recording(receiver: Receiver, bytes: &[u8], marks: &[u8], room: &mut [u8
         };
     }
     let blocks = bytes.len() / Receiver::BLOCK_LENGTH;
-    if room.len() < Receiver::PACKET_LENGTH * blocks {
+    if output.len() < Receiver::PACKET_LENGTH * blocks {
         return Recorded {
-            answer: Answer::RoomLength,
+            answer: Answer::OutputLength,
             count: 0,
             receiver,
         };
@@ -132,7 +132,7 @@ fn take_recording(receiver: Receiver, bytes: &[u8], marks: &[u8], room: &mut [u8
             receiver,
         };
     }
-    let batch = receive_marked_blocks(receiver, bytes, marks, room);
+    let batch = receive_marked_blocks(receiver, bytes, marks, output);
     let count = batch.count;
     let receiver = batch.receiver;
     Recorded {
@@ -143,11 +143,11 @@ fn take_recording(receiver: Receiver, bytes: &[u8], marks: &[u8], room: &mut [u8
 }
 
 // The whole blocks of a recording, with no mark for any byte.
-pub fn receive_recording(receiver: Receiver, bytes: &[u8], room: &mut [u8]) -> Recorded
-    ensures { λ r. ⌜ ReceivesRecording receiver (now (bytes .entry)) (now (room .entry)) (numberOf (r .answer)) (r .count) (r .receiver) (now (room .exit)) ⌝ }
+pub fn receive_recording(receiver: Receiver, bytes: &[u8], output: &mut [u8]) -> Recorded
+    ensures { λ r. ⌜ ReceivesRecording receiver (now (bytes .entry)) (now (output .entry)) (numberOf (r .answer)) (r .count) (r .receiver) (now (output .exit)) ⌝ }
 {
     let none = [0u8; 0];
-    take_recording(receiver, bytes, &none, room)
+    take_recording(receiver, bytes, &none, output)
 }
 
 // Whether there is a mark, 0 or 1, for each byte.
@@ -165,10 +165,10 @@ pub fn receive_marked_recording(
     receiver: Receiver,
     bytes: &[u8],
     marks: &[u8],
-    room: &mut [u8],
+    output: &mut [u8],
 ) -> Recorded
     ensures { λ r. ⌜
-        ReceivesMarkedRecording receiver (now (bytes .entry)) (now (marks .entry)) (now (room .entry)) (numberOf (r .answer)) (r .count) (r .receiver) (now (room .exit)) ⌝ }
+        ReceivesMarkedRecording receiver (now (bytes .entry)) (now (marks .entry)) (now (output .entry)) (numberOf (r .answer)) (r .count) (r .receiver) (now (output .exit)) ⌝ }
 {
     if !receiver.in_range() {
         return Recorded {
@@ -184,23 +184,23 @@ pub fn receive_marked_recording(
             receiver,
         };
     }
-    take_recording(receiver, bytes, marks, room)
+    take_recording(receiver, bytes, marks, output)
 }
 
 // A fresh receiver over a whole recording, with a mark for each byte.
-pub fn receive_marked_run(bytes: &[u8], marks: &[u8], room: &mut [u8]) -> Recorded
+pub fn receive_marked_run(bytes: &[u8], marks: &[u8], output: &mut [u8]) -> Recorded
     ensures { λ r. ⌜
-        ReceivesMarkedRecording freshReceiver (now (bytes .entry)) (now (marks .entry)) (now (room .entry)) (numberOf (r .answer)) (r .count) (r .receiver) (now (room .exit)) ⌝ }
+        ReceivesMarkedRecording freshReceiver (now (bytes .entry)) (now (marks .entry)) (now (output .entry)) (numberOf (r .answer)) (r .count) (r .receiver) (now (output .exit)) ⌝ }
 {
     let receiver = Receiver::new();
-    receive_marked_recording(receiver, bytes, marks, room)
+    receive_marked_recording(receiver, bytes, marks, output)
 }
 
 // A fresh receiver over a whole recording. Where that is what a fresh sender sent, its packets come back.
-pub fn receive_run(bytes: &[u8], room: &mut [u8]) -> Recorded
-    ensures { λ r. ⌜ ReceivesRecording freshReceiver (now (bytes .entry)) (now (room .entry)) (numberOf (r .answer)) (r .count) (r .receiver) (now (room .exit)) ⌝ }
-    ensures { λ r. ⌜ Returns (now (bytes .entry)) (now (room .entry)) (numberOf (r .answer)) (r .count) (now (room .exit)) ⌝ }
+pub fn receive_run(bytes: &[u8], output: &mut [u8]) -> Recorded
+    ensures { λ r. ⌜ ReceivesRecording freshReceiver (now (bytes .entry)) (now (output .entry)) (numberOf (r .answer)) (r .count) (r .receiver) (now (output .exit)) ⌝ }
+    ensures { λ r. ⌜ Returns (now (bytes .entry)) (now (output .entry)) (numberOf (r .answer)) (r .count) (now (output .exit)) ⌝ }
 {
     let receiver = Receiver::new();
-    receive_recording(receiver, bytes, room)
+    receive_recording(receiver, bytes, output)
 }

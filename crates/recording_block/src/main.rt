@@ -1,5 +1,5 @@
 // recording_block FILE P > block
-// Writes block P of the recording in a file, repaired, to standard output; the first block is 0. The answer and the numbers of
+// Writes block P of the recording in a file, corrected, to standard output; the first block is 0. The answer and the numbers of
 // bytes and bits changed go to standard error. Only the twelve blocks from block P on are read, wherever they lie in the file:
 // block P of a recording is block 0 of these (`by-seeking` in recorded_block/proofs/Blocks.antt).
 ghost use mathlib.Core.Path.{_≡_};
@@ -97,24 +97,24 @@ fn report_block(answer: u8, changed: Changed) {
     report(b"bits=", changed.bits as u64, b"\n");
 }
 
-// Repairs the block that starts the part, and writes it where there is one.
+// Corrects the block that starts the part, and writes it where there is one.
 fn write_block(part: &[u8]) {
-    let mut room = [0u8; 204];
+    let mut output = [0u8; 204];
     let blocks = recorded_block::whole_blocks(part);
-    let repaired = recorded_block::repaired_block(part, blocks, 0, &mut room);
-    let answer = repaired.answer;
+    let decoded = recorded_block::decoded_block(part, blocks, 0, &mut output);
+    let answer = decoded.answer;
     let number = answer.number();
     if number == 0 {
-        if !io::write_all(STDOUT_FILENO, &room) {
+        if !io::write_all(STDOUT_FILENO, &output) {
             os::fail(b"standard output");
             return;
         }
     }
-    report_block(number, repaired.changed);
+    report_block(number, decoded.changed);
 }
 
 // Block p of the recording in an open file.
-fn repair_at(fd: i32, p: u64)
+fn decode_at(fd: i32, p: u64)
     requires { ⌜ p ≤ 4294967283 ⌝ }
 {
     let mut buffer = [0u8; 2448];
@@ -147,7 +147,7 @@ fn main() {
         usage();
         return;
     };
-    // A receiver takes no more than 4,294,967,295 blocks, and block p is repaired at its call p + 12.
+    // A receiver takes no more than 4,294,967,295 blocks, and block p is corrected at its call p + 12.
     if p > 4294967283 {
         report_block(16, Changed { bytes: 0, bits: 0 });
         return;
@@ -157,6 +157,6 @@ fn main() {
         os::fail(&path[..length]);
         return;
     }
-    repair_at(fd, p);
+    decode_at(fd, p);
     libc::close(fd);
 }

@@ -18,22 +18,22 @@ use Rattle.algebra.proofs.Terms.{terms, distinct-terms, length-terms}
 use Rattle.galois.specs.Field256.{numbers, mul, rounds, timesX, pow}
 use Rattle.galois.proofs.Instance.{bytes, byte, byte-one, byte-power, powers-differ}
 use Rattle.reed_solomon.specs.Code.{factors, generator, Codeword}
-use Rattle.byte_lanes.specs.Lanes.{elements, word, point}
+use Rattle.byte_lanes.specs.Lanes.{elements, word, alpha}
 use Rattle.byte_lanes.proofs.Words.{values, length-word, elements-values, elements-inj, elements-product, bytes-reverse, bytes-values, bytes-product}
 
 -- the value of a block, as a polynomial, at root j
 abbrev pub blockSyndrome : List ℕ → ℕ → Fin 256
-blockSyndrome block j = eval (ops bytes) (word block) (point j)
+blockSyndrome block j = eval (ops bytes) (word block) (alpha j)
 
 abbrev pub rootsBelow : ℕ → List (Fin 256)
 rootsBelow zero = []
-rootsBelow (suc n) = point n ∷ rootsBelow n
+rootsBelow (suc n) = alpha n ∷ rootsBelow n
 
 pub length-roots : (n : ℕ) → length (rootsBelow n) ≡ n
 length-roots zero = refl
 length-roots (suc n) = ap suc (length-roots n)
 
-away-roots : (m n : ℕ) → m ≤ n → n < 255 → Away (point n) (rootsBelow m)
+away-roots : (m n : ℕ) → m ≤ n → n < 255 → Away (alpha n) (rootsBelow m)
 away-roots zero n h l = tt
 away-roots (suc m) n h l = ((λ e. powers-differ m n h l (sym e)), away-roots m n (omega arith) l)
 
@@ -41,18 +41,18 @@ pub distinct-roots : (n : ℕ) → n < 255 → Distinct (rootsBelow n)
 distinct-roots zero l = tt
 distinct-roots (suc n) l = (away-roots n n (omega arith) (omega arith), distinct-roots n (omega arith))
 
-all-roots : (n : ℕ) (P : Fin 256 → Type 0) → ((j : ℕ) → j < n → P (point j)) → All P (rootsBelow n)
+all-roots : (n : ℕ) (P : Fin 256 → Type 0) → ((j : ℕ) → j < n → P (alpha j)) → All P (rootsBelow n)
 all-roots zero P h = tt
 all-roots (suc n) P h = (h n (omega arith), all-roots n P (λ j l. h j (omega arith)))
 
-root-of : (n j : ℕ) → j < n → eval (ops bytes) (fromRoots bytes (rootsBelow n)) (point j) ≡ bytes .𝟘
+root-of : (n j : ℕ) → j < n → eval (ops bytes) (fromRoots bytes (rootsBelow n)) (alpha j) ≡ bytes .𝟘
 root-of zero j h = absurd (omega arith)
 root-of (suc n) j h = go (ℕ-discrete j n) (λ l. root-of n j l)
   where
-    go : Dec (j ≡ n) → (j < n → eval (ops bytes) (fromRoots bytes (rootsBelow n)) (point j) ≡ bytes .𝟘)
-        → eval (ops bytes) (fromRoots bytes (rootsBelow (suc n))) (point j) ≡ bytes .𝟘
-    go (yes e) r = fromRoots-root-self bytes (point n) (point j) (rootsBelow n) (ap point e)
-    go (no e) r = fromRoots-root-more bytes (point n) (rootsBelow n) (point j) (r (omega arith))
+    go : Dec (j ≡ n) → (j < n → eval (ops bytes) (fromRoots bytes (rootsBelow n)) (alpha j) ≡ bytes .𝟘)
+        → eval (ops bytes) (fromRoots bytes (rootsBelow (suc n))) (alpha j) ≡ bytes .𝟘
+    go (yes e) r = fromRoots-root-self bytes (alpha n) (alpha j) (rootsBelow n) (ap alpha e)
+    go (no e) r = fromRoots-root-more bytes (alpha n) (rootsBelow n) (alpha j) (r (omega arith))
 
 -- g has the values of the product of its factors
 factors-values : (n : ℕ) (x : Fin 256) → eval (ops bytes) (elements (factors n)) x ≡ eval (ops bytes) (fromRoots bytes (rootsBelow n)) x
@@ -62,14 +62,14 @@ factors-values (suc n) x =
     ap (λ (p : List (Fin 256)). eval (ops bytes) p x) (elements-product (pow 2 n ∷ 1 ∷ []) (factors n))
     ∙ eval-product bytes (byte (pow 2 n) ∷ byte 1 ∷ []) (elements (factors n)) x
     ∙ ap₂ (bytes .mul) first (factors-values n x)
-    ∙ sym (eval-timesLinear bytes (point n) (fromRoots bytes (rootsBelow n)) x)
+    ∙ sym (eval-timesLinear bytes (alpha n) (fromRoots bytes (rootsBelow n)) x)
   where
-    first : eval (ops bytes) (byte (pow 2 n) ∷ byte 1 ∷ []) x ≡ bytes .add x (point n)
-    first = ap₂ (λ (u v : Fin 256). eval (ops bytes) (u ∷ v ∷ []) x) (byte-power 2 n) byte-one ∙ eval-linear bytes (point n) x
+    first : eval (ops bytes) (byte (pow 2 n) ∷ byte 1 ∷ []) x ≡ bytes .add x (alpha n)
+    first = ap₂ (λ (u v : Fin 256). eval (ops bytes) (u ∷ v ∷ []) x) (byte-power 2 n) byte-one ∙ eval-linear bytes (alpha n) x
 
-pub generator-root : (j : ℕ) → j < 16 → eval (ops bytes) (elements generator) (point j) ≡ bytes .𝟘
+pub generator-root : (j : ℕ) → j < 16 → eval (ops bytes) (elements generator) (alpha j) ≡ bytes .𝟘
 unfolding generator
-generator-root j h = factors-values 16 (point j) ∙ root-of 16 j h
+generator-root j h = factors-values 16 (alpha j) ∙ root-of 16 j h
 
 length-generator : length generator ≡ 17
 unfolding generator factors product scale plus power mul rounds timesX
@@ -101,10 +101,10 @@ module _ (block : List ℕ) (c : Codeword block) where
 
   pub codeword-syndromes : (j : ℕ) → j < 16 → blockSyndrome block j ≡ bytes .𝟘
   codeword-syndromes j h =
-      ap (λ (p : List (Fin 256)). eval (ops bytes) p (point j)) as-product
-      ∙ eval-product bytes (elements generator) (elements (c .factor)) (point j)
-      ∙ ap (λ (u : Fin 256). bytes .mul u (eval (ops bytes) (elements (c .factor)) (point j))) (generator-root j h)
-      ∙ zero-mul bytes (eval (ops bytes) (elements (c .factor)) (point j))
+      ap (λ (p : List (Fin 256)). eval (ops bytes) p (alpha j)) as-product
+      ∙ eval-product bytes (elements generator) (elements (c .factor)) (alpha j)
+      ∙ ap (λ (u : Fin 256). bytes .mul u (eval (ops bytes) (elements (c .factor)) (alpha j))) (generator-root j h)
+      ∙ zero-mul bytes (eval (ops bytes) (elements (c .factor)) (alpha j))
 
 -- ---- and what has those is one
 

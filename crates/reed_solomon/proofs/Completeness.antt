@@ -25,9 +25,9 @@ use Rattle.galois.specs.Field256.{pow}
 use Rattle.galois.proofs.Instance.{bytes, byte, byte-power, powers-differ}
 use Rattle.reed_solomon.specs.Code.{Codeword}
 use Rattle.reed_solomon.specs.Marks.{marked, cost}
-use Rattle.byte_lanes.specs.Lanes.{elements, point}
+use Rattle.byte_lanes.specs.Lanes.{elements, alpha}
 use Rattle.error_locator.specs.Locator.{Located, Modified}
-use Rattle.error_correction.specs.Correction.{ByDegree, valuesOf, rootsOf, one, monic, RootProduct, errorValue}
+use Rattle.error_correction.specs.Correction.{ByDegree, valuesOf, rootsOf, onePolynomial, monic, RootProduct, errorValue}
 use Rattle.error_correction.proofs.RootSearch.{length-values, value-erased, value-kept, value-one, map-join}
 use Rattle.reed_solomon.proofs.Codewords.{blockSyndrome, codeword-length, codeword-bytes, codeword-syndromes, rootsBelow, distinct-roots, length-roots}
 use Rattle.reed_solomon.proofs.Distance.{difference, difference-length, errors, errors-distinct, errors-syndrome}
@@ -49,10 +49,10 @@ module _ (u q : List ℕ) where
   pub roots-range : All (λ d. d < 204) (rootsOf u q)
   roots-range = roots-each (λ d. d < 204) (λ i h z. h)
 
-  pub roots-distinct : Distinct (map point (rootsOf u q))
-  roots-distinct = zeros-distinct point 255 0 (valuesOf u q) powers-differ (omega (arith, length-values u q))
+  pub roots-distinct : Distinct (map alpha (rootsOf u q))
+  roots-distinct = zeros-distinct alpha 255 0 (valuesOf u q) powers-differ (omega (arith, length-values u q))
 
-All-points : (P : Fin 256 → Type 0) (l : List ℕ) → All (λ d. P (point d)) l → All P (map point l)
+All-points : (P : Fin 256 → Type 0) (l : List ℕ) → All (λ d. P (alpha d)) l → All P (map alpha l)
 All-points P [] h = tt
 All-points P (d ∷ l) h = (h .0, All-points P l (h .1))
 
@@ -68,24 +68,24 @@ module _ (ts q : List ℕ) (size : ℕ) (loc : Located ts size q) where
   roots-few =
       omega (
         arith,
-        length-map (rootsOf [] q) point,
+        length-map (rootsOf [] q) alpha,
         length-take (suc size) (elements q),
-        root-count bytes (map point (rootsOf [] q)) short (λ z. loc .nonzero (Zero-take bytes (suc size) (elements q) (λ k h. loc .zeros k h) z)) (roots-distinct [] q)
+        root-count bytes (map alpha (rootsOf [] q)) short (λ z. loc .nonzero (Zero-take bytes (suc size) (elements q) (λ k h. loc .zeros k h) z)) (roots-distinct [] q)
             (All-points (λ y. eval (ops bytes) short y ≡ bytes .𝟘) (rootsOf [] q)
-            (roots-each [] q (λ d. eval (ops bytes) short (point d) ≡ bytes .𝟘) (λ i h z. short-value (point i) ∙ Fin·val-path (sym (value-kept [] q i h refl) ∙ z)))),
+            (roots-each [] q (λ d. eval (ops bytes) short (alpha d) ≡ bytes .𝟘) (λ i h z. short-value (alpha i) ∙ Fin·val-path (sym (value-kept [] q i h refl) ∙ z)))),
       )
 
 -- a degree is listed where it is an erasure or a root
-shared : (u q : List ℕ) (i : ℕ) → i < 204 → getD (valuesOf u q) i 0 ≡ 0 → Dec (getD u i 0 ≡ 0) → (getD (valuesOf u one) i 0 ≡ 0) ⊎ (getD (valuesOf [] q) i 0 ≡ 0)
+shared : (u q : List ℕ) (i : ℕ) → i < 204 → getD (valuesOf u q) i 0 ≡ 0 → Dec (getD u i 0 ≡ 0) → (getD (valuesOf u onePolynomial) i 0 ≡ 0) ⊎ (getD (valuesOf [] q) i 0 ≡ 0)
 shared u q i h z (yes e) = inr (value-kept [] q i h refl ∙ sym (value-kept u q i h e) ∙ z)
-shared u q i h z (no e) = inl (value-erased u one i h e)
+shared u q i h z (no e) = inl (value-erased u onePolynomial i h e)
 
 -- with the erasures they are at most sixteen
 pub roots-most : (ts u q marks : List ℕ) (size : ℕ) → length marks ≡ 204 → ByDegree marks u → Located ts size q → 2 * size + marked marks ≤ 16 → length (rootsOf u q) ≤ 16
 roots-most ts u q marks size lm by loc most =
     omega (
       arith,
-      zeros-shared 0 (valuesOf u q) (valuesOf u one) (valuesOf [] q) (length-values u one ∙ sym (length-values u q)) (length-values [] q ∙ sym (length-values u q))
+      zeros-shared 0 (valuesOf u q) (valuesOf u onePolynomial) (valuesOf [] q) (length-values u onePolynomial ∙ sym (length-values u q)) (length-values [] q ∙ sym (length-values u q))
           (λ i h z. shared u q i (omega (arith, length-values u q)) z (ℕ-discrete (getD u i 0) 0)),
       erasures-count marks u lm by,
       roots-few ts q size loc,
@@ -98,7 +98,7 @@ All-unmap f P [] h = tt
 All-unmap f P (x ∷ l) h = (h .0, All-unmap f P l (h .1))
 
 -- the places of the roots, as elements of the field
-places-point : (l : List ℕ) → elements (map (pow 2) l) ≡ map point l
+places-point : (l : List ℕ) → elements (map (pow 2) l) ≡ map alpha l
 places-point [] = refl
 places-point (d ∷ l) = ap₂ _∷_ (byte-power 2 d) (places-point l)
 
@@ -106,16 +106,16 @@ places-point (d ∷ l) = ap₂ _∷_ (byte-power 2 d) (places-point l)
 unfoldable pub degreeTerms : List ℕ → List ℕ → List (Term bytes)
 degreeTerms [] es = []
 degreeTerms (d ∷ ds) [] = []
-degreeTerms (d ∷ ds) (e ∷ es) = (point d, byte e) ∷ degreeTerms ds es
+degreeTerms (d ∷ ds) (e ∷ es) = (alpha d, byte e) ∷ degreeTerms ds es
 
-degree-terms-map : (g : ℕ → Fin 256) (ds es : List ℕ) → length es ≡ length ds → ((l : ℕ) → l < length ds → byte (getD es l 0) ≡ g (getD ds l 0)) → degreeTerms ds es ≡ map (λ d. (point d, g d)) ds
+degree-terms-map : (g : ℕ → Fin 256) (ds es : List ℕ) → length es ≡ length ds → ((l : ℕ) → l < length ds → byte (getD es l 0) ≡ g (getD ds l 0)) → degreeTerms ds es ≡ map (λ d. (alpha d, g d)) ds
 unfolding degreeTerms
 degree-terms-map g [] es n h = refl
 degree-terms-map g (d ∷ ds) [] n h = absurd (omega arith)
 degree-terms-map g (d ∷ ds) (e ∷ es) n h =
-    ap₂ (λ (u : Fin 256) (l : List (Term bytes)). (point d, u) ∷ l) (h 0 (omega arith)) (degree-terms-map g ds es (omega arith) (λ l b. h (suc l) (omega arith)))
+    ap₂ (λ (u : Fin 256) (l : List (Term bytes)). (alpha d, u) ∷ l) (h 0 (omega arith)) (degree-terms-map g ds es (omega arith) (λ l b. h (suc l) (omega arith)))
 
-point-differs : (i d : ℕ) → i < 204 → d < 204 → (i ≡ d → ⊥) → point i ≡ point d → ⊥
+point-differs : (i d : ℕ) → i < 204 → d < 204 → (i ≡ d → ⊥) → alpha i ≡ alpha d → ⊥
 point-differs i d a b n e = go (decLt i d)
   where
     go : Dec (i < d) → ⊥
@@ -125,11 +125,11 @@ point-differs i d a b n e = go (decLt i d)
 -- ---- marks by degree
 
 -- g vanishes at the marked places, counted from degree k on
-covered-of : (g : List (Fin 256)) (k : ℕ) (ms : List ℕ) → ((i : ℕ) → i < length ms → (getD ms i 0 ≡ 0 → ⊥) → eval (ops bytes) g (point (k + i)) ≡ bytes .𝟘) → Covered g (point k) ms
+covered-of : (g : List (Fin 256)) (k : ℕ) (ms : List ℕ) → ((i : ℕ) → i < length ms → (getD ms i 0 ≡ 0 → ⊥) → eval (ops bytes) g (alpha (k + i)) ≡ bytes .𝟘) → Covered g (alpha k) ms
 covered-of g k [] h = tt
 covered-of g k (m ∷ ms) h = (
-  (λ n. ap (λ (i : ℕ). eval (ops bytes) g (point i)) (sym (add-zero-ℕ k)) ∙ h 0 (omega arith) n),
-  subst (λ (x : Fin 256). Covered g x ms) (point-next k) (covered-of g (k + 1) ms (λ i l n. ap (λ (j : ℕ). eval (ops bytes) g (point j)) (next i) ∙ h (suc i) (omega arith) n)),
+  (λ n. ap (λ (i : ℕ). eval (ops bytes) g (alpha i)) (sym (add-zero-ℕ k)) ∙ h 0 (omega arith) n),
+  subst (λ (x : Fin 256). Covered g x ms) (point-next k) (covered-of g (k + 1) ms (λ i l n. ap (λ (j : ℕ). eval (ops bytes) g (alpha j)) (next i) ∙ h (suc i) (omega arith) n)),
 )
   where
     next : (i : ℕ) → k + 1 + i ≡ k + suc i
@@ -140,7 +140,7 @@ covered-of g k (m ∷ ms) h = (
 module _ (came c : List ℕ) (n : length came ≡ 204) (b : Bytes came) (cw : Codeword c)
     (marks : List ℕ) (lm : length marks ≡ 204) (near : cost marks came c ≤ 16)
     (s : List ℕ) (syndromes : (j : ℕ) → j < 16 → byte (getD s j 0) ≡ blockSyndrome came j)
-    (u : List ℕ) (by : ByDegree marks u) (ts : List ℕ) (md : Modified s (map (pow 2) (rootsOf u one)) ts)
+    (u : List ℕ) (by : ByDegree marks u) (ts : List ℕ) (md : Modified s (map (pow 2) (rootsOf u onePolynomial)) ts)
     (size : ℕ) (most : 2 * size + marked marks ≤ 16) (least : 15 ≤ 2 * size + marked marks)
     (q : List ℕ) (loc : Located ts size q) (p : List ℕ) (lp : length p ≡ 16) (rp : RootProduct (map (pow 2) (rootsOf u q)) p) where
   abbrev E : List (Term bytes)
@@ -162,9 +162,9 @@ module _ (came c : List ℕ) (n : length came ≡ 204) (b : Bytes came) (cw : Co
   E-length : length E ≡ 204
   E-length = length-terms bytes (byte 2) (bytes .𝟙) e ∙ e-length
 
-  E-place : (d : ℕ) → d < 204 → (getD E d none) .0 ≡ point d
+  E-place : (d : ℕ) → d < 204 → (getD E d none) .0 ≡ alpha d
   E-place d h =
-      sym (List·getD-map (λ (t : Term bytes). t .0) E d none) ∙ place-at bytes (byte 2) (bytes .𝟙) e (bytes .𝟘) d (omega (arith, e-length)) ∙ one-mul bytes (point d)
+      sym (List·getD-map (λ (t : Term bytes). t .0) E d none) ∙ place-at bytes (byte 2) (bytes .𝟙) e (bytes .𝟘) d (omega (arith, e-length)) ∙ one-mul bytes (alpha d)
 
   E-value : (d : ℕ) → d < 204 → (getD E d none) .1 ≡ g d
   E-value d h = value-at bytes (byte 2) (bytes .𝟙) e none d (omega (arith, e-length))
@@ -177,44 +177,44 @@ module _ (came c : List ℕ) (n : length came ≡ 204) (b : Bytes came) (cw : Co
   -- ---- the erasures
 
   abbrev erased-places : List ℕ
-  erased-places = map (pow 2) (rootsOf u one)
+  erased-places = map (pow 2) (rootsOf u onePolynomial)
 
   abbrev G : List (Fin 256)
   G = fromRoots bytes (elements erased-places)
 
-  erased-points : elements erased-places ≡ map point (rootsOf u one)
-  erased-points = places-point (rootsOf u one)
+  erased-points : elements erased-places ≡ map alpha (rootsOf u onePolynomial)
+  erased-points = places-point (rootsOf u onePolynomial)
 
   erased-number : length erased-places ≡ marked marks
-  erased-number = length-map (rootsOf u one) (pow 2) ∙ erasures-count marks u lm by
+  erased-number = length-map (rootsOf u onePolynomial) (pow 2) ∙ erasures-count marks u lm by
 
   G-length : length G ≡ suc (marked marks)
   G-length = length-fromRoots bytes (elements erased-places) ∙ ap suc (length-map erased-places byte ∙ erased-number)
 
-  G-erased : (i : ℕ) → i < 204 → (getD u i 0 ≡ 0 → ⊥) → eval (ops bytes) G (point i) ≡ bytes .𝟘
+  G-erased : (i : ℕ) → i < 204 → (getD u i 0 ≡ 0 → ⊥) → eval (ops bytes) G (alpha i) ≡ bytes .𝟘
   G-erased i h z =
-      roots-member u one (λ d. eval (ops bytes) G (point d) ≡ bytes .𝟘)
-      (All-unmap point (λ y. eval (ops bytes) G y ≡ bytes .𝟘) (rootsOf u one) (subst (λ (l : List (Fin 256)). All (λ y. eval (ops bytes) G y ≡ bytes .𝟘) l) erased-points (fromRoots-roots bytes (elements erased-places)))) i h (value-erased u one i h z)
+      roots-member u onePolynomial (λ d. eval (ops bytes) G (alpha d) ≡ bytes .𝟘)
+      (All-unmap alpha (λ y. eval (ops bytes) G y ≡ bytes .𝟘) (rootsOf u onePolynomial) (subst (λ (l : List (Fin 256)). All (λ y. eval (ops bytes) G y ≡ bytes .𝟘) l) erased-points (fromRoots-roots bytes (elements erased-places)))) i h (value-erased u onePolynomial i h z)
 
-  not-erased : (i : ℕ) → i < 204 → getD u i 0 ≡ 0 → getD (valuesOf u one) i 0 ≡ 0 → ⊥
+  not-erased : (i : ℕ) → i < 204 → getD u i 0 ≡ 0 → getD (valuesOf u onePolynomial) i 0 ≡ 0 → ⊥
   not-erased i h e z =
-      let o : getD (valuesOf u one) i 0 ≡ 1 = value-one u i h ∙ ap (λ k. pick k 1 0) (eq-eqb (getD u i 0) 0 e) in
+      let o : getD (valuesOf u onePolynomial) i 0 ≡ 1 = value-one u i h ∙ ap (λ k. pick k 1 0) (eq-eqb (getD u i 0) 0 e) in
       omega arith
 
-  G-clear : (i : ℕ) → i < 204 → getD u i 0 ≡ 0 → eval (ops bytes) G (point i) ≡ bytes .𝟘 → ⊥
+  G-clear : (i : ℕ) → i < 204 → getD u i 0 ≡ 0 → eval (ops bytes) G (alpha i) ≡ bytes .𝟘 → ⊥
   G-clear i h z =
-      fromRoots-ne bytes (elements erased-places) (point i)
-      (subst (Away (point i)) (sym erased-points)
-      (All-points (λ y. y ≡ point i → ⊥) (rootsOf u one)
-      (roots-each u one (λ d. point d ≡ point i → ⊥) (λ k l y. point-differs k i l h (λ e. not-erased k l (ap (λ (j : ℕ). getD u j 0) e ∙ z) y)))))
+      fromRoots-ne bytes (elements erased-places) (alpha i)
+      (subst (Away (alpha i)) (sym erased-points)
+      (All-points (λ y. y ≡ alpha i → ⊥) (rootsOf u onePolynomial)
+      (roots-each u onePolynomial (λ d. alpha d ≡ alpha i → ⊥) (λ k l y. point-differs k i l h (λ e. not-erased k l (ap (λ (j : ℕ). getD u j 0) e ∙ z) y)))))
 
   covered : Covered G (bytes .𝟙) (reverse marks)
   unfolding power
   covered = covered-of G 0 (reverse marks) (λ i h y. at i (omega (arith, length-reverse marks)) y)
     where
-      at : (i : ℕ) → i < 204 → (getD (reverse marks) i 0 ≡ 0 → ⊥) → eval (ops bytes) G (point (0 + i)) ≡ bytes .𝟘
+      at : (i : ℕ) → i < 204 → (getD (reverse marks) i 0 ≡ 0 → ⊥) → eval (ops bytes) G (alpha (0 + i)) ≡ bytes .𝟘
       at i h y =
-          ap (λ (j : ℕ). eval (ops bytes) G (point j)) (zero-add i)
+          ap (λ (j : ℕ). eval (ops bytes) G (alpha j)) (zero-add i)
           ∙ G-erased i h (λ e. y (reverse-at marks i (203 - i) (omega arith) ∙ sym (by .each i h) ∙ e))
 
   few-unmarked : weight bytes (weighted bytes G E) ≤ size
@@ -251,9 +251,9 @@ module _ (came c : List ℕ) (n : length came ≡ 204) (b : Bytes came) (cw : Co
   vanishes : (i : ℕ) → i < 204 → (g i ≡ bytes .𝟘 → ⊥) → getD (valuesOf u q) i 0 ≡ 0
   vanishes i h z = go (ℕ-discrete (getD u i 0) 0)
     where
-      root : getD u i 0 ≡ 0 → eval (ops bytes) (elements q) (point i) ≡ bytes .𝟘
+      root : getD u i 0 ≡ 0 → eval (ops bytes) (elements q) (alpha i) ≡ bytes .𝟘
       root y =
-          sym (short-value ts q size loc (point i)) ∙ ap (eval (ops bytes) Q′) (sym (E-place i h))
+          sym (short-value ts q size loc (alpha i)) ∙ ap (eval (ops bytes) Q′) (sym (E-place i h))
           ∙ All-at (λ t. (t .1 ≡ bytes .𝟘 → ⊥) → (eval (ops bytes) G (t .0) ≡ bytes .𝟘 → ⊥) → eval (ops bytes) Q′ (t .0) ≡ bytes .𝟘) E none i located (omega (arith, E-length))
           (λ a. z (sym (E-value i h) ∙ a)) (λ a. G-clear i h y (ap (eval (ops bytes) G) (sym (E-place i h)) ∙ a))
 
@@ -285,13 +285,13 @@ module _ (came c : List ℕ) (n : length came ≡ 204) (b : Bytes came) (cw : Co
   in-range : All (λ d. d < 204) (rootsOf u q)
   in-range = roots-range u q
 
-  N-values : (y : Fin 256) → eval (ops bytes) N y ≡ eval (ops bytes) (fromRoots bytes (map point (rootsOf u q))) y
+  N-values : (y : Fin 256) → eval (ops bytes) N y ≡ eval (ops bytes) (fromRoots bytes (map alpha (rootsOf u q))) y
   N-values y = rp .values y ∙ ap (λ (l : List (Fin 256)). eval (ops bytes) (fromRoots bytes l) y) (places-point (rootsOf u q))
 
-  N-roots : All (λ d. eval (ops bytes) N (point d) ≡ bytes .𝟘) (rootsOf u q)
+  N-roots : All (λ d. eval (ops bytes) N (alpha d) ≡ bytes .𝟘) (rootsOf u q)
   N-roots =
-      All-map (λ d. eval (ops bytes) (fromRoots bytes (map point (rootsOf u q))) (point d) ≡ bytes .𝟘) (λ d. eval (ops bytes) N (point d) ≡ bytes .𝟘) (λ d h. N-values (point d) ∙ h) (rootsOf u q)
-      (All-unmap point (λ y. eval (ops bytes) (fromRoots bytes (map point (rootsOf u q))) y ≡ bytes .𝟘) (rootsOf u q) (fromRoots-roots bytes (map point (rootsOf u q))))
+      All-map (λ d. eval (ops bytes) (fromRoots bytes (map alpha (rootsOf u q))) (alpha d) ≡ bytes .𝟘) (λ d. eval (ops bytes) N (alpha d) ≡ bytes .𝟘) (λ d h. N-values (alpha d) ∙ h) (rootsOf u q)
+      (All-unmap alpha (λ y. eval (ops bytes) (fromRoots bytes (map alpha (rootsOf u q))) y ≡ bytes .𝟘) (rootsOf u q) (fromRoots-roots bytes (map alpha (rootsOf u q))))
 
   module _ (l : ℕ) (h : l < length (rootsOf u q)) where
     abbrev d : ℕ
@@ -301,48 +301,48 @@ module _ (came c : List ℕ) (n : length came ≡ 204) (b : Bytes came) (cw : Co
     d-range = All-at (λ d. d < 204) (rootsOf u q) 0 l in-range h
 
     abbrev before : List (Fin 256)
-    before = map point (take l (rootsOf u q))
+    before = map alpha (take l (rootsOf u q))
 
     abbrev after : List (Fin 256)
-    after = map point (drop (suc l) (rootsOf u q))
+    after = map alpha (drop (suc l) (rootsOf u q))
 
-    split : map point (rootsOf u q) ≡ before ++ point d ∷ after
-    split = ap (map point) (split-at (rootsOf u q) l 0 h) ∙ map-join point (take l (rootsOf u q)) (d ∷ drop (suc l) (rootsOf u q))
+    split : map alpha (rootsOf u q) ≡ before ++ alpha d ∷ after
+    split = ap (map alpha) (split-at (rootsOf u q) l 0 h) ∙ map-join alpha (take l (rootsOf u q)) (d ∷ drop (suc l) (rootsOf u q))
 
-    N-out : (y : Fin 256) → eval (ops bytes) N y ≡ bytes .mul (bytes .add y (point d)) (eval (ops bytes) (fromRoots bytes (before ++ after)) y)
+    N-out : (y : Fin 256) → eval (ops bytes) N y ≡ bytes .mul (bytes .add y (alpha d)) (eval (ops bytes) (fromRoots bytes (before ++ after)) y)
     N-out y =
-        N-values y ∙ ap (λ (r : List (Fin 256)). eval (ops bytes) (fromRoots bytes r) y) split ∙ eval-fromRoots-out bytes (point d) before after y
+        N-values y ∙ ap (λ (r : List (Fin 256)). eval (ops bytes) (fromRoots bytes r) y) split ∙ eval-fromRoots-out bytes (alpha d) before after y
 
-    N-zero : eval (ops bytes) N (point d) ≡ bytes .𝟘
-    N-zero = All-at (λ d. eval (ops bytes) N (point d) ≡ bytes .𝟘) (rootsOf u q) 0 l N-roots h
+    N-zero : eval (ops bytes) N (alpha d) ≡ bytes .𝟘
+    N-zero = All-at (λ d. eval (ops bytes) N (alpha d) ≡ bytes .𝟘) (rootsOf u q) 0 l N-roots h
 
     abbrev Q : List (Fin 256)
-    Q = quotient bytes (point d) N
+    Q = quotient bytes (alpha d) N
 
     Q-length : length Q ≡ count
-    Q-length = length-quotient bytes (point d) N count N-length
+    Q-length = length-quotient bytes (alpha d) N count N-length
 
-    Q-others : (i : ℕ) → i < 204 → (i ≡ d → ⊥) → (g i ≡ bytes .𝟘 → ⊥) → eval (ops bytes) Q (point i) ≡ bytes .𝟘
+    Q-others : (i : ℕ) → i < 204 → (i ≡ d → ⊥) → (g i ≡ bytes .𝟘 → ⊥) → eval (ops bytes) Q (alpha i) ≡ bytes .𝟘
     Q-others i k m z =
-        quotient-zero bytes (point d) N (point i) N-zero (point-differs i d k d-range m)
-        (roots-member u q (λ d. eval (ops bytes) N (point d) ≡ bytes .𝟘) N-roots i k (vanishes i k z))
+        quotient-zero bytes (alpha d) N (alpha i) N-zero (point-differs i d k d-range m)
+        (roots-member u q (λ d. eval (ops bytes) N (alpha d) ≡ bytes .𝟘) N-roots i k (vanishes i k z))
 
     others-length : suc (length (before ++ after)) ≡ length (rootsOf u q)
     others-length =
         let k = ap length split in
-        omega (arith, length-append before after, length-append before (point d ∷ after), length-map (rootsOf u q) point, k)
+        omega (arith, length-append before after, length-append before (alpha d ∷ after), length-map (rootsOf u q) alpha, k)
 
-    Q-own : eval (ops bytes) Q (point d) ≡ bytes .𝟘 → ⊥
+    Q-own : eval (ops bytes) Q (alpha d) ≡ bytes .𝟘 → ⊥
     Q-own z =
-        fromRoots-ne bytes (before ++ after) (point d)
-        (Distinct-away (point d) before after (subst Distinct split (roots-distinct u q)))
-        (sym (quotient-value bytes (rootsBelow 17) (point d) N (fromRoots bytes (before ++ after)) (distinct-roots 17 (omega arith)) fits N-zero N-out) ∙ z)
+        fromRoots-ne bytes (before ++ after) (alpha d)
+        (Distinct-away (alpha d) before after (subst Distinct split (roots-distinct u q)))
+        (sym (quotient-value bytes (rootsBelow 17) (alpha d) N (fromRoots bytes (before ++ after)) (distinct-roots 17 (omega arith)) fits N-zero N-out) ∙ z)
       where
-        fits : length (timesLinear bytes (point d) (plus (ops bytes) Q (fromRoots bytes (before ++ after)))) ≤ length (rootsBelow 17)
+        fits : length (timesLinear bytes (alpha d) (plus (ops bytes) Q (fromRoots bytes (before ++ after)))) ≤ length (rootsBelow 17)
         fits =
             omega (
               arith,
-              length-timesLinearFrom bytes (point d) (bytes .𝟘) (plus (ops bytes) Q (fromRoots bytes (before ++ after))),
+              length-timesLinearFrom bytes (alpha d) (bytes .𝟘) (plus (ops bytes) Q (fromRoots bytes (before ++ after))),
               length-plus-max bytes Q (fromRoots bytes (before ++ after)),
               Q-length,
               length-fromRoots bytes (before ++ after),

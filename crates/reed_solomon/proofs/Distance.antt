@@ -21,7 +21,7 @@ use Rattle.galois.proofs.Instance.{bytes, byte, byte-inj, powers-differ}
 use Rattle.reed_solomon.specs.Code.{Codeword, unequal, distance, differ, changes}
 use Rattle.reed_solomon.specs.Decode.{Accepted}
 use Rattle.reed_solomon.specs.declared.Changed.{Changed}
-use Rattle.byte_lanes.specs.Lanes.{elements, word, point}
+use Rattle.byte_lanes.specs.Lanes.{elements, word, alpha}
 use Rattle.byte_lanes.proofs.Words.{length-word, elements-inj, bytes-reverse}
 use Rattle.reed_solomon.proofs.Codewords.{codeword-length, codeword-bytes, codeword-syndromes}
 
@@ -162,8 +162,8 @@ module _ (a b : List ℕ) (na : length a ≡ 204) (nb : length b ≡ 204) (ha : 
       weight-differ (bytes .𝟙) (reverse a) (reverse b) (omega (arith, length-reverse a, length-reverse b)) (bytes-reverse a ha) (bytes-reverse b hb)
       ∙ differ-reverse a b (na ∙ sym nb)
 
-  pub errors-syndrome : (j : ℕ) → syndrome bytes errors j ≡ bytes .add (eval (ops bytes) (word a) (point j)) (eval (ops bytes) (word b) (point j))
-  errors-syndrome j = sym (word-syndrome bytes (byte 2) difference j) ∙ eval-plus bytes (word a) (word b) (point j)
+  pub errors-syndrome : (j : ℕ) → syndrome bytes errors j ≡ bytes .add (eval (ops bytes) (word a) (alpha j)) (eval (ops bytes) (word b) (alpha j))
+  errors-syndrome j = sym (word-syndrome bytes (byte 2) difference j) ∙ eval-plus bytes (word a) (word b) (alpha j)
 
   pub equal-words : word a ≡ word b → a ≡ b
   equal-words e =

@@ -13,7 +13,7 @@ use Rattle.algebra.proofs.Ring.{ring, mul-one}
 use Rattle.algebra.proofs.Syndromes.{power-add}
 use Rattle.galois.specs.Field256.{numbers, mul, rounds, timesX, scaled}
 use Rattle.galois.proofs.Instance.{bytes, byte, byte-zero, byte-one}
-use Rattle.byte_lanes.specs.Lanes.{point, productsOf}
+use Rattle.byte_lanes.specs.Lanes.{alpha, productsOf}
 use Rattle.byte_lanes.proofs.Powers.{products-scaled}
 use Rattle.byte_lanes.proofs.Words.{length-sum, sum-at, length-products, products-at}
 use Rattle.reed_solomon.specs.Code.{factors, generator}
@@ -110,26 +110,26 @@ unfolding checkBytes remainderFrom divided generatorTail generator factors produ
 two-is = refl
 
 module _ (j : ℕ) (h : j < 16) where
-  high-row-one : high (point j) one ≡ power (ops bytes) (point j) 16
+  high-row-one : high (alpha j) one ≡ power (ops bytes) (alpha j) 16
   high-row-one =
-      ap (high (point j)) (sym one-is) ∙ high-check (point j) (generator-root j h) (1 ∷ [])
-      ∙ ap (λ (u : Fin 256). bytes .mul (power (ops bytes) (point j) 16) u) (high-one (point j) 1 ∙ byte-one)
-      ∙ mul-one bytes (power (ops bytes) (point j) 16)
+      ap (high (alpha j)) (sym one-is) ∙ high-check (alpha j) (generator-root j h) (1 ∷ [])
+      ∙ ap (λ (u : Fin 256). bytes .mul (power (ops bytes) (alpha j) 16) u) (high-one (alpha j) 1 ∙ byte-one)
+      ∙ mul-one bytes (power (ops bytes) (alpha j) 16)
 
-  high-row-two : high (point j) two ≡ power (ops bytes) (point j) 17
+  high-row-two : high (alpha j) two ≡ power (ops bytes) (alpha j) 17
   unfolding power
   high-row-two =
-      ap (high (point j)) (sym two-is) ∙ high-check (point j) (generator-root j h) (1 ∷ 0 ∷ [])
-      ∙ ap (λ (u : Fin 256). bytes .mul (power (ops bytes) (point j) 16) u)
-      (high-cons (point j) 1 (0 ∷ []) ∙ ap₂ (λ (u v : Fin 256). bytes .add u (bytes .mul (bytes .mul (point j) (bytes .𝟙)) v)) (high-one (point j) 0 ∙ byte-zero) byte-one)
-      ∙ row-identity bytes (power (ops bytes) (point j) 16) (point j)
+      ap (high (alpha j)) (sym two-is) ∙ high-check (alpha j) (generator-root j h) (1 ∷ 0 ∷ [])
+      ∙ ap (λ (u : Fin 256). bytes .mul (power (ops bytes) (alpha j) 16) u)
+      (high-cons (alpha j) 1 (0 ∷ []) ∙ ap₂ (λ (u v : Fin 256). bytes .add u (bytes .mul (bytes .mul (alpha j) (bytes .𝟙)) v)) (high-one (alpha j) 0 ∙ byte-zero) byte-one)
+      ∙ row-identity bytes (power (ops bytes) (alpha j) 16) (alpha j)
 
   -- two coefficients fewer, and the same value
-  window-step : (f g : ℕ) (w t : List ℕ) → length w ≡ 16 → high (point j) (f ∷ g ∷ (w ++ t)) ≡ high (point j) (reducedOf w (replicate 16 f) two (replicate 16 g) one ++ t)
+  window-step : (f g : ℕ) (w t : List ℕ) → length w ≡ 16 → high (alpha j) (f ∷ g ∷ (w ++ t)) ≡ high (alpha j) (reducedOf w (replicate 16 f) two (replicate 16 g) one ++ t)
   unfolding reducedOf
   window-step f g w t n =
-      window-two (point j) two one refl refl high-row-two high-row-one f g w t n
-      ∙ ap₂ (λ (u v : List ℕ). high (point j) (plus numbers (plus numbers w u) v ++ t)) (sym (products-scaled 16 f two refl)) (sym (products-scaled 16 g one refl))
+      window-two (alpha j) two one refl refl high-row-two high-row-one f g w t n
+      ∙ ap₂ (λ (u v : List ℕ). high (alpha j) (plus numbers (plus numbers w u) v ++ t)) (sym (products-scaled 16 f two refl)) (sym (products-scaled 16 g one refl))
 
 -- ---- the loop
 
@@ -178,6 +178,6 @@ module _ (p q p' o : List ℕ) (i : ℕ) (b : i + 18 ≤ 84) (n : 84 ≤ length 
   divide-more v =
       record {
         each = λ j h.
-            ap (high (point j)) after ∙ ap (λ (l : List ℕ). high (point j) (l ++ later)) e
-            ∙ sym (window-step j h (getD p i 0) (getD p (i + 1) 0) window later window-size) ∙ sym (ap (high (point j)) before) ∙ v .each j h;
+            ap (high (alpha j)) after ∙ ap (λ (l : List ℕ). high (alpha j) (l ++ later)) e
+            ∙ sym (window-step j h (getD p i 0) (getD p (i + 1) 0) window later window-size) ∙ sym (ap (high (alpha j)) before) ∙ v .each j h;
       }

@@ -17,7 +17,7 @@ use Rattle.galois.specs.Field256.{numbers, mul, rounds, timesX, scaled}
 use Rattle.galois.proofs.Instance.{bytes, byte, byte-zero, byte-one, byte-add, byte-mul}
 use Rattle.reed_solomon.specs.Code.{factors, generator, Codeword, differ}
 use Rattle.reed_solomon.specs.Encode.{generatorTail, divided, remainderFrom, checkBytes, encoded}
-use Rattle.byte_lanes.specs.Lanes.{elements, word, point}
+use Rattle.byte_lanes.specs.Lanes.{elements, word, alpha}
 use Rattle.byte_lanes.proofs.Words.{length-sum, elements-append, length-word, bytes-append, bytes-drop, bytes-zeros, bytes-plus, bytes-scale}
 use Rattle.reed_solomon.proofs.Codewords.{codeword-of, codeword-length, generator-root}
 use Rattle.reed_solomon.proofs.Distance.{same-codeword, differ-append, differ-none, differ-le}
@@ -229,10 +229,10 @@ module _ (message : List ℕ) (n : length message ≡ 188) (b : Bytes message) w
   pub encoded-codeword : Codeword (encoded message)
   encoded-codeword =
       codeword-of (encoded message) encoded-length encoded-bytes
-      (λ j l. high-append (point j) message (checkBytes message)
+      (λ j l. high-append (alpha j) message (checkBytes message)
       ∙ add-eq-zero bytes _ _
-      (high-check (point j) (generator-root j l) message
-      ∙ ap (λ (k : ℕ). bytes .mul (power (ops bytes) (point j) k) (high (point j) message)) (sym (check-remainder message .size))))
+      (high-check (alpha j) (generator-root j l) message
+      ∙ ap (λ (k : ℕ). bytes .mul (power (ops bytes) (alpha j) k) (high (alpha j) message)) (sym (check-remainder message .size))))
 
   -- and the only one that begins with the message
   pub encoded-only : (block : List ℕ) → Codeword block → take 188 block ≡ message → block ≡ encoded message

@@ -22,10 +22,10 @@ use Rattle.galois.specs.Field256.{pow}
 use Rattle.galois.proofs.Instance.{bytes, byte, byte-zero}
 use Rattle.reed_solomon.specs.Code.{Codeword, unequal, unequalBits, distance, differ, differBits, noChange}
 use Rattle.reed_solomon.specs.Marks.{marked, unmarked, cost, AcceptedMarked, RejectedMarked}
-use Rattle.byte_lanes.specs.Lanes.{point}
+use Rattle.byte_lanes.specs.Lanes.{alpha}
 use Rattle.reed_solomon.specs.Steps.{residueOf, allZero, SyndromesOf, weighed}
 use Rattle.error_locator.specs.Locator.{Located, Modified}
-use Rattle.error_correction.specs.Correction.{ByDegree, valuesOf, rootsOf, one, FoundRoots, monic, RootProduct, errorValue, ErrorValues, termsOf, Explained, correctedBy, changedIn}
+use Rattle.error_correction.specs.Correction.{ByDegree, valuesOf, rootsOf, onePolynomial, FoundRoots, monic, RootProduct, errorValue, ErrorValues, termsOf, Explained, correctedBy, changedIn}
 use Rattle.reed_solomon.proofs.Codewords.{blockSyndrome, codeword-of}
 use Rattle.error_correction.proofs.RootSearch.{length-values, value-kept}
 use Rattle.reed_solomon.proofs.Distance.{unequal-same, unequal-xor}
@@ -53,7 +53,7 @@ module _ (came : List ℕ) (n : length came ≡ 204) where
   -- a block whose residue is zero is a codeword already
   pub clean : (marks : List ℕ) → length marks ≡ 204 → marked marks ≤ 16 → Bytes came → allZero (residueOf came) ≡ true → AcceptedMarked marks came came noChange
   clean marks lm f b h =
-      accepted-marked marks came came noChange lm n (codeword-of came n b (λ j l. sym (residue-value came n j l) ∙ zero-value (point j) (residueOf came) h)) (sym (changes-none came))
+      accepted-marked marks came came noChange lm n (codeword-of came n b (λ j l. sym (residue-value came n j l) ∙ zero-value (alpha j) (residueOf came) h)) (sym (changes-none came))
       (omega (arith, unmarked-self marks came))
 
 -- ---- the search for errors
@@ -71,7 +71,7 @@ pub record Decoding (marks came s u ts : List ℕ) (size : ℕ) (q degrees place
   pub small : Bytes came
   pub syndromes-of : SyndromesOf (residueOf came) s
   pub by-degree : ByDegree marks u
-  pub modified : Modified s (map (pow 2) (rootsOf u one)) ts
+  pub modified : Modified s (map (pow 2) (rootsOf u onePolynomial)) ts
   pub size-most : 2 * size + marked marks ≤ 16
   pub size-least : 15 ≤ 2 * size + marked marks
   pub locator : Located ts size q
@@ -168,10 +168,10 @@ module _ {marks came s u ts : List ℕ} {size : ℕ} {q degrees places : List �
           (λ e. k (reverse-at came i (203 - i) (omega arith) ∙ e ∙ sym (reverse-at done i (203 - i) (omega (arith, done-length)))))
 
   -- explained: what is left is a codeword, and the counts are true
-  pub repaired : (left : List ℕ) (k m : ℕ) → Explained places values s true → left ≡ correctedBy came (take count degrees) es
+  pub corrected : (left : List ℕ) (k m : ℕ) → Explained places values s true → left ≡ correctedBy came (take count degrees) es
       → k ≡ changedIn es → m ≡ weighed (unequalBits 8) es → AcceptedMarked marks came left (record { bytes = k; bits = m })
   unfolding differ differBits
-  repaired left k m f e g i =
+  corrected left k m f e g i =
       subst (λ (l : List ℕ). AcceptedMarked marks came l (record { bytes = k; bits = m })) (sym whole)
       (accepted-marked marks came done (record { bytes = k; bits = m }) lm n
       (codeword-of done done-length (corrected-bytes came (rootsOf u q) es n b es-bytes)
@@ -184,8 +184,8 @@ module _ {marks came s u ts : List ℕ} {size : ℕ} {q degrees places : List �
       whole = e ∙ ap (λ (ds : List ℕ). correctedBy came ds es) (fr .listed)
 
       apart : (d : ℕ → ℕ → ℕ) → ((x : ℕ) → d x x ≡ 0) → ((x y : ℕ) → d x (bitXor x y) ≡ d y 0) → distance d came done ≡ weighed d es
-      apart d none one =
-          corrected-distance d none one came (rootsOf u q) es n in-range (distinct-unmap point (rootsOf u q) (roots-distinct u q)) es-length
+      apart d none onePolynomial =
+          corrected-distance d none onePolynomial came (rootsOf u q) es n in-range (distinct-unmap alpha (rootsOf u q) (roots-distinct u q)) es-length
 
   -- the degrees are those of a block
   pub degrees-range : (l : ℕ) → l < count → getD degrees l 0 < 204

@@ -15,7 +15,7 @@ use Rattle.algebra.specs.Field.{ops}
 use Rattle.algebra.specs.Polynomial.{power, eval}
 use Rattle.algebra.proofs.Ring.{add-comm, zero-add as field-zero-add}
 use Rattle.galois.proofs.Instance.{bytes}
-use Rattle.byte_lanes.specs.Lanes.{elements, point, PowersFrom, ValuesAt}
+use Rattle.byte_lanes.specs.Lanes.{elements, alpha, PowersFrom, ValuesAt}
 use Rattle.byte_lanes.proofs.Powers.{powers-at}
 use Rattle.byte_lanes.proofs.Words.{length-sum, bytes-plus, bytes-drop}
 use Rattle.reed_solomon.specs.Encode.{checkBytes}
@@ -55,7 +55,7 @@ pub syndromes-of : (l q x s : List ℕ) → q ≡ reverse l → PowersFrom 0 x �
 syndromes-of l q x s e p v =
     record {
       each = λ j h. v .each j h
-          ∙ ap₂ (λ (r : List ℕ) (u : Fin 256). eval (ops bytes) (elements r) u) e (powers-at 0 x p j h ∙ ap point (zero-add j));
+          ∙ ap₂ (λ (r : List ℕ) (u : Fin 256). eval (ops bytes) (elements r) u) e (powers-at 0 x p j h ∙ ap alpha (zero-add j));
     }
 
 -- ---- the check bytes and the residue, known by their values at the roots
@@ -64,7 +64,7 @@ pub check-of-values : (message r : List ℕ) → length message ≡ 188 → leng
 check-of-values message r n m b v =
     same-sixteen r (checkBytes message) m (check-remainder message .size) b (check-remainder message .small)
     (λ j h.
-    let x : Fin 256 = point j in
+    let x : Fin 256 = alpha j in
     let k : 204 - length message ≡ 16 = omega arith in
     v .each j h ∙ ap (λ (i : ℕ). high x (message ++ replicate i 0)) k ∙ high-append x message (replicate 16 0)
     ∙ ap (λ (u : Fin 256). bytes .add u (bytes .mul (power (ops bytes) x 16) (high x message))) (high-zeros x 16)
@@ -77,14 +77,14 @@ module _ (block : List ℕ) (n : length block ≡ 204) where
   sides : length (checkBytes (take 188 block)) ≡ length (drop 188 block)
   sides = check-remainder (take 188 block) .size ∙ sym last
 
-  pub residue-value : (j : ℕ) → j < 16 → high (point j) (residueOf block) ≡ blockSyndrome block j
+  pub residue-value : (j : ℕ) → j < 16 → high (alpha j) (residueOf block) ≡ blockSyndrome block j
   unfolding residueOf
   residue-value j h =
-      high-plus (point j) (checkBytes (take 188 block)) (drop 188 block) sides
-      ∙ ap (λ (u : Fin 256). bytes .add u (high (point j) (drop 188 block))) (high-check (point j) (generator-root j h) (take 188 block))
-      ∙ add-comm bytes (bytes .mul (power (ops bytes) (point j) 16) (high (point j) (take 188 block))) (high (point j) (drop 188 block))
-      ∙ ap (λ (k : ℕ). bytes .add (high (point j) (drop 188 block)) (bytes .mul (power (ops bytes) (point j) k) (high (point j) (take 188 block)))) (sym last)
-      ∙ sym (high-append (point j) (take 188 block) (drop 188 block)) ∙ ap (high (point j)) (take-append-drop 188 block)
+      high-plus (alpha j) (checkBytes (take 188 block)) (drop 188 block) sides
+      ∙ ap (λ (u : Fin 256). bytes .add u (high (alpha j) (drop 188 block))) (high-check (alpha j) (generator-root j h) (take 188 block))
+      ∙ add-comm bytes (bytes .mul (power (ops bytes) (alpha j) 16) (high (alpha j) (take 188 block))) (high (alpha j) (drop 188 block))
+      ∙ ap (λ (k : ℕ). bytes .add (high (alpha j) (drop 188 block)) (bytes .mul (power (ops bytes) (alpha j) k) (high (alpha j) (take 188 block)))) (sym last)
+      ∙ sym (high-append (alpha j) (take 188 block) (drop 188 block)) ∙ ap (high (alpha j)) (take-append-drop 188 block)
 
   residue-length : length (residueOf block) ≡ 16
   unfolding residueOf
@@ -99,4 +99,4 @@ module _ (block : List ℕ) (n : length block ≡ 204) where
       same-sixteen r (residueOf block) m residue-length b (residue-bytes bb)
       (λ j h.
       let k : 204 - length block ≡ 0 = omega arith in
-      v .each j h ∙ ap (λ (i : ℕ). high (point j) (block ++ replicate i 0)) k ∙ ap (high (point j)) (append-nil block) ∙ sym (residue-value j h))
+      v .each j h ∙ ap (λ (i : ℕ). high (alpha j) (block ++ replicate i 0)) k ∙ ap (high (alpha j)) (append-nil block) ∙ sym (residue-value j h))

@@ -21,7 +21,7 @@ use Rattle.galois.specs.Field256.{pow}
 use Rattle.galois.proofs.Instance.{bytes, byte, byte-zero, byte-add, byte-power}
 use Rattle.reed_solomon.specs.Code.{distance}
 use Rattle.reed_solomon.specs.Steps.{weighed}
-use Rattle.byte_lanes.specs.Lanes.{point}
+use Rattle.byte_lanes.specs.Lanes.{alpha}
 use Rattle.error_correction.specs.Correction.{termsOf, correctedBy}
 use Rattle.reed_solomon.proofs.Distance.{distance-none}
 use Rattle.reed_solomon.proofs.LongDivision.{high, high-cons}
@@ -91,21 +91,21 @@ corrected-bytes b (d ∷ ds) (e ∷ es) n h k =
     (bytes-set b (203 - d) (bitXor (getD b (203 - d) 0) e) h (xor-lt 8 (getD b (203 - d) 0) e (bytes-at b (203 - d) h (omega arith)) (k .0))) (k .1)
 
 pub corrected-value : (j : ℕ) (b ds es : List ℕ) → length b ≡ 204 → All (λ d. d < 204) ds → length es ≡ length ds
-    → high (point j) (correctedBy b ds es) ≡ bytes .add (high (point j) b) (syndrome bytes (degreeTerms ds es) j)
+    → high (alpha j) (correctedBy b ds es) ≡ bytes .add (high (alpha j) b) (syndrome bytes (degreeTerms ds es) j)
 unfolding correctedBy degreeTerms syndrome
-corrected-value j b [] es n h m = sym (field-add-zero bytes (high (point j) b))
+corrected-value j b [] es n h m = sym (field-add-zero bytes (high (alpha j) b))
 corrected-value j b (d ∷ ds) [] n h m = absurd (omega arith)
 corrected-value j b (d ∷ ds) (e ∷ es) n h m =
     corrected-value j (set b (203 - d) (bitXor (getD b (203 - d) 0) e)) ds es (length-set b (203 - d) (bitXor (getD b (203 - d) 0) e) ∙ n) (h .1) (omega arith)
-    ∙ ap (λ (u : Fin 256). bytes .add u (syndrome bytes (degreeTerms ds es) j)) (high-set (point j) b (203 - d) e (omega (arith, h .0)))
-    ∙ ap (λ (u : Fin 256). bytes .add (bytes .add (high (point j) b) (bytes .mul u (byte e))) (syndrome bytes (degreeTerms ds es) j)) place
-    ∙ next-identity bytes (high (point j) b) (power (ops bytes) (point d) j) (byte e) (syndrome bytes (degreeTerms ds es) j)
+    ∙ ap (λ (u : Fin 256). bytes .add u (syndrome bytes (degreeTerms ds es) j)) (high-set (alpha j) b (203 - d) e (omega (arith, h .0)))
+    ∙ ap (λ (u : Fin 256). bytes .add (bytes .add (high (alpha j) b) (bytes .mul u (byte e))) (syndrome bytes (degreeTerms ds es) j)) place
+    ∙ next-identity bytes (high (alpha j) b) (power (ops bytes) (alpha d) j) (byte e) (syndrome bytes (degreeTerms ds es) j)
   where
     degree : length b - 1 - (203 - d) ≡ d
     degree = omega (arith, h .0)
 
-    place : power (ops bytes) (point j) (length b - 1 - (203 - d)) ≡ power (ops bytes) (point d) j
-    place = ap (power (ops bytes) (point j)) degree ∙ power-swap bytes (byte 2) j d
+    place : power (ops bytes) (alpha j) (length b - 1 - (203 - d)) ≡ power (ops bytes) (alpha d) j
+    place = ap (power (ops bytes) (alpha j)) degree ∙ power-swap bytes (byte 2) j d
 
 -- ---- how far from what came
 

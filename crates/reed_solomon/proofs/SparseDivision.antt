@@ -22,7 +22,7 @@ use Rattle.algebra.specs.Polynomial.{power, eval, plus}
 use Rattle.algebra.proofs.Ring.{ring, add-zero, mul-zero, zero-mul, zero-add}
 use Rattle.galois.specs.Field256.{numbers}
 use Rattle.galois.proofs.Instance.{bytes, byte-one}
-use Rattle.byte_lanes.specs.Lanes.{elements, point}
+use Rattle.byte_lanes.specs.Lanes.{elements, alpha}
 use Rattle.byte_lanes.proofs.Powers.{zeros-at}
 use Rattle.byte_lanes.proofs.Words.{length-sum, sum-at}
 use Rattle.reed_solomon.specs.Steps.{delays, delayedSum, DelayedSums, SparseQuotient, SparseRemainder, SameValues}
@@ -228,13 +228,13 @@ sparse-spread : spread (0 ∷ delays) (1 ∷ []) (replicate 85 0) ≡ reverse sp
 unfolding spread delayed plus
 sparse-spread = refl
 
-total-zero : (j : ℕ) → j < 16 → total (point j) (0 ∷ delays) ≡ bytes .𝟘
+total-zero : (j : ℕ) → j < 16 → total (alpha j) (0 ∷ delays) ≡ bytes .𝟘
 total-zero j h =
-    sym (one-identity bytes (total (point j) (0 ∷ delays)))
-    ∙ sym (ap₂ (λ (u v : Fin 256). bytes .add (bytes .mul (total (point j) (0 ∷ delays)) u) v) (high-one (point j) 1 ∙ byte-one) (high-zeros (point j) 85))
-    ∙ sym (high-spread (point j) (0 ∷ delays) (1 ∷ []) (replicate 85 0) within refl)
-    ∙ ap (high (point j)) sparse-spread
-    ∙ ap (λ (l : List ℕ). eval (ops bytes) (elements l) (point j)) (reverse-reverse sparse)
+    sym (one-identity bytes (total (alpha j) (0 ∷ delays)))
+    ∙ sym (ap₂ (λ (u v : Fin 256). bytes .add (bytes .mul (total (alpha j) (0 ∷ delays)) u) v) (high-one (alpha j) 1 ∙ byte-one) (high-zeros (alpha j) 85))
+    ∙ sym (high-spread (alpha j) (0 ∷ delays) (1 ∷ []) (replicate 85 0) within refl)
+    ∙ ap (high (alpha j)) sparse-spread
+    ∙ ap (λ (l : List ℕ). eval (ops bytes) (elements l) (alpha j)) (reverse-reverse sparse)
     ∙ sparse-root j h
 
 -- ---- what is left
@@ -320,12 +320,12 @@ module _ (m q r : List ℕ) (lm : length m ≡ 224) (lq : length q ≡ 320) (lr 
       each k l (no b) =
           once k (ap₂ bitXor (rest-high k (omega arith) l) (Q .after (84 + k - 0) (omega arith)) ∙ xor-zero-r (delayedSum delays q (84 + k) (getD m k 0))) l
 
-  sparse-values : (j : ℕ) → j < 16 → high (point j) (take 84 r) ≡ high (point j) (take 212 m)
+  sparse-values : (j : ℕ) → j < 16 → high (alpha j) (take 84 r) ≡ high (alpha j) (take 212 m)
   sparse-values j h =
-      sym (high-leading (point j) 128 (take 84 r))
-      ∙ sym (none-identity bytes (total (point j) (0 ∷ delays)) (high (point j) inner) (high (point j) rest) (total-zero j h))
-      ∙ sym (high-spread (point j) (0 ∷ delays) inner rest within (rest-length ∙ omega (arith, inner-length)))
-      ∙ sym (ap (high (point j)) whole)
+      sym (high-leading (alpha j) 128 (take 84 r))
+      ∙ sym (none-identity bytes (total (alpha j) (0 ∷ delays)) (high (alpha j) inner) (high (alpha j) rest) (total-zero j h))
+      ∙ sym (high-spread (alpha j) (0 ∷ delays) inner rest within (rest-length ∙ omega (arith, inner-length)))
+      ∙ sym (ap (high (alpha j)) whole)
 
 -- ---- the dividend
 
@@ -355,6 +355,6 @@ pub divided-values : (l m q p s r : List ℕ) → length l ≤ 204 → m ≡ tak
 divided-values l m q p s r h e lm lq lp Q R D f =
     record {
       each = λ j b.
-          ap (high (point j)) f ∙ D .each j b ∙ sparse-values m q p lm lq lp Q R j b ∙ ap (high (point j)) (laid-out l m h e)
-          ∙ high-leading (point j) 8 (l ++ replicate (204 - length l) 0);
+          ap (high (alpha j)) f ∙ D .each j b ∙ sparse-values m q p lm lq lp Q R j b ∙ ap (high (alpha j)) (laid-out l m h e)
+          ∙ high-leading (alpha j) 8 (l ++ replicate (204 - length l) 0);
     }

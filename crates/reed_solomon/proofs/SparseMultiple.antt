@@ -9,7 +9,7 @@ use Rattle.algebra.proofs.Ring.{zero-mul}
 use Rattle.algebra.proofs.Polynomial.{eval-product}
 use Rattle.galois.specs.Field256.{numbers, mul, rounds, timesX}
 use Rattle.galois.proofs.Instance.{bytes}
-use Rattle.byte_lanes.specs.Lanes.{elements, point}
+use Rattle.byte_lanes.specs.Lanes.{elements, alpha}
 use Rattle.byte_lanes.proofs.Words.{elements-product}
 use Rattle.reed_solomon.specs.Code.{factors, generator}
 use Rattle.reed_solomon.proofs.Codewords.{generator-root}
@@ -26,10 +26,10 @@ sparse-is : product numbers generator cofactor ≡ sparse
 unfolding generator factors product scale plus power mul rounds timesX
 sparse-is = refl
 
-pub sparse-root : (j : ℕ) → j < 16 → eval (ops bytes) (elements sparse) (point j) ≡ bytes .𝟘
+pub sparse-root : (j : ℕ) → j < 16 → eval (ops bytes) (elements sparse) (alpha j) ≡ bytes .𝟘
 sparse-root j h =
-    ap (λ (l : List ℕ). eval (ops bytes) (elements l) (point j)) (sym sparse-is)
-    ∙ ap (λ (p : List (Fin 256)). eval (ops bytes) p (point j)) (elements-product generator cofactor)
-    ∙ eval-product bytes (elements generator) (elements cofactor) (point j)
-    ∙ ap (λ (u : Fin 256). bytes .mul u (eval (ops bytes) (elements cofactor) (point j))) (generator-root j h)
-    ∙ zero-mul bytes (eval (ops bytes) (elements cofactor) (point j))
+    ap (λ (l : List ℕ). eval (ops bytes) (elements l) (alpha j)) (sym sparse-is)
+    ∙ ap (λ (p : List (Fin 256)). eval (ops bytes) p (alpha j)) (elements-product generator cofactor)
+    ∙ eval-product bytes (elements generator) (elements cofactor) (alpha j)
+    ∙ ap (λ (u : Fin 256). bytes .mul u (eval (ops bytes) (elements cofactor) (alpha j))) (generator-root j h)
+    ∙ zero-mul bytes (eval (ops bytes) (elements cofactor) (alpha j))

@@ -21,16 +21,16 @@ use Rattle.algebra.proofs.Ring.{mul-comm, zero-mul, zero-add}
 use Rattle.algebra.proofs.Syndromes.{syndrome}
 use Rattle.algebra.proofs.Terms.{terms}
 use Rattle.galois.proofs.Instance.{bytes, byte}
-use Rattle.byte_lanes.specs.Lanes.{point}
-use Rattle.error_correction.specs.Correction.{Unmarked, ByDegree, masked, valuesOf, zerosFrom, rootsOf, one}
+use Rattle.byte_lanes.specs.Lanes.{alpha}
+use Rattle.error_correction.specs.Correction.{Unmarked, ByDegree, masked, valuesOf, zerosFrom, rootsOf, onePolynomial}
 use Rattle.error_correction.proofs.RootSearch.{length-values, value-one}
 use Rattle.reed_solomon.specs.Marks.{marked}
 use Rattle.reed_solomon.proofs.MarkedDistance.{marked-reverse}
 use Rattle.reed_solomon.proofs.Residue.{reverse-at}
 
-pub point-next : (n : ℕ) → point (n + 1) ≡ bytes .mul (point n) (byte 2)
+pub point-next : (n : ℕ) → alpha (n + 1) ≡ bytes .mul (alpha n) (byte 2)
 unfolding power
-point-next n = ap point (add-one n) ∙ mul-comm bytes (byte 2) (point n)
+point-next n = ap alpha (add-one n) ∙ mul-comm bytes (byte 2) (alpha n)
 
 -- what holds at every zero holds of every place listed
 pub zeros-all : (P : ℕ → Type 0) (n : ℕ) (l : List ℕ) → ((i : ℕ) → i < length l → getD l i 0 ≡ 0 → P (n + i)) → All P (zerosFrom n l)
@@ -81,7 +81,7 @@ zeros-distinct f m n (x ∷ l) h b = go (ℕ-discrete x 0) (zeros-away f m n (n 
 -- a sum over all places, where every term off the list is zero, is the sum over the list
 pub zeros-syndrome : (g : ℕ → Fin 256) (n : ℕ) (l : List ℕ) (e : List (Fin 256)) (j : ℕ) → length l ≡ length e
     → ((i : ℕ) → i < length e → getD e i (bytes .𝟘) ≡ g (n + i)) → ((i : ℕ) → i < length l → (getD l i 0 ≡ 0 → ⊥) → g (n + i) ≡ bytes .𝟘)
-    → syndrome bytes (map (λ d. (point d, g d)) (zerosFrom n l)) j ≡ syndrome bytes (terms bytes (byte 2) (point n) e) j
+    → syndrome bytes (map (λ d. (alpha d, g d)) (zerosFrom n l)) j ≡ syndrome bytes (terms bytes (byte 2) (alpha n) e) j
 unfolding zerosFrom syndrome terms
 zeros-syndrome g n [] [] j h a z = refl
 zeros-syndrome g n [] (b ∷ e) j h a z = absurd (omega arith)
@@ -94,22 +94,22 @@ zeros-syndrome g n (x ∷ l) (b ∷ e) j h a z =
     shift : (i : ℕ) → n + suc i ≡ n + 1 + i
     shift i = omega arith
 
-    next : point (n + 1) ≡ bytes .mul (point n) (byte 2)
+    next : alpha (n + 1) ≡ bytes .mul (alpha n) (byte 2)
     next = point-next n
 
     head : g n ≡ b
     head = sym (a 0 (omega arith) ∙ ap g (add-zero n))
 
-    go : Dec (x ≡ 0) → syndrome bytes (map (λ d. (point d, g d)) (zerosFrom (n + 1) l)) j ≡ syndrome bytes (terms bytes (byte 2) (bytes .mul (point n) (byte 2)) e) j
-        → syndrome bytes (map (λ d. (point d, g d)) (pick (eqb x 0) (n ∷ []) [] ++ zerosFrom (n + 1) l)) j
-        ≡ bytes .add (bytes .mul b (power (ops bytes) (point n) j)) (syndrome bytes (terms bytes (byte 2) (bytes .mul (point n) (byte 2)) e) j)
-    go (yes q) r = rw (eq-eqb x 0 q) (ap₂ (λ (u v : Fin 256). bytes .add (bytes .mul u (power (ops bytes) (point n) j)) v) head r)
+    go : Dec (x ≡ 0) → syndrome bytes (map (λ d. (alpha d, g d)) (zerosFrom (n + 1) l)) j ≡ syndrome bytes (terms bytes (byte 2) (bytes .mul (alpha n) (byte 2)) e) j
+        → syndrome bytes (map (λ d. (alpha d, g d)) (pick (eqb x 0) (n ∷ []) [] ++ zerosFrom (n + 1) l)) j
+        ≡ bytes .add (bytes .mul b (power (ops bytes) (alpha n) j)) (syndrome bytes (terms bytes (byte 2) (bytes .mul (alpha n) (byte 2)) e) j)
+    go (yes q) r = rw (eq-eqb x 0 q) (ap₂ (λ (u v : Fin 256). bytes .add (bytes .mul u (power (ops bytes) (alpha n) j)) v) head r)
     go (no q) r =
         rw (ne-eqb x 0 q)
-        (r ∙ sym (ap (λ (u : Fin 256). bytes .add (bytes .mul u (power (ops bytes) (point n) j)) (syndrome bytes (terms bytes (byte 2) (bytes .mul (point n) (byte 2)) e) j))
+        (r ∙ sym (ap (λ (u : Fin 256). bytes .add (bytes .mul u (power (ops bytes) (alpha n) j)) (syndrome bytes (terms bytes (byte 2) (bytes .mul (alpha n) (byte 2)) e) j))
         (sym head ∙ ap g (sym (add-zero n)) ∙ z 0 (omega arith) q)
-        ∙ ap (λ (u : Fin 256). bytes .add u (syndrome bytes (terms bytes (byte 2) (bytes .mul (point n) (byte 2)) e) j)) (zero-mul bytes (power (ops bytes) (point n) j))
-        ∙ zero-add bytes (syndrome bytes (terms bytes (byte 2) (bytes .mul (point n) (byte 2)) e) j)))
+        ∙ ap (λ (u : Fin 256). bytes .add u (syndrome bytes (terms bytes (byte 2) (bytes .mul (alpha n) (byte 2)) e) j)) (zero-mul bytes (power (ops bytes) (alpha n) j))
+        ∙ zero-add bytes (syndrome bytes (terms bytes (byte 2) (bytes .mul (alpha n) (byte 2)) e) j)))
 
 -- ---- how many zeros there are
 
@@ -134,15 +134,15 @@ zeros-shared n [] u v a b m = omega arith
 zeros-shared n (z ∷ w) [] v a b m = absurd (omega arith)
 zeros-shared n (z ∷ w) (x ∷ u) [] a b m = absurd (omega arith)
 zeros-shared n (z ∷ w) (x ∷ u) (y ∷ v) a b m =
-    omega (arith, zeros-cons n z w, zeros-cons n x u, zeros-cons n y v, one (ℕ-discrete z 0), zeros-shared (n + 1) w u v (omega arith) (omega arith) (λ i h. m (suc i) (omega arith)))
+    omega (arith, zeros-cons n z w, zeros-cons n x u, zeros-cons n y v, onePolynomial (ℕ-discrete z 0), zeros-shared (n + 1) w u v (omega arith) (omega arith) (λ i h. m (suc i) (omega arith)))
   where
     either : (x ≡ 0) ⊎ (y ≡ 0) → z ≡ 0 → hit n z ≤ hit n x + hit n y
     either (inl e) k = omega (arith, hit-zero n z k, hit-zero n x e)
     either (inr e) k = omega (arith, hit-zero n z k, hit-zero n y e)
 
-    one : Dec (z ≡ 0) → hit n z ≤ hit n x + hit n y
-    one (yes e) = either (m 0 (omega arith) e) e
-    one (no e) = omega (arith, hit-other n z e)
+    onePolynomial : Dec (z ≡ 0) → hit n z ≤ hit n x + hit n y
+    onePolynomial (yes e) = either (m 0 (omega arith) e) e
+    onePolynomial (no e) = omega (arith, hit-other n z e)
 
 hit-mark : (n x m : ℕ) → x ≡ masked m 1 → hit n x ≡ pick (eqb m 0) 0 1
 hit-mark n x m e = go (ℕ-discrete m 0)
@@ -168,11 +168,11 @@ unmarked-degrees marks u c z = record { each = λ d. by d (decLt d 204) }
     by d (no h) = c .after d (omega arith)
 
 -- there are as many erasures as marks
-pub erasures-count : (marks u : List ℕ) → length marks ≡ 204 → ByDegree marks u → length (rootsOf u one) ≡ marked marks
+pub erasures-count : (marks u : List ℕ) → length marks ≡ 204 → ByDegree marks u → length (rootsOf u onePolynomial) ≡ marked marks
 erasures-count marks u n c =
-    zeros-marked 0 (valuesOf u one) (reverse marks) (length-values u one ∙ sym (length-reverse marks ∙ n)) at ∙ marked-reverse marks
+    zeros-marked 0 (valuesOf u onePolynomial) (reverse marks) (length-values u onePolynomial ∙ sym (length-reverse marks ∙ n)) at ∙ marked-reverse marks
   where
-    at : (i : ℕ) → i < length (valuesOf u one) → getD (valuesOf u one) i 0 ≡ masked (getD (reverse marks) i 0) 1
+    at : (i : ℕ) → i < length (valuesOf u onePolynomial) → getD (valuesOf u onePolynomial) i 0 ≡ masked (getD (reverse marks) i 0) 1
     at i h =
-        let l : i < 204 = omega (arith, length-values u one) in
+        let l : i < 204 = omega (arith, length-values u onePolynomial) in
         value-one u i l ∙ ap (λ (m : ℕ). masked m 1) (c .each i l ∙ sym (reverse-at marks i (203 - i) (omega arith)))

@@ -33,8 +33,8 @@ encoded message = message ++ checkBytes message
 
 -- the answer's number: 1 for data that is not 188 bytes, 4 for room under 204
 abbrev pub encodeNumber : List ℕ → List ℕ → ℕ
-encodeNumber message room = pick (eqb (length message) 188) (pick (ltb (length room) 204) 4 0) 1
+encodeNumber message output = pick (eqb (length message) 188) (pick (ltb (length output) 204) 4 0) 1
 
--- the room after the call
-abbrev pub encodeRoom : List ℕ → List ℕ → List ℕ
-encodeRoom message room = pick (eqb (encodeNumber message room) 0) (encoded message ++ drop 204 room) room
+-- the output after the call
+abbrev pub encodeOutput : List ℕ → List ℕ → List ℕ
+encodeOutput message output = pick (eqb (encodeNumber message output) 0) (encoded message ++ drop 204 output) output

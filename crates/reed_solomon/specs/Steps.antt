@@ -13,7 +13,7 @@ use Rattle.algebra.specs.Field.{ops}
 use Rattle.algebra.specs.Polynomial.{eval, plus}
 use Rattle.galois.specs.Field256.{numbers}
 use Rattle.galois.proofs.Instance.{bytes, byte}
-use Rattle.byte_lanes.specs.Lanes.{word, point, productsOf}
+use Rattle.byte_lanes.specs.Lanes.{word, alpha, productsOf}
 use Rattle.reed_solomon.specs.Encode.{checkBytes}
 
 -- ---- the division
@@ -47,7 +47,7 @@ reducedOf s f following g generator = plus numbers (plus numbers s (productsOf f
 
 -- the same values at the sixteen roots of g
 pub record SameValues (a b : List ℕ) : Type 0 where
-  pub each : (j : ℕ) → j < 16 → eval (ops bytes) (word a) (point j) ≡ eval (ops bytes) (word b) (point j)
+  pub each : (j : ℕ) → j < 16 → eval (ops bytes) (word a) (alpha j) ≡ eval (ops bytes) (word b) (alpha j)
 
 -- ---- the residue
 
@@ -63,7 +63,7 @@ allZero (x ∷ l) = pick (eqb x 0) (allZero l) false
 
 -- the values of a list, the highest coefficient first, at the sixteen roots
 pub record SyndromesOf (l s : List ℕ) : Type 0 where
-  pub each : (j : ℕ) → j < 16 → byte (getD s j 0) ≡ eval (ops bytes) (word l) (point j)
+  pub each : (j : ℕ) → j < 16 → byte (getD s j 0) ≡ eval (ops bytes) (word l) (alpha j)
 
 -- ---- the errors
 

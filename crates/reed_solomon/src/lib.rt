@@ -3,7 +3,7 @@ ghost use mathlib.Core.Path.{_≡_};
 ghost use Rattle.answer.specs.Number.{numberOf};
 ghost use Prim.Native.Nat.{_≤_, max};
 ghost use lib.ListN.{length};
-ghost use Rattle.reed_solomon.specs.Encode.{encodeNumber, encodeRoom};
+ghost use Rattle.reed_solomon.specs.Encode.{encodeNumber, encodeOutput};
 ghost use Rattle.reed_solomon.specs.Decode.{Decodes, changedBy};
 ghost use Rattle.reed_solomon.specs.Marks.{Marks, largest, areMarks, marked, DecodesMarked};
 ghost use Rattle.reed_solomon.specs.Steps.{residueOf};
@@ -66,26 +66,26 @@ impl Decoded {
 }
 
 // Writes the 188 bytes of the message and the sixteen that make the block a codeword.
-pub fn encode(message: &[u8], room: &mut [u8]) -> Answer
+pub fn encode(message: &[u8], output: &mut [u8]) -> Answer
     ensures { λ r. ⌜
-        (numberOf r ≡ encodeNumber (now (message .entry)) (now (room .entry)))
-        × (now (room .exit) ≡ encodeRoom (now (message .entry)) (now (room .entry))) ⌝ }
+        (numberOf r ≡ encodeNumber (now (message .entry)) (now (output .entry)))
+        × (now (output .exit) ≡ encodeOutput (now (message .entry)) (now (output .entry))) ⌝ }
 {
     if message.len() != 188 {
         return Answer::PacketLength;
     }
-    if room.len() < 204 {
-        return Answer::RoomLength;
+    if output.len() < 204 {
+        return Answer::OutputLength;
     }
     let check = division::check_bytes(message);
-    common::put(message, 0, room);
-    common::put(&check, 188, room);
+    common::put(message, 0, output);
+    common::put(&check, 188, output);
     Answer::Done
 }
 
 // Finds the wrong bytes of a block, those among the marked ones, f in number, and up to (16 - f) / 2 others, and takes them away where that explains the
 // whole residue.
-fn repair(block: &mut [u8], residue: [u8; 16], marks: &[u8], f: usize) -> Decoded
+fn correct_errors(block: &mut [u8], residue: [u8; 16], marks: &[u8], f: usize) -> Decoded
     requires { ⌜
         (length (now block) ≡ 204)
         × (residue ≡ residueOf (now block))
@@ -126,7 +126,7 @@ pub fn decode(block: &mut [u8]) -> Decoded
         return Decoded::Corrected(Changed { bytes: 0, bits: 0 });
     }
     let none = [0u8; 204];
-    repair(block, residue, &none, 0)
+    correct_errors(block, residue, &none, 0)
 }
 
 // The larger of two bytes.
@@ -195,5 +195,5 @@ pub fn decode_marked(block: &mut [u8], marks: &[u8]) -> Decoded
     if division::is_zero(residue) {
         return Decoded::Corrected(Changed { bytes: 0, bits: 0 });
     }
-    repair(block, residue, marks, f)
+    correct_errors(block, residue, marks, f)
 }

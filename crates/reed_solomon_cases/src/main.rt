@@ -247,8 +247,8 @@ fn generator() {
     }
 }
 
-fn encode_answer(name: &[u8], message: &[u8], room: &mut [u8]) {
-    let answer = reed_solomon::encode(message, room);
+fn encode_answer(name: &[u8], message: &[u8], output: &mut [u8]) {
+    let answer = reed_solomon::encode(message, output);
     vector_files::print_line(name, answer.number() as u64);
 }
 
@@ -260,16 +260,16 @@ fn limits() {
     let shorter = [0u8; 187];
     let message = [0u8; 188];
     let longer = [0u8; 189];
-    let mut short_room = [0u8; 203];
-    let mut room = [0u8; 204];
-    let mut long_room = [0u8; 205];
-    encode_answer(b"message of 187 bytes: answer ", &shorter, &mut room);
-    encode_answer(b"message of 188 bytes: answer ", &message, &mut room);
-    encode_answer(b"message of 189 bytes: answer ", &longer, &mut room);
-    encode_answer(b"room of 203 bytes: answer ", &message, &mut short_room);
-    decode_answer(b"block of 203 bytes: answer ", &mut short_room);
-    decode_answer(b"block of 204 bytes: answer ", &mut room);
-    decode_answer(b"block of 205 bytes: answer ", &mut long_room);
+    let mut short_output = [0u8; 203];
+    let mut output = [0u8; 204];
+    let mut long_output = [0u8; 205];
+    encode_answer(b"message of 187 bytes: answer ", &shorter, &mut output);
+    encode_answer(b"message of 188 bytes: answer ", &message, &mut output);
+    encode_answer(b"message of 189 bytes: answer ", &longer, &mut output);
+    encode_answer(b"room of 203 bytes: answer ", &message, &mut short_output);
+    decode_answer(b"block of 203 bytes: answer ", &mut short_output);
+    decode_answer(b"block of 204 bytes: answer ", &mut output);
+    decode_answer(b"block of 205 bytes: answer ", &mut long_output);
 }
 
 fn main() {

@@ -9,12 +9,12 @@ use native.Mathlib.Omega.{arith}
 use lib.ListN.{drop}
 use Rattle.report.specs.declared.Report.{Report}
 use Rattle.report.specs.Text.{reportText, fits, sums}
-use Rattle.report.specs.Read.{blank, Reads, ReadsWhole}
+use Rattle.report.specs.Read.{blank, ReadsReport, ReadsWhole}
 use Rattle.report.specs.Steps.{Front}
 use Rattle.report.proofs.Fronts.{report-unique}
 
 module _ (text : List ℕ) (at : ℕ) (r : Report) (e : ℕ) where
-  pub read-none : Front text at false r e → Reads (drop at text) 17 blank (drop at text)
+  pub read-none : Front text at false r e → ReadsReport (drop at text) 17 blank (drop at text)
   read-none f = record {
     done = λ d. absurd (omega arith);
     wrong = λ d. absurd (omega arith);
@@ -23,7 +23,7 @@ module _ (text : List ℕ) (at : ℕ) (r : Report) (e : ℕ) where
     blanked = λ d. refl;
   }
 
-  pub read-wrong : Front text at true r e → sums r ≡ false → Reads (drop at text) 18 blank (drop e text)
+  pub read-wrong : Front text at true r e → sums r ≡ false → ReadsReport (drop at text) 18 blank (drop e text)
   read-wrong f s = record {
     done = λ d. absurd (omega arith);
     wrong = λ d. (r, f .small refl, s, f .is refl);
@@ -32,7 +32,7 @@ module _ (text : List ℕ) (at : ℕ) (r : Report) (e : ℕ) where
     blanked = λ d. refl;
   }
 
-  pub read-done : Front text at true r e → sums r ≡ true → Reads (drop at text) 0 r (drop e text)
+  pub read-done : Front text at true r e → sums r ≡ true → ReadsReport (drop at text) 0 r (drop e text)
   read-done f s = record {
     done = λ d. (f .small refl, s, f .is refl);
     wrong = λ d. absurd (omega arith);
@@ -43,7 +43,7 @@ module _ (text : List ℕ) (at : ℕ) (r : Report) (e : ℕ) where
 
 -- ---- a whole text
 
-module _ (t : List ℕ) (n : ℕ) (r : Report) (rest : List ℕ) (w : Reads t n r rest) where
+module _ (t : List ℕ) (n : ℕ) (r : Report) (rest : List ℕ) (w : ReadsReport t n r rest) where
   -- more text follows
   pub whole-longer : (rest ≡ [] → ⊥) → ReadsWhole t 17 blank
   whole-longer f = record {

@@ -30,35 +30,35 @@ passed true true c e = (refl, refl)
 passed true false c e = absurd (omega arith)
 passed false b c e = absurd (omega arith)
 
-pub write-passed : (r : Report) (room : List ℕ) → writeNumber r room ≡ 0 → (fits r ≡ true) × (sums r ≡ true)
-write-passed r room e = passed (fits r) (sums r) (ltb (length room) (length (reportText r))) e
+pub write-passed : (r : Report) (output : List ℕ) → writeNumber r output ≡ 0 → (fits r ≡ true) × (sums r ≡ true)
+write-passed r output e = passed (fits r) (sums r) (ltb (length output) (length (reportText r))) e
 
-pub write-done : (r : Report) (t : List ℕ) → Gives r t → (room : List ℕ) → length t ≤ length room → writeNumber r room ≡ 0
-write-done r t g room h =
+pub write-done : (r : Report) (t : List ℕ) → Gives r t → (output : List ℕ) → length t ≤ length output → writeNumber r output ≡ 0
+write-done r t g output h =
     let l : length t ≡ length (reportText r) = ap length (g .text) in
-    simp (g .fit, g .add, le-ltb (length room) (length (reportText r)) (omega arith)) refl
+    simp (g .fit, g .add, le-ltb (length output) (length (reportText r)) (omega arith)) refl
 
 -- no more is written than there is room for
-within-room : (a b c : Bool) (n m : ℕ) → ltb m n ≡ c → pick (eqb (pick a (pick b (pick c 4 0) 18) 17) 0) n 0 ≤ m
-within-room true true true n m e = omega arith
-within-room true true false n m e = ltb-false m n e
-within-room true false c n m e = omega arith
-within-room false b c n m e = omega arith
+within-output : (a b c : Bool) (n m : ℕ) → ltb m n ≡ c → pick (eqb (pick a (pick b (pick c 4 0) 18) 17) 0) n 0 ≤ m
+within-output true true true n m e = omega arith
+within-output true true false n m e = ltb-false m n e
+within-output true false c n m e = omega arith
+within-output false b c n m e = omega arith
 
-pub write-within : (r : Report) (room : List ℕ) → writeLength r room ≤ length room
-write-within r room = within-room (fits r) (sums r) (ltb (length room) (length (reportText r))) (length (reportText r)) (length room) refl
+pub write-within : (r : Report) (output : List ℕ) → writeLength r output ≤ length output
+write-within r output = within-output (fits r) (sums r) (ltb (length output) (length (reportText r))) (length (reportText r)) (length output) refl
 
 given-written : (r : Report) (t : List ℕ) → Gives r t → WrittenFor r t
 given-written r t g = record {
   number = write-done r t g;
-  size = λ room h. ap (λ (n : ℕ). pick (eqb n 0) (length (reportText r)) 0) (write-done r t g room h) ∙ ap length (sym (g .text));
-  text = λ room h. ap (λ (n : ℕ). pick (eqb n 0) (placed room 0 (reportText r)) room) (write-done r t g room h) ∙ ap (placed room 0) (sym (g .text));
+  size = λ output h. ap (λ (n : ℕ). pick (eqb n 0) (length (reportText r)) 0) (write-done r t g output h) ∙ ap length (sym (g .text));
+  text = λ output h. ap (λ (n : ℕ). pick (eqb n 0) (placed output 0 (reportText r)) output) (write-done r t g output h) ∙ ap (placed output 0) (sym (g .text));
 }
 
 -- a list placed at the front of one that is not longer
-placed-all : (room l : List ℕ) → length room ≤ length l → placed room 0 l ≡ l
-placed-all room l h =
-    ap (λ (k : ℕ). l ++ drop k room) (zero-add (length l)) ∙ ap (λ (x : List ℕ). l ++ x) (drop-of-length-le room {i = length l} h) ∙ append-nil l
+placed-all : (output l : List ℕ) → length output ≤ length l → placed output 0 l ≡ l
+placed-all output l h =
+    ap (λ (k : ℕ). l ++ drop k output) (zero-add (length l)) ∙ ap (λ (x : List ℕ). l ++ x) (drop-of-length-le output {i = length l} h) ∙ append-nil l
 
 written-given : (r : Report) (t : List ℕ) → WrittenFor r t → Gives r t
 written-given r t w =

@@ -14,7 +14,7 @@ use Rattle.report_lines.proofs.Digits.{line-unique, line-joined, append-unique,
 use Rattle.report.specs.declared.Bits.{Bits}
 use Rattle.report.specs.declared.Bits.the-variants.{Absent, Dash, Number}
 use Rattle.report.specs.declared.Report.{Report}
-use Rattle.report.specs.Text.{row, linesText, within, fields, bitsText, bitsWithin, formOf, reportText, fits}
+use Rattle.report.specs.Text.{row, linesText, numbersWithin, fields, bitsText, bitsWithin, formOf, reportText, fits}
 use Rattle.report.specs.Steps.{RowsRead, BitsIs, Front}
 use Rattle.report.proofs.LineRuns.{limited, row-short, lines-short, lines-unique}
 
@@ -92,7 +92,7 @@ module _ (text : List ℕ) (at : ℕ) where
 -- ---- all lines
 
 pub record Fitting (r : Report) : Type 0 where
-  pub counts : within 8 (fields r) ≡ true
+  pub counts : numbersWithin 8 (fields r) ≡ true
   pub bits : bitsWithin (r .bits) ≡ true
   pub rest : r .rest ≤ row 9 .limit
 
@@ -170,8 +170,8 @@ module _ (text : List ℕ) (at : ℕ) where
         rest = v;
       }
 
-      same-numbers : (v : ℕ) → (linesText 8 vs ≡ linesText 8 (fields (readReport v))) × (within 8 vs ≡ within 8 (fields (readReport v)))
-      unfolding linesText within
+      same-numbers : (v : ℕ) → (linesText 8 vs ≡ linesText 8 (fields (readReport v))) × (numbersWithin 8 vs ≡ numbersWithin 8 (fields (readReport v)))
+      unfolding linesText numbersWithin
       same-numbers v = (rw (i .fitting refl) refl, rw (i .fitting refl) refl)
 
       pub front-found : (v end : ℕ) → LineIs (row 9 .key) text g (row 9 .limit) true v end → Front text at true (readReport v) end

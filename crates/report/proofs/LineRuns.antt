@@ -16,22 +16,22 @@ use Rattle.common.proofs.Choice.{false-true, both-true}
 use Rattle.report_lines.specs.Line.{lineText}
 use Rattle.report_lines.specs.Reading.{LineIs}
 use Rattle.report_lines.proofs.Digits.{line-unique, line-short}
-use Rattle.report.specs.Text.{row, linesText, within}
+use Rattle.report.specs.Text.{row, linesText, numbersWithin}
 use Rattle.report.specs.Steps.{RowsRead}
 use Rattle.report.proofs.Table.{table}
 
 -- ---- limits
 
-pub within-at : (n : ℕ) (vs : List ℕ) → within n vs ≡ true → (i : ℕ) → i < n → getD vs i 0 ≤ row i .limit
-unfolding within
+pub within-at : (n : ℕ) (vs : List ℕ) → numbersWithin n vs ≡ true → (i : ℕ) → i < n → getD vs i 0 ≤ row i .limit
+unfolding numbersWithin
 within-at zero vs w i h = absurd (not-suc-le-zero h)
 within-at (suc n) vs w i h =
     let b = both-true _ _ w in
     ⊎-elim (λ e. subst (λ (k : ℕ). getD vs k 0 ≤ row k .limit) (sym e) (leb-true _ _ (b .1))) (λ l. within-at n vs (b .0) i l)
     (eq-or-lt-of-le (le-of-suc-le-suc h))
 
-pub within-all : (n : ℕ) (vs : List ℕ) → ((i : ℕ) → i < n → getD vs i 0 ≤ row i .limit) → within n vs ≡ true
-unfolding within
+pub within-all : (n : ℕ) (vs : List ℕ) → ((i : ℕ) → i < n → getD vs i 0 ≤ row i .limit) → numbersWithin n vs ≡ true
+unfolding numbersWithin
 within-all zero vs f = refl
 within-all (suc n) vs f = simp (within-all n vs (λ i h. f i (omega arith)), le-leb _ _ (f n (omega arith)))
 
@@ -68,7 +68,7 @@ lines-short (suc n) h vs =
     omega arith
 
 -- the same text: the same numbers
-pub lines-unique : (n : ℕ) → n ≤ 10 → (vs ws x y : List ℕ) → within n vs ≡ true → within n ws ≡ true → linesText n vs ++ x ≡ linesText n ws ++ y
+pub lines-unique : (n : ℕ) → n ≤ 10 → (vs ws x y : List ℕ) → numbersWithin n vs ≡ true → numbersWithin n ws ≡ true → linesText n vs ++ x ≡ linesText n ws ++ y
     → ((i : ℕ) → i < n → getD vs i 0 ≡ getD ws i 0) × (x ≡ y)
 unfolding linesText
 lines-unique zero k vs ws x y a b q = (λ i h. absurd (not-suc-le-zero h), q)
@@ -104,13 +104,13 @@ lines-split (suc n) i vs h = by (ℕ-discrete i n) (λ l. lines-split n i vs l)
 pub record RowsTo (text : List ℕ) (at i : ℕ) (values : List ℕ) (place : ℕ) : Type 0 where
   pub most : i ≤ 8
   pub full : length values ≡ 8
-  pub small : within i values ≡ true
+  pub small : numbersWithin i values ≡ true
   pub past : place ≤ length text
   pub is : drop at text ≡ linesText i values ++ drop place text
 
 module _ {text : List ℕ} {at : ℕ} where
   pub rows-none : {values : List ℕ} → length values ≡ 8 → at ≤ length text → RowsTo text at 0 values at
-  unfolding linesText within
+  unfolding linesText numbersWithin
   rows-none f h = record { most = omega arith; full = f; small = refl; past = h; is = refl }
 
   pub rows-more : {i place : ℕ} {values : List ℕ} (v end : ℕ) → RowsTo text at i values place → i < 8
@@ -156,7 +156,7 @@ module _ {text : List ℕ} {at : ℕ} where
   rows-all {i} {place} {values} r h =
       let e : i ≡ 8 = omega (arith, r .most) in
       record {
-        small = λ d. subst (λ (k : ℕ). within k values ≡ true) e (r .small);
+        small = λ d. subst (λ (k : ℕ). numbersWithin k values ≡ true) e (r .small);
         place = λ d. r .past;
         is = λ d. subst (λ (k : ℕ). drop at text ≡ linesText k values ++ drop place text) e (r .is);
         none = λ d. false-true (sym d);
@@ -164,13 +164,13 @@ module _ {text : List ℕ} {at : ℕ} where
 
 -- ---- the test of the limits
 
-pub within-more : (i : ℕ) (vs : List ℕ) → within i vs ≡ true → getD vs i 0 ≤ row i .limit → within (i + 1) vs ≡ true
-unfolding within
+pub within-more : (i : ℕ) (vs : List ℕ) → numbersWithin i vs ≡ true → getD vs i 0 ≤ row i .limit → numbersWithin (i + 1) vs ≡ true
+unfolding numbersWithin
 within-more i vs w h = rw (add-one i) (simp (w, le-leb _ _ h))
 
-pub within-fails : (n i : ℕ) (vs : List ℕ) → i < n → row i .limit < getD vs i 0 → false ≡ within n vs
-within-fails n i vs h l = by (within n vs) refl
+pub within-fails : (n i : ℕ) (vs : List ℕ) → i < n → row i .limit < getD vs i 0 → false ≡ numbersWithin n vs
+within-fails n i vs h l = by (numbersWithin n vs) refl
   where
-    by : (b : Bool) → within n vs ≡ b → false ≡ b
+    by : (b : Bool) → numbersWithin n vs ≡ b → false ≡ b
     by true e = let m = within-at n vs e i h in absurd (omega arith)
     by false e = refl

@@ -16,7 +16,7 @@ use Rattle.common.proofs.Choice.{false-true}
 use Rattle.report.specs.declared.Bits.{Bits}
 use Rattle.report.specs.declared.Bits.the-variants.{Absent, Dash, Number}
 use Rattle.report.specs.declared.Report.{Report}
-use Rattle.report.specs.Text.{reportText, writeNumber, writeLength, writeRoom}
+use Rattle.report.specs.Text.{reportText, writeNumber, writeLength, writeOutput}
 use Rattle.report.specs.Read.{ReadsWhole}
 use Rattle.report.specs.Move.{movable, movedBits, moved, moveNumber, Moves, otherForm}
 use Rattle.report.proofs.AsWritten.{read-given, given-read, write-passed, write-done, write-within}
@@ -36,37 +36,37 @@ withBits r b = record {
   rest = r .rest;
 }
 
-module _ (t : List ℕ) (form : ℕ) (room : List ℕ) (n : ℕ) (r : Report) (w : ReadsWhole t n r) where
-  pub move-unread : (n ≡ 0 → ⊥) → Moves t form room n 0 room
+module _ (t : List ℕ) (form : ℕ) (output : List ℕ) (n : ℕ) (r : Report) (w : ReadsWhole t n r) where
+  pub move-unread : (n ≡ 0 → ⊥) → Moves t form output n 0 output
   move-unread e = record {
     answer = n;
     report = r;
     read = w;
     number-is = simp (ne-eqb n 0 e);
     size-is = simp (ne-eqb n 0 e);
-    room-is = simp (ne-eqb n 0 e);
+    output-is = simp (ne-eqb n 0 e);
   }
 
-  pub move-refused : n ≡ 0 → movable (r .bits) form ≡ false → Moves t form room 19 0 room
+  pub move-refused : n ≡ 0 → movable (r .bits) form ≡ false → Moves t form output 19 0 output
   move-refused e m = record {
     answer = n;
     report = r;
     read = w;
     number-is = simp (eq-eqb n 0 e, m);
     size-is = simp (eq-eqb n 0 e, m);
-    room-is = simp (eq-eqb n 0 e, m);
+    output-is = simp (eq-eqb n 0 e, m);
   }
 
   pub move-done : n ≡ 0 → movable (r .bits) form ≡ true → (b : Bits) → b ≡ movedBits (r .bits) → (number size : ℕ) (exit : List ℕ)
-      → number ≡ writeNumber (withBits r b) room → size ≡ writeLength (withBits r b) room → exit ≡ writeRoom (withBits r b) room
-      → Moves t form room number size exit
+      → number ≡ writeNumber (withBits r b) output → size ≡ writeLength (withBits r b) output → exit ≡ writeOutput (withBits r b) output
+      → Moves t form output number size exit
   move-done e m b q number size exit x y z = record {
     answer = n;
     report = r;
     read = w;
-    number-is = simp (eq-eqb n 0 e, m) (x ∙ ap (λ (c : Bits). writeNumber (withBits r c) room) q);
-    size-is = simp (eq-eqb n 0 e, m) (y ∙ ap (λ (c : Bits). writeLength (withBits r c) room) q);
-    room-is = simp (eq-eqb n 0 e, m) (z ∙ ap (λ (c : Bits). writeRoom (withBits r c) room) q);
+    number-is = simp (eq-eqb n 0 e, m) (x ∙ ap (λ (c : Bits). writeNumber (withBits r c) output) q);
+    size-is = simp (eq-eqb n 0 e, m) (y ∙ ap (λ (c : Bits). writeLength (withBits r c) output) q);
+    output-is = simp (eq-eqb n 0 e, m) (z ∙ ap (λ (c : Bits). writeOutput (withBits r c) output) q);
   }
 
 -- ---- there and back
@@ -81,53 +81,53 @@ back : (r : Report) (form : ℕ) → movable (r .bits) form ≡ true → (moved 
 back r form e = let b = back-bits (r .bits) form e in (ap (withBits r) (b .0), b .1)
 
 -- what is moved was read, may be moved, and is written
-record Done (read : ℕ) (r : Report) (form : ℕ) (room : List ℕ) : Type 0 where
+record Done (read : ℕ) (r : Report) (form : ℕ) (output : List ℕ) : Type 0 where
   whole : read ≡ 0
   may : movable (r .bits) form ≡ true
-  gone : writeNumber (moved r) room ≡ 0
+  gone : writeNumber (moved r) output ≡ 0
 
-move-passed : (read : ℕ) (r : Report) (form : ℕ) (room : List ℕ) → 0 ≡ moveNumber read r form room → Done read r form room
-move-passed read r form room e = by (eqb read 0) refl (movable (r .bits) form) refl
+move-passed : (read : ℕ) (r : Report) (form : ℕ) (output : List ℕ) → 0 ≡ moveNumber read r form output → Done read r form output
+move-passed read r form output e = by (eqb read 0) refl (movable (r .bits) form) refl
   where
-    by : (a : Bool) → eqb read 0 ≡ a → (b : Bool) → movable (r .bits) form ≡ b → Done read r form room
+    by : (a : Bool) → eqb read 0 ≡ a → (b : Bool) → movable (r .bits) form ≡ b → Done read r form output
     by true p true q = record { whole = eqb-true _ _ p; may = q; gone = sym (e ∙ simp (p, q) refl) }
     by true p false q = let z : _≡_ {A = ℕ} 0 19 = e ∙ simp (p, q) refl in absurd (omega arith)
     by false p b q = let z : 0 ≡ read = e ∙ simp p refl in false-true (sym p ∙ eq-eqb read 0 (sym z))
 
 -- no more is written than there is room for
-pub move-within : {t room exit : List ℕ} {form number size : ℕ} → Moves t form room number size exit → size ≤ length room
-move-within {t} {room} {exit} {form} {number} {size} a = by (ℕ-discrete (moveNumber (a .answer) (a .report) form room) 0)
+pub move-within : {t output exit : List ℕ} {form number size : ℕ} → Moves t form output number size exit → size ≤ length output
+move-within {t} {output} {exit} {form} {number} {size} a = by (ℕ-discrete (moveNumber (a .answer) (a .report) form output) 0)
   where
-    by : Dec (moveNumber (a .answer) (a .report) form room ≡ 0) → size ≤ length room
+    by : Dec (moveNumber (a .answer) (a .report) form output ≡ 0) → size ≤ length output
     by (yes e) =
-        let d = move-passed (a .answer) (a .report) form room (sym e) in
-        let n : writeLength (moved (a .report)) room ≡ length (reportText (moved (a .report)))
+        let d = move-passed (a .answer) (a .report) form output (sym e) in
+        let n : writeLength (moved (a .report)) output ≡ length (reportText (moved (a .report)))
         = ap (λ (i : ℕ). pick (eqb i 0) (length (reportText (moved (a .report)))) 0) (d .gone) in
         let m : size ≡ length (reportText (moved (a .report)))
         = a .size-is ∙ ap (λ (i : ℕ). pick (eqb i 0) (length (reportText (moved (a .report)))) 0) e in
-        let w = write-within (moved (a .report)) room in
+        let w = write-within (moved (a .report)) output in
         omega arith
     by (no e) =
         let m : size ≡ 0 = a .size-is ∙ ap (λ (x : Bool). pick x (length (reportText (moved (a .report)))) 0) (ne-eqb _ _ e) in
         omega arith
 
--- a text placed at the front of a room stands there
-front : (room l : List ℕ) → take (length l) (placed room 0 l) ≡ l
-front room l = take-at l (drop (0 + length l) room) (length l) refl
+-- a text placed at the front of an output stands there
+front : (output l : List ℕ) → take (length l) (placed output 0 l) ≡ l
+front output l = take-at l (drop (0 + length l) output) (length l) refl
 
 -- A text that is moved to a form and then back to the other is the same text, byte for byte, where there is room for it.
-pub there-and-back : (t room exit back last : List ℕ) (form n number m : ℕ)
-    → Moves t form room 0 n exit → length t ≤ length back → Moves (take n exit) (otherForm form) back number m last
+pub there-and-back : (t output exit back last : List ℕ) (form n number m : ℕ)
+    → Moves t form output 0 n exit → length t ≤ length back → Moves (take n exit) (otherForm form) back number m last
     → (number ≡ 0) × (take m last ≡ t)
-there-and-back t room exit hall last form n number m a h b =
+there-and-back t output exit hall last form n number m a h b =
     let r = a .report in
-    let d = move-passed (a .answer) r form room (a .number-is) in
+    let d = move-passed (a .answer) r form output (a .number-is) in
     let g = read-given t (a .answer) r (a .read) (d .whole) in
-    let p = write-passed (moved r) room (d .gone) in
-    let k : moveNumber (a .answer) r form room ≡ 0 = sym (a .number-is) in
+    let p = write-passed (moved r) output (d .gone) in
+    let k : moveNumber (a .answer) r form output ≡ 0 = sym (a .number-is) in
     let u : n ≡ length (reportText (moved r)) = a .size-is ∙ ap (λ (i : ℕ). pick (eqb i 0) (length (reportText (moved r))) 0) k in
-    let v : exit ≡ placed room 0 (reportText (moved r)) = a .room-is ∙ ap (λ (i : ℕ). pick (eqb i 0) (placed room 0 (reportText (moved r))) room) k in
-    let o : take n exit ≡ reportText (moved r) = ap₂ take u v ∙ front room (reportText (moved r)) in
+    let v : exit ≡ placed output 0 (reportText (moved r)) = a .output-is ∙ ap (λ (i : ℕ). pick (eqb i 0) (placed output 0 (reportText (moved r))) output) k in
+    let o : take n exit ≡ reportText (moved r) = ap₂ take u v ∙ front output (reportText (moved r)) in
     let q = given-read (take n exit) (b .answer) (b .report) (moved r) (b .read) (record { fit = p .0; add = p .1; text = o }) in
     let w = back r form (d .may) in
     let e : moved (b .report) ≡ r = ap moved (q .1) ∙ w .0 in
@@ -135,5 +135,5 @@ there-and-back t room exit hall last form n number m a h b =
     let i : moveNumber (b .answer) (b .report) (otherForm form) hall ≡ 0
     = simp (q .0, f) (ap (λ (s : Report). writeNumber s hall) e ∙ write-done r t g hall h) in
     let x : m ≡ length (reportText (moved (b .report))) = b .size-is ∙ ap (λ (j : ℕ). pick (eqb j 0) (length (reportText (moved (b .report)))) 0) i in
-    let y : last ≡ placed hall 0 (reportText (moved (b .report))) = b .room-is ∙ ap (λ (j : ℕ). pick (eqb j 0) (placed hall 0 (reportText (moved (b .report)))) hall) i in
+    let y : last ≡ placed hall 0 (reportText (moved (b .report))) = b .output-is ∙ ap (λ (j : ℕ). pick (eqb j 0) (placed hall 0 (reportText (moved (b .report)))) hall) i in
     (b .number-is ∙ i, ap₂ take x y ∙ front hall (reportText (moved (b .report))) ∙ ap reportText e ∙ sym (g .text))

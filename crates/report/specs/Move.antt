@@ -39,24 +39,24 @@ moved r = record {
   rest = r .rest;
 }
 
--- What moving answers where reading gives this number and report, in the order 17, 18, 19, 4; how many bytes it writes; and the room after it.
+-- What moving answers where reading gives this number and report, in the order 17, 18, 19, 4; how many bytes it writes; and the output after it.
 abbrev pub moveNumber : ℕ → Report → ℕ → List ℕ → ℕ
-moveNumber read r form room = pick (eqb read 0) (pick (movable (r .bits) form) (writeNumber (moved r) room) 19) read
+moveNumber read r form output = pick (eqb read 0) (pick (movable (r .bits) form) (writeNumber (moved r) output) 19) read
 
 abbrev pub moveLength : ℕ → Report → ℕ → List ℕ → ℕ
-moveLength read r form room = pick (eqb (moveNumber read r form room) 0) (length (reportText (moved r))) 0
+moveLength read r form output = pick (eqb (moveNumber read r form output) 0) (length (reportText (moved r))) 0
 
-abbrev pub moveRoom : ℕ → Report → ℕ → List ℕ → List ℕ
-moveRoom read r form room = pick (eqb (moveNumber read r form room) 0) (placed room 0 (reportText (moved r))) room
+abbrev pub moveOutput : ℕ → Report → ℕ → List ℕ → List ℕ
+moveOutput read r form output = pick (eqb (moveNumber read r form output) 0) (placed output 0 (reportText (moved r))) output
 
 -- what moving the report of a text to a form promises
-pub record Moves (t : List ℕ) (form : ℕ) (room : List ℕ) (number size : ℕ) (exit : List ℕ) : Type 0 where
+pub record Moves (t : List ℕ) (form : ℕ) (output : List ℕ) (number size : ℕ) (exit : List ℕ) : Type 0 where
   pub answer : ℕ
   pub report : Report
   pub read : ReadsWhole t answer report
-  pub number-is : number ≡ moveNumber answer report form room
-  pub size-is : size ≡ moveLength answer report form room
-  pub room-is : exit ≡ moveRoom answer report form room
+  pub number-is : number ≡ moveNumber answer report form output
+  pub size-is : size ≡ moveLength answer report form output
+  pub output-is : exit ≡ moveOutput answer report form output
 
 -- the form that is not this one: 2 for 1, and 1 for 2
 abbrev pub otherForm : ℕ → ℕ

@@ -9,7 +9,7 @@ use lib.ListN.{length}
 use Rattle.common.specs.Lists.{placed}
 use Rattle.report.specs.declared.Bits.the-variants.{Absent}
 use Rattle.report.specs.declared.Report.{Report}
-use Rattle.report.specs.Text.{reportText, fits, sums, writeNumber, writeLength, writeRoom}
+use Rattle.report.specs.Text.{reportText, fits, sums, writeNumber, writeLength, writeOutput}
 
 -- what stands in an answer that has no report
 abbrev pub blank : Report
@@ -17,7 +17,7 @@ blank = record { taken = 0; filling = 0; delivered = 0; lost = 0; waiting = 0; o
 
 -- The answer to a text t that is to begin with a report, and what comes after it. 0: t begins with the text of r. 18: it begins with that of a
 -- report whose sums are wrong. 17: it begins with that of no report, whatever its sums are.
-pub record Reads (t : List ℕ) (number : ℕ) (r : Report) (rest : List ℕ) : Type 0 where
+pub record ReadsReport (t : List ℕ) (number : ℕ) (r : Report) (rest : List ℕ) : Type 0 where
   pub done : number ≡ 0 → (fits r ≡ true) × (sums r ≡ true) × (t ≡ reportText r ++ rest)
   pub wrong : number ≡ 18 → (s : Report) × (fits s ≡ true) × (sums s ≡ false) × (t ≡ reportText s ++ rest)
   pub none : number ≡ 17 → (s : Report) (x : List ℕ) → fits s ≡ true → t ≡ reportText s ++ x → ⊥
@@ -32,11 +32,11 @@ pub record ReadsWhole (t : List ℕ) (number : ℕ) (r : Report) : Type 0 where
   pub one : (number ≡ 0) ⊎ (number ≡ 17) ⊎ (number ≡ 18)
   pub blanked : (number ≡ 0 → ⊥) → r ≡ blank
 
--- the writer gives this text for a report: into every room that is long enough it writes the text
+-- the writer gives this text for a report: into every output that is long enough it writes the text
 pub record WrittenFor (r : Report) (t : List ℕ) : Type 0 where
-  pub number : (room : List ℕ) → length t ≤ length room → writeNumber r room ≡ 0
-  pub size : (room : List ℕ) → length t ≤ length room → writeLength r room ≡ length t
-  pub text : (room : List ℕ) → length t ≤ length room → writeRoom r room ≡ placed room 0 t
+  pub number : (output : List ℕ) → length t ≤ length output → writeNumber r output ≡ 0
+  pub size : (output : List ℕ) → length t ≤ length output → writeLength r output ≡ length t
+  pub text : (output : List ℕ) → length t ≤ length output → writeOutput r output ≡ placed output 0 t
 
 -- The statement of document 02, P7, for both forms: a text is read as a report exactly when the writer gives it for that report.
 pub record ReadAsWritten (t : List ℕ) (number : ℕ) (r : Report) : Type 0 where

@@ -7,14 +7,14 @@ use Prim.Native.Nat.{ℕ, _≤_}
 use lib.ListN.{length, drop}
 use Rattle.report.specs.declared.Bits.{Bits}
 use Rattle.report.specs.declared.Report.{Report}
-use Rattle.report.specs.Text.{linesText, within, bitsText, bitsWithin, formOf, reportText, fits}
+use Rattle.report.specs.Text.{linesText, numbersWithin, bitsText, bitsWithin, formOf, reportText, fits}
 
 -- the first eight lines at a place of a text, with their numbers
 pub record RowsRead (text : List ℕ) (at : ℕ) (found : Bool) (values : List ℕ) (end : ℕ) : Type 0 where
-  pub small : found ≡ true → within 8 values ≡ true
+  pub small : found ≡ true → numbersWithin 8 values ≡ true
   pub place : found ≡ true → end ≤ length text
   pub is : found ≡ true → drop at text ≡ linesText 8 values ++ drop end text
-  pub none : found ≡ false → (vs rest : List ℕ) → within 8 vs ≡ true → drop at text ≡ linesText 8 vs ++ rest → ⊥
+  pub none : found ≡ false → (vs rest : List ℕ) → numbersWithin 8 vs ≡ true → drop at text ≡ linesText 8 vs ++ rest → ⊥
 
 -- the line of the bits in this form: none in form 1
 pub record BitsIs (text : List ℕ) (at form : ℕ) (found : Bool) (bits : Bits) (end : ℕ) : Type 0 where

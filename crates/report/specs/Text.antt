@@ -63,9 +63,9 @@ reportText r = linesText 8 (fields r) ++ bitsText (r .bits) ++ lineText (row 9 .
 -- ---- what a report may hold
 
 -- the first n numbers are within the limits of their rows
-unfoldable pub within : ℕ → List ℕ → Bool
-within zero vs = true
-within (suc n) vs = pick (within n vs) (leb (getD vs n 0) (row n .limit)) false
+unfoldable pub numbersWithin : ℕ → List ℕ → Bool
+numbersWithin zero vs = true
+numbersWithin (suc n) vs = pick (numbersWithin n vs) (leb (getD vs n 0) (row n .limit)) false
 
 abbrev pub bitsWithin : Bits → Bool
 bitsWithin Absent = true
@@ -74,7 +74,7 @@ bitsWithin (Number n) = leb n (row 8 .limit)
 
 -- every number is within the limit of its row
 unfoldable pub fits : Report → Bool
-fits r = pick (within 8 (fields r)) (pick (bitsWithin (r .bits)) (leb (r .rest) (row 9 .limit)) false) false
+fits r = pick (numbersWithin 8 (fields r)) (pick (bitsWithin (r .bits)) (leb (r .rest) (row 9 .limit)) false) false
 
 -- the middle five add up to taken, and filling is the smaller of taken and 11
 unfoldable pub sums : Report → Bool
@@ -83,12 +83,12 @@ sums r =
 
 -- ---- writing
 
--- What writing a report into a room answers, in the order 17, 18, 4; how many bytes it writes; and the room after it.
+-- What writing a report into an output answers, in the order 17, 18, 4; how many bytes it writes; and the output after it.
 abbrev pub writeNumber : Report → List ℕ → ℕ
-writeNumber r room = pick (fits r) (pick (sums r) (pick (ltb (length room) (length (reportText r))) 4 0) 18) 17
+writeNumber r output = pick (fits r) (pick (sums r) (pick (ltb (length output) (length (reportText r))) 4 0) 18) 17
 
 abbrev pub writeLength : Report → List ℕ → ℕ
-writeLength r room = pick (eqb (writeNumber r room) 0) (length (reportText r)) 0
+writeLength r output = pick (eqb (writeNumber r output) 0) (length (reportText r)) 0
 
-abbrev pub writeRoom : Report → List ℕ → List ℕ
-writeRoom r room = pick (eqb (writeNumber r room) 0) (placed room 0 (reportText r)) room
+abbrev pub writeOutput : Report → List ℕ → List ℕ
+writeOutput r output = pick (eqb (writeNumber r output) 0) (placed output 0 (reportText r)) output

@@ -7,8 +7,8 @@ ghost use lib.ListN.{length, drop};
 ghost use Rattle.answer.specs.Number.{numberOf};
 ghost use Rattle.report_lines.specs.Line.{lineText, Appended};
 ghost use Rattle.report_lines.specs.Reading.{LineIs};
-ghost use Rattle.report.specs.Text.{row, formOf, fields, linesText, bitsText, bitsWithin, within, reportText, fits, sums, writeNumber, writeLength, writeRoom};
-ghost use Rattle.report.specs.Read.{Reads, ReadsWhole};
+ghost use Rattle.report.specs.Text.{row, formOf, fields, linesText, bitsText, bitsWithin, numbersWithin, reportText, fits, sums, writeNumber, writeLength, writeOutput};
+ghost use Rattle.report.specs.Read.{ReadsReport, ReadsWhole};
 ghost use Rattle.report.specs.Move.{movable, movedBits, Moves};
 ghost use Rattle.report.specs.Steps.{RowsRead, BitsIs, Front};
 use answer::Answer;
@@ -243,7 +243,7 @@ pub struct ReportRead {
 pub fn read_front(text: &[u8], at: usize) -> ReportRead
     requires { ⌜ at ≤ length (now text) ⌝ }
     ensures { λ r. ⌜
-        Reads (drop at (now (text .entry))) (numberOf (r .answer)) (r .report) (drop (r .end) (now (text .entry)))
+        ReadsReport (drop at (now (text .entry))) (numberOf (r .answer)) (r .report) (drop (r .end) (now (text .entry)))
         × (r .end ≤ length (now (text .entry))) ⌝ }
 {
     let lines = read_lines(text, at);
@@ -286,41 +286,41 @@ pub fn read_report(text: &[u8]) -> ReportRead
 }
 
 // Writes the line of a row of the table.
-fn put_row(n: usize, value: u64, at: usize, room: &mut [u8]) -> usize
-    requires { ⌜ (n < 10) × (at + 31 ≤ length (now room)) ⌝ }
-    ensures { λ r. ⌜ Appended (lineText (row n .key) value) (now (room .entry)) (now (room .exit)) at r (at + 31) ⌝ }
+fn put_row(n: usize, value: u64, at: usize, output: &mut [u8]) -> usize
+    requires { ⌜ (n < 10) × (at + 31 ≤ length (now output)) ⌝ }
+    ensures { λ r. ⌜ Appended (lineText (row n .key) value) (now (output .entry)) (now (output .exit)) at r (at + 31) ⌝ }
 {
     let keys = KEYS;
     let from = STARTS[n];
     let to = STARTS[n + 1];
-    report_lines::put_line(&keys[from..to], value, at, room)
+    report_lines::put_line(&keys[from..to], value, at, output)
 }
 
-// Writes the first eight lines at the front of the room.
-fn put_rows(values: [u64; 8], room: &mut [u8]) -> usize
-    requires { ⌜ length (now room) ≡ 320 ⌝ }
-    ensures { λ r. ⌜ Appended (linesText 8 values) (now (room .entry)) (now (room .exit)) 0 r 248 ⌝ }
+// Writes the first eight lines at the front of the output.
+fn put_rows(values: [u64; 8], output: &mut [u8]) -> usize
+    requires { ⌜ length (now output) ≡ 320 ⌝ }
+    ensures { λ r. ⌜ Appended (linesText 8 values) (now (output .entry)) (now (output .exit)) 0 r 248 ⌝ }
 {
     let mut at: usize = 0;
     let mut i: usize = 0;
     while i < 8 {
-        at = put_row(i, values[i], at, room);
+        at = put_row(i, values[i], at, output);
         i += 1;
     }
     at
 }
 
-fn put_bits(bits: Bits, at: usize, room: &mut [u8]) -> usize
-    requires { ⌜ (length (now room) ≡ 320) × (at ≤ 248) ⌝ }
-    ensures { λ r. ⌜ Appended (bitsText bits) (now (room .entry)) (now (room .exit)) at r (at + 31) ⌝ }
+fn put_bits(bits: Bits, at: usize, output: &mut [u8]) -> usize
+    requires { ⌜ (length (now output) ≡ 320) × (at ≤ 248) ⌝ }
+    ensures { λ r. ⌜ Appended (bitsText bits) (now (output .entry)) (now (output .exit)) at r (at + 31) ⌝ }
 {
     match bits {
         Bits::Absent => at,
         Bits::Dash => {
-            common::put(b"bits=-\n", at, room);
+            common::put(b"bits=-\n", at, output);
             at + 7
         }
-        Bits::Number(n) => put_row(BITS_ROW, n, at, room),
+        Bits::Number(n) => put_row(BITS_ROW, n, at, output),
     }
 }
 
@@ -354,7 +354,7 @@ fn compose(report: Report, text: &mut [u8]) -> usize
 
 // Whether the first eight numbers are within their limits.
 fn counts_fit(values: [u64; 8]) -> bool
-    ensures { λ r. ⌜ r ≡ within 8 values ⌝ }
+    ensures { λ r. ⌜ r ≡ numbersWithin 8 values ⌝ }
 {
     let mut i: usize = 0;
     while i < 8 {
@@ -396,11 +396,11 @@ pub struct Written {
 }
 
 // Writes a report in its form.
-pub fn write_report(report: Report, room: &mut [u8]) -> Written
+pub fn write_report(report: Report, output: &mut [u8]) -> Written
     ensures { λ r. ⌜
-        (numberOf (r .answer) ≡ writeNumber report (now (room .entry)))
-        × (r .length ≡ writeLength report (now (room .entry)))
-        × (now (room .exit) ≡ writeRoom report (now (room .entry))) ⌝ }
+        (numberOf (r .answer) ≡ writeNumber report (now (output .entry)))
+        × (r .length ≡ writeLength report (now (output .entry)))
+        × (now (output .exit) ≡ writeOutput report (now (output .entry))) ⌝ }
 {
     if !report_fits(report) {
         return Written {
@@ -416,13 +416,13 @@ pub fn write_report(report: Report, room: &mut [u8]) -> Written
     }
     let mut text = [0u8; 320];
     let n = compose(report, &mut text);
-    if room.len() < n {
+    if output.len() < n {
         return Written {
-            answer: Answer::RoomLength,
+            answer: Answer::OutputLength,
             length: 0,
         };
     }
-    common::put(&text[..n], 0, room);
+    common::put(&text[..n], 0, output);
     Written {
         answer: Answer::Done,
         length: n,
@@ -450,8 +450,8 @@ fn other_bits(bits: Bits) -> Bits
 }
 
 // Reads the report of a text, and writes it in the form wanted, 1 or 2, where it is in the other.
-pub fn move_report(text: &[u8], form: u64, room: &mut [u8]) -> Written
-    ensures { λ r. ⌜ Moves (now (text .entry)) form (now (room .entry)) (numberOf (r .answer)) (r .length) (now (room .exit)) ⌝ }
+pub fn move_report(text: &[u8], form: u64, output: &mut [u8]) -> Written
+    ensures { λ r. ⌜ Moves (now (text .entry)) form (now (output .entry)) (numberOf (r .answer)) (r .length) (now (output .exit)) ⌝ }
 {
     let read = read_report(text);
     let answer = read.answer;
@@ -478,5 +478,5 @@ pub fn move_report(text: &[u8], form: u64, room: &mut [u8]) -> Written
         bits: other,
         rest: report.rest,
     };
-    write_report(next, room)
+    write_report(next, output)
 }

@@ -1,11 +1,11 @@
 // report_calls < cases > answers
 // Calls the reader, the mover and the writer of pass reports with one case after another, for the comparison with reference/. A case is a byte
-// that says what is done, the length of the room and that of the bytes which follow, each in two bytes, the lower first, and these bytes:
+// that says what is done, the length of the output and that of the bytes which follow, each in two bytes, the lower first, and these bytes:
 //   0      a text: it is read, and the report that it is is written again
 //   1, 2   a text: its report is moved to this form
 //   3      a report as numbers: what its bits are (0 absent, 1 a dash, 2 a number), then taken to changed, bits and rest, each in eight
 //          bytes, the lower first: it is written
-// The answer is its number, how many bytes were written, in two bytes, and the first of the room: so many as were written.
+// The answer is its number, how many bytes were written, in two bytes, and the first of the output: so many as were written.
 //   4      four numbers of eight bytes: the answer is 1 where the product of the first two is less than that of the others, else 0, then 16 in
 //          two bytes, and the first product in sixteen
 //   5      a text: its season, as it is printed, after the number of its answer and its length
@@ -54,7 +54,7 @@ fn bits_of(kind: u8, value: u64) -> Bits {
     Bits::Number(value)
 }
 
-fn write_numbers(bytes: &[u8], room: &mut [u8]) -> Written {
+fn write_numbers(bytes: &[u8], output: &mut [u8]) -> Written {
     if bytes.len() != 73 {
         return Written {
             answer: Answer::NotReport,
@@ -73,36 +73,36 @@ fn write_numbers(bytes: &[u8], room: &mut [u8]) -> Written {
         bits,
         rest: number_at(bytes, 65),
     };
-    report::write_report(report, room)
+    report::write_report(report, output)
 }
 
-fn write_again(text: &[u8], room: &mut [u8]) -> Written {
+fn write_again(text: &[u8], output: &mut [u8]) -> Written {
     let read = report::read_report(text);
     let answer = read.answer;
     if answer.number() != 0 {
         return Written { answer, length: 0 };
     }
     let report = read.report;
-    report::write_report(report, room)
+    report::write_report(report, output)
 }
 
-fn call(kind: u8, bytes: &[u8], room: &mut [u8]) -> Written {
+fn call(kind: u8, bytes: &[u8], output: &mut [u8]) -> Written {
     if kind == 0 {
-        return write_again(bytes, room);
+        return write_again(bytes, output);
     }
     if kind == 3 {
-        return write_numbers(bytes, room);
+        return write_numbers(bytes, output);
     }
-    report::move_report(bytes, wide(kind), room)
+    report::move_report(bytes, wide(kind), output)
 }
 
-fn write_answer(written: Written, room: &[u8]) {
+fn write_answer(written: Written, output: &[u8]) {
     let answer = written.answer;
     let n = written.length;
     let head = [answer.number(), (n % 256) as u8, (n / 256 % 256) as u8];
     io::write_all(STDOUT_FILENO, &head);
-    if n <= room.len() {
-        io::write_all(STDOUT_FILENO, &room[..n]);
+    if n <= output.len() {
+        io::write_all(STDOUT_FILENO, &output[..n]);
     }
 }
 
@@ -145,7 +145,7 @@ fn write_season(bytes: &[u8]) {
 }
 
 // Reads so many bytes and answers the case with them: whether they were there.
-fn answer_case(kind: u8, size: usize, bytes: &mut [u8], room: &mut [u8]) -> bool
+fn answer_case(kind: u8, size: usize, bytes: &mut [u8], output: &mut [u8]) -> bool
     requires { ⌜ size ≤ length (now bytes) ⌝ }
 {
     let got = io::read_full(STDIN_FILENO, &mut bytes[..size]);
@@ -160,8 +160,8 @@ fn answer_case(kind: u8, size: usize, bytes: &mut [u8], room: &mut [u8]) -> bool
         write_season(&bytes[..size]);
         return true;
     }
-    let written = call(kind, &bytes[..size], room);
-    write_answer(written, room);
+    let written = call(kind, &bytes[..size], output);
+    write_answer(written, output);
     true
 }
 
@@ -169,7 +169,7 @@ fn answer_case(kind: u8, size: usize, bytes: &mut [u8], room: &mut [u8]) -> bool
 fn next_case() -> bool {
     let mut head = [0u8; 5];
     let mut bytes = [0u8; 4096];
-    let mut room = [0u8; 4096];
+    let mut output = [0u8; 4096];
     if io::read_full(STDIN_FILENO, &mut head) != 5 {
         return false;
     }
@@ -181,7 +181,7 @@ fn next_case() -> bool {
     if size > 4096 {
         return false;
     }
-    answer_case(head[0], size, &mut bytes, &mut room[..length])
+    answer_case(head[0], size, &mut bytes, &mut output[..length])
 }
 
 // A proved loop has to end, and nothing says that an input does: the loop counts its turns down, from a number that no run uses up.

@@ -43,10 +43,10 @@ fn read_input(buffer: &mut [u8]) -> Part
     }
 }
 
-// Writes the report of a text in a form. The room is longer than any report.
+// Writes the report of a text in a form. The output is longer than any report.
 fn write_moved(text: &[u8], form: u64) {
-    let mut room = [0u8; 320];
-    let written = report::move_report(text, form, &mut room);
+    let mut output = [0u8; 320];
+    let written = report::move_report(text, form, &mut output);
     let answer = written.answer;
     let number = answer.number();
     if number != 0 {
@@ -55,7 +55,7 @@ fn write_moved(text: &[u8], form: u64) {
         return;
     }
     let n = written.length;
-    text_output::write_whole(STDOUT_FILENO, b"report", &room[..n]);
+    text_output::write_whole(STDOUT_FILENO, b"report", &output[..n]);
 }
 
 // The buffer is longer than any report: a text that fills it is none, whatever follows.

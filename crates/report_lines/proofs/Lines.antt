@@ -10,16 +10,16 @@ use lib.Seq.{take-at, take-suc-set, length-take-le}
 use Rattle.report_lines.specs.Line.{Appended}
 
 -- a list put at a place
-pub put-appended : (room l : List ℕ) (at most : ℕ) → at + length l ≤ length room → at + length l ≤ most
-    → Appended l room (take at room ++ l ++ drop (at + length l) room) at (at + length l) most
-put-appended room l at most h b =
-    let t : length (take at room) ≡ at = length-take-le at room (omega arith) in
-    let n : length (take at room ++ l) ≡ at + length l = length-append (take at room) l ∙ ap (λ (k : ℕ). k + length l) t in
+pub put-appended : (output l : List ℕ) (at most : ℕ) → at + length l ≤ length output → at + length l ≤ most
+    → Appended l output (take at output ++ l ++ drop (at + length l) output) at (at + length l) most
+put-appended output l at most h b =
+    let t : length (take at output) ≡ at = length-take-le at output (omega arith) in
+    let n : length (take at output ++ l) ≡ at + length l = length-append (take at output) l ∙ ap (λ (k : ℕ). k + length l) t in
     record {
       place = refl;
       bound = b;
-      same = length-append (take at room ++ l) (drop (at + length l) room) ∙ simp (n, length-drop) (omega arith);
-      text = take-at (take at room ++ l) (drop (at + length l) room) (at + length l) n;
+      same = length-append (take at output ++ l) (drop (at + length l) output) ∙ simp (n, length-drop) (omega arith);
+      text = take-at (take at output ++ l) (drop (at + length l) output) (at + length l) n;
     }
 
 -- a byte more
@@ -41,9 +41,9 @@ byte-appended l entry exit at r most limit v a h u =
     }
 
 -- one list after another
-pub joined-appended : (l m room next last : List ℕ) (at r q most limit : ℕ) → Appended l room next at r most → Appended m next last r q limit
-    → Appended (l ++ m) room last at q limit
-joined-appended l m room next last at r q most limit a b =
+pub joined-appended : (l m output next last : List ℕ) (at r q most limit : ℕ) → Appended l output next at r most → Appended m next last r q limit
+    → Appended (l ++ m) output last at q limit
+joined-appended l m output next last at r q most limit a b =
     let p = a .place in
     let n = length-append l m in
     let w = b .place in
@@ -51,7 +51,7 @@ joined-appended l m room next last at r q most limit a b =
       place = omega arith;
       bound = b .bound;
       same = b .same ∙ a .same;
-      text = b .text ∙ ap (λ (x : List ℕ). x ++ m) (a .text) ∙ append-assoc (take at room) l m;
+      text = b .text ∙ ap (λ (x : List ℕ). x ++ m) (a .text) ∙ append-assoc (take at output) l m;
     }
 
 -- the same text under another bound

@@ -21,20 +21,20 @@ drop-next text i h = drop-cons text i 0 h ∙ ap (λ (n : ℕ). getD text i 0 �
 
 -- the first i characters of the word stand there
 pub record WordTo (word text : List ℕ) (at i : ℕ) : Type 0 where
-  pub room : at + length word ≤ length text
+  pub output : at + length word ≤ length text
   pub most : i ≤ length word
   pub is : drop at text ≡ take i word ++ drop (at + i) text
 
 module _ {word text : List ℕ} {at : ℕ} where
   pub word-none : at + length word ≤ length text → WordTo word text at 0
-  word-none h = record { room = h; most = omega arith; is = ap (λ (n : ℕ). drop n text) (sym (add-zero at)) }
+  word-none h = record { output = h; most = omega arith; is = ap (λ (n : ℕ). drop n text) (sym (add-zero at)) }
 
   pub word-more : {i : ℕ} → WordTo word text at i → i < length word → getD text (at + i) 0 ≡ getD word i 0 → WordTo word text at (i + 1)
   word-more {i} w h e =
-      let room : at + length word ≤ length text = w .room in
+      let output : at + length word ≤ length text = w .output in
       let n : at + (i + 1) ≡ at + i + 1 = omega arith in
       record {
-        room = room;
+        output = output;
         most = omega arith;
         is =
             w .is
@@ -47,7 +47,7 @@ module _ {word text : List ℕ} {at : ℕ} where
   word-all {i} w h =
       let e : i ≡ length word = omega (arith, w .most) in
       record {
-        is = λ _. (w .room, w .is ∙ ap₂ (λ (l : List ℕ) (n : ℕ). l ++ drop (at + n) text) (take-all i word h) e);
+        is = λ _. (w .output, w .is ∙ ap₂ (λ (l : List ℕ) (n : ℕ). l ++ drop (at + n) text) (take-all i word h) e);
         none = λ d. false-true (sym d);
       }
 

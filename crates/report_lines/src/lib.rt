@@ -5,26 +5,26 @@ ghost use lib.ListN.{length};
 ghost use Rattle.report_lines.specs.Line.{decimal, lineText, Appended};
 ghost use Rattle.report_lines.specs.Reading.{DigitIs, WordIs, NumberRead, LineIs};
 
-// Writes a number at a place of the room. Gives the place after it.
-fn put_decimal(value: u64, at: usize, room: &mut [u8]) -> usize
-    requires { ⌜ at + 20 ≤ length (now room) ⌝ }
-    ensures { λ r. ⌜ Appended (decimal value) (now (room .entry)) (now (room .exit)) at r (at + 20) ⌝ }
+// Writes a number at a place of the output. Gives the place after it.
+fn put_decimal(value: u64, at: usize, output: &mut [u8]) -> usize
+    requires { ⌜ at + 20 ≤ length (now output) ⌝ }
+    ensures { λ r. ⌜ Appended (decimal value) (now (output .entry)) (now (output .exit)) at r (at + 20) ⌝ }
 {
     let mut digits = [0u8; 20];
     let n = io::decimal(value, &mut digits);
-    common::put(&digits[..n], at, room);
+    common::put(&digits[..n], at, output);
     at + n
 }
 
-// Writes a line at a place of the room. Gives the place after it.
-pub fn put_line(key: &[u8], value: u64, at: usize, room: &mut [u8]) -> usize
-    requires { ⌜ at + length (now key) + 21 ≤ length (now room) ⌝ }
+// Writes a line at a place of the output. Gives the place after it.
+pub fn put_line(key: &[u8], value: u64, at: usize, output: &mut [u8]) -> usize
+    requires { ⌜ at + length (now key) + 21 ≤ length (now output) ⌝ }
     ensures { λ r. ⌜
-        Appended (lineText (now (key .entry)) value) (now (room .entry)) (now (room .exit)) at r (at + length (now (key .entry)) + 21) ⌝ }
+        Appended (lineText (now (key .entry)) value) (now (output .entry)) (now (output .exit)) at r (at + length (now (key .entry)) + 21) ⌝ }
 {
-    common::put(key, at, room);
-    let end = put_decimal(value, at + key.len(), room);
-    room[end] = b'\n';
+    common::put(key, at, output);
+    let end = put_decimal(value, at + key.len(), output);
+    output[end] = b'\n';
     end + 1
 }
 

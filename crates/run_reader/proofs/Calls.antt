@@ -12,7 +12,7 @@ use Rattle.soft_decision.specs.Cost.{softly, receivedOf}
 use Rattle.soft_decision.specs.declared.Received.{Received}
 use Rattle.soft_decision.proofs.Runs.{length-received}
 use Rattle.run_reader.specs.Cost.{differing, runCost, costsOf, Costed}
-use Rattle.run_reader.specs.Read.{runBits, valid, sound, answerNumber, Readable, BestRead, Answers, Reads, ReadsSoft, read}
+use Rattle.run_reader.specs.Read.{runBits, valid, sound, answerNumber, Readable, BestRead, AnswersRun, ReadsHard, ReadsSoft, read}
 use Rattle.run_reader.proofs.Decisions as hard
 use Rattle.run_reader.proofs.SoftDecisions as soft
 use Rattle.run_reader.proofs.Outcome.{Passed, passed, passes, readable}
@@ -20,58 +20,58 @@ use Rattle.run_reader.proofs.Reading.{read-as}
 
 -- ---- any kind of received symbols
 
-module _ {R : Type 0} (cost : R → ℕ → ℕ) (rs : List R) {rate memory : ℕ} {lists : Bool} {n : ℕ} {pass : Bool} {room : List ℕ} (p : Passed rate memory lists n pass (length room))
+module _ {R : Type 0} (cost : R → ℕ → ℕ) (rs : List R) {rate memory : ℕ} {lists : Bool} {n : ℕ} {pass : Bool} {output : List ℕ} (p : Passed rate memory lists n pass (length output))
     (l : List ℕ) (c : Costed cost rs l) (size : length rs ≡ n) where
-  pub costs-readable : All (λ c. c ≤ 7) l → Readable rate memory l room
+  pub costs-readable : All (λ c. c ≤ 7) l → Readable rate memory l output
   costs-readable small = readable p l (c .size ∙ ap (λ (k : ℕ). 4 * k) size) small
 
   pub costs-read : {number after total count : ℕ} {left : List ℕ}
-      → (number ≡ 0) × (BestRead (runCost (costsOf l) rate memory) (runBits rate (length l / 4)) memory room after total count left)
-      → Answers (answerNumber rate memory lists n pass (length room)) (runCost (map cost rs) rate memory) (runBits rate n) memory room number after total count left
+      → (number ≡ 0) × (BestRead (runCost (costsOf l) rate memory) (runBits rate (length l / 4)) memory output after total count left)
+      → AnswersRun (answerNumber rate memory lists n pass (length output)) (runCost (map cost rs) rate memory) (runBits rate n) memory output number after total count left
   costs-read {after = after} {total} {count} {left} o =
       read (o .0) (passes p)
-      (subst (λ (k : ℕ). BestRead (runCost (map cost rs) rate memory) (runBits rate k) memory room after total count left) size
+      (subst (λ (k : ℕ). BestRead (runCost (map cost rs) rate memory) (runBits rate k) memory output after total count left) size
       (read-as cost rs l c rate memory (p .known) (p .in-range) (rw size (p .whole)) (o .1)))
 
 -- ---- hard decisions
 
-module _ (rate memory : ℕ) (ss room : List ℕ) where
+module _ (rate memory : ℕ) (ss output : List ℕ) where
   -- the number that the tests gave is the one that is due
-  pub hard-due : {v : Bool} {number : ℕ} → number ≡ answerNumber rate memory true (length ss) v (length room) → v ≡ valid ss
-      → number ≡ answerNumber rate memory true (length ss) (valid ss) (length room)
-  hard-due e v = e ∙ ap (λ (t : Bool). answerNumber rate memory true (length ss) t (length room)) v
+  pub hard-due : {v : Bool} {number : ℕ} → number ≡ answerNumber rate memory true (length ss) v (length output) → v ≡ valid ss
+      → number ≡ answerNumber rate memory true (length ss) (valid ss) (length output)
+  hard-due e v = e ∙ ap (λ (t : Bool). answerNumber rate memory true (length ss) t (length output)) v
 
-  pub hard-tested : {v : Bool} {number k : ℕ} → number ≡ answerNumber rate memory true (length ss) v (length room) → v ≡ valid ss → k ≡ number → k ≡ 0
-      → Passed rate memory true (length ss) (valid ss) (length room)
-  hard-tested e v ek z = passed rate memory true (length ss) (valid ss) (length room) (sym (hard-due e v) ∙ (sym ek ∙ z))
+  pub hard-tested : {v : Bool} {number k : ℕ} → number ≡ answerNumber rate memory true (length ss) v (length output) → v ≡ valid ss → k ≡ number → k ≡ 0
+      → Passed rate memory true (length ss) (valid ss) (length output)
+  hard-tested e v ek z = passed rate memory true (length ss) (valid ss) (length output) (sym (hard-due e v) ∙ (sym ek ∙ z))
 
-  module _ (p : Passed rate memory true (length ss) (valid ss) (length room)) (l : List ℕ) (w : hard.Written ss l) (long : 4 * length ss ≤ length l) where
+  module _ (p : Passed rate memory true (length ss) (valid ss) (length output)) (l : List ℕ) (w : hard.Written ss l) (long : 4 * length ss ≤ length l) where
     abbrev k : ℕ
     k = 4 * length ss - 0
 
     e : k ≡ 4 * length ss
     e = omega arith
 
-    pub hard-readable : Readable rate memory (take k l) room
+    pub hard-readable : Readable rate memory (take k l) output
     hard-readable = rw e (costs-readable differing ss p (take (4 * length ss) l) (hard.written-costed ss l w long) refl (hard.written-small ss l w long))
 
     pub hard-read : {number after total count : ℕ} {left : List ℕ}
-        → (number ≡ 0) × (BestRead (runCost (costsOf (take k l)) rate memory) (runBits rate (length (take k l) / 4)) memory room after total count left)
-        → Reads rate memory ss room number after total count left
+        → (number ≡ 0) × (BestRead (runCost (costsOf (take k l)) rate memory) (runBits rate (length (take k l) / 4)) memory output after total count left)
+        → ReadsHard rate memory ss output number after total count left
     hard-read o = costs-read differing ss p (take k l) (rw e (hard.written-costed ss l w long)) refl o
 
 -- ---- soft decisions
 
-module _ (rate memory : ℕ) (is qs : List Float) (lost room : List ℕ) where
-  pub soft-due : {v : Bool} {number : ℕ} → number ≡ answerNumber rate memory v (length is) true (length room) → v ≡ sound is qs lost
-      → number ≡ answerNumber rate memory (sound is qs lost) (length is) true (length room)
-  soft-due e v = e ∙ ap (λ (t : Bool). answerNumber rate memory t (length is) true (length room)) v
+module _ (rate memory : ℕ) (is qs : List Float) (lost output : List ℕ) where
+  pub soft-due : {v : Bool} {number : ℕ} → number ≡ answerNumber rate memory v (length is) true (length output) → v ≡ sound is qs lost
+      → number ≡ answerNumber rate memory (sound is qs lost) (length is) true (length output)
+  soft-due e v = e ∙ ap (λ (t : Bool). answerNumber rate memory t (length is) true (length output)) v
 
-  pub soft-tested : {v : Bool} {number k : ℕ} → number ≡ answerNumber rate memory v (length is) true (length room) → v ≡ sound is qs lost → k ≡ number → k ≡ 0
-      → Passed rate memory (sound is qs lost) (length is) true (length room)
-  soft-tested e v ek z = passed rate memory (sound is qs lost) (length is) true (length room) (sym (soft-due e v) ∙ (sym ek ∙ z))
+  pub soft-tested : {v : Bool} {number k : ℕ} → number ≡ answerNumber rate memory v (length is) true (length output) → v ≡ sound is qs lost → k ≡ number → k ≡ 0
+      → Passed rate memory (sound is qs lost) (length is) true (length output)
+  soft-tested e v ek z = passed rate memory (sound is qs lost) (length is) true (length output) (sym (soft-due e v) ∙ (sym ek ∙ z))
 
-  module _ (p : Passed rate memory (sound is qs lost) (length is) true (length room)) where
+  module _ (p : Passed rate memory (sound is qs lost) (length is) true (length output)) where
     pub one-length : soft.OneLength is qs lost
     one-length = soft.sound-lists is qs lost (p .lists-pass)
 
@@ -88,11 +88,11 @@ module _ (rate memory : ℕ) (is qs : List Float) (lost room : List ℕ) where
       f : j ≡ 4 * length is
       f = omega arith
 
-      pub soft-readable : Readable rate memory (take j l) room
+      pub soft-readable : Readable rate memory (take j l) output
       soft-readable =
           rw f (costs-readable softly rs p (take (4 * length is) l) (soft.written-costed is qs lost l one-length w long) size (soft.written-small is qs lost l one-length w long))
 
       pub soft-read : {number after total count : ℕ} {left : List ℕ}
-          → (number ≡ 0) × (BestRead (runCost (costsOf (take j l)) rate memory) (runBits rate (length (take j l) / 4)) memory room after total count left)
-          → ReadsSoft rate memory is qs lost room number after total count left
+          → (number ≡ 0) × (BestRead (runCost (costsOf (take j l)) rate memory) (runBits rate (length (take j l) / 4)) memory output after total count left)
+          → ReadsSoft rate memory is qs lost output number after total count left
       soft-read o = costs-read softly rs p (take j l) (rw f (soft.written-costed is qs lost l one-length w long)) size o

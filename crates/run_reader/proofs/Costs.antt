@@ -14,7 +14,7 @@ use Rattle.trellis.specs.Metric.{costFrom}
 use Rattle.puncturing.specs.Step.{patternLength, nextPlace}
 use Rattle.inner_code.specs.Step.{symbolsOf, coderAfter}
 use Rattle.inner_code.specs.declared.InnerCoder.{InnerCoder}
-use Rattle.depuncturing.specs.Steps.{width, kindCost, kindAt, first, punctured, pairCost}
+use Rattle.depuncturing.specs.Steps.{width, kindCost, kindAt, first, puncturedCosts, pairCost}
 use Rattle.run_reader.specs.Cost.{coderAt, totalCost, runCost, symbolCost, costsOf, Costed}
 use Rattle.trellis.proofs.Order.{bits-head}
 use Rattle.convolutional_code.proofs.Bits.{bits-tail}
@@ -87,18 +87,18 @@ next-mod : (rate k : ℕ) → nextPlace rate (k % patternLength rate) ≡ suc k 
 next-mod rate k = mod-add-mod k (patternLength rate) 1 ∙ ap (λ (n : ℕ). n % patternLength rate) (add-one k)
 
 bridge : (rate : ℕ) (c : ℕ → ℕ → ℕ) (k m : ℕ) (bs : List ℕ)
-    → total c (first rate k) (stream rate (k % patternLength rate) m bs) ≡ costFrom (punctured rate c) k m bs
-unfolding punctured first stream costFrom
+    → total c (first rate k) (stream rate (k % patternLength rate) m bs) ≡ costFrom (puncturedCosts rate c) k m bs
+unfolding puncturedCosts first stream costFrom
 bridge rate c k m [] = refl
 bridge rate c k m (b ∷ bs) =
     ap (λ (p : ℕ). total c (first rate k) (put (kindAt rate k) (coded tapsX m b) (coded tapsY m b) ++ stream rate p (nextMemory m b) bs)) (next-mod rate k)
     ∙ (total-put c (kindAt rate k) (first rate k) (coded tapsX m b) (coded tapsY m b) (stream rate (suc k % patternLength rate) (nextMemory m b) bs)
-    ∙ ap (λ (t : ℕ). punctured rate c k m b + t) (bridge rate c (suc k) (nextMemory m b) bs))
+    ∙ ap (λ (t : ℕ). puncturedCosts rate c k m b + t) (bridge rate c (suc k) (nextMemory m b) bs))
 
 -- what a run costs, by the coder's definition, is the sum of the steps of the trellis
 pub run-is : (costs : List (ℕ → ℕ)) (c : ℕ → ℕ → ℕ) → Splits costs c 0 → (rate m : ℕ) {bits : List ℕ} → rate < 5 → m < 64 → Bits bits
     → length bits % patternLength rate ≡ 0 → length (symbolsOf (coderAt rate m) bits) ≡ length costs
-    → runCost costs rate m bits ≡ costFrom (punctured rate c) 0 m bits
+    → runCost costs rate m bits ≡ costFrom (puncturedCosts rate c) 0 m bits
 unfolding first
 run-is costs c h rate m {bits} hr hm w e l =
     total-symbols costs c 0 (symbolsOf (coderAt rate m) bits) h (whole-bits rate m hr hm w e) l

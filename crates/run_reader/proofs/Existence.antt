@@ -11,7 +11,7 @@ use Rattle.trellis.specs.Metric.{costFrom}
 use Rattle.trellis.proofs.Ends.{SomeDecoded, some-decoded}
 use Rattle.trellis.proofs.Laws.{decoded-same}
 use Rattle.puncturing.specs.Step.{patternLength}
-use Rattle.depuncturing.specs.Steps.{kindCost, kindAt, first, punctured}
+use Rattle.depuncturing.specs.Steps.{kindCost, kindAt, first, puncturedCosts}
 use Rattle.run_reader.specs.Cost.{runCost}
 use Rattle.run_reader.specs.Read.{symbolsPerPattern, runBits}
 use Rattle.run_reader.proofs.Patterns.{run-whole, run-symbols}
@@ -20,7 +20,7 @@ use Rattle.run_reader.proofs.Costs.{Splits, run-is}
 -- each received symbol costs what its I and its Q do, where `c j v` is what deciding place j as v costs
 module _ (costs : List (ℕ → ℕ)) (c : ℕ → ℕ → ℕ) (splits : Splits costs c 0) (rate m : ℕ) (hr : rate < 5) (hm : m < 64) (k : ℕ) (size : k ≡ length costs)
     (whole : k % symbolsPerPattern rate ≡ 0) where
-  pub steps-cost : (ys : List ℕ) → Bits ys → length ys ≡ runBits rate k → costFrom (punctured rate c) 0 m ys ≡ runCost costs rate m ys
+  pub steps-cost : (ys : List ℕ) → Bits ys → length ys ≡ runBits rate k → costFrom (puncturedCosts rate c) 0 m ys ≡ runCost costs rate m ys
   steps-cost ys v l =
       sym (run-is costs c splits rate m hr hm v (ap (λ (j : ℕ). j % patternLength rate) l ∙ run-whole rate hr k) (run-symbols rate hr k whole m hm ys v l ∙ size))
 
@@ -32,7 +32,7 @@ module _ (costs : List (ℕ → ℕ)) (c : ℕ → ℕ → ℕ) (splits : Splits
     kind-le (suc (suc (suc q))) j x y = omega (arith, small j x, small (j + 1) y)
 
     pub some-best : SomeDecoded (runCost costs rate m) (runBits rate k) m
-    unfolding punctured
+    unfolding puncturedCosts
     some-best =
-        let d = some-decoded (punctured rate c) (λ j s b. kind-le (kindAt rate j) (first rate j) (coded tapsX s b) (coded tapsY s b)) m (runBits rate k) hm in
+        let d = some-decoded (puncturedCosts rate c) (λ j s b. kind-le (kindAt rate j) (first rate j) (coded tapsX s b) (coded tapsY s b)) m (runBits rate k) hm in
         record { bits = d .bits; total = d .total; after = d .after; decoded = decoded-same (runBits rate k) m steps-cost (d .decoded) }

@@ -17,7 +17,7 @@ use Rattle.common.specs.Choice.{pick}
 use Rattle.common.specs.Lists.{All}
 use Rattle.common.proofs.Choice.{both-true, flag-false, flag-true}
 use Rattle.depuncturing.specs.Steps.{kindAt, first, value, stepValue}
-use Rattle.run_reader.specs.Read.{symbolsPerPattern, runBits, below, answerNumber, Readable, Answers, refused}
+use Rattle.run_reader.specs.Read.{symbolsPerPattern, runBits, below, answerNumber, Readable, AnswersRun, refused}
 use Rattle.run_reader.specs.declared.Read.{Read}
 use Rattle.run_reader.proofs.Patterns.{some-symbols, symbols-few}
 use Rattle.puncturing.specs.Step.{patternLength}
@@ -105,7 +105,7 @@ pub not-false : (t : Bool) → not t ≡ false → t ≡ true
 not-false t e = flag-true (λ (b : Bool). t ≡ b) t e refl
 
 -- where both numbers of the rate and the memory are in range, and the lists have passed
-module _ (rate memory n : ℕ) (valid : Bool) (room : ℕ) (hr : rate < 5) (hm : memory < 64) (bits pattern : ℕ) (eb : bits ≡ patternLength rate)
+module _ (rate memory n : ℕ) (valid : Bool) (space : ℕ) (hr : rate < 5) (hm : memory < 64) (bits pattern : ℕ) (eb : bits ≡ patternLength rate)
     (ep : pattern ≡ symbolsPerPattern rate) where
   pub bits-some : 0 < bits
   bits-some = rw eb (some-bits rate hr)
@@ -113,7 +113,7 @@ module _ (rate memory n : ℕ) (valid : Bool) (room : ℕ) (hr : rate < 5) (hm :
   pub pattern-some : 0 < pattern
   pattern-some = rw ep (some-symbols rate hr)
 
-  pub broken : ¬ (n % pattern ≡ 0) → 12 ≡ answerNumber rate memory true n valid room
+  pub broken : ¬ (n % pattern ≡ 0) → 12 ≡ answerNumber rate memory true n valid space
   broken h = simp (lt-ltb rate 5 hr, lt-ltb memory 64 hm, ne-eqb (n % symbolsPerPattern rate) 0 (rw ep at h))
 
   module _ (whole : n % pattern ≡ 0) where
@@ -129,7 +129,7 @@ module _ (rate memory n : ℕ) (valid : Bool) (room : ℕ) (hr : rate < 5) (hm :
     times : bits * q ≡ q * bits
     times = mul-comm bits q
 
-    pub long : 1632 / bits < q → 13 ≡ answerNumber rate memory true n valid room
+    pub long : 1632 / bits < q → 13 ≡ answerNumber rate memory true n valid space
     long h =
         let l : 1632 < q * bits = div-lt-iff-lt-mul bits-some .0 h in
         let g : 1632 < runBits rate n = rw (sym size) (omega arith) in
@@ -142,14 +142,14 @@ module _ (rate memory n : ℕ) (valid : Bool) (room : ℕ) (hr : rate < 5) (hm :
       short-test : ltb 1632 (runBits rate n) ≡ false
       short-test = le-ltb 1632 (runBits rate n) (rw (sym size) count-le)
 
-      pub bad-symbol : valid ≡ false → 14 ≡ answerNumber rate memory true n valid room
+      pub bad-symbol : valid ≡ false → 14 ≡ answerNumber rate memory true n valid space
       bad-symbol v = simp (lt-ltb rate 5 hr, lt-ltb memory 64 hm, whole-test, short-test, v)
 
-      pub no-room : valid ≡ true → room < bits * q → 4 ≡ answerNumber rate memory true n valid room
-      no-room v h = simp (lt-ltb rate 5 hr, lt-ltb memory 64 hm, whole-test, short-test, v, lt-ltb room (runBits rate n) (rw (sym size) h))
+      pub too-short : valid ≡ true → space < bits * q → 4 ≡ answerNumber rate memory true n valid space
+      too-short v h = simp (lt-ltb rate 5 hr, lt-ltb memory 64 hm, whole-test, short-test, v, lt-ltb space (runBits rate n) (rw (sym size) h))
 
-      pub room-enough : valid ≡ true → bits * q ≤ room → 0 ≡ answerNumber rate memory true n valid room
-      room-enough v h = simp (lt-ltb rate 5 hr, lt-ltb memory 64 hm, whole-test, short-test, v, le-ltb room (runBits rate n) (rw (sym size) h))
+      pub space-enough : valid ≡ true → bits * q ≤ space → 0 ≡ answerNumber rate memory true n valid space
+      space-enough v h = simp (lt-ltb rate 5 hr, lt-ltb memory 64 hm, whole-test, short-test, v, le-ltb space (runBits rate n) (rw (sym size) h))
 
 -- ---- what the answer tells
 
@@ -162,24 +162,24 @@ no-then true x k h e = absurd (omega arith)
 no-then false x k h e = (refl, e)
 
 -- a run that is answered 0 has passed every test
-pub record Passed (rate memory : ℕ) (lists : Bool) (n : ℕ) (valid : Bool) (room : ℕ) : Type 0 where
+pub record Passed (rate memory : ℕ) (lists : Bool) (n : ℕ) (valid : Bool) (space : ℕ) : Type 0 where
   pub known : rate < 5
   pub in-range : memory < 64
   pub lists-pass : lists ≡ true
   pub whole : n % symbolsPerPattern rate ≡ 0
   pub most : runBits rate n ≤ 1632
   pub symbols-pass : valid ≡ true
-  pub fits : runBits rate n ≤ room
+  pub fits : runBits rate n ≤ space
 
-pub passed : (rate memory : ℕ) (lists : Bool) (n : ℕ) (valid : Bool) (room : ℕ) → answerNumber rate memory lists n valid room ≡ 0 → Passed rate memory lists n valid room
-passed rate memory lists n valid room e =
+pub passed : (rate memory : ℕ) (lists : Bool) (n : ℕ) (valid : Bool) (space : ℕ) → answerNumber rate memory lists n valid space ≡ 0 → Passed rate memory lists n valid space
+passed rate memory lists n valid space e =
     let a = no-else (ltb rate 5) _ 6 (omega arith) e in
     let b = no-else (ltb memory 64) _ 5 (omega arith) (a .1) in
     let l = no-else lists _ 24 (omega arith) (b .1) in
     let c = no-else (eqb (n % symbolsPerPattern rate) 0) _ 12 (omega arith) (l .1) in
     let d = no-then (ltb 1632 (runBits rate n)) _ 13 (omega arith) (c .1) in
     let f = no-else valid _ 14 (omega arith) (d .1) in
-    let g = no-then (ltb room (runBits rate n)) 0 4 (omega arith) (f .1) in
+    let g = no-then (ltb space (runBits rate n)) 0 4 (omega arith) (f .1) in
     record {
       known = ltb-true _ _ (a .0);
       in-range = ltb-true _ _ (b .0);
@@ -191,13 +191,13 @@ passed rate memory lists n valid room e =
     }
 
 -- and is so answered
-pub passes : {rate memory : ℕ} {lists : Bool} {n : ℕ} {valid : Bool} {room : ℕ} → Passed rate memory lists n valid room → answerNumber rate memory lists n valid room ≡ 0
-passes {rate} {memory} {lists} {n} {valid} {room} p =
-    simp (lt-ltb rate 5 (p .known), lt-ltb memory 64 (p .in-range), p .lists-pass, eq-eqb _ _ (p .whole), le-ltb 1632 (runBits rate n) (p .most), p .symbols-pass, le-ltb room (runBits rate n) (p .fits))
+pub passes : {rate memory : ℕ} {lists : Bool} {n : ℕ} {valid : Bool} {space : ℕ} → Passed rate memory lists n valid space → answerNumber rate memory lists n valid space ≡ 0
+passes {rate} {memory} {lists} {n} {valid} {space} p =
+    simp (lt-ltb rate 5 (p .known), lt-ltb memory 64 (p .in-range), p .lists-pass, eq-eqb _ _ (p .whole), le-ltb 1632 (runBits rate n) (p .most), p .symbols-pass, le-ltb space (runBits rate n) (p .fits))
 
 -- the costs of such a run can be read
-pub readable : {rate memory : ℕ} {lists : Bool} {n : ℕ} {valid : Bool} {room : List ℕ} → Passed rate memory lists n valid (length room)
-    → (costs : List ℕ) → length costs ≡ 4 * n → All (λ c. c ≤ 7) costs → Readable rate memory costs room
+pub readable : {rate memory : ℕ} {lists : Bool} {n : ℕ} {valid : Bool} {output : List ℕ} → Passed rate memory lists n valid (length output)
+    → (costs : List ℕ) → length costs ≡ 4 * n → All (λ c. c ≤ 7) costs → Readable rate memory costs output
 readable {rate} {memory} {n = n} p costs size small =
     let q : length costs / 4 ≡ n = omega arith in
     record {
@@ -211,13 +211,13 @@ readable {rate} {memory} {n = n} p costs size small =
     }
 
 -- a run has no more symbols than bits, so that their costs have room
-pub few : {rate memory : ℕ} {lists : Bool} {n : ℕ} {valid : Bool} {room : ℕ} → Passed rate memory lists n valid room → 4 * n ≤ 6528
+pub few : {rate memory : ℕ} {lists : Bool} {n : ℕ} {valid : Bool} {space : ℕ} → Passed rate memory lists n valid space → 4 * n ≤ 6528
 few {rate} {n = n} p = omega (arith, symbols-few rate (p .known) n (p .whole), p .most)
 
 -- what a refusal hands back
-pub refusal : {due : ℕ} {cost : List ℕ → ℕ} {n memory : ℕ} {room : List ℕ} (answer : Answer) (r : Read) → numberOf answer ≡ due → ¬ (numberOf answer ≡ 0)
+pub refusal : {due : ℕ} {cost : List ℕ → ℕ} {n memory : ℕ} {output : List ℕ} (answer : Answer) (r : Read) → numberOf answer ≡ due → ¬ (numberOf answer ≡ 0)
     → (r .answer ≡ answer) × (r .memory ≡ memory) × (r .cost ≡ 0) × (r .count ≡ 0)
-    → Answers due cost n memory room (numberOf (r .answer)) (r .memory) (r .cost) (r .count) room
+    → AnswersRun due cost n memory output (numberOf (r .answer)) (r .memory) (r .cost) (r .count) output
 refusal answer r e h f =
     let a = ap numberOf (f .0) in
     refused (a ∙ e) (rw a (omega arith)) (f .1) (f .2) (f .3) refl

@@ -14,14 +14,14 @@ use Rattle.puncturing.specs.Mode.{modeOf}
 use Rattle.puncturing.specs.Step.{patternLength, heldCount, symbolsIn}
 use Rattle.puncturing.proofs.Steps.{some-bits}
 use Rattle.puncturing.proofs.Parts.{place-after, none-held, whole-count}
-use Rattle.inner_code.specs.Step.{InRange, symbolsOf, coderAfter}
+use Rattle.inner_code.specs.Step.{CoderInRange, symbolsOf, coderAfter}
 use Rattle.inner_code.specs.declared.InnerCoder.{InnerCoder}
 use Rattle.inner_code.proofs.Coder.{coder-rate, coder-memory, coder-place, coder-in-range, length-symbols}
 use Rattle.depuncturing.specs.Steps.{kind, first}
 use Rattle.run_reader.specs.Cost.{coderAt}
 use Rattle.run_reader.specs.Read.{symbolsPerPattern, runBits, runLength}
 
-pub at-start : (rate m : ℕ) → rate < 5 → m < 64 → InRange (coderAt rate m)
+pub at-start : (rate m : ℕ) → rate < 5 → m < 64 → CoderInRange (coderAt rate m)
 at-start rate m hr hm = record { memory = hm; place = some-bits rate hr; held = omega arith }
 
 -- a pattern has symbols, and no more than bits

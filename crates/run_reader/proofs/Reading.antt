@@ -29,7 +29,7 @@ all-small l h t = by (decLt t (length l))
     by (yes b) = All-at (λ c. c ≤ 7) l 0 t h b
     by (no b) = rw (List·getD-eq-default l 0 {n = t} (omega arith)) (omega arith)
 
-module _ {rate m : ℕ} {l room : List ℕ} (g : Readable rate m l room) (n : ℕ) (size : n ≡ runBits rate (length l / 4)) where
+module _ {rate m : ℕ} {l output : List ℕ} (g : Readable rate m l output) (n : ℕ) (size : n ≡ runBits rate (length l / 4)) where
   -- the costs of the coded bits of n bits are there
   pub enough : 2 * first rate n ≤ length l
   enough = let e : first rate n ≡ 2 * (length l / 4) = ap (first rate) size ∙ coded-bits rate (g .known) (length l / 4) (g .whole) in omega (arith, g .fours)
@@ -48,19 +48,19 @@ module _ {rate m : ℕ} {l room : List ℕ} (g : Readable rate m l room) (n : �
         (λ ys v e. run-symbols rate (g .known) (length l / 4) (g .whole) m (g .in-range) ys v (e ∙ size) ∙ sym (length-listOf (length l / 4) (symbolCost l)))
         used d
 
-    pub read-out : (bits : List ℕ) {total after : ℕ} → Decoded (costFrom (stepCosts (take (4 * n - 0) steps)) 0 m) (length (take (n - 0) room)) m bits total after
+    pub read-out : (bits : List ℕ) {total after : ℕ} → Decoded (costFrom (stepCosts (take (4 * n - 0) steps)) 0 m) (length (take (n - 0) output)) m bits total after
         → (k : ℕ) → k ≡ n
-        → (BestRead (runCost (costsOf l) rate m) (runBits rate (length l / 4)) m room after total n (bits ++ drop k room)) × (after < 64)
+        → (BestRead (runCost (costsOf l) rate m) (runBits rate (length l / 4)) m output after total n (bits ++ drop k output)) × (after < 64)
     read-out bits {total} {after} d k e =
         let a : 4 * n - 0 ≡ 4 * n = omega arith in
-        let b : length (take (n - 0) room) ≡ n = omega (arith, length-take (n - 0) room, g .fits) in
+        let b : length (take (n - 0) output) ≡ n = omega (arith, length-take (n - 0) output, g .fits) in
         let d′ : Decoded (costFrom (stepCosts (take (4 * n) steps)) 0 m) n m bits total after =
         subst₂ (λ (i j : ℕ). Decoded (costFrom (stepCosts (take i steps)) 0 m) j m bits total after) a b d in (
           record {
             bits = bits;
             decoded = subst (λ (j : ℕ). Decoded (runCost (costsOf l) rate m) j m bits total after) size (decoded d′);
             counted = size;
-            written = ap (λ (j : ℕ). bits ++ drop j room) (e ∙ size);
+            written = ap (λ (j : ℕ). bits ++ drop j output) (e ∙ size);
           },
           rw (d′ .ends) (memory-in-range rate m (g .known) (g .in-range) (d′ .best .binary)),
         )
@@ -86,11 +86,11 @@ module _ {R : Type 0} (cost : R → ℕ → ℕ) (rs : List R) (l : List ℕ) (c
       (λ ys v z. costs-same cost rs l c rate m hr hm ys v (ap (λ (j : ℕ). j % patternLength rate) z ∙ run-whole rate hr k) (run-symbols rate hr k whole m hm ys v z))
       (subst (λ (j : ℕ). Decoded (runCost (costsOf l) rate m) j m bits total after) same d)
 
-  pub read-as : {room : List ℕ} {after total count : ℕ} {left : List ℕ} → BestRead (runCost (costsOf l) rate m) (runBits rate (length l / 4)) m room after total count left
-      → BestRead (runCost (map cost rs) rate m) (runBits rate k) m room after total count left
-  read-as {room} o = record {
+  pub read-as : {output : List ℕ} {after total count : ℕ} {left : List ℕ} → BestRead (runCost (costsOf l) rate m) (runBits rate (length l / 4)) m output after total count left
+      → BestRead (runCost (map cost rs) rate m) (runBits rate k) m output after total count left
+  read-as {output} o = record {
     bits = o .bits;
     decoded = decoded-as (o .decoded);
     counted = o .counted ∙ same;
-    written = o .written ∙ ap (λ (j : ℕ). o .bits ++ drop j room) same;
+    written = o .written ∙ ap (λ (j : ℕ). o .bits ++ drop j output) same;
   }

@@ -10,10 +10,10 @@ use Rattle.convolutional_code.specs.Bits.{Bits, none, more}
 use Rattle.convolutional_code.specs.Code.{tapsX, tapsY, nextMemory, coded}
 use Rattle.convolutional_code.proofs.Bits.{bits-append}
 use Rattle.puncturing.specs.Mode.{modeOf}
-use Rattle.puncturing.specs.Step.{nextPlace, heldCount, listOf, punctured, heldAfter, puncturedBy, heldBy, heldCountBy}
+use Rattle.puncturing.specs.Step.{nextPlace, heldCount, symbolList, punctured, heldAfter, puncturedBy, heldBy, heldCountBy}
 use Rattle.depuncturing.specs.Steps.{kind}
 use Rattle.puncturing.proofs.Places.{end, _&_, Everywhere, everywhere}
-use Rattle.inner_code.specs.Step.{InRange, coderStep, symbolStep, symbolsOf, coderAfter, symbolsBy, coderBy}
+use Rattle.inner_code.specs.Step.{CoderInRange, coderStep, symbolStep, symbolsOf, coderAfter, symbolsBy, coderBy}
 use Rattle.inner_code.specs.declared.InnerCoder.{InnerCoder}
 use Rattle.inner_code.proofs.Coder.{step-in-range}
 
@@ -44,7 +44,7 @@ pair a b h r =
     ap₂ (λ (x y : ℕ). x ∷ y ∷ r) e f
 
 abbrev Serial : ℕ → ℕ → Type 0
-Serial r p = (x y h : ℕ) → x < 2 → y < 2 → holding r p h ++ put (kind r p) x y ≡ flat (listOf (punctured r p x y h)) ++ holding r (nextPlace r p) (heldAfter r p x y h)
+Serial r p = (x y h : ℕ) → x < 2 → y < 2 → holding r p h ++ put (kind r p) x y ≡ flat (symbolList (punctured r p x y h)) ++ holding r (nextPlace r p) (heldAfter r p x y h)
 
 serial : Everywhere Serial
 unfolding modeOf puncturedBy heldBy heldCountBy holding kind flatten
@@ -71,7 +71,7 @@ put-bits (suc (suc zero)) h l = more h none
 put-bits (suc (suc (suc q))) h l = more h (more l none)
 
 -- at a QPSK rate what is held, and the coded bits, are I and Q of the symbols, and what is held then
-pub stream-symbols : (c : InnerCoder) {bits : List ℕ} → InRange c → c .rate < 5 → Bits bits
+pub stream-symbols : (c : InnerCoder) {bits : List ℕ} → CoderInRange c → c .rate < 5 → Bits bits
     → holding (c .rate) (c .place) (c .held) ++ stream (c .rate) (c .place) (c .memory) bits
     ≡ flat (symbolsOf c bits) ++ holding (c .rate) (coderAfter c bits .place) (coderAfter c bits .held)
 unfolding stream symbolsBy coderBy
@@ -80,15 +80,15 @@ stream-symbols c g q (more {b} {l} h t) =
     let x = coded tapsX (c .memory) b in
     let y = coded tapsY (c .memory) b in
     let d = coderStep c b in
-    let one : holding (c .rate) (c .place) (c .held) ++ put (kind (c .rate) (c .place)) x y ≡ flat (listOf (symbolStep c b)) ++ holding (d .rate) (d .place) (d .held)
+    let one : holding (c .rate) (c .place) (c .held) ++ put (kind (c .rate) (c .place)) x y ≡ flat (symbolList (symbolStep c b)) ++ holding (d .rate) (d .place) (d .held)
     = everywhere Serial serial (c .rate) (c .place) q (g .place) x y (c .held) (coded-lt tapsX (c .memory) b) (coded-lt tapsY (c .memory) b) in
     let rest = stream-symbols d (step-in-range c b g h) q t in
     sym (append-assoc (holding (c .rate) (c .place) (c .held)) (put (kind (c .rate) (c .place)) x y) (stream (d .rate) (d .place) (d .memory) l))
     ∙ (ap (λ (s : List ℕ). s ++ stream (d .rate) (d .place) (d .memory) l) one
-    ∙ (append-assoc (flat (listOf (symbolStep c b))) (holding (d .rate) (d .place) (d .held)) (stream (d .rate) (d .place) (d .memory) l)
-    ∙ (ap (λ (s : List ℕ). flat (listOf (symbolStep c b)) ++ s) rest
-    ∙ (sym (append-assoc (flat (listOf (symbolStep c b))) (flat (symbolsOf d l)) (holding (d .rate) (coderAfter d l .place) (coderAfter d l .held)))
-    ∙ ap (λ (s : List ℕ). s ++ holding (d .rate) (coderAfter d l .place) (coderAfter d l .held)) (sym (flat-append (listOf (symbolStep c b)) (symbolsOf d l)))))))
+    ∙ (append-assoc (flat (symbolList (symbolStep c b))) (holding (d .rate) (d .place) (d .held)) (stream (d .rate) (d .place) (d .memory) l)
+    ∙ (ap (λ (s : List ℕ). flat (symbolList (symbolStep c b)) ++ s) rest
+    ∙ (sym (append-assoc (flat (symbolList (symbolStep c b))) (flat (symbolsOf d l)) (holding (d .rate) (coderAfter d l .place) (coderAfter d l .held)))
+    ∙ ap (λ (s : List ℕ). s ++ holding (d .rate) (coderAfter d l .place) (coderAfter d l .held)) (sym (flat-append (symbolList (symbolStep c b)) (symbolsOf d l)))))))
 
 -- the coded bits are bits
 pub stream-bits : (rate place m : ℕ) (bits : List ℕ) → Bits (stream rate place m bits)

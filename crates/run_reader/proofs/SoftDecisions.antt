@@ -15,7 +15,7 @@ use Rattle.common.specs.Lists.{All}
 use Rattle.common.proofs.Choice.{both-true}
 use Rattle.common.proofs.Lists.{getD-map-in}
 use Rattle.trellis.proofs.Ends.{SomeDecoded}
-use Rattle.soft_decision.specs.Cost.{symbolCosts, decided, softly, receivedOf}
+use Rattle.soft_decision.specs.Cost.{symbolCosts, decidedAs, softly, receivedOf}
 use Rattle.soft_decision.specs.Steps.{costAt, costsAlong, symbolAt}
 use Rattle.soft_decision.specs.declared.BitCosts.{BitCosts}
 use Rattle.soft_decision.specs.declared.Received.{Received}
@@ -49,7 +49,7 @@ half (suc n) c = c .q
 
 -- what deciding place j as v costs: the places of symbol k are 2 k, its I, and 2 k + 1, its Q
 abbrev pub soft : List Received → ℕ → ℕ → ℕ
-soft rs j v = decided (half (j % 2) (symbolCosts (getD rs (j / 2) Lost))) v
+soft rs j v = decidedAs (half (j % 2) (symbolCosts (getD rs (j / 2) Lost))) v
 
 pub soft-splits : (rs : List Received) → Splits (map softly rs) (soft rs) 0
 soft-splits rs = record {
@@ -80,12 +80,12 @@ soft-decoded rate m hr hm is qs lost o whole =
 -- ---- what is written
 
 -- the two costs of I, and of Q
-cost-i : (c : SymbolCosts) (v : ℕ) → v < 2 → costAt c v ≡ decided (c .i) v
+cost-i : (c : SymbolCosts) (v : ℕ) → v < 2 → costAt c v ≡ decidedAs (c .i) v
 cost-i c zero h = refl
 cost-i c (suc zero) h = refl
 cost-i c (suc (suc v)) h = absurd (omega arith)
 
-cost-q : (c : SymbolCosts) (v : ℕ) → v < 2 → costAt c (2 + v) ≡ decided (c .q) v
+cost-q : (c : SymbolCosts) (v : ℕ) → v < 2 → costAt c (2 + v) ≡ decidedAs (c .q) v
 cost-q c zero h = refl
 cost-q c (suc zero) h = refl
 cost-q c (suc (suc v)) h = absurd (omega arith)

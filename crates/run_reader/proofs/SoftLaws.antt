@@ -20,13 +20,13 @@ use Rattle.trellis.proofs.Order.{bits-head}
 use Rattle.trellis.proofs.Laws.{scale, unique, decoded-unique}
 use Rattle.puncturing.specs.Step.{patternLength}
 use Rattle.inner_code.specs.Step.{symbolsOf}
-use Rattle.soft_decision.specs.Cost.{numberCosts, symbolCosts, decided, softly, receivedOf}
+use Rattle.soft_decision.specs.Cost.{numberCosts, symbolCosts, decidedAs, softly, receivedOf}
 use Rattle.soft_decision.specs.declared.BitCosts.{BitCosts}
 use Rattle.soft_decision.specs.declared.Received.{Received}
 use Rattle.soft_decision.specs.declared.Received.the-variants.{At, Lost}
 use Rattle.soft_decision.proofs.Numbers.{costs-nan, costs-one, costs-minus-one}
-use Rattle.run_reader.specs.Cost.{coderAt, differ, differing, totalCost, hardCost, softCost}
-use Rattle.run_reader.specs.Read.{runBits, runLength, below, valid, sound, readNumber, softNumber, BestRead, Reads, ReadsSoft, refused, read}
+use Rattle.run_reader.specs.Cost.{coderAt, bitsDiffer, differing, totalCost, hardCost, softCost}
+use Rattle.run_reader.specs.Read.{runBits, runLength, below, valid, sound, readNumber, softNumber, BestRead, ReadsHard, ReadsSoft, refused, read}
 use Rattle.run_reader.proofs.Serial.{flat}
 use Rattle.run_reader.proofs.Patterns.{run-whole}
 use Rattle.run_reader.proofs.Costs.{whole-bits}
@@ -37,8 +37,8 @@ use Rattle.run_reader.proofs.Laws.{total-le}
 -- ---- what a run can cost
 
 -- at most 14 for each symbol
-pub soft-most : (rate m : ℕ) (rs : List Received) {n : ℕ} {room : List ℕ} {after total count : ℕ} {left : List ℕ}
-    → BestRead (softCost rs rate m) n m room after total count left → total ≤ 14 * length rs
+pub soft-most : (rate m : ℕ) (rs : List Received) {n : ℕ} {output : List ℕ} {after total count : ℕ} {left : List ℕ}
+    → BestRead (softCost rs rate m) n m output after total count left → total ≤ 14 * length rs
 soft-most rate m rs o =
     omega (
       arith,
@@ -77,11 +77,11 @@ lost-unsent (r ∷ before) after [] ys sent e = absurd (omega arith)
 lost-unsent (r ∷ before) after (x ∷ xs) ys sent e = ap (λ (t : ℕ). softly r x + t) (lost-unsent before after xs ys sent (omega arith))
 
 -- a NaN frees its own number, and that one alone
-pub nan-i : (q : Float) (sent : ℕ) → softly (At (record { i = nan; q = q })) sent ≡ decided (numberCosts q) (sent % 2)
+pub nan-i : (q : Float) (sent : ℕ) → softly (At (record { i = nan; q = q })) sent ≡ decidedAs (numberCosts q) (sent % 2)
 unfolding symbolCosts
 nan-i q sent = rw costs-nan (omega (arith, nothing (eqb (sent / 2) 0)))
 
-pub nan-q : (i : Float) (sent : ℕ) → softly (At (record { i = i; q = nan })) sent ≡ decided (numberCosts i) (sent / 2)
+pub nan-q : (i : Float) (sent : ℕ) → softly (At (record { i = i; q = nan })) sent ≡ decidedAs (numberCosts i) (sent / 2)
 unfolding symbolCosts
 nan-q i sent = rw costs-nan (omega (arith, nothing (eqb (sent % 2) 0)))
 
@@ -124,8 +124,8 @@ zeros-memory m (suc n) =
     ap (λ (k : ℕ). memoryAfter k (replicate n 0)) z ∙ (zeros-memory (m / 2) n ∙ (div-div-eq-div-mul m 2 (2 ^ n) ∙ ap (λ (k : ℕ). m / k) (mul-comm 2 (2 ^ n) ∙ sym (pow-suc 2 n))))
 
 -- it is read as zeros that cost nothing, and of the memory as many bits are left as zeros did not push out
-pub all-lost : (rate m : ℕ) (is qs : List Float) (lost : List ℕ) → All (λ k. 0 < k) lost → {room : List ℕ} {after total count : ℕ} {left : List ℕ}
-    → (o : BestRead (softCost (receivedOf is qs lost) rate m) (runBits rate (length is)) m room after total count left)
+pub all-lost : (rate m : ℕ) (is qs : List Float) (lost : List ℕ) → All (λ k. 0 < k) lost → {output : List ℕ} {after total count : ℕ} {left : List ℕ}
+    → (o : BestRead (softCost (receivedOf is qs lost) rate m) (runBits rate (length is)) m output after total count left)
     → (o .bits ≡ replicate (runBits rate (length is)) 0) × (total ≡ 0) × (after ≡ m / 2 ^ runBits rate (length is))
 all-lost rate m is qs lost h o =
     let n = runBits rate (length is) in
@@ -149,7 +149,7 @@ signalsQ symbols = map (λ s. signal (s % 2)) symbols
 abbrev pub noneLost : List ℕ → List ℕ
 noneLost symbols = map (λ s. 0) symbols
 
-seven : (b v : ℕ) → b < 2 → v < 2 → decided (numberCosts (signal b)) v ≡ 7 * differ b v
+seven : (b v : ℕ) → b < 2 → v < 2 → decidedAs (numberCosts (signal b)) v ≡ 7 * bitsDiffer b v
 unfolding signal
 seven zero zero hb hv = ap (λ (c : BitCosts). c .zero) costs-one
 seven zero (suc zero) hb hv = ap (λ (c : BitCosts). c .one) costs-one
@@ -188,9 +188,9 @@ pub record SevenTimes (number number′ after after′ cost cost′ count count�
   pub memories : after′ ≡ after
   pub costs : cost′ ≡ 7 * cost
   pub counts : count′ ≡ count
-  pub rooms : left′ ≡ left
+  pub outputs : left′ ≡ left
 
-module _ (rate m : ℕ) (rs room : List ℕ) (h : All (λ r. r < 4) rs) where
+module _ (rate m : ℕ) (rs output : List ℕ) (h : All (λ r. r < 4) rs) where
   abbrev n : ℕ
   n = length (signalsI rs)
 
@@ -202,7 +202,7 @@ module _ (rate m : ℕ) (rs room : List ℕ) (h : All (λ r. r < 4) rs) where
       rw (eq-eqb (length (signalsQ rs)) n (length-map rs (λ s. signal (s % 2)) ∙ sym size), eq-eqb (length (noneLost rs)) n (length-map rs (λ s. 0) ∙ sym size)) (marks-below rs)
 
   -- the same answer is due
-  same-number : softNumber rate m (signalsI rs) (signalsQ rs) (noneLost rs) room ≡ readNumber rate m rs room
+  same-number : softNumber rate m (signalsI rs) (signalsQ rs) (noneLost rs) output ≡ readNumber rate m rs output
   same-number = rw (lists-pass, all-valid rs h, size) refl
 
   -- every sequence costs seven times as much
@@ -211,16 +211,16 @@ module _ (rate m : ℕ) (rs room : List ℕ) (h : All (λ r. r < 4) rs) where
   seven-times hm hr ys w l =
       seven-total rs (symbolsOf (coderAt rate m) ys) h (whole-bits rate m hr hm w (ap (λ (k : ℕ). k % patternLength rate) l ∙ run-whole rate hr (length rs)))
 
-  -- Points of 1.0 and -1.0 only: the answer, the bits, the memory and the room of hard decisions, at seven times their number.
-  pub as-hard : {number number′ after after′ cost cost′ count count′ : ℕ} {left left′ : List ℕ} → Reads rate m rs room number after cost count left
-      → ReadsSoft rate m (signalsI rs) (signalsQ rs) (noneLost rs) room number′ after′ cost′ count′ left′
+  -- Points of 1.0 and -1.0 only: the answer, the bits, the memory and the output of hard decisions, at seven times their number.
+  pub as-hard : {number number′ after after′ cost cost′ count count′ : ℕ} {left left′ : List ℕ} → ReadsHard rate m rs output number after cost count left
+      → ReadsSoft rate m (signalsI rs) (signalsQ rs) (noneLost rs) output number′ after′ cost′ count′ left′
       → SevenTimes number number′ after after′ cost cost′ count count′ left left′
   as-hard (refused e p a c k l) (refused e′ p′ a′ c′ k′ l′) =
-      record { numbers = e′ ∙ (same-number ∙ sym e); memories = a′ ∙ sym a; costs = omega (arith, c, c′); counts = k′ ∙ sym k; rooms = l′ ∙ sym l }
+      record { numbers = e′ ∙ (same-number ∙ sym e); memories = a′ ∙ sym a; costs = omega (arith, c, c′); counts = k′ ∙ sym k; outputs = l′ ∙ sym l }
   as-hard (refused e p a c k l) (read z r o) = absurd (omega (arith, e, p, r, same-number))
   as-hard (read z r o) (refused e p a c k l) = absurd (omega (arith, e, p, r, same-number))
   as-hard {after = after} {after′} {cost} {cost′} (read z r o) (read z′ r′ o′) =
-      let g = passed rate m true (length rs) (valid rs) (length room) r in
+      let g = passed rate m true (length rs) (valid rs) (length output) r in
       let soft : List ℕ → ℕ = softCost (receivedOf (signalsI rs) (signalsQ rs) (noneLost rs)) rate m in
       let times = seven-times (g .in-range) (g .known) in
       let best = o .decoded .best in
@@ -237,5 +237,5 @@ module _ (rate m : ℕ) (rs room : List ℕ) (h : All (λ r. r < 4) rs) where
         memories = s .after;
         costs = s .total;
         counts = o′ .counted ∙ (ap (runBits rate) size ∙ sym (o .counted));
-        rooms = o′ .written ∙ (ap₂ (λ (b : List ℕ) (k : ℕ). b ++ drop (runBits rate k) room) (s .bits) size ∙ sym (o .written));
+        outputs = o′ .written ∙ (ap₂ (λ (b : List ℕ) (k : ℕ). b ++ drop (runBits rate k) output) (s .bits) size ∙ sym (o .written));
       }

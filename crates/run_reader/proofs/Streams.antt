@@ -18,7 +18,7 @@ use Rattle.inner_code.specs.Step.{symbolsOf}
 use Rattle.inner_code.specs.declared.InnerCoder.{InnerCoder}
 use Rattle.inner_code.proofs.Coder.{length-symbols, symbols-append, coder-memory}
 use Rattle.run_reader.specs.Cost.{coderAt}
-use Rattle.run_reader.specs.Read.{symbolsPerPattern, runLength, Reads}
+use Rattle.run_reader.specs.Read.{symbolsPerPattern, runLength, ReadsHard}
 use Rattle.run_reader.specs.Runs as runs
 use Rattle.run_reader.specs.Runs.{Run, Readings}
 use Rattle.run_reader.proofs.Patterns.{at-start, some-symbols, coder-whole, memory-in-range, run-whole}
@@ -122,10 +122,10 @@ module _ (rate : ℕ) (hr : rate < 5) where
         ∙ (ap (drop (length ss)) (sym cut) ∙ drop-at (symbolsOf (coderAt rate m) (take n bits)) _ (length ss) front-symbols)
 
     -- what reading it gives
-    pub read-front : n ≤ 1632 → (room : List ℕ) → n ≤ length room → {number after cost count : ℕ} {left : List ℕ} → Reads rate m ss room number after cost count left
+    pub read-front : n ≤ 1632 → (output : List ℕ) → n ≤ length output → {number after cost count : ℕ} {left : List ℕ} → ReadsHard rate m ss output number after cost count left
         → (take count left ≡ take n bits) × (cost ≡ 0) × (after ≡ memoryAfter m (take n bits))
-    read-front most room long {count = count} {left = left} r =
-        let b = unharmed rate m hr hm (take n bits) (take-bits n w) front-whole (omega (arith, front-length)) ss front-is room (omega (arith, front-length)) r in (
+    read-front most output long {count = count} {left = left} r =
+        let b = unharmed rate m hr hm (take n bits) (take-bits n w) front-whole (omega (arith, front-length)) ss front-is output (omega (arith, front-length)) r in (
           ap₂ take (b .counted) (b .written) ∙ take-at (take n bits) _ (length (take n bits)) refl,
           b .nothing,
           b .memory ∙ coder-memory (coderAt rate m) (take n bits),
@@ -147,11 +147,11 @@ module _ (rate : ℕ) (hr : rate < 5) where
   stream-read m hm bits w [] g rest e runs.none =
       let z : runLength rate [] ≡ 0 = ap (λ (k : ℕ). p * k) (zero-div s) ∙ mul-zero p in
       (rw z refl, refl, rw z refl)
-  stream-read m hm bits w (ss ∷ rs) g rest e (runs.run {last = end} {bits = out} {rest = later} room left number cost count long r t) =
+  stream-read m hm bits w (ss ∷ rs) g rest e (runs.run {last = end} {bits = out} {rest = later} output left number cost count long r t) =
       let e′ : ss ++ (flatten rs ++ rest) ≡ symbolsOf (coderAt rate m) bits = sym (append-assoc ss (flatten rs) rest) ∙ e in
       let n = runLength rate ss in
       let k = runLength rate (flatten rs) in
-      let a = read-front m hm bits w ss (flatten rs ++ rest) (g .0 .whole) e′ (g .0 .most) room long r in
+      let a = read-front m hm bits w ss (flatten rs ++ rest) (g .0 .whole) e′ (g .0 .most) output long r in
       let m′ = memoryAfter m (take n bits) in
       let hm′ = memory-in-range rate m hr hm (take-bits n w) in
       let b = stream-read m′ hm′ (drop n bits) (drop-bits n w) rs (g .1) rest (back-is m hm bits w ss (flatten rs ++ rest) (g .0 .whole) e′)

@@ -21,9 +21,9 @@ use Rattle.puncturing.specs.Mode.{modeOf}
 use Rattle.puncturing.specs.Step.{patternLength}
 use Rattle.puncturing.proofs.Places.{tested-at}
 use Rattle.puncturing.proofs.Steps.{some-bits}
-use Rattle.depuncturing.specs.Steps.{kind, kindCost, kindAt, first, punctured}
+use Rattle.depuncturing.specs.Steps.{kind, kindCost, kindAt, first, puncturedCosts}
 use Rattle.inner_code.specs.Step.{symbolsOf}
-use Rattle.run_reader.specs.Cost.{coderAt, differ, differing, totalCost, hardCost}
+use Rattle.run_reader.specs.Cost.{coderAt, bitsDiffer, differing, totalCost, hardCost}
 use Rattle.run_reader.proofs.Serial.{flat}
 use Rattle.run_reader.specs.Read.{symbolsPerPattern, runLength}
 use Rattle.run_reader.proofs.Patterns.{sent-whole}
@@ -33,7 +33,7 @@ use Rattle.run_reader.proofs.Existence.{steps-cost, some-best}
 -- ---- hard costs
 
 abbrev hard : List ℕ → ℕ → ℕ → ℕ
-hard ss j v = differ (getD (flat ss) j 0) v
+hard ss j v = bitsDiffer (getD (flat ss) j 0) v
 
 flat-i : (ss : List ℕ) (i : ℕ) → getD (flat ss) (2 * i) 0 ≡ getD ss i 0 / 2
 flat-i [] zero = refl
@@ -58,7 +58,7 @@ hard-splits ss = record {
 
 -- ---- each step tells its two bits apart
 
-differ-zero : (a b : ℕ) → differ a b ≡ 0 → a ≡ b
+differ-zero : (a b : ℕ) → bitsDiffer a b ≡ 0 → a ≡ b
 differ-zero a b h = go (eqb a b) refl h
   where
     go : (t : Bool) → eqb a b ≡ t → pick {A = ℕ} t 0 1 ≡ 0 → a ≡ b
@@ -68,12 +68,12 @@ differ-zero a b h = go (eqb a b) refl h
 parity : (b c p : ℕ) → b < 2 → c < 2 → (b + p) % 2 ≡ (c + p) % 2 → b ≡ c
 parity b c p hb hc e = omega arith
 
-x-apart : (m b c r : ℕ) → b < 2 → c < 2 → differ r (coded tapsX m b) ≡ 0 → differ r (coded tapsX m c) ≡ 0 → b ≡ c
+x-apart : (m b c r : ℕ) → b < 2 → c < 2 → bitsDiffer r (coded tapsX m b) ≡ 0 → bitsDiffer r (coded tapsX m c) ≡ 0 → b ≡ c
 x-apart m b c r hb hc p q =
     parity b c (m / 32 % 2 + (m / 16 % 2 + (m / 8 % 2 + (m % 2 + 0)))) hb hc
     (sym (differ-zero r (coded tapsX m b) p) ∙ differ-zero r (coded tapsX m c) q)
 
-y-apart : (m b c r : ℕ) → b < 2 → c < 2 → differ r (coded tapsY m b) ≡ 0 → differ r (coded tapsY m c) ≡ 0 → b ≡ c
+y-apart : (m b c r : ℕ) → b < 2 → c < 2 → bitsDiffer r (coded tapsY m b) ≡ 0 → bitsDiffer r (coded tapsY m c) ≡ 0 → b ≡ c
 y-apart m b c r hb hc p q =
     parity b c (m / 16 % 2 + (m / 8 % 2 + (m / 2 % 2 + (m % 2 + 0)))) hb hc
     (sym (differ-zero r (coded tapsY m b) p) ∙ differ-zero r (coded tapsY m c) q)
@@ -92,13 +92,13 @@ sends : (rate k : ℕ) → rate < 5 → 0 < kindAt rate k
 unfolding kind modeOf flatten
 sends rate k h = ltb→lt 0 (kindAt rate k) (tested-at (λ r p. ltb 0 (kind r p)) tt rate (k % patternLength rate) h (mod-lt k (some-bits rate h)))
 
-apart : (ss : List ℕ) (rate : ℕ) → rate < 5 → Apart (punctured rate (hard ss))
-unfolding punctured
+apart : (ss : List ℕ) (rate : ℕ) → rate < 5 → Apart (puncturedCosts rate (hard ss))
+unfolding puncturedCosts
 apart ss rate h k s b c hb hc p q = kind-apart ss (kindAt rate k) (first rate k) s b c (sends rate k h) hb hc p q
 
 -- ---- a run, whatever was received
 
-differ-le : (a b : ℕ) → differ a b ≤ 7
+differ-le : (a b : ℕ) → bitsDiffer a b ≤ 7
 differ-le a b = go (eqb a b)
   where
     go : (t : Bool) → pick {A = ℕ} t 0 1 ≤ 7
@@ -109,7 +109,7 @@ module _ (rate m : ℕ) (hr : rate < 5) (hm : m < 64) (ss : List ℕ) (whole : l
   abbrev n : ℕ
   n = runLength rate ss
 
-  steps : (ys : List ℕ) → Bits ys → length ys ≡ n → costFrom (punctured rate (hard ss)) 0 m ys ≡ hardCost ss rate m ys
+  steps : (ys : List ℕ) → Bits ys → length ys ≡ n → costFrom (puncturedCosts rate (hard ss)) 0 m ys ≡ hardCost ss rate m ys
   steps = steps-cost (map differing ss) (hard ss) (hard-splits ss) rate m hr hm (length ss) (sym (length-map ss differing)) whole
 
   -- there is a best sequence
@@ -120,11 +120,11 @@ module _ (rate m : ℕ) (hr : rate < 5) (hm : m < 64) (ss : List ℕ) (whole : l
   -- bits that differ nowhere are the best
   pub free-best : (bits best : List ℕ) → Bits bits → length bits ≡ n → hardCost ss rate m bits ≡ 0 → Best (hardCost ss rate m) n best → best ≡ bits
   free-best bits best w l z b =
-      free (punctured rate (hard ss)) (apart ss rate hr) n m bits best (best-same n (λ ys v e. sym (steps ys v e)) b) w l (steps bits w l ∙ z)
+      free (puncturedCosts rate (hard ss)) (apart ss rate hr) n m bits best (best-same n (λ ys v e. sym (steps ys v e)) b) w l (steps bits w l ∙ z)
 
 -- ---- an unharmed run
 
-differ-same : (a : ℕ) → differ a a ≡ 0
+differ-same : (a : ℕ) → bitsDiffer a a ≡ 0
 differ-same a = rw (eq-eqb a a refl)
 
 -- the coding of bits differs from itself nowhere

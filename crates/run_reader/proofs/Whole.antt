@@ -11,7 +11,7 @@ use Rattle.trellis.specs.Best.{Decoded}
 use Rattle.trellis.proofs.Laws.{decoded-same}
 use Rattle.viterbi_decoder.specs.Step.{stepCosts}
 use Rattle.puncturing.specs.Step.{patternLength}
-use Rattle.depuncturing.specs.Steps.{punctured, pairCost, stepValue}
+use Rattle.depuncturing.specs.Steps.{puncturedCosts, pairCost, stepValue}
 use Rattle.depuncturing.proofs.Facts.{steps-are, cost-same}
 use Rattle.inner_code.specs.Step.{symbolsOf}
 use Rattle.run_reader.specs.Cost.{coderAt, runCost}
@@ -24,5 +24,5 @@ pub read : (costs : List (ℕ → ℕ)) (l steps : List ℕ) (rate m n : ℕ) �
 read costs l steps rate m n sp hr hm whole sized spread =
     decoded-same n m
     (λ ys w e.
-    cost-same (stepCosts steps) (punctured rate (pairCost l)) 0 m ys (λ j s b h. steps-are l steps rate n spread j s b (omega arith))
+    cost-same (stepCosts steps) (puncturedCosts rate (pairCost l)) 0 m ys (λ j s b h. steps-are l steps rate n spread j s b (omega arith))
     ∙ sym (run-is costs (pairCost l) sp rate m hr hm w (ap (λ (k : ℕ). k % patternLength rate) e ∙ whole) (sized ys w e)))

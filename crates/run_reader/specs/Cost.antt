@@ -17,12 +17,12 @@ abbrev pub coderAt : ℕ → ℕ → InnerCoder
 coderAt rate memory = record { rate = rate; memory = memory; place = 0; held = 0 }
 
 -- 1 where two bits differ
-abbrev pub differ : ℕ → ℕ → ℕ
-differ a b = pick (eqb a b) 0 1
+abbrev pub bitsDiffer : ℕ → ℕ → ℕ
+bitsDiffer a b = pick (eqb a b) 0 1
 
 -- in how many of I and Q a received symbol differs from one that is sent
 abbrev pub differing : ℕ → ℕ → ℕ
-differing received sent = differ (received / 2) (sent / 2) + differ (received % 2) (sent % 2)
+differing received sent = bitsDiffer (received / 2) (sent / 2) + bitsDiffer (received % 2) (sent % 2)
 
 -- the sum of what the symbols cost, where each received one says what each sent one would cost; the lists are of one length
 unfoldable pub totalCost : List (ℕ → ℕ) → List ℕ → ℕ

@@ -45,12 +45,12 @@ sound is qs lost = pick (eqb (length qs) (length is)) (pick (eqb (length lost) (
 -- The number of the answer to n symbols: 6 for another rate, 5 for a memory out of range, 24 where the lists do not pass, 12 where the symbols make no
 -- whole patterns, 13 where the run has more than 1,632 bits, 14 where the symbols do not pass, 4 for short room.
 abbrev pub answerNumber : ℕ → ℕ → Bool → ℕ → Bool → ℕ → ℕ
-answerNumber rate memory lists n symbols room =
+answerNumber rate memory lists n symbols space =
     pick (ltb rate 5)
     (pick (ltb memory 64)
     (pick lists
     (pick (eqb (n % symbolsPerPattern rate) 0)
-    (pick (ltb 1632 (runBits rate n)) 13 (pick symbols (pick (ltb room (runBits rate n)) 4 0) 14))
+    (pick (ltb 1632 (runBits rate n)) 13 (pick symbols (pick (ltb space (runBits rate n)) 4 0) 14))
     12)
     24)
     5)
@@ -58,43 +58,43 @@ answerNumber rate memory lists n symbols room =
 
 -- of hard decisions, which come as one list of symbols
 abbrev pub readNumber : ℕ → ℕ → List ℕ → List ℕ → ℕ
-readNumber rate memory symbols room = answerNumber rate memory true (length symbols) (valid symbols) (length room)
+readNumber rate memory symbols output = answerNumber rate memory true (length symbols) (valid symbols) (length output)
 
 -- of soft decisions, where a symbol can be anything
 abbrev pub softNumber : ℕ → ℕ → List Float → List Float → List ℕ → List ℕ → ℕ
-softNumber rate memory is qs lost room = answerNumber rate memory (sound is qs lost) (length is) true (length room)
+softNumber rate memory is qs lost output = answerNumber rate memory (sound is qs lost) (length is) true (length output)
 
 -- ---- what is read
 
--- the best sequence of n bits, its cost and the memory after it, with its bits at the front of the room
-pub record BestRead (cost : List ℕ → ℕ) (n memory : ℕ) (room : List ℕ) (after total count : ℕ) (left : List ℕ) : Type 0 where
+-- the best sequence of n bits, its cost and the memory after it, with its bits at the front of the output
+pub record BestRead (cost : List ℕ → ℕ) (n memory : ℕ) (output : List ℕ) (after total count : ℕ) (left : List ℕ) : Type 0 where
   pub bits : List ℕ
   pub decoded : Decoded cost n memory bits total after
   pub counted : count ≡ n
-  pub written : left ≡ bits ++ drop n room
+  pub written : left ≡ bits ++ drop n output
 
--- what a call promises, where `due` is the number of its answer: a refusal has its number, and leaves room and memory as they were; else the run is read
-pub data Answers (due : ℕ) (cost : List ℕ → ℕ) (n memory : ℕ) (room : List ℕ) (number after total count : ℕ) (left : List ℕ) : Type 0 where
-  refused : number ≡ due → 0 < number → after ≡ memory → total ≡ 0 → count ≡ 0 → left ≡ room → Answers due cost n memory room number after total count left
-  read : number ≡ 0 → due ≡ 0 → BestRead cost n memory room after total count left → Answers due cost n memory room number after total count left
+-- what a call promises, where `due` is the number of its answer: a refusal has its number, and leaves output and memory as they were; else the run is read
+pub data AnswersRun (due : ℕ) (cost : List ℕ → ℕ) (n memory : ℕ) (output : List ℕ) (number after total count : ℕ) (left : List ℕ) : Type 0 where
+  refused : number ≡ due → 0 < number → after ≡ memory → total ≡ 0 → count ≡ 0 → left ≡ output → AnswersRun due cost n memory output number after total count left
+  read : number ≡ 0 → due ≡ 0 → BestRead cost n memory output after total count left → AnswersRun due cost n memory output number after total count left
 
 -- reading by hard decisions: total is the number of I and Q bits that differ
-abbrev pub Reads : ℕ → ℕ → List ℕ → List ℕ → ℕ → ℕ → ℕ → ℕ → List ℕ → Type 0
-Reads rate memory symbols room = Answers (readNumber rate memory symbols room) (hardCost symbols rate memory) (runLength rate symbols) memory room
+abbrev pub ReadsHard : ℕ → ℕ → List ℕ → List ℕ → ℕ → ℕ → ℕ → ℕ → List ℕ → Type 0
+ReadsHard rate memory symbols output = AnswersRun (readNumber rate memory symbols output) (hardCost symbols rate memory) (runLength rate symbols) memory output
 
 -- reading by soft decisions: of each symbol the two numbers of its point, and its mark
 abbrev pub ReadsSoft : ℕ → ℕ → List Float → List Float → List ℕ → List ℕ → ℕ → ℕ → ℕ → ℕ → List ℕ → Type 0
-ReadsSoft rate memory is qs lost room =
-    Answers (softNumber rate memory is qs lost room) (softCost (receivedOf is qs lost) rate memory) (runBits rate (length is)) memory room
+ReadsSoft rate memory is qs lost output =
+    AnswersRun (softNumber rate memory is qs lost output) (softCost (receivedOf is qs lost) rate memory) (runBits rate (length is)) memory output
 
 -- ---- the core of both
 
 -- costs, four for each symbol, that can be read: whole patterns, no more than a run has, and room for their bits
-pub record Readable (rate memory : ℕ) (costs room : List ℕ) : Type 0 where
+pub record Readable (rate memory : ℕ) (costs output : List ℕ) : Type 0 where
   pub known : rate < 5
   pub in-range : memory < 64
   pub fours : length costs % 4 ≡ 0
   pub whole : length costs / 4 % symbolsPerPattern rate ≡ 0
   pub most : runBits rate (length costs / 4) ≤ 1632
   pub small : All (λ c. c ≤ 7) costs
-  pub fits : runBits rate (length costs / 4) ≤ length room
+  pub fits : runBits rate (length costs / 4) ≤ length output

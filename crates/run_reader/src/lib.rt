@@ -7,7 +7,7 @@ ghost use Rattle.answer.specs.Number.{numberOf};
 ghost use Rattle.common.specs.Choice.{pick};
 ghost use Rattle.common.specs.Lists.{All};
 ghost use Rattle.run_reader.specs.Cost.{runCost, costsOf};
-ghost use Rattle.run_reader.specs.Read.{symbolsPerPattern, runBits, below, sound, answerNumber, Readable, BestRead, Reads, ReadsSoft};
+ghost use Rattle.run_reader.specs.Read.{symbolsPerPattern, runBits, below, sound, answerNumber, Readable, BestRead, ReadsHard, ReadsSoft};
 ghost use Rattle.run_reader.specs.Decisions.{decisionCost};
 use answer::Answer;
 use depuncturing::spread_costs;
@@ -72,9 +72,17 @@ fn is_sound(is: &[f32], qs: &[f32], lost: &[u8]) -> bool
     is_below(2, lost)
 }
 
-// The answer that is due to a run of so many symbols, by the tests of both calls, where its lists and its symbols pass their own or not.
-fn answer_due(rate: u8, memory: u8, lists: bool, symbols: usize, valid: bool, room: usize) -> Answer
-    ensures { λ r. ⌜ numberOf r ≡ answerNumber rate memory lists symbols valid room ⌝ }
+// The answer that is due to a run of so many symbols, by the tests of both calls, where its lists and its symbols pass their own or not and
+// there is space for so many bits.
+fn answer_due(
+    rate: u8,
+    memory: u8,
+    lists: bool,
+    symbols: usize,
+    valid: bool,
+    space: usize,
+) -> Answer
+    ensures { λ r. ⌜ numberOf r ≡ answerNumber rate memory lists symbols valid space ⌝ }
 {
     if rate >= 5 {
         return Answer::UnknownRate;
@@ -97,8 +105,8 @@ fn answer_due(rate: u8, memory: u8, lists: bool, symbols: usize, valid: bool, ro
     if !valid {
         return Answer::SymbolRange;
     }
-    if room < bits * patterns {
-        return Answer::RoomLength;
+    if space < bits * patterns {
+        return Answer::OutputLength;
     }
     Answer::Done
 }
@@ -115,21 +123,21 @@ fn refused(answer: Answer, memory: u8) -> Read
 }
 
 // Hard decisions: writes what deciding the I of each symbol as 0 and as 1 costs, and then its Q.
-pub fn decision_costs(symbols: &[u8], room: &mut [u8])
-    requires { ⌜ (All (λ s. s < 4) (now symbols)) × (4 * length (now symbols) ≤ length (now room)) ⌝ }
-    ensures { λ _. ⌜ ((t : ℕ) → t < 4 * length (now (symbols .entry)) → getD (now (room .exit)) t 0 ≡ decisionCost (now (symbols .entry)) t) ⌝ }
+pub fn decision_costs(symbols: &[u8], output: &mut [u8])
+    requires { ⌜ (All (λ s. s < 4) (now symbols)) × (4 * length (now symbols) ≤ length (now output)) ⌝ }
+    ensures { λ _. ⌜ ((t : ℕ) → t < 4 * length (now (symbols .entry)) → getD (now (output .exit)) t 0 ≡ decisionCost (now (symbols .entry)) t) ⌝ }
 {
     let mut i: usize = 0;
     let mut at: usize = 0;
     while i < symbols.len() {
         let s = symbols[i];
-        room[at] = s / 2;
+        output[at] = s / 2;
         let at1 = at + 1;
-        room[at1] = 1 - s / 2;
+        output[at1] = 1 - s / 2;
         let at2 = at1 + 1;
-        room[at2] = s % 2;
+        output[at2] = s % 2;
         let at3 = at2 + 1;
-        room[at3] = 1 - s % 2;
+        output[at3] = 1 - s % 2;
         at = at3 + 1;
         i += 1;
     }
@@ -177,7 +185,7 @@ pub fn read_costs(rate: u8, memory: u8, costs: &[u8], output: &mut [u8]) -> Read
 // The cost is in how many I and Q bits the coding of the bits differs from the symbols. The memory handed back serves the run that follows.
 pub fn read_run(rate: u8, memory: u8, symbols: &[u8], output: &mut [u8]) -> Read
     ensures { λ r. ⌜
-        Reads rate memory (now (symbols .entry)) (now (output .entry)) (numberOf (r .answer)) (r .memory) (r .cost) (r .count) (now (output .exit)) ⌝ }
+        ReadsHard rate memory (now (symbols .entry)) (now (output .entry)) (numberOf (r .answer)) (r .memory) (r .cost) (r .count) (now (output .exit)) ⌝ }
 {
     let valid = is_below(4, symbols);
     let answer = answer_due(rate, memory, true, symbols.len(), valid, output.len());

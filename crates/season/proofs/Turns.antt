@@ -12,23 +12,23 @@ use lib.Seq.{length-take-le}
 use Rattle.answer.specs.Number.{numberOf}
 use Rattle.common.proofs.Choice.{false-true}
 use Rattle.input_pieces.proofs.Laws.{read-most}
-use Rattle.season_totals.specs.Progress.{CameTo, Came, freshSeason}
+use Rattle.season_totals.specs.Progress.{CameTo, SeasonCame, freshSeason}
 use Rattle.season_totals.specs.declared.Season.{Season}
 use Rattle.season_totals.proofs.Histories.{fresh-came, going-short}
-use Rattle.season.specs.Turn.{Turns, Input, Ends, Going}
+use Rattle.season.specs.Turn.{Turns, InputCame, Ends, SeasonGoing}
 use Rattle.season.specs.declared.Turn.{Turn}
 
-pub going-none : {s : Season} → s ≡ freshSeason → Going s 0
+pub going-none : {s : Season} → s ≡ freshSeason → SeasonGoing s 0
 going-none e = record { input = record { bytes = []; is = subst (CameTo []) (sym e) fresh-came; all = refl }; few = omega arith }
 
-pub came : {s : Season} {n : ℕ} → Going s n → Came s
+pub came : {s : Season} {n : ℕ} → SeasonGoing s n → SeasonCame s
 came g = record { bytes = g .input .bytes; is = g .input .is }
 
-module _ {s : Season} {n : ℕ} {before buffer : List ℕ} {r : Turn} (g : Going s n) (t : Turns s before buffer r) (same : length buffer ≡ length before) where
+module _ {s : Season} {n : ℕ} {before buffer : List ℕ} {r : Turn} (g : SeasonGoing s n) (t : Turns s before buffer r) (same : length buffer ≡ length before) where
   within : r .piece .length ≤ length buffer
   within = omega (arith, read-most (t .read))
 
-  pub input-more : Input (r .season) (n + r .piece .length)
+  pub input-more : InputCame (r .season) (n + r .piece .length)
   input-more = record {
     bytes = g .input .bytes ++ take (r .piece .length) buffer;
     is = t .fed .fed (g .input .bytes) (g .input .is);
@@ -38,12 +38,12 @@ module _ {s : Season} {n : ℕ} {before buffer : List ℕ} {r : Turn} (g : Going
   pub few-came : length before ≡ 65536 → n + r .piece .length < 1335616
   few-came e = omega (arith, within, g .few)
 
-  pub going-more : numberOf (r .season .answer) ≡ 0 → Going (r .season) (n + r .piece .length)
+  pub going-more : numberOf (r .season .answer) ≡ 0 → SeasonGoing (r .season) (n + r .piece .length)
   going-more e = let i = input-more in record { input = i; few = omega (arith, i .all, going-short (i .is) e) }
 
 -- ---- the ends
 
-module _ {s : Season} {n : ℕ} (i : Input s n) (last : ℤ) where
+module _ {s : Season} {n : ℕ} (i : InputCame s n) (last : ℤ) where
   pub ends-failed : Ends (record { season = s; came = n; last = last; failed = true })
   ends-failed = record { input = i; whole = λ e. false-true (sym e) }
 

@@ -3,7 +3,7 @@
 // No contract can say what is read or written. What is read stands at the front of a buffer, and is what the season is fed with: `next_turn`.
 ghost use mathlib.Core.Path.{_≡_};
 ghost use lib.ListN.{length};
-ghost use Rattle.season_totals.specs.Progress.{Came};
+ghost use Rattle.season_totals.specs.Progress.{SeasonCame};
 ghost use Rattle.season.specs.Turn.{Turns, Ends};
 use input_pieces::Piece;
 use libc::STDERR_FILENO;
@@ -30,7 +30,7 @@ struct Ended {
 
 // Reads once, and feeds what came.
 fn next_turn(season: Season, buffer: &mut [u8]) -> Turn
-    requires { ⌜ Came season ⌝ }
+    requires { ⌜ SeasonCame season ⌝ }
     ensures { λ r. ⌜ Turns season (now (buffer .entry)) (now (buffer .exit)) r ⌝ }
 {
     let piece = input_pieces::read_piece(STDIN_FILENO, buffer, buffer.len());
@@ -87,7 +87,7 @@ fn read_all(buffer: &mut [u8]) -> Ended
 
 // Prints what a season comes to.
 fn write_season(season: Season)
-    requires { ⌜ Came season ⌝ }
+    requires { ⌜ SeasonCame season ⌝ }
 {
     let read = season.finish();
     let mut text = [0u8; 160];

@@ -13,7 +13,7 @@ use Rattle.common.proofs.Choice.{false-true}
 use Rattle.report_lines.specs.Line.{lineText}
 use Rattle.report.specs.declared.Report.{Report}
 use Rattle.report.specs.Text.{sums, reportText}
-use Rattle.report.specs.Read.{Reads}
+use Rattle.report.specs.Read.{ReadsReport}
 use Rattle.report.proofs.Fronts.{report-unique}
 use Rattle.season_totals.specs.Totals.{TotalsOf}
 use Rattle.season_totals.specs.Season.{Good, texts, Seasons, JoinedTexts, SeasonExactly, totalsText, seasonText}
@@ -21,7 +21,7 @@ use Rattle.season_totals.proofs.Progress.{report-some}
 use Rattle.season_totals.proofs.Fractions.{worst-unique}
 
 -- a report at the front of a text is read, with answer 0
-front-good : (t : List ℕ) (n : ℕ) (r u : Report) (x y : List ℕ) → Reads t n r x → Good u → t ≡ reportText u ++ y → n ≡ 0
+front-good : (t : List ℕ) (n : ℕ) (r u : Report) (x y : List ℕ) → ReadsReport t n r x → Good u → t ≡ reportText u ++ y → n ≡ 0
 front-good t n r u x y w g q = by (w .one)
   where
     by : (n ≡ 0) ⊎ (n ≡ 17) ⊎ (n ≡ 18) → n ≡ 0
@@ -33,7 +33,7 @@ front-good t n r u x y w g q = by (w .one)
         false-true (sym (d .2) ∙ ap sums s ∙ g .add)
 
 -- two answers to one text, neither of them 0
-front-once : (t : List ℕ) (n m : ℕ) (r s : Report) (x y : List ℕ) → Reads t n r x → Reads t m s y → (n ≡ 0 → ⊥) → (m ≡ 0 → ⊥) → n ≡ m
+front-once : (t : List ℕ) (n m : ℕ) (r s : Report) (x y : List ℕ) → ReadsReport t n r x → ReadsReport t m s y → (n ≡ 0 → ⊥) → (m ≡ 0 → ⊥) → n ≡ m
 front-once t n m r s x y w v e f = by (w .one) (v .one)
   where
     by : (n ≡ 0) ⊎ (n ≡ 17) ⊎ (n ≡ 18) → (m ≡ 0) ⊎ (m ≡ 17) ⊎ (m ≡ 18) → n ≡ m
@@ -99,7 +99,7 @@ number-once t n m v w a b = go (begins (a .reports) (b .reports) (a .rest) (b .r
     both e f (no x) (no y) (no i) (no j) =
         let p = a .bad x i .2 in
         let q = b .bad y j .2 in
-        front-once (b .rest) n m (p .0) (q .0) (p .1) (q .1) (subst (λ (l : List ℕ). Reads l n (p .0) (p .1)) f (p .2)) (q .2) x y
+        front-once (b .rest) n m (p .0) (q .0) (p .1) (q .1) (subst (λ (l : List ℕ). ReadsReport l n (p .0) (p .1)) f (p .2)) (q .2) x y
 
     go : Begins (a .reports) (b .reports) (a .rest) (b .rest) → n ≡ m
     go (same e f) = both e f (ℕ-discrete n 0) (ℕ-discrete m 0) (ℕ-discrete n 21) (ℕ-discrete m 21)

@@ -13,7 +13,7 @@ use lib.Seq.{getD-at}
 use Rattle.common.specs.Choice.{pick}
 use Rattle.report.specs.declared.Report.{Report}
 use Rattle.report.specs.Read.{blank}
-use Rattle.season_totals.specs.Totals.{accepted, total, nth, Worst, TotalsOf, beats, counted}
+use Rattle.season_totals.specs.Totals.{accepted, total, nth, Worst, TotalsOf, beats, countedReport}
 
 -- of three fractions: at most, less, so less
 pub cross : (p a c q d b : ℕ) → 0 < a → 0 < q → p * a ≤ c * q → c * b < d * a → p * b < d * q
@@ -76,7 +76,7 @@ module _ (rs : List Report) (r : Report) where
     }
 
   -- a report more
-  pub totals-more : (t : List ℕ) → TotalsOf rs t → TotalsOf (rs ++ r ∷ []) (counted t r)
+  pub totals-more : (t : List ℕ) → TotalsOf rs t → TotalsOf (rs ++ r ∷ []) (countedReport t r)
   totals-more t s = record {
     passes = omega (arith, s .passes, longer);
     taken = omega (arith, s .taken, total-more (λ r. r .taken));

@@ -1,7 +1,7 @@
 -- A season in progress, piece after piece: what it stands for follows from all the bytes that came.
 -- Assumes nothing.
 use mathlib.Core.Path.{_≡_, refl, sym, ap, _∙_, subst, subst₂}
-use mathlib.Core.List.{List, [], _∷_, _++_, append-assoc, append-nil}
+use mathlib.Core.List.{List, [], _∷_, _++_, flatten, append-assoc, append-nil}
 use Prim.Native.Nat.{ℕ, _+_, _-_, _*_, _≤_, _<_}
 use native.Mathlib.Nat.{mul-suc}
 use native.Mathlib.Omega.{arith}
@@ -11,11 +11,11 @@ use Rattle.answer.specs.Number.{numberOf}
 use Rattle.answer.specs.declared.Answer.the-variants.{Done}
 use Rattle.report.specs.declared.Report.{Report}
 use Rattle.report.specs.Text.{reportText}
-use Rattle.report.specs.Read.{Reads}
+use Rattle.report.specs.Read.{ReadsReport}
 use Rattle.report.proofs.Fronts.{report-short}
-use Rattle.season_totals.specs.Totals.{counted, zeroTotals}
+use Rattle.season_totals.specs.Totals.{countedReport, zeroTotals}
 use Rattle.season_totals.specs.Season.{texts, Seasons, seasonText}
-use Rattle.season_totals.specs.Progress.{Unread, heldBytes, CameTo, going, ended, freshSeason, Feeds, Finishes, Feedings, joined}
+use Rattle.season_totals.specs.Progress.{Unread, heldBytes, CameTo, going, ended, freshSeason, FeedsSeason, Finishes, SeasonFeedings}
 use Rattle.season_totals.specs.declared.Season.{Season}
 use Rattle.season_totals.specs.declared.SeasonRead.{SeasonRead}
 use Rattle.season_totals.proofs.Progress.{unread-none, unread-more, unread-next, unread-bad, unread-many, front-more, past}
@@ -44,7 +44,7 @@ came-refused {bytes} {s} (ended e h f) z = subst (λ (b : List ℕ). Seasons b (
 
 -- a refusal at the front of a full buffer
 pub front-stops : {bytes totals buffer x : List ℕ} {number : ℕ} {r : Report} {s : Season} → Unread bytes totals buffer → length buffer ≡ 320
-    → getD totals 0 0 < 4096 → Reads buffer number r x → (number ≡ 0 → ⊥) → numberOf (s .answer) ≡ number → s .held ≡ 0 → CameTo bytes s
+    → getD totals 0 0 < 4096 → ReadsReport buffer number r x → (number ≡ 0 → ⊥) → numberOf (s .answer) ≡ number → s .held ≡ 0 → CameTo bytes s
 front-stops {bytes} {totals} {buffer} {x} {number} {r} {s} u l n w e a h =
     ended (λ z. e (sym a ∙ z)) (omega arith) (λ more. subst (λ (k : ℕ). Seasons (bytes ++ more) k zeroTotals) (sym a) (there more))
   where
@@ -55,7 +55,7 @@ front-stops {bytes} {totals} {buffer} {x} {number} {r} {s} u l n w e a h =
 
 -- a report at the front of a full buffer
 pub front-taken : {bytes totals buffer next pending : List ℕ} {number : ℕ} {r : Report} (end : ℕ) → Unread bytes totals buffer → length buffer ≡ 320
-    → getD totals 0 0 < 4096 → end ≤ length buffer → Reads buffer number r (drop end buffer) → number ≡ 0 → next ≡ counted totals r
+    → getD totals 0 0 < 4096 → end ≤ length buffer → ReadsReport buffer number r (drop end buffer) → number ≡ 0 → next ≡ countedReport totals r
     → take (0 + length (take (320 - end) (drop end buffer))) pending ≡ take 0 (replicate 320 0) ++ take (320 - end) (drop end buffer)
     → CameTo bytes (record { answer = Done; totals = next; pending = pending; held = 320 - end })
 front-taken {bytes} {totals} {buffer} {next} {pending} {number} {r} end u l n h w e c p =
@@ -100,7 +100,7 @@ pub fed-none : (piece : List ℕ) (s : Season) → FedTo piece s s 0
 fed-none piece s = record { place = omega arith; is = λ bytes k. subst (λ (b : List ℕ). CameTo b s) (sym (append-nil bytes)) k }
 
 pub fed-more : {piece : List ℕ} {start s next : Season} {at : ℕ} (n : ℕ) → FedTo piece start s at → at + n ≤ length piece
-    → Feeds s (take (at + n - at) (drop at piece)) next → FedTo piece start next (at + n)
+    → FeedsSeason s (take (at + n - at) (drop at piece)) next → FedTo piece start next (at + n)
 fed-more {piece} {start} {s} {next} {at} n o h f =
     let e : at + n - at ≡ n = omega arith in
     record {
@@ -111,7 +111,7 @@ fed-more {piece} {start} {s} {next} {at} n o h f =
           (subst (λ (m : ℕ). CameTo ((bytes ++ take at piece) ++ take m (drop at piece)) next) e (f .fed (bytes ++ take at piece) (o .is bytes k)));
     }
 
-pub fed-all : {piece : List ℕ} {start s : Season} {at : ℕ} → FedTo piece start s at → length piece ≤ at → Feeds start piece s
+pub fed-all : {piece : List ℕ} {start s : Season} {at : ℕ} → FedTo piece start s at → length piece ≤ at → FeedsSeason start piece s
 fed-all {piece} {start} {s} {at} o h = record {
   fed = λ bytes k. subst (λ (b : List ℕ). CameTo (bytes ++ b) s) (take-all at piece h) (o .is bytes k);
 }
@@ -121,19 +121,20 @@ fed-all {piece} {start} {s} {at} o h = record {
 pub fresh-came : CameTo [] freshSeason
 fresh-came = going refl (omega arith) unread-none
 
-feedings-came : (ps : List (List ℕ)) {bytes : List ℕ} {s last : Season} → CameTo bytes s → Feedings s ps last → CameTo (bytes ++ joined ps) last
+feedings-came : (ps : List (List ℕ)) {bytes : List ℕ} {s last : Season} → CameTo bytes s → SeasonFeedings s ps last → CameTo (bytes ++ flatten ps) last
+unfolding flatten
 feedings-came [] {bytes} {s} c e = subst (CameTo (bytes ++ [])) e (subst (λ (b : List ℕ). CameTo b s) (sym (append-nil bytes)) c)
 feedings-came (p ∷ ps) {bytes} {s} {last} c d =
-    subst (λ (b : List ℕ). CameTo b last) (append-assoc bytes p (joined ps)) (feedings-came ps (d .1 .fed bytes c) (d .2))
+    subst (λ (b : List ℕ). CameTo b last) (append-assoc bytes p (flatten ps)) (feedings-came ps (d .1 .fed bytes c) (d .2))
 
 -- whatever the pieces, the answer is the season of all the bytes
-pub every-history : (ps : List (List ℕ)) (last : Season) (r : SeasonRead) → Feedings freshSeason ps last → Finishes last r
-    → Seasons (joined ps) (numberOf (r .answer)) (r .totals)
-every-history ps last r d f = f .season (joined ps) (feedings-came ps fresh-came d)
+pub every-history : (ps : List (List ℕ)) (last : Season) (r : SeasonRead) → SeasonFeedings freshSeason ps last → Finishes last r
+    → Seasons (flatten ps) (numberOf (r .answer)) (r .totals)
+every-history ps last r d f = f .season (flatten ps) (feedings-came ps fresh-came d)
 
 -- any two cuttings of the same bytes print the same
-pub any-pieces : (ps qs : List (List ℕ)) (s z : Season) (r q : SeasonRead) → Feedings freshSeason ps s → Feedings freshSeason qs z
-    → Finishes s r → Finishes z q → joined ps ≡ joined qs
+pub any-pieces : (ps qs : List (List ℕ)) (s z : Season) (r q : SeasonRead) → SeasonFeedings freshSeason ps s → SeasonFeedings freshSeason qs z
+    → Finishes s r → Finishes z q → flatten ps ≡ flatten qs
     → seasonText (numberOf (r .answer)) (r .totals) ≡ seasonText (numberOf (q .answer)) (q .totals)
 any-pieces ps qs s z r q d g f h e =
     same-text (subst (λ (b : List ℕ). Seasons b (numberOf (r .answer)) (r .totals)) e (every-history ps s r d f)) (every-history qs z q g h)

@@ -13,10 +13,10 @@ use Rattle.common.specs.Lists.{All, placed}
 use Rattle.report_lines.specs.Line.{decimal, lineText}
 use Rattle.report.specs.declared.Report.{Report}
 use Rattle.report.specs.Text.{fits, reportText, row, linesText, fields, bitsText}
-use Rattle.report.specs.Read.{Reads}
+use Rattle.report.specs.Read.{ReadsReport}
 use Rattle.report.proofs.Counting.{Small, fits-small}
 use Rattle.report.proofs.Fronts.{report-short}
-use Rattle.season_totals.specs.Totals.{total, Worst, Room, counted, zeroTotals}
+use Rattle.season_totals.specs.Totals.{total, Worst, TotalsFit, countedReport, zeroTotals}
 use Rattle.season_totals.specs.Season.{Good, texts, Seasons}
 use Rattle.season_totals.specs.Progress.{Unread}
 use Rattle.season_totals.proofs.Fractions.{totals-more}
@@ -69,8 +69,8 @@ module _ {bytes totals rest : List ℕ} (u : Unread bytes totals rest) where
     sums = u .sums;
   }
 
-  pub unread-room : (r : Report) → getD totals 0 0 < 4096 → fits r ≡ true → Room totals r
-  unread-room r n f =
+  pub unread-fits : (r : Report) → getD totals 0 0 < 4096 → fits r ≡ true → TotalsFit totals r
+  unread-fits r n f =
       let p = u .sums .passes in
       let a = total-most (λ r. r .taken) 1099511627776 (λ r m. m .taken) (u .reports) (u .good) in
       let b = total-most (λ r. r .lost) 1099511627776 (λ r m. m .lost) (u .reports) (u .good) in
@@ -87,8 +87,8 @@ module _ {bytes totals rest : List ℕ} (u : Unread bytes totals rest) where
   pub unread-fewer : (getD totals 0 0 ≡ 4096 → ⊥) → getD totals 0 0 < 4096
   unread-fewer n = let p = u .sums .passes in omega (arith, u .few)
 
-  module _ (number : ℕ) (r : Report) (x : List ℕ) (w : Reads rest number r x) where
-    pub unread-next : number ≡ 0 → getD totals 0 0 < 4096 → Unread bytes (counted totals r) x
+  module _ (number : ℕ) (r : Report) (x : List ℕ) (w : ReadsReport rest number r x) where
+    pub unread-next : number ≡ 0 → getD totals 0 0 < 4096 → Unread bytes (countedReport totals r) x
     unread-next e n =
         let d = w .done e in
         let p = u .sums .passes in
@@ -150,7 +150,7 @@ module _ {bytes totals rest : List ℕ} (u : Unread bytes totals rest) where
 
 -- ---- a text as long as any report decides what its front is
 
-pub front-more : (t : List ℕ) (n : ℕ) (r : Report) (x : List ℕ) → Reads t n r x → 310 ≤ length t → (more : List ℕ) → Reads (t ++ more) n r (x ++ more)
+pub front-more : (t : List ℕ) (n : ℕ) (r : Report) (x : List ℕ) → ReadsReport t n r x → 310 ≤ length t → (more : List ℕ) → ReadsReport (t ++ more) n r (x ++ more)
 front-more t n r x w h more = record {
   done = λ e. let d = w .done e in (d .0, d .1, longer r (d .2));
   wrong = λ e. let d = w .wrong e in (d .0, d .1, d .2, longer (d .0) (d .3));
@@ -185,7 +185,7 @@ pub counted-none : (text start : List ℕ) → CountedTo text start start 0
 counted-none text start = record { place = omega arith; is = λ bytes u. u }
 
 -- a report takes at least a byte
-pub past : (text : List ℕ) (at end number : ℕ) (r : Report) → end ≤ length text → Reads (drop at text) number r (drop end text) → number ≡ 0
+pub past : (text : List ℕ) (at end number : ℕ) (r : Report) → end ≤ length text → ReadsReport (drop at text) number r (drop end text) → number ≡ 0
     → at < length text → at < end
 past text at end number r h w e l =
     let d = w .done e in
@@ -200,18 +200,18 @@ module _ {text start totals : List ℕ} {at : ℕ} (o : CountedTo text start tot
   pub counted-many : getD totals 0 0 ≡ 4096 → at < length text → Seasons bytes 21 zeroTotals
   counted-many e l = unread-many (o .is bytes u) e (left l)
 
-  pub counted-bad : (number : ℕ) (r : Report) (x : List ℕ) → Reads (drop at text) number r x → (number ≡ 0 → ⊥) → (getD totals 0 0 ≡ 4096 → ⊥)
+  pub counted-bad : (number : ℕ) (r : Report) (x : List ℕ) → ReadsReport (drop at text) number r x → (number ≡ 0 → ⊥) → (getD totals 0 0 ≡ 4096 → ⊥)
       → at < length text → Seasons bytes number zeroTotals
   counted-bad number r x w e n l = unread-bad (o .is bytes u) number r x w e (unread-fewer (o .is bytes u) n) (left l)
 
   pub counted-done : length text ≤ at → Seasons bytes 0 totals
   counted-done l = unread-done (o .is bytes u) (drop-of-length-le text l)
 
-  pub counted-room : (r : Report) → (getD totals 0 0 ≡ 4096 → ⊥) → fits r ≡ true → Room totals r
-  counted-room r n f = unread-room (o .is bytes u) r (unread-fewer (o .is bytes u) n) f
+  pub counted-fits : (r : Report) → (getD totals 0 0 ≡ 4096 → ⊥) → fits r ≡ true → TotalsFit totals r
+  counted-fits r n f = unread-fits (o .is bytes u) r (unread-fewer (o .is bytes u) n) f
 
 pub counted-next : {text start totals : List ℕ} {at : ℕ} → CountedTo text start totals at → (number : ℕ) (r : Report) (end : ℕ) → end ≤ length text
-    → Reads (drop at text) number r (drop end text) → number ≡ 0 → (getD totals 0 0 ≡ 4096 → ⊥) → CountedTo text start (counted totals r) end
+    → ReadsReport (drop at text) number r (drop end text) → number ≡ 0 → (getD totals 0 0 ≡ 4096 → ⊥) → CountedTo text start (countedReport totals r) end
 counted-next o number r end h w e n = record {
   place = h;
   is = λ bytes u. unread-next (o .is bytes u) number r _ w e (unread-fewer (o .is bytes u) n);

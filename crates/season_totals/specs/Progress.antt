@@ -31,7 +31,7 @@ pub data CameTo (bytes : List ℕ) (s : Season) : Type 0 where
   ended : (numberOf (s .answer) ≡ 0 → ⊥) → s .held < 320 → ((more : List ℕ) → Seasons (bytes ++ more) (numberOf (s .answer)) zeroTotals) → CameTo bytes s
 
 -- some bytes came to it
-pub record Came (s : Season) : Type 0 where
+pub record SeasonCame (s : Season) : Type 0 where
   pub bytes : List ℕ
   pub is : CameTo bytes s
 
@@ -39,7 +39,7 @@ abbrev pub freshSeason : Season
 freshSeason = record { answer = Done; totals = zeroTotals; pending = replicate 320 0; held = 0 }
 
 -- what feeding with a piece promises, of any bytes that came before it
-pub record Feeds (s : Season) (piece : List ℕ) (next : Season) : Type 0 where
+pub record FeedsSeason (s : Season) (piece : List ℕ) (next : Season) : Type 0 where
   pub fed : (bytes : List ℕ) → CameTo bytes s → CameTo (bytes ++ piece) next
 
 -- what finishing promises: the season of all the bytes that came
@@ -47,25 +47,20 @@ pub record Finishes (s : Season) (r : SeasonRead) : Type 0 where
   pub season : (bytes : List ℕ) → CameTo bytes s → Seasons bytes (numberOf (r .answer)) (r .totals)
 
 -- piece after piece: each season is what feeding promises of the one before it
-abbrev pub Feedings : Season → List (List ℕ) → Season → Type 0
-Feedings s [] last = s ≡ last
-Feedings s (p ∷ ps) last = (next : Season) × Feeds s p next × Feedings next ps last
-
--- the bytes of the pieces, joined
-abbrev pub joined : List (List ℕ) → List ℕ
-joined [] = []
-joined (p ∷ ps) = p ++ joined ps
+abbrev pub SeasonFeedings : Season → List (List ℕ) → Season → Type 0
+SeasonFeedings s [] last = s ≡ last
+SeasonFeedings s (p ∷ ps) last = (next : Season) × FeedsSeason s p next × SeasonFeedings next ps last
 
 -- ---- the steps
 
 -- the same for a list of bytes that stands after the reports counted: some bytes came to it; what reading it to its end promises
-pub record Begun (totals rest : List ℕ) : Type 0 where
+pub record BegunAt (totals rest : List ℕ) : Type 0 where
   pub bytes : List ℕ
   pub is : Unread bytes totals rest
 
-pub record Counts (totals rest : List ℕ) (r : SeasonRead) : Type 0 where
+pub record CountsRest (totals rest : List ℕ) (r : SeasonRead) : Type 0 where
   pub season : (bytes : List ℕ) → Unread bytes totals rest → Seasons bytes (numberOf (r .answer)) (r .totals)
 
 -- what is made of a full buffer, and of a part of a piece
-pub record Takes (totals rest : List ℕ) (next : Season) : Type 0 where
+pub record TakesUnread (totals rest : List ℕ) (next : Season) : Type 0 where
   pub taken : (bytes : List ℕ) → Unread bytes totals rest → CameTo bytes next

@@ -11,7 +11,7 @@ use Rattle.common.specs.Lists.{All}
 use Rattle.report_lines.specs.Line.{lineText}
 use Rattle.report.specs.declared.Report.{Report}
 use Rattle.report.specs.Text.{fits, sums, reportText}
-use Rattle.report.specs.Read.{Reads}
+use Rattle.report.specs.Read.{ReadsReport}
 use Rattle.season_totals.specs.Totals.{TotalsOf, zeroTotals}
 
 -- the texts of reports, joined
@@ -33,7 +33,7 @@ pub record Seasons (t : List ℕ) (number : ℕ) (totals : List ℕ) : Type 0 wh
   pub text : t ≡ texts reports ++ rest
   pub few : length reports ≤ 4096
   pub done : number ≡ 0 → (rest ≡ []) × TotalsOf reports totals
-  pub bad : (number ≡ 0 → ⊥) → (number ≡ 21 → ⊥) → (length reports < 4096) × (0 < length rest) × ((r : Report) × (x : List ℕ) × Reads rest number r x)
+  pub bad : (number ≡ 0 → ⊥) → (number ≡ 21 → ⊥) → (length reports < 4096) × (0 < length rest) × ((r : Report) × (x : List ℕ) × ReadsReport rest number r x)
   pub many : number ≡ 21 → (length reports ≡ 4096) × (0 < length rest)
   pub blanked : (number ≡ 0 → ⊥) → totals ≡ zeroTotals
 

@@ -52,8 +52,8 @@ abbrev pub beats : List ℕ → Report → Bool
 beats t r =
     pick (eqb (accepted r) 0) false (pick (eqb (getD t 6 0) 0) true (ltb (getD t 5 0 * accepted r) (r .changed * getD t 6 0)))
 
-abbrev pub counted : List ℕ → Report → List ℕ
-counted t r =
+abbrev pub countedReport : List ℕ → Report → List ℕ
+countedReport t r =
     (getD t 0 0 + 1)
     ∷ (getD t 1 0 + r .taken)
     ∷ (getD t 2 0 + r .lost)
@@ -64,7 +64,7 @@ counted t r =
     ∷ []
 
 -- another report can be counted, and no total wraps: no number of a report takes more than forty bits
-pub record Room (t : List ℕ) (r : Report) : Type 0 where
+pub record TotalsFit (t : List ℕ) (r : Report) : Type 0 where
   pub passes : getD t 0 0 < 4096
   pub taken : getD t 1 0 ≤ 1099511627776 * getD t 0 0
   pub lost : getD t 2 0 ≤ 1099511627776 * getD t 0 0

@@ -11,9 +11,9 @@ ghost use lib.ListN.{length, getD, take};
 ghost use Rattle.answer.specs.Number.{numberOf};
 ghost use Rattle.report_lines.specs.Line.{Appended};
 ghost use Rattle.report.specs.Text.{fits};
-ghost use Rattle.season_totals.specs.Totals.{wide, accepted, beats, counted, Room};
+ghost use Rattle.season_totals.specs.Totals.{wide, accepted, beats, countedReport, TotalsFit};
 ghost use Rattle.season_totals.specs.Season.{Seasons, seasonText};
-ghost use Rattle.season_totals.specs.Progress.{freshSeason, Came, Feeds, Finishes, Begun, Counts, Takes};
+ghost use Rattle.season_totals.specs.Progress.{freshSeason, SeasonCame, FeedsSeason, Finishes, BegunAt, CountsRest, TakesUnread};
 use answer::Answer;
 use report::Report;
 use report_lines::put_line;
@@ -81,8 +81,8 @@ fn is_worse(totals: [u64; 7], report: Report) -> bool
 
 // The totals with a report more: passes, taken, lost, changed, the number of the worst, and its changed and accepted.
 fn count_report(totals: [u64; 7], report: Report) -> [u64; 7]
-    requires { ⌜ Room totals report ⌝ }
-    ensures { λ r. ⌜ r ≡ counted totals report ⌝ }
+    requires { ⌜ TotalsFit totals report ⌝ }
+    ensures { λ r. ⌜ r ≡ countedReport totals report ⌝ }
 {
     let passes = totals[0] + 1;
     let taken = totals[1] + report.taken;
@@ -121,8 +121,8 @@ pub struct Season {
 
 // Reads the reports of a text that stands after those counted.
 fn count_rest(counted: [u64; 7], text: &[u8]) -> SeasonRead
-    requires { ⌜ Begun counted (now text) ⌝ }
-    ensures { λ r. ⌜ Counts counted (now (text .entry)) r ⌝ }
+    requires { ⌜ BegunAt counted (now text) ⌝ }
+    ensures { λ r. ⌜ CountsRest counted (now (text .entry)) r ⌝ }
 {
     let mut totals = counted;
     let mut at: usize = 0;
@@ -175,8 +175,8 @@ fn stopped(answer: Answer) -> Season
 
 // Reads the report at the front of a full buffer. What it is does not depend on what still comes, since no report is longer than the buffer.
 fn take_front(totals: [u64; 7], buffer: [u8; 320]) -> Season
-    requires { ⌜ (Begun totals buffer) × (getD totals 0 0 < 4096) ⌝ }
-    ensures { λ r. ⌜ Takes totals buffer r ⌝ }
+    requires { ⌜ (BegunAt totals buffer) × (getD totals 0 0 < 4096) ⌝ }
+    ensures { λ r. ⌜ TakesUnread totals buffer r ⌝ }
 {
     let read = report::read_front(&buffer, 0);
     let answer = read.answer;
@@ -197,8 +197,8 @@ fn take_front(totals: [u64; 7], buffer: [u8; 320]) -> Season
 
 // Takes bytes, at least one, that fit into the buffer.
 fn take_part(season: Season, part: &[u8]) -> Season
-    requires { ⌜ (Came season) × (0 < length (now part)) × (season .held + length (now part) ≤ 320) ⌝ }
-    ensures { λ r. ⌜ Feeds season (now (part .entry)) r ⌝ }
+    requires { ⌜ (SeasonCame season) × (0 < length (now part)) × (season .held + length (now part) ≤ 320) ⌝ }
+    ensures { λ r. ⌜ FeedsSeason season (now (part .entry)) r ⌝ }
 {
     let answer = season.answer;
     let totals = season.totals;
@@ -245,8 +245,8 @@ impl Season {
 
     // Takes a piece of the reports, of any length.
     pub fn feed(self, piece: &[u8]) -> Season
-        requires { ⌜ Came self ⌝ }
-        ensures { λ r. ⌜ Feeds self (now (piece .entry)) r ⌝ }
+        requires { ⌜ SeasonCame self ⌝ }
+        ensures { λ r. ⌜ FeedsSeason self (now (piece .entry)) r ⌝ }
     {
         let mut season = self;
         let mut at: usize = 0;
@@ -262,7 +262,7 @@ impl Season {
 
     // The season of all that came.
     pub fn finish(self) -> SeasonRead
-        requires { ⌜ Came self ⌝ }
+        requires { ⌜ SeasonCame self ⌝ }
         ensures { λ r. ⌜ Finishes self r ⌝ }
     {
         let answer = self.answer;

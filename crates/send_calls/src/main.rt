@@ -21,12 +21,12 @@ fn write_sent(answer: u8, symbols: &[u8]) {
 }
 
 // A call with an input.
-fn call(sender: Sender, input: &[u8], room: &mut [u8]) -> Called {
-    let sent = sender.send(input, room);
+fn call(sender: Sender, input: &[u8], output: &mut [u8]) -> Called {
+    let sent = sender.send(input, output);
     let answer = sent.answer;
     let count = sent.count;
     let next = sent.sender;
-    write_sent(answer.number(), &room[..count]);
+    write_sent(answer.number(), &output[..count]);
     Called {
         sender: next,
         more: true,
@@ -34,7 +34,7 @@ fn call(sender: Sender, input: &[u8], room: &mut [u8]) -> Called {
 }
 
 // Reads an input of so many bytes, and makes a call with it.
-fn call_input(sender: Sender, size: usize, bytes: &mut [u8], room: &mut [u8]) -> Called
+fn call_input(sender: Sender, size: usize, bytes: &mut [u8], output: &mut [u8]) -> Called
     requires { ⌜ size ≤ length (now bytes) ⌝ }
 {
     let got = io::read_full(STDIN_FILENO, &mut bytes[..size]);
@@ -44,21 +44,21 @@ fn call_input(sender: Sender, size: usize, bytes: &mut [u8], room: &mut [u8]) ->
             more: false,
         };
     }
-    call(sender, &bytes[..size], room)
+    call(sender, &bytes[..size], output)
 }
 
 // The same, with its length before it.
 fn call_next(sender: Sender) -> Called {
     let mut head = [0u8; 1];
     let mut bytes = [0u8; 256];
-    let mut room = [0u8; 1632];
+    let mut output = [0u8; 1632];
     if io::read_full(STDIN_FILENO, &mut head) != 1 {
         return Called {
             sender,
             more: false,
         };
     }
-    call_input(sender, wide(head[0]), &mut bytes, &mut room)
+    call_input(sender, wide(head[0]), &mut bytes, &mut output)
 }
 
 fn wide(length: u8) -> usize

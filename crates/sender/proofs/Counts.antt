@@ -25,7 +25,7 @@ use Rattle.puncturing.proofs.BlockCounts.{table, block-symbols}
 use Rattle.puncturing.proofs.Parts.{place-after}
 use Rattle.puncturing.proofs.WellFormed.{well-formed}
 use Rattle.inner_code.specs.Converter.{encodedBits}
-use Rattle.inner_code.specs.Step.{InRange}
+use Rattle.inner_code.specs.Step.{CoderInRange}
 use Rattle.inner_code.specs.Encode.{freshCoder, blockCoder, symbolCount}
 use Rattle.inner_code.specs.declared.InnerCoder.{InnerCoder}
 use Rattle.inner_code.proofs.Converter.{encoded-bits, length-encoded}
@@ -99,7 +99,7 @@ most-at : (r p : ℕ) → r < 6 → p < patternLength r → T (leb (getD table (
 unfolding table modeOf
 most-at r p h k = tested-of 6 (λ r p. leb (getD table (r * 7 + p) 0) 1632) tt r p h k
 
-pub most-symbols : (c : InnerCoder) → InRange c → symbolCount c ≤ 1632
+pub most-symbols : (c : InnerCoder) → CoderInRange c → symbolCount c ≤ 1632
 most-symbols c g =
     let h = rate-known c g in
     let e : symbolCount c ≡ symbolsIn (c .rate) (c .place) (blockBits (c .rate)) = simp (range-test c g) in

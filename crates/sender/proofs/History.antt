@@ -16,8 +16,8 @@ use Rattle.puncturing.specs.Mode.{Mode}
 use Rattle.puncturing.specs.WellFormed.{WellFormed}
 use Rattle.sender.specs.Standard.{onAir}
 use Rattle.sender.specs.Input.{Input, isInput, packetFor, packetsFor, sentNumber}
-use Rattle.sender.specs.Send.{freshSender, sentSymbols, sentCount, senderAfter, refusal, sendNumber, sendCount, sendSender, sendRoom, Sends}
-use Rattle.sender.specs.Calls.{callsSymbols, callsSender, senderOf, Calls, none, call}
+use Rattle.sender.specs.Send.{freshSender, sentSymbols, sentCount, senderAfter, sendRefusal, sendNumber, sendCount, sendSender, sendOutput, Sends}
+use Rattle.sender.specs.Calls.{callsSymbols, callsSender, senderOf, SendCalls, none, call}
 use Rattle.sender.specs.declared.Sender.{Sender}
 use Rattle.sender.proofs.Inputs.{input-test, packets-kept, packet-size, packet-lengths}
 use Rattle.sender.proofs.Stages.{range-test, symbol-count}
@@ -25,17 +25,17 @@ use Rattle.sender.proofs.Ready.{Ready, ready-range, ready-fresh, ready-
 use Rattle.sender.proofs.Stream.{calls-on-air, calls-sender}
 
 -- a call with a sender that is ready, an input and room enough sends the packet for it
-pub record Answered (t : ℕ → Mode) (s : Sender) (input room : List ℕ) : Type 0 where
-  pub number : sendNumber t s input room ≡ sentNumber input
-  pub count : sendCount t s input room ≡ sentCount t s
-  pub sender : sendSender t s input room ≡ senderAfter t s (packetFor input)
-  pub written : sendRoom t s input room ≡ sentSymbols t s (packetFor input) ++ drop (sentCount t s) room
+pub record Answered (t : ℕ → Mode) (s : Sender) (input output : List ℕ) : Type 0 where
+  pub number : sendNumber t s input output ≡ sentNumber input
+  pub count : sendCount t s input output ≡ sentCount t s
+  pub sender : sendSender t s input output ≡ senderAfter t s (packetFor input)
+  pub written : sendOutput t s input output ≡ sentSymbols t s (packetFor input) ++ drop (sentCount t s) output
 
-pub input-sent : {t : ℕ → Mode} (s : Sender) (input room : List ℕ) → Ready t s → isInput input ≡ true → sentCount t s ≤ length room
-    → Answered t s input room
-input-sent {t} s input room g p h =
+pub input-sent : {t : ℕ → Mode} (s : Sender) (input output : List ℕ) → Ready t s → isInput input ≡ true → sentCount t s ≤ length output
+    → Answered t s input output
+input-sent {t} s input output g p h =
     let r = range-test t s (ready-range s g) in
-    let n : refusal t s input room ≡ 0 = simp (r, g .sent, p, le-ltb _ _ h) in
+    let n : sendRefusal t s input output ≡ 0 = simp (r, g .sent, p, le-ltb _ _ h) in
     record { number = simp n; count = simp n; sender = simp n; written = simp n }
 
 -- what the calls of a history wrote, and the sender that they left
@@ -43,14 +43,14 @@ record Told (t : ℕ → Mode) (s : Sender) (packets : List (List ℕ)) (sent : 
   symbols : sent ≡ flatten (callsSymbols t s packets)
   sender : last ≡ callsSender t s packets
 
-told : {t : ℕ → Mode} {s last : Sender} {inputs : List (List ℕ)} {symbols : List ℕ} → Ready t s → All Input inputs → Calls t s inputs symbols last
+told : {t : ℕ → Mode} {s last : Sender} {inputs : List (List ℕ)} {symbols : List ℕ} → Ready t s → All Input inputs → SendCalls t s inputs symbols last
     → Told t s (packetsFor inputs) symbols last
 unfolding callsSymbols callsSender flatten
 told g ps none = record { symbols = refl; sender = refl }
-told {t} {s} {last} g ps (call {next = next} {input = x} {inputs = rest} room left number count h m c) =
+told {t} {s} {last} g ps (call {next = next} {input = x} {inputs = rest} output left number count h m c) =
     let p = packetFor x in
     let i = input-test x (ps .0) in
-    let a = input-sent s x room g i h in
+    let a = input-sent s x output g i h in
     let e : next ≡ senderAfter t s p = m .sender ∙ a .sender in
     let r = told (subst (Ready t) (sym e) (ready-after s p g)) (ps .1) c in
     let k : count ≡ sentCount t s = m .counted ∙ a .count in
@@ -58,14 +58,14 @@ told {t} {s} {last} g ps (call {next = next} {input = x} {inputs = rest} room le
       symbols =
           ap₂ (λ (a b : List ℕ). a ++ b)
           (ap₂ take k (m .written ∙ a .written)
-          ∙ take-at (sentSymbols t s p) (drop (sentCount t s) room) (sentCount t s) (symbol-count s p (ready-range s g) (packet-size x i) (g .formed)))
+          ∙ take-at (sentSymbols t s p) (drop (sentCount t s) output) (sentCount t s) (symbol-count s p (ready-range s g) (packet-size x i) (g .formed)))
           (r .symbols ∙ ap (λ (x : Sender). flatten (callsSymbols t x (packetsFor rest))) e);
       sender = r .sender ∙ ap (λ (x : Sender). callsSender t x (packetsFor rest)) e;
     }
 
 -- there is such a history for every list of inputs
 pub history : {t : ℕ → Mode} (s : Sender) (inputs : List (List ℕ)) → Ready t s → All Input inputs
-    → Calls t s inputs (flatten (callsSymbols t s (packetsFor inputs))) (callsSender t s (packetsFor inputs))
+    → SendCalls t s inputs (flatten (callsSymbols t s (packetsFor inputs))) (callsSender t s (packetsFor inputs))
 unfolding callsSymbols callsSender flatten
 history {t} s [] g ps = none
 history {t} s (x ∷ rest) g ps = go (history (senderAfter t s (packetFor x)) rest (ready-after s (packetFor x) g) (ps .1))
@@ -79,16 +79,16 @@ history {t} s (x ∷ rest) g ps = go (history (senderAfter t s (packetFor x)) re
     n : ℕ
     n = sentCount t s
 
-    room : List ℕ
-    room = replicate n 0
+    output : List ℕ
+    output = replicate n 0
 
-    long : n ≤ length room
+    long : n ≤ length output
     long = rw (length-replicate {A = ℕ} n 0) (le-refl n)
 
-    a : Answered t s x room
-    a = input-sent s x room g i long
+    a : Answered t s x output
+    a = input-sent s x output g i long
 
-    sent : Sends t s x room (sentNumber x) n (senderAfter t s p) (sentSymbols t s p ++ drop n room)
+    sent : Sends t s x output (sentNumber x) n (senderAfter t s p) (sentSymbols t s p ++ drop n output)
     sent = record { answered = sym (a .number); counted = sym (a .count); sender = sym (a .sender); written = sym (a .written) }
 
     later : List ℕ
@@ -97,11 +97,11 @@ history {t} s (x ∷ rest) g ps = go (history (senderAfter t s (packetFor x)) re
     last : Sender
     last = callsSender t (senderAfter t s p) (packetsFor rest)
 
-    go : Calls t (senderAfter t s p) rest later last → Calls t s (x ∷ rest) (sentSymbols t s p ++ later) last
+    go : SendCalls t (senderAfter t s p) rest later last → SendCalls t s (x ∷ rest) (sentSymbols t s p ++ later) last
     go c =
-        subst (λ (l : List ℕ). Calls t s (x ∷ rest) (l ++ later) last)
-        (take-at (sentSymbols t s p) (drop n room) n (symbol-count s p (ready-range s g) (packet-size x i) (g .formed)))
-        (call room (sentSymbols t s p ++ drop n room) (sentNumber x) n long sent c)
+        subst (λ (l : List ℕ). SendCalls t s (x ∷ rest) (l ++ later) last)
+        (take-at (sentSymbols t s p) (drop n output) n (symbol-count s p (ready-range s g) (packet-size x i) (g .formed)))
+        (call output (sentSymbols t s p ++ drop n output) (sentNumber x) n long sent c)
 
 -- ---- one list of packets after another
 
@@ -132,7 +132,7 @@ ready-calls {t} s (p ∷ ps) g = ready-calls (senderAfter t s p) ps (ready-after
 -- In any mode that is well formed and is sent, at whatever number of whatever table of modes: whatever inputs a fresh sender is given, call after call, the
 -- symbols are the standard's for the list with null packets put in, and the sender left is the one that has sent it.
 pub sent-on-air : (m : Mode) → WellFormed m → m .sent ≡ true → (t : ℕ → Mode) (rate : ℕ) → t rate ≡ m
-    → {inputs : List (List ℕ)} {symbols : List ℕ} {last : Sender} → All Input inputs → Calls t (freshSender rate) inputs symbols last
+    → {inputs : List (List ℕ)} {symbols : List ℕ} {last : Sender} → All Input inputs → SendCalls t (freshSender rate) inputs symbols last
     → (symbols ≡ onAir m (packetsFor inputs)) × (last ≡ senderOf t rate (packetsFor inputs))
 sent-on-air m w q t rate e {inputs} g c =
     let f : WellFormed (t rate) = subst WellFormed (sym e) w in
@@ -144,7 +144,7 @@ sent-on-air m w q t rate e {inputs} g c =
 
 -- where all of them are packets, none is put in
 pub packets-on-air : (m : Mode) → WellFormed m → m .sent ≡ true → (t : ℕ → Mode) (rate : ℕ) → t rate ≡ m
-    → {packets : List (List ℕ)} {symbols : List ℕ} {last : Sender} → All Packet packets → Calls t (freshSender rate) packets symbols last
+    → {packets : List (List ℕ)} {symbols : List ℕ} {last : Sender} → All Packet packets → SendCalls t (freshSender rate) packets symbols last
     → (symbols ≡ onAir m packets) × (last ≡ senderOf t rate packets)
 packets-on-air m w q t rate e {packets} g c =
     rw (packets-kept packets g) at (sent-on-air m w q t rate e (All-map Packet Input (λ p a. inr (a .size)) packets g) c)
@@ -154,7 +154,7 @@ module _ {t : ℕ → Mode} (rate : ℕ) (w : WellFormed (t rate)) (q : t rate .
   pub ready-sent : Ready t (senderOf t rate sent)
   ready-sent = subst (Ready t) (calls-sender sent f t rate w) (ready-calls (freshSender rate) sent (ready-fresh rate w q))
 
-  pub sent-further : {inputs : List (List ℕ)} {symbols : List ℕ} {last : Sender} → All Input inputs → Calls t (senderOf t rate sent) inputs symbols last
+  pub sent-further : {inputs : List (List ℕ)} {symbols : List ℕ} {last : Sender} → All Input inputs → SendCalls t (senderOf t rate sent) inputs symbols last
       → (onAir (t rate) sent ++ symbols ≡ onAir (t rate) (sent ++ packetsFor inputs)) × (last ≡ senderOf t rate (sent ++ packetsFor inputs))
   sent-further {inputs} g c =
       let packets = packetsFor inputs in

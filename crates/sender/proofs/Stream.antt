@@ -11,7 +11,7 @@ use Rattle.reed_solomon.specs.Encode.{encoded}
 use Rattle.randomizer.specs.Packet.{randomized}
 use Rattle.randomizer.specs.Stream.{randomizedStream, randomizedFrom}
 use Rattle.randomizer.proofs.Whole.{randomized-stream}
-use Rattle.delay_branches.specs.Block.{fresh, blockOut, after}
+use Rattle.delay_branches.specs.Block.{fresh, blockOut, branchesAfter}
 use Rattle.delay_branches.specs.declared.Side.the-variants.{Sending}
 use Rattle.interleaver.specs.Stream.{interleaved, run, runAfter}
 use Rattle.interleaver.proofs.Streams.{delayed-lengths}
@@ -55,7 +55,7 @@ module _ {m : Mode} (w : WellFormed m) (t : ℕ → Mode) where
       let b = first s n p e i in
       let o = blockOut Sending (s .interleaver .branches) b in
       inner.blockSymbolsBy (f i) (s .coder) o
-      ++ inner.callsBy m (inner.blockCoderBy (f i) (s .coder) o) (run Sending (after Sending (s .interleaver .branches) b) (blocks (n + 1) ps)))
+      ++ inner.callsBy m (inner.blockCoderBy (f i) (s .coder) o) (run Sending (branchesAfter Sending (s .interleaver .branches) b) (blocks (n + 1) ps)))
 
   -- the state of each stage
   state-by-stages : (s : Sender) (n : ℕ) (packets : List (List ℕ)) → t (s .coder .rate) ≡ m → InRangeBy m (s .coder) → s .place ≡ n % 8
@@ -77,7 +77,7 @@ module _ {m : Mode} (w : WellFormed m) (t : ℕ → Mode) where
       ∙ (λ i.
       let b = first s n p e i in
       let o = blockOut Sending (s .interleaver .branches) b in
-      let a = after Sending (s .interleaver .branches) b in
+      let a = branchesAfter Sending (s .interleaver .branches) b in
       record {
         place = k i;
         interleaver = record { branches = runAfter Sending a (blocks (n + 1) ps) };
@@ -85,7 +85,7 @@ module _ {m : Mode} (w : WellFormed m) (t : ℕ → Mode) where
       })
       ∙ (λ i.
       let b = encoded (randomized (n % 8) p) in
-      let a = after Sending (s .interleaver .branches) b in
+      let a = branchesAfter Sending (s .interleaver .branches) b in
       record {
         place = (n + suc (length ps)) % 8;
         interleaver = record { branches = runAfter Sending a (blocks (n + 1) ps) };

@@ -42,8 +42,8 @@ most = 1632 ∷ 1224 ∷ 1088 ∷ 980 ∷ 933 ∷ 544 ∷ []
 
 -- a history: each input is given to a call that keeps its promise and is lent room enough, with the sender that the call before handed back;
 -- the symbols are those that the calls wrote
-pub data Calls (t : ℕ → Mode) : Sender → List (List ℕ) → List ℕ → Sender → Type 0 where
-  none : {s : Sender} → Calls t s [] [] s
-  call : {s next last : Sender} {input : List ℕ} {inputs : List (List ℕ)} {symbols : List ℕ} (room left : List ℕ) (number count : ℕ)
-      → sentCount t s ≤ length room → Sends t s input room number count next left → Calls t next inputs symbols last
-      → Calls t s (input ∷ inputs) (take count left ++ symbols) last
+pub data SendCalls (t : ℕ → Mode) : Sender → List (List ℕ) → List ℕ → Sender → Type 0 where
+  none : {s : Sender} → SendCalls t s [] [] s
+  call : {s next last : Sender} {input : List ℕ} {inputs : List (List ℕ)} {symbols : List ℕ} (output left : List ℕ) (number count : ℕ)
+      → sentCount t s ≤ length output → Sends t s input output number count next left → SendCalls t next inputs symbols last
+      → SendCalls t s (input ∷ inputs) (take count left ++ symbols) last

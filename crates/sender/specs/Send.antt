@@ -1,4 +1,4 @@
--- What one call of the sender gives: the answer's number, by its tests in the order of document 01, the symbols, the sender after it and the room.
+-- What one call of the sender gives: the answer's number, by its tests in the order of document 01, the symbols, the sender after it and the output.
 -- Assumes nothing.
 use mathlib.Core.Path.{_≡_}
 use mathlib.Core.Bool.{Bool, false}
@@ -10,7 +10,7 @@ use Rattle.common.specs.Choice.{pick}
 use Rattle.reed_solomon.specs.Encode.{encoded}
 use Rattle.randomizer.specs.Packet.{randomized}
 use Rattle.delay_branches.specs.Branch as branch
-use Rattle.delay_branches.specs.Block.{fresh, blockOut, after}
+use Rattle.delay_branches.specs.Block.{fresh, blockOut, branchesAfter}
 use Rattle.delay_branches.specs.declared.Side.the-variants.{Sending}
 use Rattle.puncturing.specs.Mode.{Mode, modeOf}
 use Rattle.inner_code.specs.Step.{inRangeBy}
@@ -22,15 +22,11 @@ use Rattle.sender.specs.declared.Sender.{Sender}
 unfoldable pub freshSender : ℕ → Sender
 freshSender rate = record { place = 0; interleaver = record { branches = fresh }; coder = freshCoder rate }
 
--- 6 for a mode that is not sent
-abbrev pub newNumber : ℕ → ℕ
-newNumber rate = pick (modeOf rate .sent) 0 6
-
 -- ---- A sender knows its mode by the number that its inner coder holds. Each definition takes the table of modes: `modeOf` in the product.
 
 -- document 01, "State ranges": the group place 0 to 7, the delay positions and the numbers of the inner coder
-abbrev pub inRange : (ℕ → Mode) → Sender → Bool
-inRange t s = pick (ltb 7 (s .place)) false (pick (branch.inRange Sending (s .interleaver .branches)) (inRangeBy (t (s .coder .rate)) (s .coder)) false)
+abbrev pub senderInRange : (ℕ → Mode) → Sender → Bool
+senderInRange t s = pick (ltb 7 (s .place)) false (pick (branch.branchesInRange Sending (s .interleaver .branches)) (inRangeBy (t (s .coder .rate)) (s .coder)) false)
 
 -- the packet through the first three stages: randomized at its place of the group, coded, interleaved
 abbrev pub codedPacket : Sender → List ℕ → List ℕ
@@ -50,7 +46,7 @@ sentCount t s = symbolCountBy (t (s .coder .rate)) (s .coder)
 unfoldable pub senderAfter : (ℕ → Mode) → Sender → List ℕ → Sender
 senderAfter t s packet = record {
   place = (s .place + 1) % 8;
-  interleaver = record { branches = after Sending (s .interleaver .branches) (codedPacket s packet) };
+  interleaver = record { branches = branchesAfter Sending (s .interleaver .branches) (codedPacket s packet) };
   coder = blockCoderBy (t (s .coder .rate)) (s .coder) (sentBlock s packet);
 }
 
@@ -60,27 +56,27 @@ isSent t s = t (s .coder .rate) .sent
 
 -- What is refused: 5 for a state out of range, 6 for one whose mode is not sent, 1 for an input that is neither no bytes nor 188, 4 for short room;
 -- 0 where nothing is.
-abbrev pub refusal : (ℕ → Mode) → Sender → List ℕ → List ℕ → ℕ
-refusal t s input room = pick (inRange t s) (pick (isSent t s) (pick (isInput input) (pick (ltb (length room) (sentCount t s)) 4 0) 1) 6) 5
+abbrev pub sendRefusal : (ℕ → Mode) → Sender → List ℕ → List ℕ → ℕ
+sendRefusal t s input output = pick (senderInRange t s) (pick (isSent t s) (pick (isInput input) (pick (ltb (length output) (sentCount t s)) 4 0) 1) 6) 5
 
 -- the number of the answer: the refusal, or else which packet was sent
 abbrev pub sendNumber : (ℕ → Mode) → Sender → List ℕ → List ℕ → ℕ
-sendNumber t s input room = pick (eqb (refusal t s input room) 0) (sentNumber input) (refusal t s input room)
+sendNumber t s input output = pick (eqb (sendRefusal t s input output) 0) (sentNumber input) (sendRefusal t s input output)
 
--- how many symbols the call sends, the sender and the room after it; on refusal none, and both as before
+-- how many symbols the call sends, the sender and the output after it; on refusal none, and both as before
 abbrev pub sendCount : (ℕ → Mode) → Sender → List ℕ → List ℕ → ℕ
-sendCount t s input room = pick (eqb (refusal t s input room) 0) (sentCount t s) 0
+sendCount t s input output = pick (eqb (sendRefusal t s input output) 0) (sentCount t s) 0
 
 abbrev pub sendSender : (ℕ → Mode) → Sender → List ℕ → List ℕ → Sender
-sendSender t s input room = pick (eqb (refusal t s input room) 0) (senderAfter t s (packetFor input)) s
+sendSender t s input output = pick (eqb (sendRefusal t s input output) 0) (senderAfter t s (packetFor input)) s
 
-abbrev pub sendRoom : (ℕ → Mode) → Sender → List ℕ → List ℕ → List ℕ
-sendRoom t s input room =
-    pick (eqb (refusal t s input room) 0) (sentSymbols t s (packetFor input) ++ drop (sentCount t s) room) room
+abbrev pub sendOutput : (ℕ → Mode) → Sender → List ℕ → List ℕ → List ℕ
+sendOutput t s input output =
+    pick (eqb (sendRefusal t s input output) 0) (sentSymbols t s (packetFor input) ++ drop (sentCount t s) output) output
 
 -- what a call promises
-pub record Sends (t : ℕ → Mode) (s : Sender) (input room : List ℕ) (number count : ℕ) (next : Sender) (left : List ℕ) : Type 0 where
-  pub answered : number ≡ sendNumber t s input room
-  pub counted : count ≡ sendCount t s input room
-  pub sender : next ≡ sendSender t s input room
-  pub written : left ≡ sendRoom t s input room
+pub record Sends (t : ℕ → Mode) (s : Sender) (input output : List ℕ) (number count : ℕ) (next : Sender) (left : List ℕ) : Type 0 where
+  pub answered : number ≡ sendNumber t s input output
+  pub counted : count ≡ sendCount t s input output
+  pub sender : next ≡ sendSender t s input output
+  pub written : left ≡ sendOutput t s input output

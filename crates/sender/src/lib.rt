@@ -6,8 +6,9 @@ ghost use Prim.Native.Nat.{_+_, _%_, _<_, _≤_};
 ghost use lib.ListN.{length, getD, drop};
 ghost use Rattle.answer.specs.Number.{numberOf};
 ghost use Rattle.puncturing.specs.Mode.{modeOf};
+ghost use Rattle.inner_code.specs.Encode.{newNumber};
 ghost use Rattle.sender.specs.Input.{isInput, isSynced, nullPacket};
-ghost use Rattle.sender.specs.Send.{freshSender, newNumber, inRange, sentSymbols, sentCount, senderAfter, isSent, Sends};
+ghost use Rattle.sender.specs.Send.{freshSender, senderInRange, sentSymbols, sentCount, senderAfter, isSent, Sends};
 use answer::Answer;
 use inner_code::InnerCoder;
 use interleaver::Interleaver;
@@ -64,7 +65,7 @@ impl Sender {
 
     // Whether each number is in its range.
     pub fn in_range(self) -> bool
-        ensures { λ r. ⌜ r ≡ inRange modeOf self ⌝ }
+        ensures { λ r. ⌜ r ≡ senderInRange modeOf self ⌝ }
     {
         let place = self.place;
         if place > 7 {
@@ -79,8 +80,8 @@ impl Sender {
     }
 
     // Sends a packet: writes its symbols. For no bytes, and for 188 that do not begin with the sync byte, a null packet is sent.
-    pub fn send(self, input: &[u8], room: &mut [u8]) -> Sent
-        ensures { λ r. ⌜ Sends modeOf self (now (input .entry)) (now (room .entry)) (numberOf (r .answer)) (r .count) (r .sender) (now (room .exit)) ⌝ }
+    pub fn send(self, input: &[u8], output: &mut [u8]) -> Sent
+        ensures { λ r. ⌜ Sends modeOf self (now (input .entry)) (now (output .entry)) (numberOf (r .answer)) (r .count) (r .sender) (now (output .exit)) ⌝ }
     {
         if !self.in_range() {
             return Sent {
@@ -105,18 +106,18 @@ impl Sender {
                 sender: self,
             };
         }
-        if room.len() < coder.symbol_count() {
+        if output.len() < coder.symbol_count() {
             return Sent {
-                answer: Answer::RoomLength,
+                answer: Answer::OutputLength,
                 count: 0,
                 sender: self,
             };
         }
         if is_synced(input) {
-            return transmit(self, input, room);
+            return transmit(self, input, output);
         }
         let null = null_packet();
-        let sent = transmit(self, &null, room);
+        let sent = transmit(self, &null, output);
         let count = sent.count;
         let sender = sent.sender;
         Sent {
@@ -159,13 +160,13 @@ fn null_packet() -> [u8; Sender::PACKET_LENGTH]
 }
 
 // Sends a packet with a sender that is in range, in a mode that is sent, and room enough.
-fn transmit(sender: Sender, packet: &[u8], room: &mut [u8]) -> Sent
-    requires { ⌜ (inRange modeOf sender ≡ true) × (isSent modeOf sender ≡ true) × (length (now packet) ≡ 188) × (getD (now packet) 0 0 ≡ 0x47) × (sentCount modeOf sender ≤ length (now room)) ⌝ }
+fn transmit(sender: Sender, packet: &[u8], output: &mut [u8]) -> Sent
+    requires { ⌜ (senderInRange modeOf sender ≡ true) × (isSent modeOf sender ≡ true) × (length (now packet) ≡ 188) × (getD (now packet) 0 0 ≡ 0x47) × (sentCount modeOf sender ≤ length (now output)) ⌝ }
     ensures { λ r. ⌜
         (numberOf (r .answer) ≡ 0)
         × (r .count ≡ sentCount modeOf sender)
         × (r .sender ≡ senderAfter modeOf sender (now (packet .entry)))
-        × (now (room .exit) ≡ sentSymbols modeOf sender (now (packet .entry)) ++ drop (sentCount modeOf sender) (now (room .entry))) ⌝ }
+        × (now (output .exit) ≡ sentSymbols modeOf sender (now (packet .entry)) ++ drop (sentCount modeOf sender) (now (output .entry))) ⌝ }
 {
     let place = sender.place;
     let interleaver = sender.interleaver;
@@ -177,7 +178,7 @@ fn transmit(sender: Sender, packet: &[u8], room: &mut [u8]) -> Sent
     let mut block = [0u8; Sender::BLOCK_LENGTH];
     let interleaved = interleaver.interleave(&coded, &mut block);
     let interleaver = interleaved.interleaver;
-    let encoded = coder.encode(&block, room);
+    let encoded = coder.encode(&block, output);
     let answer = encoded.answer;
     let coder = encoded.coder;
     let count = encoded.count;

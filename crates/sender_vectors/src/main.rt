@@ -11,10 +11,10 @@ struct Compared {
 
 fn compare_packet(sender: Sender, input: i32, wanted: i32) -> Compared {
     let mut packet = [0u8; 188];
-    let mut room = [0u8; 1632];
+    let mut output = [0u8; 1632];
     let mut expected = [0u8; 1632];
     let got = io::read_full(input, &mut packet);
-    let sent = sender.send(&packet, &mut room);
+    let sent = sender.send(&packet, &mut output);
     let count = sent.count;
     let answer = sent.answer;
     let next = sent.sender;
@@ -24,7 +24,7 @@ fn compare_packet(sender: Sender, input: i32, wanted: i32) -> Compared {
             same: false,
         };
     }
-    let same = vector_files::same_symbols(wanted, &room, &mut expected, count);
+    let same = vector_files::same_symbols(wanted, &output, &mut expected, count);
     Compared { sender: next, same }
 }
 
@@ -48,16 +48,16 @@ fn compare_calls(rate: u8, input: i32, wanted: i32) -> bool {
 // The same packets as one run.
 fn compare_run(rate: u8, input: i32, wanted: i32) -> bool {
     let mut packets = [0u8; 7520];
-    let mut room = [0u8; 65280];
+    let mut output = [0u8; 65280];
     let mut expected = [0u8; 65280];
     let got = io::read_full(input, &mut packets);
-    let run = transmission::send_run(rate, &packets, &mut room);
+    let run = transmission::send_run(rate, &packets, &mut output);
     let count = run.count;
     let answer = run.answer;
     if got != 7520 || answer.number() != 0 {
         return false;
     }
-    vector_files::same_symbols(wanted, &room, &mut expected, count)
+    vector_files::same_symbols(wanted, &output, &mut expected, count)
         && vector_files::at_end(input)
         && vector_files::at_end(wanted)
 }
@@ -96,44 +96,44 @@ fn answer_new(name: &[u8], rate: u8) {
     vector_files::print_line(name, answer.number() as u64);
 }
 
-// The answer to a packet and a room.
-fn answer_send(name: &[u8], rate: u8, packet: &[u8], room: &mut [u8]) {
+// The answer to a packet and an output.
+fn answer_send(name: &[u8], rate: u8, packet: &[u8], output: &mut [u8]) {
     let created = Sender::new(rate);
     let sender = created.sender;
-    let sent = sender.send(packet, room);
+    let sent = sender.send(packet, output);
     let answer = sent.answer;
     vector_files::print_line(name, answer.number() as u64);
 }
 
-// The answer of a run to a list of packets and a room.
-fn answer_run(name: &[u8], rate: u8, packets: &[u8], room: &mut [u8]) {
-    let run = transmission::send_run(rate, packets, room);
+// The answer of a run to a list of packets and an output.
+fn answer_run(name: &[u8], rate: u8, packets: &[u8], output: &mut [u8]) {
+    let run = transmission::send_run(rate, packets, output);
     let answer = run.answer;
     vector_files::print_line(name, answer.number() as u64);
 }
 
-// A packet of so many of the bytes, and a room of so many bytes.
-fn send_part(name: &[u8], rate: u8, bytes: &[u8], length: usize, room_length: usize) {
-    let mut room = [0u8; 1632];
+// A packet of so many of the bytes, and an output of so many bytes.
+fn send_part(name: &[u8], rate: u8, bytes: &[u8], length: usize, output_length: usize) {
+    let mut output = [0u8; 1632];
     if length > bytes.len() {
         return;
     }
-    if room_length > 1632 {
+    if output_length > 1632 {
         return;
     }
-    answer_send(name, rate, &bytes[..length], &mut room[..room_length]);
+    answer_send(name, rate, &bytes[..length], &mut output[..output_length]);
 }
 
 // The same for a run.
-fn run_part(name: &[u8], rate: u8, bytes: &[u8], length: usize, room_length: usize) {
-    let mut room = [0u8; 3264];
+fn run_part(name: &[u8], rate: u8, bytes: &[u8], length: usize, output_length: usize) {
+    let mut output = [0u8; 3264];
     if length > bytes.len() {
         return;
     }
-    if room_length > 3264 {
+    if output_length > 3264 {
         return;
     }
-    answer_run(name, rate, &bytes[..length], &mut room[..room_length]);
+    answer_run(name, rate, &bytes[..length], &mut output[..output_length]);
 }
 
 fn main() {

@@ -18,7 +18,7 @@ use Rattle.puncturing.proofs.Places.{sent-known}
 use Rattle.puncturing.proofs.WellFormed.{well-formed}
 use Rattle.sender.specs.Standard.{onAir}
 use Rattle.sender.specs.Input.{packetFor, packetsFor, sentNumber}
-use Rattle.sender.specs.Send.{newNumber}
+use Rattle.inner_code.specs.Encode.{newNumber}
 use Rattle.sender.specs.Calls.{callsSymbols, callsSender, senderOf}
 use Rattle.sender.specs.declared.Sender.{Sender}
 use Rattle.sender.proofs.Inputs.{packet-lengths}
@@ -27,8 +27,8 @@ use Rattle.sender.proofs.History.{history, ready-sent, sent-further}
 use Rattle.sender.proofs.Counts.{length-packets}
 use Rattle.transmission.specs.Run.{packetsOf}
 use Rattle.transmission.proofs.Buffers.{packets-none, packets-inputs}
-use Rattle.sending.specs.Sending.{holding, heldBytes, freshSending, canSend, restOf, fedSymbols, fedAnswers, FeedsAll, Feeds, refused, fed}
-use Rattle.sending.specs.History.{Feedings, none, feeding, Transmitted}
+use Rattle.sending.specs.Sending.{holding, heldBytes, freshSending, canSend, packetRest, fedSymbols, fedAnswers, FeedsAll, FeedsSending, refused, fed}
+use Rattle.sending.specs.History.{SendingFeedings, none, feeding, Transmitted}
 use Rattle.sending.specs.declared.Sending.{Sending}
 use Rattle.sending.proofs.Pieces.{cut, length-rest}
 use Rattle.sending.proofs.Laws.{holding-range}
@@ -53,7 +53,7 @@ module _ (rate : ℕ) (h : modeOf rate .sent ≡ true) where
   sizes bytes = packet-lengths (packetsOf bytes) (packets-inputs bytes)
 
   transmitted-none : Transmitted rate [] [] [] (freshSending rate)
-  unfolding freshSending restOf callsSymbols callsSender flatten
+  unfolding freshSending packetRest callsSymbols callsSender flatten
   transmitted-none =
       let e = sym (packets-none [] refl) in
       record {
@@ -63,20 +63,20 @@ module _ (rate : ℕ) (h : modeOf rate .sent ≡ true) where
       }
 
   -- a piece more
-  module _ (bytes piece room answers : List ℕ) {number count packets : ℕ} {next : Sending} {left told : List ℕ}
-      (f : FeedsAll (holding (senderOf modeOf rate (packetsFor (packetsOf bytes))) (restOf bytes)) piece room answers number count packets next left told) where
+  module _ (bytes piece output answers : List ℕ) {number count packets : ℕ} {next : Sending} {left told : List ℕ}
+      (f : FeedsAll (holding (senderOf modeOf rate (packetsFor (packetsOf bytes))) (packetRest bytes)) piece output answers number count packets next left told) where
     before : List (List ℕ)
     before = packetsFor (packetsOf bytes)
 
     came : List ℕ
-    came = restOf bytes ++ piece
+    came = packetRest bytes ++ piece
 
     w : Sending
-    w = holding (senderOf modeOf rate (packetsFor (packetsOf bytes))) (restOf bytes)
+    w = holding (senderOf modeOf rate (packetsFor (packetsOf bytes))) (packetRest bytes)
 
-    held : heldBytes w ≡ restOf bytes
+    held : heldBytes w ≡ packetRest bytes
     unfolding w
-    held = held-are (senderOf modeOf rate (packetsFor (packetsOf bytes))) (restOf bytes)
+    held = held-are (senderOf modeOf rate (packetsFor (packetsOf bytes))) (packetRest bytes)
 
     packets-are : packetsOf (heldBytes w ++ piece) ≡ packetsOf came
     unfolding came
@@ -84,7 +84,7 @@ module _ (rate : ℕ) (h : modeOf rate .sent ≡ true) where
 
     all-packets : packetsFor (packetsOf (bytes ++ piece)) ≡ before ++ packetsFor (packetsOf came)
     unfolding before came
-    all-packets = ap packetsFor (cut bytes piece .packets) ∙ map-append packetFor (packetsOf bytes) (packetsOf (restOf bytes ++ piece))
+    all-packets = ap packetsFor (cut bytes piece .packets) ∙ map-append packetFor (packetsOf bytes) (packetsOf (packetRest bytes ++ piece))
 
     -- what the sender sends after the packets before
     further : (onAir (modeOf rate) before ++ flatten (callsSymbols modeOf (senderOf modeOf rate before) (packetsFor (packetsOf came)))
@@ -99,7 +99,7 @@ module _ (rate : ℕ) (h : modeOf rate .sent ≡ true) where
     unfolding before w
     sent =
         ap (take count) (f .written)
-        ∙ take-at (fedSymbols w piece) (drop count room) count (sym (f .counted))
+        ∙ take-at (fedSymbols w piece) (drop count output) count (sym (f .counted))
         ∙ ap (λ (l : List (List ℕ)). flatten (callsSymbols modeOf (senderOf modeOf rate before) (packetsFor l))) packets-are
 
     answers-count : length (fedAnswers w piece) ≡ packets
@@ -128,37 +128,37 @@ module _ (rate : ℕ) (h : modeOf rate .sent ≡ true) where
           ∙ ap (map sentNumber) (sym (cut bytes piece .packets));
       state =
           f .sending
-          ∙ ap (λ (x : List ℕ). holding (callsSender modeOf (senderOf modeOf rate before) (packetsFor (packetsOf (x ++ piece)))) (restOf (x ++ piece))) held
+          ∙ ap (λ (x : List ℕ). holding (callsSender modeOf (senderOf modeOf rate before) (packetsFor (packetsOf (x ++ piece)))) (packetRest (x ++ piece))) held
           ∙ ap₂ holding (further .1 ∙ ap (senderOf modeOf rate) (sym all-packets)) (sym (cut bytes piece .rest));
     }
 
   transmitted-feeds : {bytes symbols numbers : List ℕ} {w : Sending} → Transmitted rate bytes symbols numbers w
-      → (piece room answers : List ℕ) {number count packets : ℕ} {next : Sending} {left told : List ℕ} → Feeds w piece room answers number count packets next left told
+      → (piece output answers : List ℕ) {number count packets : ℕ} {next : Sending} {left told : List ℕ} → FeedsSending w piece output answers number count packets next left told
       → Transmitted rate (bytes ++ pick (eqb number 0) piece []) (symbols ++ take count left) (numbers ++ take packets told) next
-  transmitted-feeds {bytes} {symbols} {numbers} {w} t piece room answers (refused {number = n} e z) =
+  transmitted-feeds {bytes} {symbols} {numbers} {w} t piece output answers (refused {number = n} e z) =
       let b : bytes ++ pick (eqb n 0) piece [] ≡ bytes = ap (λ (x : Bool). bytes ++ pick x piece []) (ne-eqb n 0 z) ∙ append-nil bytes in
       record {
         on-air = append-nil symbols ∙ t .on-air ∙ ap (λ (l : List ℕ). onAir (modeOf rate) (packetsFor (packetsOf l))) (sym b);
         answered = append-nil numbers ∙ t .answered ∙ ap (λ (l : List ℕ). map sentNumber (packetsOf l)) (sym b);
-        state = t .state ∙ ap (λ (l : List ℕ). holding (senderOf modeOf rate (packetsFor (packetsOf l))) (restOf l)) (sym b);
+        state = t .state ∙ ap (λ (l : List ℕ). holding (senderOf modeOf rate (packetsFor (packetsOf l))) (packetRest l)) (sym b);
       }
-  transmitted-feeds {bytes} {symbols} {numbers} {w} t piece room answers (fed {number = n} {count = c} {packets = k} {next = next} {left = left} {told = told} z f) =
+  transmitted-feeds {bytes} {symbols} {numbers} {w} t piece output answers (fed {number = n} {count = c} {packets = k} {next = next} {left = left} {told = told} z f) =
       subst (λ (x : Bool). Transmitted rate (bytes ++ pick x piece []) (symbols ++ take c left) (numbers ++ take k told) next) (sym (eq-eqb n 0 (f .done)))
-      (transmitted-more bytes piece room answers (subst (λ (x : Sending). FeedsAll x piece room answers n c k next left told) (t .state) f) (t .on-air) (t .answered))
+      (transmitted-more bytes piece output answers (subst (λ (x : Sending). FeedsAll x piece output answers n c k next left told) (t .state) f) (t .on-air) (t .answered))
 
-  transmitted-feedings : {bytes symbols numbers b s n : List ℕ} {w last : Sending} → Transmitted rate bytes symbols numbers w → Feedings w b s n last
+  transmitted-feedings : {bytes symbols numbers b s n : List ℕ} {w last : Sending} → Transmitted rate bytes symbols numbers w → SendingFeedings w b s n last
       → Transmitted rate (bytes ++ b) (symbols ++ s) (numbers ++ n) last
   transmitted-feedings {bytes} {symbols} {numbers} t none = record {
     on-air = append-nil symbols ∙ t .on-air ∙ ap (λ (l : List ℕ). onAir (modeOf rate) (packetsFor (packetsOf l))) (sym (append-nil bytes));
     answered = append-nil numbers ∙ t .answered ∙ ap (λ (l : List ℕ). map sentNumber (packetsOf l)) (sym (append-nil bytes));
-    state = t .state ∙ ap (λ (l : List ℕ). holding (senderOf modeOf rate (packetsFor (packetsOf l))) (restOf l)) (sym (append-nil bytes));
+    state = t .state ∙ ap (λ (l : List ℕ). holding (senderOf modeOf rate (packetsFor (packetsOf l))) (packetRest l)) (sym (append-nil bytes));
   }
-  transmitted-feedings {bytes} {symbols} {numbers} t (feeding {bytes = b} {symbols = s} {numbers = n} piece room answers left told number count packets f g) =
-      let r = transmitted-feedings (transmitted-feeds t piece room answers f) g in
+  transmitted-feedings {bytes} {symbols} {numbers} t (feeding {bytes = b} {symbols = s} {numbers = n} piece output answers left told number count packets f g) =
+      let r = transmitted-feedings (transmitted-feeds t piece output answers f) g in
       rw (append-assoc bytes (pick (eqb number 0) piece []) b, append-assoc symbols (take count left) s, append-assoc numbers (take packets told) n) at r
 
   -- whatever the pieces
-  pub every-history : {bytes symbols numbers : List ℕ} {last : Sending} → Feedings (freshSending rate) bytes symbols numbers last
+  pub every-history : {bytes symbols numbers : List ℕ} {last : Sending} → SendingFeedings (freshSending rate) bytes symbols numbers last
       → Transmitted rate bytes symbols numbers last
   every-history g = transmitted-feedings transmitted-none g
 
@@ -168,7 +168,7 @@ module _ (rate : ℕ) (h : modeOf rate .sent ≡ true) where
     pub state : w ≡ w′
 
   -- any two ways of cutting the same bytes
-  pub any-pieces : {bytes s s′ n n′ : List ℕ} {w w′ : Sending} → Feedings (freshSending rate) bytes s n w → Feedings (freshSending rate) bytes s′ n′ w′
+  pub any-pieces : {bytes s s′ n n′ : List ℕ} {w w′ : Sending} → SendingFeedings (freshSending rate) bytes s n w → SendingFeedings (freshSending rate) bytes s′ n′ w′
       → Same s s′ n n′ w w′
   any-pieces a b =
       let t = every-history a in
@@ -179,8 +179,8 @@ module _ (rate : ℕ) (h : modeOf rate .sent ≡ true) where
 
   module _ {bytes symbols numbers : List ℕ} {w : Sending} (t : Transmitted rate bytes symbols numbers w) where
     -- the last bytes, exactly, and so many
-    pub held-bytes : heldBytes w ≡ restOf bytes
-    held-bytes = ap heldBytes (t .state) ∙ held-are (senderOf modeOf rate (packetsFor (packetsOf bytes))) (restOf bytes)
+    pub held-bytes : heldBytes w ≡ packetRest bytes
+    held-bytes = ap heldBytes (t .state) ∙ held-are (senderOf modeOf rate (packetsFor (packetsOf bytes))) (packetRest bytes)
 
     pub held-count : w .held ≡ length bytes % 188
     held-count = ap (λ (x : Sending). x .held) (t .state) ∙ length-rest bytes

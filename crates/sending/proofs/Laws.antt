@@ -14,24 +14,24 @@ use Rattle.sender.specs.declared.Sender.{Sender}
 use Rattle.sender.proofs.Stages.{range-test}
 use Rattle.sender.proofs.Ready.{Ready, ready-range}
 use Rattle.sender.proofs.History.{ready-calls}
-use Rattle.sending.specs.Sending.{holding, heldBytes, canSend, restOf, wholePackets, feedNumber, Roomy, FeedsAll, Feeds, refused, fed}
+use Rattle.sending.specs.Sending.{holding, heldBytes, canSend, packetRest, wholePackets, sendingFeedNumber, OutputsFit, FeedsAll, FeedsSending, refused, fed}
 use Rattle.sending.specs.declared.Sending.{Sending}
 use Rattle.sending.proofs.Pieces.{length-rest, sending-range, sending-sent}
 use Rattle.sending.proofs.Progress.{ready-of}
 
-pub holding-range : (s : Sender) (bytes : List ℕ) → Ready modeOf s → canSend (holding s (restOf bytes)) ≡ true
+pub holding-range : (s : Sender) (bytes : List ℕ) → Ready modeOf s → canSend (holding s (packetRest bytes)) ≡ true
 holding-range s bytes g =
-    simp (range-test modeOf s (ready-range s g), lt-ltb (length (restOf bytes)) 188 (omega (arith, length-rest bytes)), g .sent)
+    simp (range-test modeOf s (ready-range s g), lt-ltb (length (packetRest bytes)) 188 (omega (arith, length-rest bytes)), g .sent)
 
-module _ {w : Sending} {piece room answers : List ℕ} {number count packets : ℕ} {next : Sending} {left told : List ℕ}
-    (f : Feeds w piece room answers number count packets next left told) where
-  pub feeds-all : Roomy w piece room answers → FeedsAll w piece room answers 0 count packets next left told
+module _ {w : Sending} {piece output answers : List ℕ} {number count packets : ℕ} {next : Sending} {left told : List ℕ}
+    (f : FeedsSending w piece output answers number count packets next left told) where
+  pub feeds-all : OutputsFit w piece output answers → FeedsAll w piece output answers 0 count packets next left told
   feeds-all g = by f
     where
-      none : feedNumber w piece room answers ≡ 0
+      none : sendingFeedNumber w piece output answers ≡ 0
       none = simp (g .range, g .sent, le-ltb _ _ (g .symbols), le-ltb _ _ (g .answers-fit))
 
-      by : {n c k : ℕ} {x : Sending} {l t : List ℕ} → Feeds w piece room answers n c k x l t → FeedsAll w piece room answers 0 c k x l t
+      by : {n c k : ℕ} {x : Sending} {l t : List ℕ} → FeedsSending w piece output answers n c k x l t → FeedsAll w piece output answers 0 c k x l t
       by (refused e z) = absurd (z (e ∙ none))
       by (fed z a) = record {
         done = refl;
@@ -43,9 +43,9 @@ module _ {w : Sending} {piece room answers : List ℕ} {number count packets : �
       }
 
 -- its arrays are whole
-pub fed-range : {w : Sending} {piece room answers : List ℕ} {number count packets : ℕ} {next : Sending} {left told : List ℕ}
+pub fed-range : {w : Sending} {piece output answers : List ℕ} {number count packets : ℕ} {next : Sending} {left told : List ℕ}
     → length (w .sender .interleaver .branches .cells) ≡ 1122 → length (w .sender .interleaver .branches .positions) ≡ 12 → canSend w ≡ true
-    → FeedsAll w piece room answers number count packets next left told → canSend next ≡ true
+    → FeedsAll w piece output answers number count packets next left told → canSend next ≡ true
 fed-range {w} {piece} n m e f =
     let r = sending-sent w e in
     let g = ready-of (w .sender) n m (sending-range w (r .0) .0) (r .1) in

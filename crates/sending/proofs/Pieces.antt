@@ -14,28 +14,28 @@ use Rattle.common.proofs.Choice.{both-true}
 use Rattle.common.proofs.Lists.{put-after}
 use Rattle.randomizer.specs.Stream.{inPackets}
 use Rattle.puncturing.specs.Mode.{modeOf}
-use Rattle.sender.specs.Send.{inRange, isSent}
+use Rattle.sender.specs.Send.{senderInRange, isSent}
 use Rattle.transmission.specs.Run.{packetsOf}
 use Rattle.transmission.proofs.Buffers.{packets-more}
-use Rattle.sending.specs.Sending.{padded, sendingInRange, canSend, restOf}
+use Rattle.sending.specs.Sending.{padded, sendingInRange, canSend, packetRest}
 use Rattle.sending.specs.declared.Sending.{Sending}
 
 -- ---- the rest of some bytes
 
-pub rest-few : (l : List ℕ) → length l < 188 → restOf l ≡ l
-unfolding restOf
+pub rest-few : (l : List ℕ) → length l < 188 → packetRest l ≡ l
+unfolding packetRest
 rest-few l h = let z : length l - length l % 188 ≡ 0 = omega arith in ap (λ (k : ℕ). drop k l) z
 
 -- it is what is left after a packet
-pub rest-more : (l : List ℕ) → 188 ≤ length l → restOf l ≡ restOf (drop 188 l)
-unfolding restOf
+pub rest-more : (l : List ℕ) → 188 ≤ length l → packetRest l ≡ packetRest (drop 188 l)
+unfolding packetRest
 rest-more l h =
     let d = length-drop 188 l in
     let k : length l - length l % 188 ≡ 188 + (length (drop 188 l) - length (drop 188 l) % 188) = omega arith in
     ap (λ (k : ℕ). drop k l) k ∙ sym (drop-drop (length (drop 188 l) - length (drop 188 l) % 188) 188 l)
 
-pub length-rest : (l : List ℕ) → length (restOf l) ≡ length l % 188
-unfolding restOf
+pub length-rest : (l : List ℕ) → length (packetRest l) ≡ length l % 188
+unfolding packetRest
 length-rest l = length-drop (length l - length l % 188) l ∙ omega arith
 
 -- no packet is whole
@@ -47,8 +47,8 @@ packets-few l h = let z : length l / 188 ≡ 0 = omega arith in ap (λ (n : ℕ)
 
 -- The whole packets of the first, then those of its rest and the second; and the rest is that of the rest and the second.
 pub record Cut (a b : List ℕ) : Type 0 where
-  pub packets : packetsOf (a ++ b) ≡ packetsOf a ++ packetsOf (restOf a ++ b)
-  pub rest : restOf (a ++ b) ≡ restOf (restOf a ++ b)
+  pub packets : packetsOf (a ++ b) ≡ packetsOf a ++ packetsOf (packetRest a ++ b)
+  pub rest : packetRest (a ++ b) ≡ packetRest (packetRest a ++ b)
 
 cut-from : (n : ℕ) (a b : List ℕ) → length a / 188 ≡ n → Cut a b
 cut-from zero a b e =
@@ -56,7 +56,7 @@ cut-from zero a b e =
     let r = rest-few a h in
     record {
       packets = sym (ap₂ (λ (x : List (List ℕ)) (y : List ℕ). x ++ packetsOf (y ++ b)) (packets-few a h) r);
-      rest = ap (λ (x : List ℕ). restOf (x ++ b)) (sym r);
+      rest = ap (λ (x : List ℕ). packetRest (x ++ b)) (sym r);
     }
 cut-from (suc n) a b e =
     let h : 188 ≤ length a = omega arith in
@@ -70,7 +70,7 @@ cut-from (suc n) a b e =
           packets-more (a ++ b) l
           ∙ ap₂ (λ (x : List ℕ) (y : List (List ℕ)). x ∷ y) t (ap packetsOf d ∙ c .packets)
           ∙ ap₂ (λ (x : List (List ℕ)) (y : List ℕ). x ++ packetsOf (y ++ b)) (sym (packets-more a h)) (sym r);
-      rest = rest-more (a ++ b) l ∙ ap restOf d ∙ c .rest ∙ ap (λ (x : List ℕ). restOf (x ++ b)) (sym r);
+      rest = rest-more (a ++ b) l ∙ ap packetRest d ∙ c .rest ∙ ap (λ (x : List ℕ). packetRest (x ++ b)) (sym r);
     }
 
 pub cut : (a b : List ℕ) → Cut a b
@@ -107,9 +107,9 @@ padded-full bytes e = let z : 188 - length bytes ≡ 0 = omega arith in ap (λ (
 
 -- ---- a sending in range
 
-pub sending-range : (w : Sending) → sendingInRange w ≡ true → (inRange modeOf (w .sender) ≡ true) × (w .held < 188)
+pub sending-range : (w : Sending) → sendingInRange w ≡ true → (senderInRange modeOf (w .sender) ≡ true) × (w .held < 188)
 sending-range w e =
-    let p = both-true (inRange modeOf (w .sender)) (ltb (w .held) 188) e in
+    let p = both-true (senderInRange modeOf (w .sender)) (ltb (w .held) 188) e in
     (p .0, ltb-true (w .held) 188 (p .1))
 
 pub sending-sent : (w : Sending) → canSend w ≡ true → (sendingInRange w ≡ true) × (isSent modeOf (w .sender) ≡ true)

@@ -1,4 +1,4 @@
--- A loop that sends the packets of the bytes held and a piece: what is in the room and among the answers, and what is left to send.
+-- A loop that sends the packets of the bytes held and a piece: what is in the output and among the answers, and what is left to send.
 -- Assumes nothing.
 use mathlib.Core.Path.{_≡_, refl, ap, ap₂, sym, subst, subst₂, _∙_}
 use mathlib.Core.Bool.{true}
@@ -13,7 +13,7 @@ use lib.Seq.{take-all, take-at, drop-at, drop-drop, drop-cons, set-at, take-appe
 use Rattle.puncturing.specs.Mode.{modeOf}
 use Rattle.inner_code.proofs.Coder as range
 use Rattle.sender.specs.Input.{isInput, packetFor, packetsFor, sentNumber}
-use Rattle.sender.specs.Send.{inRange, isSent, sentSymbols, sentCount, senderAfter, Sends}
+use Rattle.sender.specs.Send.{senderInRange, isSent, sentSymbols, sentCount, senderAfter, Sends}
 use Rattle.sender.specs.Calls.{callsSymbols, callsSender}
 use Rattle.sender.specs.declared.Sender.{Sender}
 use Rattle.sender.proofs.Inputs.{input-test, packet-size}
@@ -23,12 +23,12 @@ use Rattle.sender.proofs.History.{Answered, input-sent}
 use Rattle.sender.proofs.Counts.{most-symbols}
 use Rattle.transmission.specs.Run.{packetsOf}
 use Rattle.transmission.proofs.Buffers.{packets-more}
-use Rattle.sending.specs.Sending.{padded, heldBytes, restOf, wholePackets, wholeCount, fedSymbols, fedAnswers, Roomy, FeedsAll}
+use Rattle.sending.specs.Sending.{padded, heldBytes, packetRest, wholePackets, wholeCount, fedSymbols, fedAnswers, OutputsFit, FeedsAll}
 use Rattle.sending.specs.declared.Sending.{Sending}
 use Rattle.sending.proofs.Pieces.{rest-few, rest-more, packets-few}
 
 -- a sender in range whose arrays are whole
-pub ready-of : (s : Sender) → length (s .interleaver .branches .cells) ≡ 1122 → length (s .interleaver .branches .positions) ≡ 12 → inRange modeOf s ≡ true → isSent modeOf s ≡ true → Ready modeOf s
+pub ready-of : (s : Sender) → length (s .interleaver .branches .cells) ≡ 1122 → length (s .interleaver .branches .positions) ≡ 12 → senderInRange modeOf s ≡ true → isSent modeOf s ≡ true → Ready modeOf s
 ready-of s n m e q =
     let g = in-range modeOf s e in
     let c = range.in-range (s .coder) (g .coder) in
@@ -45,7 +45,7 @@ abbrev pub leftOf : Sending → List ℕ → ℕ → ℕ → List ℕ
 leftOf w piece held at = take held (w .pending) ++ drop at piece
 
 -- The symbols and the answers in front are written, those of what is left are still to come, and together they are those of the piece.
-pub record Progress (w : Sending) (piece room₀ answers₀ room answers : List ℕ) (s : Sender) (held at count packets : ℕ) : Type 0 where
+pub record Progress (w : Sending) (piece output₀ answers₀ output answers : List ℕ) (s : Sender) (held at count packets : ℕ) : Type 0 where
   pub ready : Ready modeOf s
   pub short : held < 188
   pub within : at ≤ length piece
@@ -53,18 +53,18 @@ pub record Progress (w : Sending) (piece room₀ answers₀ room answers : List 
   pub told : List ℕ
   pub counted : length front ≡ count
   pub numbered : length told ≡ packets
-  pub written : room ≡ front ++ drop count room₀
+  pub written : output ≡ front ++ drop count output₀
   pub answered : answers ≡ told ++ drop packets answers₀
   pub symbols : front ++ flatten (callsSymbols modeOf s (packetsFor (packetsOf (leftOf w piece held at)))) ≡ fedSymbols w piece
   pub numbers : told ++ map sentNumber (packetsOf (leftOf w piece held at)) ≡ fedAnswers w piece
   pub sender : callsSender modeOf s (packetsFor (packetsOf (leftOf w piece held at))) ≡ callsSender modeOf (w .sender) (packetsFor (wholePackets w piece))
-  pub rest : restOf (leftOf w piece held at) ≡ restOf (heldBytes w ++ piece)
+  pub rest : packetRest (leftOf w piece held at) ≡ packetRest (heldBytes w ++ piece)
   pub total : packets + (held + (length piece - at)) / 188 ≡ wholeCount w piece
   pub few : count ≤ 1632 * packets
 
-pub progress-start : (w : Sending) (piece room answers : List ℕ) → Ready modeOf (w .sender) → w .held < 188
-    → Progress w piece room answers room answers (w .sender) (w .held) 0 0 0
-progress-start w piece room answers g h = record {
+pub progress-start : (w : Sending) (piece output answers : List ℕ) → Ready modeOf (w .sender) → w .held < 188
+    → Progress w piece output answers output answers (w .sender) (w .held) 0 0 0
+progress-start w piece output answers g h = record {
   ready = g;
   short = h;
   within = omega arith;
@@ -82,8 +82,8 @@ progress-start w piece room answers g h = record {
   few = omega arith;
 }
 
-module _ {w : Sending} {piece room₀ answers₀ room answers : List ℕ} {s : Sender} {held at count packets : ℕ} (size : length (w .pending) ≡ 188)
-    (roomy : Roomy w piece room₀ answers₀) (p : Progress w piece room₀ answers₀ room answers s held at count packets) where
+module _ {w : Sending} {piece output₀ answers₀ output answers : List ℕ} {s : Sender} {held at count packets : ℕ} (size : length (w .pending) ≡ 188)
+    (output-fits : OutputsFit w piece output₀ answers₀) (p : Progress w piece output₀ answers₀ output answers s held at count packets) where
   held-size : length (take held (w .pending)) ≡ held
   held-size = length-take-le held (w .pending) (omega (arith, p .short))
 
@@ -93,16 +93,16 @@ module _ {w : Sending} {piece room₀ answers₀ room answers : List ℕ} {s : S
   packets-within : packets ≤ wholeCount w piece
   packets-within = omega (arith, p .total)
 
-  pub room-length : length room ≡ length room₀
-  room-length =
-      omega (arith, ap length (p .written), length-append (p .front) (drop count room₀), length-drop count room₀, p .counted, p .few, packets-within, roomy .symbols)
+  pub output-length : length output ≡ length output₀
+  output-length =
+      omega (arith, ap length (p .written), length-append (p .front) (drop count output₀), length-drop count output₀, p .counted, p .few, packets-within, output-fits .symbols)
 
   pub answers-length : length answers ≡ length answers₀
   answers-length =
-      omega (arith, ap length (p .answered), length-append (p .told) (drop packets answers₀), length-drop packets answers₀, p .numbered, packets-within, roomy .answers-fit)
+      omega (arith, ap length (p .answered), length-append (p .told) (drop packets answers₀), length-drop packets answers₀, p .numbered, packets-within, output-fits .answers-fit)
 
-  pub count-within : count ≤ length room
-  count-within = omega (arith, ap length (p .written), length-append (p .front) (drop count room₀), p .counted)
+  pub count-within : count ≤ length output
+  count-within = omega (arith, ap length (p .written), length-append (p .front) (drop count output₀), p .counted)
 
   -- ---- the end: no packet is whole any more
 
@@ -127,21 +127,21 @@ module _ {w : Sending} {piece room₀ answers₀ room answers : List ℕ} {s : S
     unfolding callsSender
     last-sender = ap (λ (l : List (List ℕ)). callsSender modeOf s (packetsFor l)) (sym none-left) ∙ p .sender
 
-    last-rest : leftOf w piece held at ≡ restOf (heldBytes w ++ piece)
+    last-rest : leftOf w piece held at ≡ packetRest (heldBytes w ++ piece)
     last-rest = sym (rest-few (leftOf w piece held at) few-left) ∙ p .rest
 
     pub progress-end : (pending : List ℕ) → pending ≡ padded (take held (w .pending) ++ take (length piece - at) (drop at piece))
-        → FeedsAll w piece room₀ answers₀ 0 count packets (record { sender = s; pending = pending; held = held + (length piece - at) }) room answers
+        → FeedsAll w piece output₀ answers₀ 0 count packets (record { sender = s; pending = pending; held = held + (length piece - at) }) output answers
     progress-end pending e =
-        let l : take held (w .pending) ++ take (length piece - at) (drop at piece) ≡ restOf (heldBytes w ++ piece)
+        let l : take held (w .pending) ++ take (length piece - at) (drop at piece) ≡ packetRest (heldBytes w ++ piece)
         = ap (λ (x : List ℕ). take held (w .pending) ++ x) (take-all (length piece - at) (drop at piece) (omega (arith, length-drop at piece))) ∙ last-rest in
-        let n : held + (length piece - at) ≡ length (restOf (heldBytes w ++ piece)) = sym left-size ∙ ap length last-rest in
+        let n : held + (length piece - at) ≡ length (packetRest (heldBytes w ++ piece)) = sym left-size ∙ ap length last-rest in
         record {
           done = refl;
           counted = sym (p .counted) ∙ ap length all-symbols;
           whole = omega (arith, p .total, p .short);
           sending = λ i. record { sender = last-sender i; pending = (e ∙ ap padded l) i; held = n i };
-          written = p .written ∙ ap (λ (x : List ℕ). x ++ drop count room₀) all-symbols;
+          written = p .written ∙ ap (λ (x : List ℕ). x ++ drop count output₀) all-symbols;
           answers-written = p .answered ∙ ap (λ (x : List ℕ). x ++ drop packets answers₀) all-told;
         }
 
@@ -199,47 +199,47 @@ module _ {w : Sending} {piece room₀ answers₀ room answers : List ℕ} {s : S
     one-more = omega (arith, p .total, p .short, h)
 
     pub packets-fit : packets < length answers
-    packets-fit = omega (arith, one-more, answers-length, roomy .answers-fit)
+    packets-fit = omega (arith, one-more, answers-length, output-fits .answers-fit)
 
-    room-enough : count + 1632 ≤ length room
-    room-enough = omega (arith, one-more, room-length, roomy .symbols, p .few)
+    output-enough : count + 1632 ≤ length output
+    output-enough = omega (arith, one-more, output-length, output-fits .symbols, p .few)
 
-    answered-call : Answered modeOf s input (drop count room)
-    answered-call = input-sent s input (drop count room) (p .ready) is-input (omega (arith, length-drop count room, room-enough, few-symbols))
+    answered-call : Answered modeOf s input (drop count output)
+    answered-call = input-sent s input (drop count output) (p .ready) is-input (omega (arith, length-drop count output, output-enough, few-symbols))
 
-    front-room : take count room ≡ p .front
-    front-room = ap (take count) (p .written) ∙ take-at (p .front) (drop count room₀) count (p .counted)
+    front-output : take count output ≡ p .front
+    front-output = ap (take count) (p .written) ∙ take-at (p .front) (drop count output₀) count (p .counted)
 
-    back-room : drop count room ≡ drop count room₀
-    back-room = ap (drop count) (p .written) ∙ drop-at (p .front) (drop count room₀) count (p .counted)
+    back-output : drop count output ≡ drop count output₀
+    back-output = ap (drop count) (p .written) ∙ drop-at (p .front) (drop count output₀) count (p .counted)
 
     -- an answer more
     next-answers : (number : ℕ) → set answers packets number ≡ (p .told ++ number ∷ []) ++ drop (packets + 1) answers₀
     next-answers number =
-        let h : packets < length answers₀ = omega (arith, one-more, roomy .answers-fit) in
+        let h : packets < length answers₀ = omega (arith, one-more, output-fits .answers-fit) in
         ap (λ (l : List ℕ). set l packets number) (p .answered ∙ ap (λ (l : List ℕ). p .told ++ l) (drop-cons answers₀ packets 0 h))
         ∙ set-at (p .told) (getD answers₀ packets 0) (drop (suc packets) answers₀) number packets (p .numbered)
         ∙ ap (λ (k : ℕ). p .told ++ number ∷ drop k answers₀) (sym (add-one packets))
         ∙ sym (append-assoc (p .told) (number ∷ []) (drop (packets + 1) answers₀))
 
-    -- a call on this packet and the rest of the room
+    -- a call on this packet and the rest of the output
     module _ {number n : ℕ} {next : Sender} {left : List ℕ}
-        (m : Sends modeOf s (take held (w .pending) ++ take (at + (188 - held) - at) (drop at piece)) (midOf count (length room - count) room) number n next left) where
-      kept : Sends modeOf s input (drop count room) number n next left
+        (m : Sends modeOf s (take held (w .pending) ++ take (at + (188 - held) - at) (drop at piece)) (midOf count (length output - count) output) number n next left) where
+      kept : Sends modeOf s input (drop count output) number n next left
       unfolding input
       kept =
           let k : at + (188 - held) - at ≡ 188 - held = omega arith in
           subst₂ (λ (a b : List ℕ). Sends modeOf s a b number n next left) (ap (λ (j : ℕ). take held (w .pending) ++ take j (drop at piece)) k)
-          (take-all (length room - count) (drop count room) (omega (arith, length-drop count room))) m
+          (take-all (length output - count) (drop count output) (omega (arith, length-drop count output))) m
 
       sent-count : n ≡ sentCount modeOf s
       sent-count = kept .counted ∙ answered-call .count
 
-      pub progress-total : count + n ≤ length room₀
-      progress-total = omega (arith, sent-count, few-symbols, room-enough, room-length)
+      pub progress-total : count + n ≤ length output₀
+      progress-total = omega (arith, sent-count, few-symbols, output-enough, output-length)
 
       pub progress-more : {said : ℕ} → said ≡ number
-          → Progress w piece room₀ answers₀ (putMid count (length room - count) room left) (set answers packets said) next 0 (at + (188 - held)) (count + n) (packets + 1)
+          → Progress w piece output₀ answers₀ (putMid count (length output - count) output left) (set answers packets said) next 0 (at + (188 - held)) (count + n) (packets + 1)
       unfolding packet callsSymbols callsSender flatten
       progress-more {said} y =
           let e : next ≡ senderAfter modeOf s packet = kept .sender ∙ answered-call .sender in
@@ -254,14 +254,14 @@ module _ {w : Sending} {piece room₀ answers₀ room answers : List ℕ} {s : S
             counted = length-append (p .front) (sentSymbols modeOf s packet) ∙ ap₂ (λ (a b : ℕ). a + b) (p .counted) k;
             numbered = length-append (p .told) (said ∷ []) ∙ ap (λ (j : ℕ). j + 1) (p .numbered);
             written =
-                ap₂ (λ (a b : List ℕ). a ++ b) front-room
-                (ap (λ (l : List ℕ). left ++ l) (drop-of-length-le (drop count room) {i = length room - count} (omega (arith, length-drop count room)))
+                ap₂ (λ (a b : List ℕ). a ++ b) front-output
+                (ap (λ (l : List ℕ). left ++ l) (drop-of-length-le (drop count output) {i = length output - count} (omega (arith, length-drop count output)))
                 ∙ append-nil left
                 ∙ kept .written
                 ∙ answered-call .written
-                ∙ ap₂ (λ (j : ℕ) (l : List ℕ). sentSymbols modeOf s packet ++ drop j l) (sym sent-count) back-room
-                ∙ ap (λ (l : List ℕ). sentSymbols modeOf s packet ++ l) (drop-drop n count room₀))
-                ∙ sym (append-assoc (p .front) (sentSymbols modeOf s packet) (drop (count + n) room₀));
+                ∙ ap₂ (λ (j : ℕ) (l : List ℕ). sentSymbols modeOf s packet ++ drop j l) (sym sent-count) back-output
+                ∙ ap (λ (l : List ℕ). sentSymbols modeOf s packet ++ l) (drop-drop n count output₀))
+                ∙ sym (append-assoc (p .front) (sentSymbols modeOf s packet) (drop (count + n) output₀));
             answered = next-answers said;
             symbols =
                 ap (λ (x : Sender). (p .front ++ sentSymbols modeOf s packet) ++ flatten (callsSymbols modeOf x (packetsFor (packetsOf (leftOf w piece 0 (at + (188 - held))))))) e
@@ -277,7 +277,7 @@ module _ {w : Sending} {piece room₀ answers₀ room answers : List ℕ} {s : S
                 ap (λ (x : Sender). callsSender modeOf x (packetsFor (packetsOf (leftOf w piece 0 (at + (188 - held)))))) e
                 ∙ ap (λ (l : List (List ℕ)). callsSender modeOf s (packetsFor l)) (sym cut-packet)
                 ∙ p .sender;
-            rest = ap restOf (sym later) ∙ sym (rest-more (leftOf w piece held at) enough) ∙ p .rest;
+            rest = ap packetRest (sym later) ∙ sym (rest-more (leftOf w piece held at) enough) ∙ p .rest;
             total = omega (arith, p .total, p .short, h);
             few = omega (arith, p .few, sent-count, few-symbols);
           }

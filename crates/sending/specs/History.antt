@@ -11,20 +11,20 @@ use Rattle.sender.specs.Standard.{onAir}
 use Rattle.sender.specs.Input.{packetsFor, sentNumber}
 use Rattle.sender.specs.Calls.{senderOf}
 use Rattle.transmission.specs.Run.{packetsOf}
-use Rattle.sending.specs.Sending.{holding, restOf, Feeds}
+use Rattle.sending.specs.Sending.{holding, packetRest, FeedsSending}
 use Rattle.sending.specs.declared.Sending.{Sending}
 
 -- A history of calls, each with the sending that the one before it left: the bytes that came, those of pieces that were not refused; and
 -- what the calls wrote, one after the other, of symbols and of answers.
-pub data Feedings : Sending → List ℕ → List ℕ → List ℕ → Sending → Type 0 where
-  none : {w : Sending} → Feedings w [] [] [] w
-  feeding : {w next last : Sending} {bytes symbols numbers : List ℕ} (piece room answers left told : List ℕ) (number count packets : ℕ)
-      → Feeds w piece room answers number count packets next left told → Feedings next bytes symbols numbers last
-      → Feedings w (pick (eqb number 0) piece [] ++ bytes) (take count left ++ symbols) (take packets told ++ numbers) last
+pub data SendingFeedings : Sending → List ℕ → List ℕ → List ℕ → Sending → Type 0 where
+  none : {w : Sending} → SendingFeedings w [] [] [] w
+  feeding : {w next last : Sending} {bytes symbols numbers : List ℕ} (piece output answers left told : List ℕ) (number count packets : ℕ)
+      → FeedsSending w piece output answers number count packets next left told → SendingFeedings next bytes symbols numbers last
+      → SendingFeedings w (pick (eqb number 0) piece [] ++ bytes) (take count left ++ symbols) (take packets told ++ numbers) last
 
 -- What bytes come to, from a fresh sending: the symbols of the standard for their whole packets, with null packets put in; for each packet the
 -- number that says whether it was replaced; the sender that has sent them; and the bytes after the last whole packet, held.
 pub record Transmitted (rate : ℕ) (bytes symbols numbers : List ℕ) (w : Sending) : Type 0 where
   pub on-air : symbols ≡ onAir (modeOf rate) (packetsFor (packetsOf bytes))
   pub answered : numbers ≡ map sentNumber (packetsOf bytes)
-  pub state : w ≡ holding (senderOf modeOf rate (packetsFor (packetsOf bytes))) (restOf bytes)
+  pub state : w ≡ holding (senderOf modeOf rate (packetsFor (packetsOf bytes))) (packetRest bytes)

@@ -9,7 +9,7 @@ use lib.ListN.{length, take, drop, replicate}
 use Rattle.common.specs.Choice.{pick}
 use Rattle.puncturing.specs.Mode.{modeOf}
 use Rattle.sender.specs.Input.{packetsFor, sentNumber}
-use Rattle.sender.specs.Send.{freshSender, inRange, isSent}
+use Rattle.sender.specs.Send.{freshSender, senderInRange, isSent}
 use Rattle.sender.specs.Calls.{callsSymbols, callsSender}
 use Rattle.sender.specs.declared.Sender.{Sender}
 use Rattle.transmission.specs.Run.{packetsOf}
@@ -32,15 +32,15 @@ freshSending rate = record { sender = freshSender rate; pending = replicate 188 
 
 -- fewer bytes than a packet has are held
 abbrev pub sendingInRange : Sending → Bool
-sendingInRange w = pick (inRange modeOf (w .sender)) (ltb (w .held) 188) false
+sendingInRange w = pick (senderInRange modeOf (w .sender)) (ltb (w .held) 188) false
 
 -- and its mode is sent
 abbrev pub canSend : Sending → Bool
 canSend w = pick (sendingInRange w) (isSent modeOf (w .sender)) false
 
 -- the bytes after the last whole packet
-unfoldable pub restOf : List ℕ → List ℕ
-restOf bytes = drop (length bytes - length bytes % 188) bytes
+unfoldable pub packetRest : List ℕ → List ℕ
+packetRest bytes = drop (length bytes - length bytes % 188) bytes
 
 -- the packets that are whole with a piece, and how many they are
 abbrev pub wholePackets : Sending → List ℕ → List (List ℕ)
@@ -57,34 +57,34 @@ abbrev pub fedAnswers : Sending → List ℕ → List ℕ
 fedAnswers w piece = map sentNumber (wholePackets w piece)
 
 abbrev pub fedSending : Sending → List ℕ → Sending
-fedSending w piece = holding (callsSender modeOf (w .sender) (packetsFor (wholePackets w piece))) (restOf (heldBytes w ++ piece))
+fedSending w piece = holding (callsSender modeOf (w .sender) (packetsFor (wholePackets w piece))) (packetRest (heldBytes w ++ piece))
 
 -- 5 for a state out of range, 6 for one whose mode is not sent, 4 where there is not room for 1,632 symbols, the most that a packet gives, or not a byte for the answer, for each
 -- packet that is whole; 0 where nothing is refused
-abbrev pub feedNumber : Sending → List ℕ → List ℕ → List ℕ → ℕ
-feedNumber w piece room answers =
+abbrev pub sendingFeedNumber : Sending → List ℕ → List ℕ → List ℕ → ℕ
+sendingFeedNumber w piece output answers =
     pick (sendingInRange w)
-    (pick (isSent modeOf (w .sender)) (pick (ltb (length room / 1632) (wholeCount w piece)) 4 (pick (ltb (length answers) (wholeCount w piece)) 4 0)) 6) 5
+    (pick (isSent modeOf (w .sender)) (pick (ltb (length output / 1632) (wholeCount w piece)) 4 (pick (ltb (length answers) (wholeCount w piece)) 4 0)) 6) 5
 
 -- what the tests tell
-pub record Roomy (w : Sending) (piece room answers : List ℕ) : Type 0 where
+pub record OutputsFit (w : Sending) (piece output answers : List ℕ) : Type 0 where
   pub range : sendingInRange w ≡ true
   pub sent : isSent modeOf (w .sender) ≡ true
-  pub symbols : wholeCount w piece ≤ length room / 1632
+  pub symbols : wholeCount w piece ≤ length output / 1632
   pub answers-fit : wholeCount w piece ≤ length answers
 
 -- what is left where nothing is refused
-pub record FeedsAll (w : Sending) (piece room answers : List ℕ) (number count packets : ℕ) (next : Sending) (left told : List ℕ) : Type 0 where
+pub record FeedsAll (w : Sending) (piece output answers : List ℕ) (number count packets : ℕ) (next : Sending) (left told : List ℕ) : Type 0 where
   pub done : number ≡ 0
   pub counted : count ≡ length (fedSymbols w piece)
   pub whole : packets ≡ wholeCount w piece
   pub sending : next ≡ fedSending w piece
-  pub written : left ≡ fedSymbols w piece ++ drop count room
+  pub written : left ≡ fedSymbols w piece ++ drop count output
   pub answers-written : told ≡ fedAnswers w piece ++ drop packets answers
 
--- What a call promises: the answer, the number of symbols and of packets, the sending, the room and the answers after it. After a refusal
+-- What a call promises: the answer, the number of symbols and of packets, the sending, the output and the answers after it. After a refusal
 -- nothing is written, and all is as before.
-pub data Feeds (w : Sending) (piece room answers : List ℕ) : ℕ → ℕ → ℕ → Sending → List ℕ → List ℕ → Type 0 where
-  refused : {number : ℕ} → number ≡ feedNumber w piece room answers → (number ≡ 0 → ⊥) → Feeds w piece room answers number 0 0 w room answers
-  fed : {number count packets : ℕ} {next : Sending} {left told : List ℕ} → feedNumber w piece room answers ≡ 0
-      → FeedsAll w piece room answers number count packets next left told → Feeds w piece room answers number count packets next left told
+pub data FeedsSending (w : Sending) (piece output answers : List ℕ) : ℕ → ℕ → ℕ → Sending → List ℕ → List ℕ → Type 0 where
+  refused : {number : ℕ} → number ≡ sendingFeedNumber w piece output answers → (number ≡ 0 → ⊥) → FeedsSending w piece output answers number 0 0 w output answers
+  fed : {number count packets : ℕ} {next : Sending} {left told : List ℕ} → sendingFeedNumber w piece output answers ≡ 0
+      → FeedsAll w piece output answers number count packets next left told → FeedsSending w piece output answers number count packets next left told

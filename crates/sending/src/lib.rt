@@ -5,8 +5,9 @@ ghost use Prim.Native.Nat.{_+_, _/_, _<_, _≤_};
 ghost use lib.ListN.{length, take};
 ghost use Rattle.answer.specs.Number.{numberOf};
 ghost use Rattle.puncturing.specs.Mode.{modeOf};
-ghost use Rattle.sender.specs.Send.{newNumber, Sends};
-ghost use Rattle.sending.specs.Sending.{padded, freshSending, sendingInRange, Roomy, FeedsAll, Feeds};
+ghost use Rattle.inner_code.specs.Encode.{newNumber};
+ghost use Rattle.sender.specs.Send.{Sends};
+ghost use Rattle.sending.specs.Sending.{padded, freshSending, sendingInRange, OutputsFit, FeedsAll, FeedsSending};
 use answer::Answer;
 use sender::Sender;
 
@@ -32,7 +33,7 @@ pub struct Fed {
 }
 
 impl Sending {
-    // The room that each packet is lent: the symbols of one at rate 1/2.
+    // The output that each packet is lent: the symbols of one at rate 1/2.
     pub const MOST_SYMBOLS: usize = 1632;
 
     pub fn new(rate: u8) -> Begun
@@ -65,10 +66,10 @@ impl Sending {
     }
 
     // Sends the packets that are whole with a piece: writes their symbols, and a byte with the number of its answer for each, 0 or 15.
-    pub fn feed(self, piece: &[u8], room: &mut [u8], answers: &mut [u8]) -> Fed
+    pub fn feed(self, piece: &[u8], output: &mut [u8], answers: &mut [u8]) -> Fed
         ensures { λ r. ⌜
-            Feeds self (now (piece .entry)) (now (room .entry)) (now (answers .entry))
-            (numberOf (r .answer)) (r .count) (r .packets) (r .sending) (now (room .exit)) (now (answers .exit)) ⌝ }
+            FeedsSending self (now (piece .entry)) (now (output .entry)) (now (answers .entry))
+            (numberOf (r .answer)) (r .count) (r .packets) (r .sending) (now (output .exit)) (now (answers .exit)) ⌝ }
     {
         if !self.in_range() {
             return Fed {
@@ -91,9 +92,9 @@ impl Sending {
         }
         let held = self.held;
         let packets = whole_count(held, piece.len());
-        if room.len() / Sending::MOST_SYMBOLS < packets {
+        if output.len() / Sending::MOST_SYMBOLS < packets {
             return Fed {
-                answer: Answer::RoomLength,
+                answer: Answer::OutputLength,
                 count: 0,
                 packets: 0,
                 sending: self,
@@ -101,13 +102,13 @@ impl Sending {
         }
         if answers.len() < packets {
             return Fed {
-                answer: Answer::RoomLength,
+                answer: Answer::OutputLength,
                 count: 0,
                 packets: 0,
                 sending: self,
             };
         }
-        send_whole(self, piece, room, answers)
+        send_whole(self, piece, output, answers)
     }
 }
 
@@ -140,22 +141,22 @@ fn send_joined(
     pending: [u8; Sender::PACKET_LENGTH],
     held: usize,
     more: &[u8],
-    room: &mut [u8],
+    output: &mut [u8],
 ) -> sender::Sent
     requires { ⌜ held + length (now more) ≡ 188 ⌝ }
     ensures { λ r. ⌜
-        Sends modeOf sender (take held pending ++ now (more .entry)) (now (room .entry)) (numberOf (r .answer)) (r .count) (r .sender) (now (room .exit)) ⌝ }
+        Sends modeOf sender (take held pending ++ now (more .entry)) (now (output .entry)) (numberOf (r .answer)) (r .count) (r .sender) (now (output .exit)) ⌝ }
 {
     let packet = joined(pending, held, more);
-    sender.send(&packet, room)
+    sender.send(&packet, output)
 }
 
 // Sends the packets that are whole with a piece, and holds the bytes after them, with a sending that is in range and room enough.
-fn send_whole(sending: Sending, piece: &[u8], room: &mut [u8], answers: &mut [u8]) -> Fed
-    requires { ⌜ Roomy sending (now piece) (now room) (now answers) ⌝ }
+fn send_whole(sending: Sending, piece: &[u8], output: &mut [u8], answers: &mut [u8]) -> Fed
+    requires { ⌜ OutputsFit sending (now piece) (now output) (now answers) ⌝ }
     ensures { λ r. ⌜
-        FeedsAll sending (now (piece .entry)) (now (room .entry)) (now (answers .entry))
-        (numberOf (r .answer)) (r .count) (r .packets) (r .sending) (now (room .exit)) (now (answers .exit)) ⌝ }
+        FeedsAll sending (now (piece .entry)) (now (output .entry)) (now (answers .entry))
+        (numberOf (r .answer)) (r .count) (r .packets) (r .sending) (now (output .exit)) (now (answers .exit)) ⌝ }
 {
     let pending = sending.pending;
     let mut sender = sending.sender;
@@ -165,7 +166,7 @@ fn send_whole(sending: Sending, piece: &[u8], room: &mut [u8], answers: &mut [u8
     let mut packets: usize = 0;
     while piece.len() - at >= Sender::PACKET_LENGTH - held {
         let end = at + (Sender::PACKET_LENGTH - held);
-        let sent = send_joined(sender, pending, held, &piece[at..end], &mut room[count..]);
+        let sent = send_joined(sender, pending, held, &piece[at..end], &mut output[count..]);
         let answer = sent.answer;
         answers[packets] = answer.number();
         sender = sent.sender;

@@ -9,14 +9,14 @@ use mir.Val.{boolByte}
 use lib.Dec.{T, eqb, eqb-refl}
 use lib.Ieee.{Float, nan, inf, fin, le, ne, isNan, ofBits, binary32, up, down}
 use lib.ListN.{length}
-use Rattle.soft_decision.specs.Level.{thresholds, count, atOrBelow, levelOf}
+use Rattle.soft_decision.specs.Level.{thresholds, indicator, atOrBelow, levelOf}
 use Rattle.soft_decision.specs.Cost.{numberCosts, symbolCosts, free, byLevel}
 use Rattle.soft_decision.specs.Steps.{costAt}
 use Rattle.soft_decision.specs.declared.BitCosts.{BitCosts}
 use Rattle.soft_decision.specs.declared.Received.{Received}
 use Rattle.soft_decision.specs.declared.Received.the-variants.{At, Lost}
 
-pub byte-is : (b : Bool) → (boolByte b ≡ count b) × (boolByte b ≤ 1)
+pub byte-is : (b : Bool) → (boolByte b ≡ indicator b) × (boolByte b ≤ 1)
 byte-is true = (refl, omega arith)
 byte-is false = (refl, omega arith)
 
@@ -35,7 +35,7 @@ ne-nan (fin false m e) = rw (true-of (eqb (m * up e * down e) (m * up e * down e
 
 -- ---- every cost is at most 7
 
-count-le : (b : Bool) → count b ≤ 1
+count-le : (b : Bool) → indicator b ≤ 1
 count-le true = omega arith
 count-le false = omega arith
 

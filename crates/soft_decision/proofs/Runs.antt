@@ -43,10 +43,10 @@ received-at (i ∷ is) (q ∷ qs) (m ∷ lost) a b (suc k) h = received-at is qs
 abbrev pub Holds : (ℕ → Received) → ℕ → ℕ → Type 0
 Holds f t v = v ≡ costsAlong f t
 
-pub four-more : (f : ℕ → Received) (size : ℕ) {room : List ℕ} (k : ℕ) (r : Received) → 4 * k + 4 ≤ size → r ≡ f k
-    → Each (Holds f) size room (4 * k) → Each (Holds f) size (putCosts room (4 * k) (symbolCosts r)) (4 * (k + 1))
+pub four-more : (f : ℕ → Received) (size : ℕ) {output : List ℕ} (k : ℕ) (r : Received) → 4 * k + 4 ≤ size → r ≡ f k
+    → Each (Holds f) size output (4 * k) → Each (Holds f) size (putCosts output (4 * k) (symbolCosts r)) (4 * (k + 1))
 unfolding costsAlong
-four-more f size {room} k r h er e =
+four-more f size {output} k r h er e =
     let c = symbolCosts r in
     let a : ℕ = 4 * k in
     let n : 4 * (k + 1) ≡ a + 1 + 1 + 1 + 1 = omega arith in

@@ -28,12 +28,12 @@ symbolCosts (At p) = record { i = numberCosts (p .i); q = numberCosts (p .q) }
 symbolCosts Lost = record { i = free; q = free }
 
 -- deciding a bit as 0 or as 1
-abbrev pub decided : BitCosts → ℕ → ℕ
-decided c b = pick (eqb b 0) (c .zero) (c .one)
+abbrev pub decidedAs : BitCosts → ℕ → ℕ
+decidedAs c b = pick (eqb b 0) (c .zero) (c .one)
 
 -- what the received symbol costs where 2 I + Q was sent
 abbrev pub softly : Received → ℕ → ℕ
-softly r sent = decided (symbolCosts r .i) (sent / 2) + decided (symbolCosts r .q) (sent % 2)
+softly r sent = decidedAs (symbolCosts r .i) (sent / 2) + decidedAs (symbolCosts r .q) (sent % 2)
 
 -- ---- the symbols of three lists
 

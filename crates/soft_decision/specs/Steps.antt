@@ -21,6 +21,6 @@ costsAlong f t = costAt (symbolCosts (f (t / 4))) (t % 4)
 abbrev pub symbolAt : List Float → List Float → List ℕ → ℕ → Received
 symbolAt is qs lost k = received (getD is k nan) (getD qs k nan) (getD lost k 0)
 
--- a room with the four costs of a symbol at a place of it
+-- an output with the four costs of a symbol at a place of it
 abbrev pub putCosts : List ℕ → ℕ → SymbolCosts → List ℕ
-putCosts room at c = set (set (set (set room at (c .i .zero)) (at + 1) (c .i .one)) (at + 1 + 1) (c .q .zero)) (at + 1 + 1 + 1) (c .q .one)
+putCosts output at c = set (set (set (set output at (c .i .zero)) (at + 1) (c .i .one)) (at + 1 + 1) (c .q .zero)) (at + 1 + 1 + 1) (c .q .one)

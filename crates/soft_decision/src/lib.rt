@@ -4,7 +4,7 @@ ghost use mathlib.Core.Path.{_≡_};
 ghost use Prim.Native.Nat.{ℕ, _+_, _*_, _<_, _≤_};
 ghost use lib.Ieee.{le};
 ghost use lib.ListN.{length, getD};
-ghost use Rattle.soft_decision.specs.Level.{count, levelOf};
+ghost use Rattle.soft_decision.specs.Level.{indicator, levelOf};
 ghost use Rattle.soft_decision.specs.Cost.{numberCosts, symbolCosts};
 ghost use Rattle.soft_decision.specs.Steps.{symbolAt, costsAlong, putCosts};
 
@@ -42,7 +42,7 @@ pub struct SymbolCosts {
 
 // 1 where the threshold is at or below x, else 0.
 fn reaches(threshold: f32, x: f32) -> u8
-    ensures { λ r. ⌜ (r ≡ count (le threshold x)) × (r ≤ 1) ⌝ }
+    ensures { λ r. ⌜ (r ≡ indicator (le threshold x)) × (r ≤ 1) ⌝ }
 {
     (threshold <= x) as u8
 }
@@ -130,31 +130,31 @@ fn received_at(is: &[f32], qs: &[f32], lost: &[u8], at: usize) -> Received
 }
 
 // Writes what deciding the I of a symbol as 0 and as 1 costs, and then its Q.
-pub fn put_costs(symbol: Received, at: usize, room: &mut [u8])
-    requires { ⌜ at + 4 ≤ length (now room) ⌝ }
-    ensures { λ _. ⌜ now (room .exit) ≡ putCosts (now (room .entry)) at (symbolCosts symbol) ⌝ }
+pub fn put_costs(symbol: Received, at: usize, output: &mut [u8])
+    requires { ⌜ at + 4 ≤ length (now output) ⌝ }
+    ensures { λ _. ⌜ now (output .exit) ≡ putCosts (now (output .entry)) at (symbolCosts symbol) ⌝ }
 {
     let c = costs(symbol);
     let i = c.i;
     let q = c.q;
-    room[at] = i.zero;
+    output[at] = i.zero;
     let at1 = at + 1;
-    room[at1] = i.one;
+    output[at1] = i.one;
     let at2 = at1 + 1;
-    room[at2] = q.zero;
+    output[at2] = q.zero;
     let at3 = at2 + 1;
-    room[at3] = q.one;
+    output[at3] = q.one;
 }
 
 // Writes those of each symbol of a run.
-pub fn write_costs(is: &[f32], qs: &[f32], lost: &[u8], room: &mut [u8])
-    requires { ⌜ (length (now qs) ≡ length (now is)) × (length (now lost) ≡ length (now is)) × (4 * length (now is) ≤ length (now room)) ⌝ }
+pub fn write_costs(is: &[f32], qs: &[f32], lost: &[u8], output: &mut [u8])
+    requires { ⌜ (length (now qs) ≡ length (now is)) × (length (now lost) ≡ length (now is)) × (4 * length (now is) ≤ length (now output)) ⌝ }
     ensures { λ _. ⌜
-        ((t : ℕ) → t < 4 * length (now (is .entry)) → getD (now (room .exit)) t 0 ≡ costsAlong (symbolAt (now (is .entry)) (now (qs .entry)) (now (lost .entry))) t) ⌝ }
+        ((t : ℕ) → t < 4 * length (now (is .entry)) → getD (now (output .exit)) t 0 ≡ costsAlong (symbolAt (now (is .entry)) (now (qs .entry)) (now (lost .entry))) t) ⌝ }
 {
     let mut k = 0;
     while k < is.len() {
-        put_costs(received_at(is, qs, lost, k), 4 * k, room);
+        put_costs(received_at(is, qs, lost, k), 4 * k, output);
         k += 1;
     }
 }

@@ -17,14 +17,14 @@ struct Run {
     deinterleaved: u64,
 }
 
-// Reads a file into the room.
-fn load(path: &[u8], room: &mut [u8]) {
+// Reads a file into the output.
+fn load(path: &[u8], output: &mut [u8]) {
     let file = os::open_read(path);
     if file < 0 {
         os::fail(path);
         return;
     }
-    io::read_full(file, room);
+    io::read_full(file, output);
     libc::close(file);
 }
 
@@ -75,12 +75,12 @@ fn with_packet(run: Run, i: usize, packets: &[u8], randomized: &[u8]) -> Run
     let place = (i % 8) as u8;
     let packet = packet_of(packets, i);
     let sent = packet_of(randomized, i);
-    let mut room = [0u8; 188];
-    randomizer::randomize(place, packet, &mut room);
-    let there = counted(run.randomized, check::same(&room, sent));
-    let mut room = [0u8; 188];
-    randomizer::derandomize(place, sent, &mut room);
-    let back = counted(run.derandomized, check::same(&room, packet));
+    let mut output = [0u8; 188];
+    randomizer::randomize(place, packet, &mut output);
+    let there = counted(run.randomized, check::same(&output, sent));
+    let mut output = [0u8; 188];
+    randomizer::derandomize(place, sent, &mut output);
+    let back = counted(run.derandomized, check::same(&output, packet));
     let mut next = run;
     next.randomized = there;
     next.derandomized = back;
@@ -91,13 +91,13 @@ fn with_packet(run: Run, i: usize, packets: &[u8], randomized: &[u8]) -> Run
 fn with_block(run: Run, i: usize, coded: &[u8], interleaved: &[u8]) -> Run
     requires { ⌜ (i < 40) × (length (now coded) ≡ 8160) × (length (now interleaved) ≡ 8160) ⌝ }
 {
-    let mut room = [0u8; 204];
+    let mut output = [0u8; 204];
     let before = run.interleaver;
-    let passed = before.interleave(block_of(coded, i), &mut room);
+    let passed = before.interleave(block_of(coded, i), &mut output);
     let interleaver = passed.interleaver;
     let agreed = counted(
         run.interleaved,
-        check::same(&room, block_of(interleaved, i)),
+        check::same(&output, block_of(interleaved, i)),
     );
     let mut next = run;
     next.interleaver = interleaver;
@@ -109,11 +109,11 @@ fn with_block(run: Run, i: usize, coded: &[u8], interleaved: &[u8]) -> Run
 fn with_received(run: Run, i: usize, coded: &[u8], interleaved: &[u8]) -> Run
     requires { ⌜ (i < 40) × (length (now coded) ≡ 8160) × (length (now interleaved) ≡ 8160) ⌝ }
 {
-    let mut room = [0u8; 204];
+    let mut output = [0u8; 204];
     let before = run.deinterleaver;
-    let passed = before.deinterleave(block_of(interleaved, i), &mut room);
+    let passed = before.deinterleave(block_of(interleaved, i), &mut output);
     let deinterleaver = passed.deinterleaver;
-    let agreed = counted(run.deinterleaved, eleven_late(coded, i, &room));
+    let agreed = counted(run.deinterleaved, eleven_late(coded, i, &output));
     let mut next = run;
     next.deinterleaver = deinterleaver;
     next.deinterleaved = agreed;
@@ -151,9 +151,9 @@ fn compared(packets: &[u8], randomized: &[u8], coded: &[u8], interleaved: &[u8])
 fn with_coded(n: u64, i: usize, randomized: &[u8], coded: &[u8]) -> u64
     requires { ⌜ (i < 40) × (length (now randomized) ≡ 7520) × (length (now coded) ≡ 8160) ⌝ }
 {
-    let mut room = [0u8; 204];
-    reed_solomon::encode(packet_of(randomized, i), &mut room);
-    counted(n, check::same(&room, block_of(coded, i)))
+    let mut output = [0u8; 204];
+    reed_solomon::encode(packet_of(randomized, i), &mut output);
+    counted(n, check::same(&output, block_of(coded, i)))
 }
 
 // How many of the 40 are coded alike.
@@ -198,11 +198,11 @@ fn outer_code_vectors() {
 }
 
 // The answers of the randomizer.
-fn randomizer_answers(name: &[u8], place: u8, packet: &[u8], room: &mut [u8]) {
+fn randomizer_answers(name: &[u8], place: u8, packet: &[u8], output: &mut [u8]) {
     io::write_all(STDOUT_FILENO, name);
-    let sent = randomizer::randomize(place, packet, room);
+    let sent = randomizer::randomize(place, packet, output);
     vector_files::print_line(b"  randomize ", sent.number() as u64);
-    let back = randomizer::derandomize(place, packet, room);
+    let back = randomizer::derandomize(place, packet, output);
     vector_files::print_line(b"  derandomize ", back.number() as u64);
 }
 
@@ -214,30 +214,30 @@ fn randomizer_limits() {
     let mut longer = [0u8; 189];
     longer[0] = 0x47;
     let unsynced = [0u8; 188];
-    let mut short_room = [0u8; 187];
-    let mut room = [0u8; 188];
-    randomizer_answers(b"packet of 187 bytes\n", 0, &shorter, &mut room);
-    randomizer_answers(b"packet of 188 bytes\n", 0, &packet, &mut room);
-    randomizer_answers(b"packet of 189 bytes\n", 0, &longer, &mut room);
-    randomizer_answers(b"first byte 00\n", 0, &unsynced, &mut room);
-    randomizer_answers(b"room of 187 bytes\n", 0, &packet, &mut short_room);
-    randomizer_answers(b"place 7\n", 7, &packet, &mut room);
-    randomizer_answers(b"place 8\n", 8, &packet, &mut room);
+    let mut short_output = [0u8; 187];
+    let mut output = [0u8; 188];
+    randomizer_answers(b"packet of 187 bytes\n", 0, &shorter, &mut output);
+    randomizer_answers(b"packet of 188 bytes\n", 0, &packet, &mut output);
+    randomizer_answers(b"packet of 189 bytes\n", 0, &longer, &mut output);
+    randomizer_answers(b"first byte 00\n", 0, &unsynced, &mut output);
+    randomizer_answers(b"room of 187 bytes\n", 0, &packet, &mut short_output);
+    randomizer_answers(b"place 7\n", 7, &packet, &mut output);
+    randomizer_answers(b"place 8\n", 8, &packet, &mut output);
 }
 
 // The answers of both sides, with branch 1 at a position.
-fn interleaver_answers(name: &[u8], position: u8, block: &[u8], room: &mut [u8]) {
+fn interleaver_answers(name: &[u8], position: u8, block: &[u8], output: &mut [u8]) {
     io::write_all(STDOUT_FILENO, name);
     let cells = [0u8; 1122];
     let mut positions = [0u8; 12];
     positions[1] = position;
     let branches = Branches { cells, positions };
     let sending = Interleaver { branches };
-    let sent = sending.interleave(block, room);
+    let sent = sending.interleave(block, output);
     let answer = sent.answer;
     vector_files::print_line(b"  interleave ", answer.number() as u64);
     let receiving = Deinterleaver { branches };
-    let back = receiving.deinterleave(block, room);
+    let back = receiving.deinterleave(block, output);
     let answer = back.answer;
     vector_files::print_line(b"  deinterleave ", answer.number() as u64);
 }
@@ -246,14 +246,14 @@ fn interleaver_limits() {
     let shorter = [0u8; 203];
     let block = [0u8; 204];
     let longer = [0u8; 205];
-    let mut short_room = [0u8; 203];
-    let mut room = [0u8; 204];
-    interleaver_answers(b"block of 203 bytes\n", 0, &shorter, &mut room);
-    interleaver_answers(b"block of 204 bytes\n", 0, &block, &mut room);
-    interleaver_answers(b"block of 205 bytes\n", 0, &longer, &mut room);
-    interleaver_answers(b"room of 203 bytes\n", 0, &block, &mut short_room);
-    interleaver_answers(b"position 16 in branch 1\n", 16, &block, &mut room);
-    interleaver_answers(b"position 17 in branch 1\n", 17, &block, &mut room);
+    let mut short_output = [0u8; 203];
+    let mut output = [0u8; 204];
+    interleaver_answers(b"block of 203 bytes\n", 0, &shorter, &mut output);
+    interleaver_answers(b"block of 204 bytes\n", 0, &block, &mut output);
+    interleaver_answers(b"block of 205 bytes\n", 0, &longer, &mut output);
+    interleaver_answers(b"room of 203 bytes\n", 0, &block, &mut short_output);
+    interleaver_answers(b"position 16 in branch 1\n", 16, &block, &mut output);
+    interleaver_answers(b"position 17 in branch 1\n", 17, &block, &mut output);
 }
 
 fn main() {

@@ -14,19 +14,19 @@ use Rattle.receiver.specs.Receive.{freshReceiver}
 use Rattle.receiver.specs.declared.Receiver.{Receiver}
 use Rattle.recording.specs.Recording.{restOf}
 use Rattle.recording.proofs.Decided.{recording-unique, recording-total}
-use Rattle.stream_receiver.specs.Feed.{holding, freshStream, capacityOf, feedNumber, Feeds, refused, fed}
-use Rattle.stream_receiver.specs.History.{Feeding, Feedings, afterFeedings, bytesIn, bytesOut, Reception}
+use Rattle.stream_receiver.specs.Feed.{holding, freshStream, capacityOf, receiverFeedNumber, FeedsReceiver, refused, fed}
+use Rattle.stream_receiver.specs.History.{Feeding, ReceiverFeedings, afterFeedings, bytesIn, bytesOut, Reception}
 use Rattle.stream_receiver.specs.declared.StreamReceiver.{StreamReceiver}
 use Rattle.stream_receiver.proofs.Laws.{reception-none, reception-held, reception-range, reception-capacity, reception-taken-piece}
 
 -- ---- the number of the answer, over the bytes that came
 
-pub reception-number : {bytes written : List ℕ} {i : StreamReceiver} → Reception bytes written i → (piece room : List ℕ)
-    → feedNumber i piece room
-    ≡ pick (ltb (length room) (188 * ((length bytes % 204 + length piece) / 204))) 4 (pick (ltb (204 * 4294967295 - length bytes) (length piece)) 7 0)
-reception-number {bytes} {written} {i} r piece room =
-    ap (λ (t : Bool). pick t (pick (ltb (length room) (188 * ((i .held + length piece) / 204))) 4 (pick (ltb (capacityOf i) (length piece)) 7 0)) 5) (reception-range r)
-    ∙ ap₂ (λ (h k : ℕ). pick (ltb (length room) (188 * ((h + length piece) / 204))) 4 (pick (ltb k (length piece)) 7 0)) (reception-held r) (reception-capacity r)
+pub reception-number : {bytes written : List ℕ} {i : StreamReceiver} → Reception bytes written i → (piece output : List ℕ)
+    → receiverFeedNumber i piece output
+    ≡ pick (ltb (length output) (188 * ((length bytes % 204 + length piece) / 204))) 4 (pick (ltb (204 * 4294967295 - length bytes) (length piece)) 7 0)
+reception-number {bytes} {written} {i} r piece output =
+    ap (λ (t : Bool). pick t (pick (ltb (length output) (188 * ((i .held + length piece) / 204))) 4 (pick (ltb (capacityOf i) (length piece)) 7 0)) 5) (reception-range r)
+    ∙ ap₂ (λ (h k : ℕ). pick (ltb (length output) (188 * ((h + length piece) / 204))) 4 (pick (ltb k (length piece)) 7 0)) (reception-held r) (reception-capacity r)
 
 -- ---- a call more
 
@@ -36,34 +36,34 @@ none-refused false true e = absurd (omega arith)
 none-refused false false e = refl
 
 pub reception-feeds : {bytes written : List ℕ} {i : StreamReceiver} → Reception bytes written i
-    → (piece room : List ℕ) (number count : ℕ) (next : StreamReceiver) (exit : List ℕ) → Feeds i piece room number count next exit
+    → (piece output : List ℕ) (number count : ℕ) (next : StreamReceiver) (exit : List ℕ) → FeedsReceiver i piece output number count next exit
     → Reception (bytes ++ pick (eqb number 0) piece []) (written ++ take count exit) next
-reception-feeds {bytes} {written} {i} r piece room number count next exit (refused n p e s w) =
+reception-feeds {bytes} {written} {i} r piece output number count next exit (refused n p e s w) =
     let t = ne-eqb number 0 (λ z. omega arith) in
     let b : bytes ≡ bytes ++ pick (eqb number 0) piece [] = sym (ap (λ (x : Bool). bytes ++ pick x piece []) t ∙ append-nil bytes) in
     let o : written ≡ written ++ take count exit = sym (ap (λ (k : ℕ). written ++ take k exit) e ∙ append-nil written) in
     subst (Reception (bytes ++ pick (eqb number 0) piece []) (written ++ take count exit)) (sym s)
     (subst₂ (λ (x y : List ℕ). Reception x y i) b o r)
-reception-feeds {bytes} {written} {i} r piece room number count next exit (fed z n t) =
+reception-feeds {bytes} {written} {i} r piece output number count next exit (fed z n t) =
     let l = ltb-false (204 * 4294967295 - length bytes) (length piece)
-    (none-refused (ltb (length room) (188 * ((length bytes % 204 + length piece) / 204))) (ltb (204 * 4294967295 - length bytes) (length piece))
-    (sym (reception-number r piece room) ∙ z)) in
+    (none-refused (ltb (length output) (188 * ((length bytes % 204 + length piece) / 204))) (ltb (204 * 4294967295 - length bytes) (length piece))
+    (sym (reception-number r piece output) ∙ z)) in
     subst (λ (x : List ℕ). Reception (bytes ++ x) (written ++ take count exit) next)
     (sym (ap (λ (x : Bool). pick x piece []) (eq-eqb number 0 n)))
     (reception-taken-piece r t (omega (arith, l, r .few)))
 
 -- ---- the theorem
 
-reception-calls : (cs : List Feeding) {bytes written : List ℕ} {i : StreamReceiver} → Reception bytes written i → Feedings i cs
+reception-calls : (cs : List Feeding) {bytes written : List ℕ} {i : StreamReceiver} → Reception bytes written i → ReceiverFeedings i cs
     → Reception (bytes ++ bytesIn cs) (written ++ bytesOut cs) (afterFeedings i cs)
 reception-calls [] {bytes} {written} {i} r d = subst₂ (λ (x y : List ℕ). Reception x y i) (sym (append-nil bytes)) (sym (append-nil written)) r
 reception-calls (c ∷ cs) {bytes} {written} {i} r d =
     let b = pick (eqb (c .number) 0) (c .piece) [] in
     let o = take (c .count) (c .exit) in
     subst₂ (λ (x y : List ℕ). Reception x y (afterFeedings (c .next) cs)) (append-assoc bytes b (bytesIn cs)) (append-assoc written o (bytesOut cs))
-    (reception-calls cs (reception-feeds r (c .piece) (c .room) (c .number) (c .count) (c .next) (c .exit) (d .0)) (d .1))
+    (reception-calls cs (reception-feeds r (c .piece) (c .output) (c .number) (c .count) (c .next) (c .exit) (d .0)) (d .1))
 
-pub every-history : (cs : List Feeding) → Feedings freshStream cs → Reception (bytesIn cs) (bytesOut cs) (afterFeedings freshStream cs)
+pub every-history : (cs : List Feeding) → ReceiverFeedings freshStream cs → Reception (bytesIn cs) (bytesOut cs) (afterFeedings freshStream cs)
 every-history cs d = reception-calls cs reception-none d
 
 -- ---- what bytes come to is decided
@@ -81,7 +81,7 @@ reception-unique {bytes} a b =
     }
 
 -- any two cuttings of the same bytes
-pub any-pieces : (cs ds : List Feeding) → Feedings freshStream cs → Feedings freshStream ds → bytesIn cs ≡ bytesIn ds
+pub any-pieces : (cs ds : List Feeding) → ReceiverFeedings freshStream cs → ReceiverFeedings freshStream ds → bytesIn cs ≡ bytesIn ds
     → SameReception (bytesOut cs) (bytesOut ds) (afterFeedings freshStream cs) (afterFeedings freshStream ds)
 any-pieces cs ds p q e =
     reception-unique

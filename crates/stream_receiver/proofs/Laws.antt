@@ -12,7 +12,7 @@ use Rattle.interleaver.proofs.Blocks.{flatten-join}
 use Rattle.receiver.specs.Receive.{freshReceiver}
 use Rattle.receiver.specs.declared.Receiver.{Receiver}
 use Rattle.receiver.proofs.Reached.{Sound, sound-range, sound-fresh}
-use Rattle.recording.specs.Recording.{restOf, Recording, Takes}
+use Rattle.recording.specs.Recording.{restOf, Recording, TakesRecording}
 use Rattle.recording.proofs.Joins.{recording-join, recording-few}
 use Rattle.recording.proofs.Decided.{recording-taken}
 use Rattle.stream_receiver.specs.Feed.{holding, heldBytes, freshStream, streamInRange, capacityOf, TakesPiece}
@@ -75,8 +75,8 @@ reception-none = record {
 
 -- ---- one piece more
 
-takes-out : {s last : Receiver} {bytes marks room exit : List ℕ} {count : ℕ} (t : Takes s bytes marks room count last exit) → take count exit ≡ flatten (t .packets)
-takes-out {s} {last} {bytes} {marks} {room} {exit} {count} t = ap (take count) (t .written) ∙ take-at (flatten (t .packets)) (drop count room) count (sym (t .counted))
+takes-out : {s last : Receiver} {bytes marks output exit : List ℕ} {count : ℕ} (t : TakesRecording s bytes marks output count last exit) → take count exit ≡ flatten (t .packets)
+takes-out {s} {last} {bytes} {marks} {output} {exit} {count} t = ap (take count) (t .written) ∙ take-at (flatten (t .packets)) (drop count output) count (sym (t .counted))
 
 rest-join : (a b : List ℕ) → restOf (restOf a ++ b) ≡ restOf (a ++ b)
 rest-join a b =
@@ -93,8 +93,8 @@ rest-join a b =
     shift : (n m : ℕ) → n - n % 204 + m - (n - n % 204 + m) % 204 ≡ n - n % 204 + (m - m % 204)
     shift n m = omega arith
 
-module _ {bytes written : List ℕ} {i : StreamReceiver} (r : Reception bytes written i) {piece room exit : List ℕ} {count : ℕ} {next : StreamReceiver} where
-  pub reception-taken-piece : TakesPiece i piece room count next exit → length bytes + length piece ≤ 204 * 4294967295
+module _ {bytes written : List ℕ} {i : StreamReceiver} (r : Reception bytes written i) {piece output exit : List ℕ} {count : ℕ} {next : StreamReceiver} where
+  pub reception-taken-piece : TakesPiece i piece output count next exit → length bytes + length piece ≤ 204 * 4294967295
       → Reception (bytes ++ piece) (written ++ take count exit) next
   reception-taken-piece t h =
       let k = t .takes in

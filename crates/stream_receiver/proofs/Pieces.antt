@@ -14,8 +14,8 @@ use borrow.Rule.Slice.PartMut.{putMid, midOf}
 use lib.Seq.{take-all, drop-at, length-take-le, drop-append-add}
 use Rattle.common.proofs.Choice.{both-true}
 use Rattle.common.proofs.Lists.{put-after}
-use Rattle.receiver.specs.Receive.{inRange}
-use Rattle.recording.specs.Recording.{restOf, Takes}
+use Rattle.receiver.specs.Receive.{receiverInRange}
+use Rattle.recording.specs.Recording.{restOf, TakesRecording}
 use Rattle.recording.proofs.Joins.{takes-join, takes-few, takes-count, takes-length}
 use Rattle.receiver.specs.declared.Receiver.{Receiver}
 use Rattle.stream_receiver.specs.Feed.{padded, holding, heldBytes, streamInRange, TakesPiece}
@@ -45,9 +45,9 @@ joined-zeros a b first second n e h p q =
 
 -- ---- the ranges
 
-pub stream-range : (i : StreamReceiver) → streamInRange i ≡ true → (inRange (i .receiver) ≡ true) × (i .held < 204)
+pub stream-range : (i : StreamReceiver) → streamInRange i ≡ true → (receiverInRange (i .receiver) ≡ true) × (i .held < 204)
 stream-range i e =
-    let p = both-true (inRange (i .receiver)) (ltb (i .held) 204) e in
+    let p = both-true (receiverInRange (i .receiver)) (ltb (i .held) 204) e in
     (p .0, ltb-true (i .held) 204 (p .1))
 
 -- ---- an array with bytes at its front
@@ -93,32 +93,32 @@ module _ (i : StreamReceiver) (size : length (i .pending) ≡ 204) (small : i .h
   length-came piece = length-append (heldBytes i) piece ∙ ap (λ (k : ℕ). k + length piece) held-length
 
   -- no byte is held, and none completes a block
-  pub finish-none : (filler room : List ℕ) → length filler ≡ (204 - i .held) % 204 → i .held ≡ 0
-      → Takes (i .receiver) (heldBytes i ++ filler) [] room 0 (i .receiver) room
-  finish-none filler room e z = takes-few (i .receiver) (heldBytes i ++ filler) [] room (omega (arith, length-came filler))
+  pub finish-none : (filler output : List ℕ) → length filler ≡ (204 - i .held) % 204 → i .held ≡ 0
+      → TakesRecording (i .receiver) (heldBytes i ++ filler) [] output 0 (i .receiver) output
+  finish-none filler output e z = takes-few (i .receiver) (heldBytes i ++ filler) [] output (omega (arith, length-came filler))
 
   -- the block that the bytes held begin
-  pub finish-block : (filler : List ℕ) {block room exit : List ℕ} {count : ℕ} {last : Receiver} → length filler ≡ (204 - i .held) % 204 → (i .held ≡ 0 → ⊥)
-      → block ≡ padded (heldBytes i ++ filler) → Takes (i .receiver) block [] room count last exit
-      → Takes (i .receiver) (heldBytes i ++ filler) [] room count last exit
-  finish-block filler {block} {room} {exit} {count} {last} e z p t =
-      subst (λ (x : List ℕ). Takes (i .receiver) x [] room count last exit) (p ∙ padded-full (heldBytes i ++ filler) (omega (arith, length-came filler))) t
+  pub finish-block : (filler : List ℕ) {block output exit : List ℕ} {count : ℕ} {last : Receiver} → length filler ≡ (204 - i .held) % 204 → (i .held ≡ 0 → ⊥)
+      → block ≡ padded (heldBytes i ++ filler) → TakesRecording (i .receiver) block [] output count last exit
+      → TakesRecording (i .receiver) (heldBytes i ++ filler) [] output count last exit
+  finish-block filler {block} {output} {exit} {count} {last} e z p t =
+      subst (λ (x : List ℕ). TakesRecording (i .receiver) x [] output count last exit) (p ∙ padded-full (heldBytes i ++ filler) (omega (arith, length-came filler))) t
 
   -- no block is whole yet
-  pub keep-piece : (piece room array : List ℕ) → i .held + length piece < 204 → array ≡ padded (heldBytes i ++ piece)
-      → TakesPiece i piece room 0 (record { receiver = i .receiver; pending = array; held = i .held + length piece }) room
-  keep-piece piece room array h p =
+  pub keep-piece : (piece output array : List ℕ) → i .held + length piece < 204 → array ≡ padded (heldBytes i ++ piece)
+      → TakesPiece i piece output 0 (record { receiver = i .receiver; pending = array; held = i .held + length piece }) output
+  keep-piece piece output array h p =
       let came = heldBytes i ++ piece in
       let l = length-came piece in
       let z : length came - length came % 204 ≡ 0 = omega arith in
       let r : restOf came ≡ came = ap (λ (k : ℕ). drop k came) z in
       record {
-        takes = takes-few (i .receiver) came [] room (omega arith);
+        takes = takes-few (i .receiver) came [] output (omega arith);
         kept = kept-state (i .receiver) (restOf came) (p ∙ ap padded (sym r)) (sym (ap length r ∙ l));
       }
 
   -- a piece that completes at least one block
-  module _ (piece room : List ℕ) (enough : 204 ≤ i .held + length piece) (fits : 188 * ((i .held + length piece) / 204) ≤ length room)
+  module _ (piece output : List ℕ) (enough : 204 ≤ i .held + length piece) (fits : 188 * ((i .held + length piece) / 204) ≤ length output)
       (start : ℕ) (e : start ≡ (204 - i .held) % 204) where
     first : List ℕ
     first = heldBytes i ++ take start piece
@@ -149,12 +149,12 @@ module _ (i : StreamReceiver) (size : length (i .pending) ≡ 204) (small : i .h
         = ap (λ (j : ℕ). j - j % 204) n ∙ rest-start (i .held) (length piece) start small enough e ∙ ap₂ (λ (j k : ℕ). j + k) (sym held-length) (sym d) in
         ap (λ (j : ℕ). drop j came) k ∙ drop-append-add (heldBytes i) piece end
 
-    module _ {m : ℕ} {middle : Receiver} {exit : List ℕ} (f : Takes (i .receiver) (heldBytes i ++ take start piece) [] room m middle exit) where
+    module _ {m : ℕ} {middle : Receiver} {exit : List ℕ} (f : TakesRecording (i .receiver) (heldBytes i ++ take start piece) [] output m middle exit) where
       pub first-count : m ≤ 188
       unfolding first
       first-count = omega (arith, takes-count f, length-first)
 
-      pub first-length : length exit ≡ length room
+      pub first-length : length exit ≡ length output
       unfolding first
       first-length = takes-length f (omega (arith, length-first))
 
@@ -162,9 +162,9 @@ module _ (i : StreamReceiver) (size : length (i .pending) ≡ 204) (small : i .h
       unfolding first
       first-within = omega (arith, takes-count f, first-length, length-first)
 
-      pub room-left : 188 * (length (take (length piece - start) (drop start piece)) / 204) ≤ length (midOf m (length exit - m) exit)
+      pub rest-fits : 188 * (length (take (length piece - start) (drop start piece)) / 204) ≤ length (midOf m (length exit - m) exit)
       unfolding first
-      room-left =
+      rest-fits =
           omega (
             arith,
             length-take-le (length piece - start) (drop start piece) (omega (arith, length-drop start piece)),
@@ -175,13 +175,13 @@ module _ (i : StreamReceiver) (size : length (i .pending) ≡ 204) (small : i .h
           )
 
       module _ {n : ℕ} {last : Receiver} {exit′ : List ℕ}
-          (g : Takes middle (take (length piece - start) (drop start piece)) [] (midOf m (length exit - m) exit) n last exit′) where
-        pub count-within : m + n ≤ length room
-        count-within = omega (arith, takes-count g, room-left, first-within, first-length, length-take-le (length exit - m) (drop m exit) (omega (arith, length-drop m exit)))
+          (g : TakesRecording middle (take (length piece - start) (drop start piece)) [] (midOf m (length exit - m) exit) n last exit′) where
+        pub count-within : m + n ≤ length output
+        count-within = omega (arith, takes-count g, rest-fits, first-within, first-length, length-take-le (length exit - m) (drop m exit) (omega (arith, length-drop m exit)))
 
         pub take-pieces : (array : List ℕ) (rest end : ℕ) → rest ≡ (length piece - start) % 204 → end ≡ length piece - rest
             → array ≡ padded (take 0 (i .pending) ++ take (length piece - end) (drop end piece))
-            → TakesPiece i piece room (m + n) (record { receiver = last; pending = array; held = rest }) (putMid m (length exit - m) exit exit′)
+            → TakesPiece i piece output (m + n) (record { receiver = last; pending = array; held = rest }) (putMid m (length exit - m) exit exit′)
         unfolding first
         take-pieces array rest end p q a =
             let b = drop start piece in
@@ -192,12 +192,12 @@ module _ (i : StreamReceiver) (size : length (i .pending) ≡ 204) (small : i .h
             let c : take (length piece - start) b ≡ restOf first ++ b
             = take-all (length piece - start) b (omega (arith, length-drop start piece)) ∙ sym (ap (λ (l : List ℕ). l ++ b) first-rest) in
             let o : midOf m (length exit - m) exit ≡ drop m exit = take-all (length exit - m) (drop m exit) (omega (arith, length-drop m exit)) in
-            let t : Takes middle (restOf first ++ b) [] (drop m exit) n last exit′ = subst₂ (λ (x y : List ℕ). Takes middle x [] y n last exit′) c o g in
+            let t : TakesRecording middle (restOf first ++ b) [] (drop m exit) n last exit′ = subst₂ (λ (x y : List ℕ). TakesRecording middle x [] y n last exit′) c o g in
             let w : exit′ ++ drop (length exit - m) (drop m exit) ≡ exit′
             = ap (λ (l : List ℕ). exit′ ++ l) (drop-of-length-le (drop m exit) {i = length exit - m} (omega (arith, length-drop m exit))) ∙ append-nil exit′ in
             record {
               takes =
-                  subst₂ (λ (x y : List ℕ). Takes (i .receiver) x [] room (m + n) last y) came-split (sym (ap (λ (l : List ℕ). take m exit ++ l) w))
+                  subst₂ (λ (x y : List ℕ). TakesRecording (i .receiver) x [] output (m + n) last y) came-split (sym (ap (λ (l : List ℕ). take m exit ++ l) w))
                   (takes-join b f t);
               kept =
                   kept-state last (restOf came) (a ∙ ap padded (sym tail))

@@ -16,12 +16,12 @@ use Rattle.receiver.proofs.Calls.{state-range}
 use Rattle.receiver.specs.declared.Receiver.{Receiver}
 use Rattle.recording.proofs.Decided.{recording-unique}
 use Rattle.report.specs.declared.Report.{Report}
-use Rattle.report.specs.Text.{row, fits, sums, reportText, writeNumber, writeLength, writeRoom}
+use Rattle.report.specs.Text.{row, fits, sums, reportText, writeNumber, writeLength, writeOutput}
 use Rattle.report.proofs.Counting.{told-fits}
 use Rattle.report.proofs.AsWritten.{write-within}
 use Rattle.stream_receiver.specs.Feed.{streamInRange}
 use Rattle.stream_receiver.specs.History.{Reception}
-use Rattle.stream_receiver.specs.Reporting.{reportOf, streamReport, streamReportNumber, streamReportLength, streamReportRoom, PassReport, textNumber, textLength, textRoom, Reports}
+use Rattle.stream_receiver.specs.Reporting.{reportOf, streamReport, streamReportNumber, streamReportLength, streamReportOutput, PassReport, textNumber, textLength, textOutput, Reports}
 use Rattle.stream_receiver.specs.declared.StreamReceiver.{StreamReceiver}
 use Rattle.stream_receiver.proofs.Pieces.{stream-range}
 use Rattle.stream_receiver.proofs.Laws.{reception-held, reception-range}
@@ -52,22 +52,22 @@ short : (a : Bool) (n : ℕ) → pick (eqb (pick a 4 0) 0) n 0 ≡ pick a 0 n
 short true n = refl
 short false n = refl
 
-short-room : (a : Bool) (x y : List ℕ) → pick (eqb (pick a 4 0) 0) x y ≡ pick a y x
-short-room true x y = refl
-short-room false x y = refl
+output-short : (a : Bool) (x y : List ℕ) → pick (eqb (pick a 4 0) 0) x y ≡ pick a y x
+output-short true x y = refl
+output-short false x y = refl
 
-module _ (r : Report) (room : List ℕ) (p : (fits r ≡ true) × (sums r ≡ true)) where
-  text-number : writeNumber r room ≡ textNumber (reportText r) room
+module _ (r : Report) (output : List ℕ) (p : (fits r ≡ true) × (sums r ≡ true)) where
+  text-number : writeNumber r output ≡ textNumber (reportText r) output
   text-number = simp (p .0, p .1) refl
 
-  text-length : writeLength r room ≡ textLength (reportText r) room
+  text-length : writeLength r output ≡ textLength (reportText r) output
   text-length =
-      ap (λ (k : ℕ). pick (eqb k 0) (length (reportText r)) 0) text-number ∙ short (ltb (length room) (length (reportText r))) (length (reportText r))
+      ap (λ (k : ℕ). pick (eqb k 0) (length (reportText r)) 0) text-number ∙ short (ltb (length output) (length (reportText r))) (length (reportText r))
 
-  text-room : writeRoom r room ≡ textRoom (reportText r) room
-  text-room =
-      ap (λ (k : ℕ). pick (eqb k 0) (placed room 0 (reportText r)) room) text-number
-      ∙ short-room (ltb (length room) (length (reportText r))) (placed room 0 (reportText r)) room
+  text-output : writeOutput r output ≡ textOutput (reportText r) output
+  text-output =
+      ap (λ (k : ℕ). pick (eqb k 0) (placed output 0 (reportText r)) output) text-number
+      ∙ output-short (ltb (length output) (length (reportText r))) (placed output 0 (reportText r)) output
 
 -- ---- the report on all that came
 
@@ -84,9 +84,9 @@ report-total bytes written i r = record {
   text-is = ap (λ (n : ℕ). reportText (reportOf (i .receiver .counts) n)) (reception-held r);
 }
 
-pub reports : (i : StreamReceiver) (room : List ℕ) (number count : ℕ) (exit : List ℕ)
-    → number ≡ streamReportNumber i room → count ≡ streamReportLength i room → exit ≡ streamReportRoom i room → Reports i room number count exit
-reports i room number count exit n c w = record {
+pub reports : (i : StreamReceiver) (output : List ℕ) (number count : ℕ) (exit : List ℕ)
+    → number ≡ streamReportNumber i output → count ≡ streamReportLength i output → exit ≡ streamReportOutput i output → Reports i output number count exit
+reports i output number count exit n c w = record {
   number-is = n;
   count-is = c;
   exit-is = w;
@@ -94,19 +94,19 @@ reports i room number count exit n c w = record {
       let e = report-text r p in
       let g = reception-range r in
       let k = in-range-written i g in (
-        n ∙ ap (λ (t : Bool). pick t (writeNumber (streamReport i) room) 5) g ∙ text-number (streamReport i) room k ∙ ap (λ (x : List ℕ). textNumber x room) e,
-        c ∙ ap (λ (t : Bool). pick t (writeLength (streamReport i) room) 0) g ∙ text-length (streamReport i) room k ∙ ap (λ (x : List ℕ). textLength x room) e,
-        w ∙ ap (λ (t : Bool). pick t (writeRoom (streamReport i) room) room) g ∙ text-room (streamReport i) room k ∙ ap (λ (x : List ℕ). textRoom x room) e,
+        n ∙ ap (λ (t : Bool). pick t (writeNumber (streamReport i) output) 5) g ∙ text-number (streamReport i) output k ∙ ap (λ (x : List ℕ). textNumber x output) e,
+        c ∙ ap (λ (t : Bool). pick t (writeLength (streamReport i) output) 0) g ∙ text-length (streamReport i) output k ∙ ap (λ (x : List ℕ). textLength x output) e,
+        w ∙ ap (λ (t : Bool). pick t (writeOutput (streamReport i) output) output) g ∙ text-output (streamReport i) output k ∙ ap (λ (x : List ℕ). textOutput x output) e,
       );
 }
 
 -- no more is written than there is room for
-pub reports-within : {i : StreamReceiver} {room exit : List ℕ} {number count : ℕ} → Reports i room number count exit → count ≤ length room
-reports-within {i} {room} {exit} {number} {count} r = by (streamInRange i) refl
+pub reports-within : {i : StreamReceiver} {output exit : List ℕ} {number count : ℕ} → Reports i output number count exit → count ≤ length output
+reports-within {i} {output} {exit} {number} {count} r = by (streamInRange i) refl
   where
-    by : (a : Bool) → streamInRange i ≡ a → count ≤ length room
+    by : (a : Bool) → streamInRange i ≡ a → count ≤ length output
     by true e =
-        let n : count ≡ writeLength (streamReport i) room = r .count-is ∙ ap (λ (t : Bool). pick t (writeLength (streamReport i) room) 0) e in
-        let w = write-within (streamReport i) room in
+        let n : count ≡ writeLength (streamReport i) output = r .count-is ∙ ap (λ (t : Bool). pick t (writeLength (streamReport i) output) 0) e in
+        let w = write-within (streamReport i) output in
         omega arith
-    by false e = let n : count ≡ 0 = r .count-is ∙ ap (λ (t : Bool). pick t (writeLength (streamReport i) room) 0) e in omega arith
+    by false e = let n : count ≡ 0 = r .count-is ∙ ap (λ (t : Bool). pick t (writeLength (streamReport i) output) 0) e in omega arith

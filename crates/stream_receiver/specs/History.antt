@@ -9,22 +9,22 @@ use lib.ListN.{length, take}
 use Rattle.common.specs.Choice.{pick}
 use Rattle.receiver.specs.Receive.{freshReceiver}
 use Rattle.recording.specs.Recording.{restOf, Recording}
-use Rattle.stream_receiver.specs.Feed.{holding, Feeds}
+use Rattle.stream_receiver.specs.Feed.{holding, FeedsReceiver}
 use Rattle.stream_receiver.specs.declared.StreamReceiver.{StreamReceiver}
 
--- a call: the piece and the room lent, the number of the answer, how many bytes were written, the stream receiver and the room after it
+-- a call: the piece and the output lent, the number of the answer, how many bytes were written, the stream receiver and the output after it
 pub record Feeding : Type 0 where
   pub piece : List ℕ
-  pub room : List ℕ
+  pub output : List ℕ
   pub number : ℕ
   pub count : ℕ
   pub next : StreamReceiver
   pub exit : List ℕ
 
 -- each call is what feeding promises of the stream receiver that the one before it left
-abbrev pub Feedings : StreamReceiver → List Feeding → Type 0
-Feedings i [] = Unit {0}
-Feedings i (c ∷ cs) = Feeds i (c .piece) (c .room) (c .number) (c .count) (c .next) (c .exit) × Feedings (c .next) cs
+abbrev pub ReceiverFeedings : StreamReceiver → List Feeding → Type 0
+ReceiverFeedings i [] = Unit {0}
+ReceiverFeedings i (c ∷ cs) = FeedsReceiver i (c .piece) (c .output) (c .number) (c .count) (c .next) (c .exit) × ReceiverFeedings (c .next) cs
 
 abbrev pub afterFeedings : StreamReceiver → List Feeding → StreamReceiver
 afterFeedings i [] = i
@@ -50,7 +50,7 @@ pub record Reception (bytes written : List ℕ) (i : StreamReceiver) : Type 0 wh
   pub few : length bytes ≤ 204 * 4294967295
 
 -- some bytes came to it
-pub record Came (i : StreamReceiver) : Type 0 where
+pub record ReceiverCame (i : StreamReceiver) : Type 0 where
   pub bytes : List ℕ
   pub written : List ℕ
   pub reception : Reception bytes written i

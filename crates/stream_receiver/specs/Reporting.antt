@@ -13,7 +13,7 @@ use Rattle.receiver.specs.declared.Receiver.{Receiver}
 use Rattle.recording.specs.Recording.{Recording}
 use Rattle.report.specs.declared.Bits.the-variants.{Number}
 use Rattle.report.specs.declared.Report.{Report}
-use Rattle.report.specs.Text.{reportText, writeNumber, writeLength, writeRoom}
+use Rattle.report.specs.Text.{reportText, writeNumber, writeLength, writeOutput}
 use Rattle.stream_receiver.specs.Feed.{streamInRange}
 use Rattle.stream_receiver.specs.History.{Reception}
 use Rattle.stream_receiver.specs.declared.StreamReceiver.{StreamReceiver}
@@ -35,15 +35,15 @@ reportOf n rest = record {
 abbrev pub streamReport : StreamReceiver → Report
 streamReport i = reportOf (i .receiver .counts) (i .held)
 
--- what writing the report of all that came answers, and the room after it: 5 for a state out of range, and else what the writer does
+-- what writing the report of all that came answers, and the output after it: 5 for a state out of range, and else what the writer does
 abbrev pub streamReportNumber : StreamReceiver → List ℕ → ℕ
-streamReportNumber i room = pick (streamInRange i) (writeNumber (streamReport i) room) 5
+streamReportNumber i output = pick (streamInRange i) (writeNumber (streamReport i) output) 5
 
 abbrev pub streamReportLength : StreamReceiver → List ℕ → ℕ
-streamReportLength i room = pick (streamInRange i) (writeLength (streamReport i) room) 0
+streamReportLength i output = pick (streamInRange i) (writeLength (streamReport i) output) 0
 
-abbrev pub streamReportRoom : StreamReceiver → List ℕ → List ℕ
-streamReportRoom i room = pick (streamInRange i) (writeRoom (streamReport i) room) room
+abbrev pub streamReportOutput : StreamReceiver → List ℕ → List ℕ
+streamReportOutput i output = pick (streamInRange i) (writeOutput (streamReport i) output) output
 
 -- the text of the report on bytes as one recording
 pub record PassReport (bytes text : List ℕ) : Type 0 where
@@ -52,21 +52,21 @@ pub record PassReport (bytes text : List ℕ) : Type 0 where
   pub recording : Recording freshReceiver bytes [] packets last
   pub text-is : text ≡ reportText (reportOf (last .counts) (length bytes % 204))
 
--- the answer, the length and the room after a text is written into a room
+-- the answer, the length and the output after a text is written into an output
 abbrev pub textNumber : List ℕ → List ℕ → ℕ
-textNumber text room = pick (ltb (length room) (length text)) 4 0
+textNumber text output = pick (ltb (length output) (length text)) 4 0
 
 abbrev pub textLength : List ℕ → List ℕ → ℕ
-textLength text room = pick (ltb (length room) (length text)) 0 (length text)
+textLength text output = pick (ltb (length output) (length text)) 0 (length text)
 
-abbrev pub textRoom : List ℕ → List ℕ → List ℕ
-textRoom text room = pick (ltb (length room) (length text)) room (placed room 0 text)
+abbrev pub textOutput : List ℕ → List ℕ → List ℕ
+textOutput text output = pick (ltb (length output) (length text)) output (placed output 0 text)
 
 -- What writing the report promises: of every stream receiver what the definitions give of its counts and the bytes held, and of one that bytes
 -- came to the report on those bytes as one recording.
-pub record Reports (i : StreamReceiver) (room : List ℕ) (number count : ℕ) (exit : List ℕ) : Type 0 where
-  pub number-is : number ≡ streamReportNumber i room
-  pub count-is : count ≡ streamReportLength i room
-  pub exit-is : exit ≡ streamReportRoom i room
+pub record Reports (i : StreamReceiver) (output : List ℕ) (number count : ℕ) (exit : List ℕ) : Type 0 where
+  pub number-is : number ≡ streamReportNumber i output
+  pub count-is : count ≡ streamReportLength i output
+  pub exit-is : exit ≡ streamReportOutput i output
   pub whole : (bytes written text : List ℕ) → Reception bytes written i → PassReport bytes text
-      → (number ≡ textNumber text room) × (count ≡ textLength text room) × (exit ≡ textRoom text room)
+      → (number ≡ textNumber text output) × (count ≡ textLength text output) × (exit ≡ textOutput text output)

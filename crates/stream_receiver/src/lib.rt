@@ -5,8 +5,8 @@ ghost use Prim.Native.Nat.{_+_, _-_, _*_, _/_, _%_, _≤_, _<_};
 ghost use lib.ListN.{length, take};
 ghost use Rattle.answer.specs.Number.{numberOf};
 ghost use Rattle.common.specs.Choice.{pick};
-ghost use Rattle.recording.specs.Recording.{Takes};
-ghost use Rattle.stream_receiver.specs.Feed.{freshStream, streamInRange, capacityOf, padded, heldBytes, TakesPiece, Feeds};
+ghost use Rattle.recording.specs.Recording.{TakesRecording};
+ghost use Rattle.stream_receiver.specs.Feed.{freshStream, streamInRange, capacityOf, padded, heldBytes, TakesPiece, FeedsReceiver};
 ghost use Rattle.stream_receiver.specs.Reporting.{reportOf, Reports};
 use answer::Answer;
 use receiver::Receiver;
@@ -69,13 +69,13 @@ fn missing(held: usize) -> usize
 }
 
 // Takes the block that the bytes held begin, where there are any, with the bytes that complete it.
-fn finish_block(stream: StreamReceiver, filler: &[u8], room: &mut [u8]) -> Batch
+fn finish_block(stream: StreamReceiver, filler: &[u8], output: &mut [u8]) -> Batch
     requires { ⌜
         (stream .held < 204)
         × (length (now filler) ≡ (204 - stream .held) % 204)
-        × (188 * ((stream .held + length (now filler)) / 204) ≤ length (now room)) ⌝ }
+        × (188 * ((stream .held + length (now filler)) / 204) ≤ length (now output)) ⌝ }
     ensures { λ r. ⌜
-        Takes (stream .receiver) (heldBytes stream ++ now (filler .entry)) [] (now (room .entry)) (r .count) (r .receiver) (now (room .exit)) ⌝ }
+        TakesRecording (stream .receiver) (heldBytes stream ++ now (filler .entry)) [] (now (output .entry)) (r .count) (r .receiver) (now (output .exit)) ⌝ }
 {
     let receiver = stream.receiver;
     let pending = stream.pending;
@@ -84,24 +84,24 @@ fn finish_block(stream: StreamReceiver, filler: &[u8], room: &mut [u8]) -> Batch
         return Batch { count: 0, receiver };
     }
     let block = joined(pending, held, filler);
-    recording::receive_blocks(receiver, &block, room)
+    recording::receive_blocks(receiver, &block, output)
 }
 
 // Takes a piece that completes at least one block. Only a block that two pieces share is copied; the others are taken where they stand.
-fn take_blocks(stream: StreamReceiver, piece: &[u8], room: &mut [u8]) -> Taken
+fn take_blocks(stream: StreamReceiver, piece: &[u8], output: &mut [u8]) -> Taken
     requires { ⌜
         (stream .held < 204)
         × (204 ≤ stream .held + length (now piece))
-        × (188 * ((stream .held + length (now piece)) / 204) ≤ length (now room)) ⌝ }
-    ensures { λ r. ⌜ TakesPiece stream (now (piece .entry)) (now (room .entry)) (r .count) (r .stream) (now (room .exit)) ⌝ }
+        × (188 * ((stream .held + length (now piece)) / 204) ≤ length (now output)) ⌝ }
+    ensures { λ r. ⌜ TakesPiece stream (now (piece .entry)) (now (output .entry)) (r .count) (r .stream) (now (output .exit)) ⌝ }
 {
     let pending = stream.pending;
     let held = stream.held;
     let start = missing(held);
-    let first = finish_block(stream, &piece[..start], room);
+    let first = finish_block(stream, &piece[..start], output);
     let written = first.count;
     let middle = first.receiver;
-    let batch = recording::receive_blocks(middle, &piece[start..], &mut room[written..]);
+    let batch = recording::receive_blocks(middle, &piece[start..], &mut output[written..]);
     let receiver = batch.receiver;
     let count = written + batch.count;
     let rest = (piece.len() - start) % Receiver::BLOCK_LENGTH;
@@ -118,10 +118,10 @@ fn take_blocks(stream: StreamReceiver, piece: &[u8], room: &mut [u8]) -> Taken
 }
 
 // Takes a piece.
-fn take_piece(stream: StreamReceiver, piece: &[u8], room: &mut [u8]) -> Taken
+fn take_piece(stream: StreamReceiver, piece: &[u8], output: &mut [u8]) -> Taken
     requires { ⌜
-        (stream .held < 204) × (188 * ((stream .held + length (now piece)) / 204) ≤ length (now room)) ⌝ }
-    ensures { λ r. ⌜ TakesPiece stream (now (piece .entry)) (now (room .entry)) (r .count) (r .stream) (now (room .exit)) ⌝ }
+        (stream .held < 204) × (188 * ((stream .held + length (now piece)) / 204) ≤ length (now output)) ⌝ }
+    ensures { λ r. ⌜ TakesPiece stream (now (piece .entry)) (now (output .entry)) (r .count) (r .stream) (now (output .exit)) ⌝ }
 {
     let receiver = stream.receiver;
     let pending = stream.pending;
@@ -137,7 +137,7 @@ fn take_piece(stream: StreamReceiver, piece: &[u8], room: &mut [u8]) -> Taken
             },
         };
     }
-    take_blocks(stream, piece, room)
+    take_blocks(stream, piece, output)
 }
 
 // The report on these counts, in form 2, with so many bytes after the last whole block.
@@ -209,8 +209,8 @@ impl StreamReceiver {
     }
 
     // Takes a piece of the received bytes, of any length, and writes the packets of the blocks that are whole then.
-    pub fn feed(self, piece: &[u8], room: &mut [u8]) -> Fed
-        ensures { λ r. ⌜ Feeds self (now (piece .entry)) (now (room .entry)) (numberOf (r .answer)) (r .count) (r .stream) (now (room .exit)) ⌝ }
+    pub fn feed(self, piece: &[u8], output: &mut [u8]) -> Fed
+        ensures { λ r. ⌜ FeedsReceiver self (now (piece .entry)) (now (output .entry)) (numberOf (r .answer)) (r .count) (r .stream) (now (output .exit)) ⌝ }
     {
         let held = self.held;
         if !self.in_range() {
@@ -220,9 +220,9 @@ impl StreamReceiver {
                 stream: self,
             };
         }
-        if room.len() < Receiver::PACKET_LENGTH * whole_blocks(held, piece.len()) {
+        if output.len() < Receiver::PACKET_LENGTH * whole_blocks(held, piece.len()) {
             return Fed {
-                answer: Answer::RoomLength,
+                answer: Answer::OutputLength,
                 count: 0,
                 stream: self,
             };
@@ -234,7 +234,7 @@ impl StreamReceiver {
                 stream: self,
             };
         }
-        let taken = take_piece(self, piece, room);
+        let taken = take_piece(self, piece, output);
         let count = taken.count;
         let stream = taken.stream;
         Fed {
@@ -245,8 +245,8 @@ impl StreamReceiver {
     }
 
     // Writes the pass report of all that came.
-    pub fn report(self, room: &mut [u8]) -> Written
-        ensures { λ r. ⌜ Reports self (now (room .entry)) (numberOf (r .answer)) (r .length) (now (room .exit)) ⌝ }
+    pub fn report(self, output: &mut [u8]) -> Written
+        ensures { λ r. ⌜ Reports self (now (output .entry)) (numberOf (r .answer)) (r .length) (now (output .exit)) ⌝ }
     {
         let receiver = self.receiver;
         let counts = receiver.counts;
@@ -257,6 +257,6 @@ impl StreamReceiver {
                 length: 0,
             };
         }
-        report::write_report(report_of(counts, held as u64), room)
+        report::write_report(report_of(counts, held as u64), output)
     }
 }

@@ -114,20 +114,20 @@ fn write_bits(writer: Writer, bits: &[u8]) -> Writer
 }
 
 // Feeds the costs of symbols to the stream, and writes the bits that are decided.
-pub fn feed_costs(reading: Reading, costs: &[u8], room: &mut [u8]) -> Reading
-    requires { ⌜ (Going reading) × (All (λ c. c ≤ 7) (now costs)) × (length (now costs) % 4 ≡ 0) × (1632 ≤ length (now room)) ⌝ }
+pub fn feed_costs(reading: Reading, costs: &[u8], output: &mut [u8]) -> Reading
+    requires { ⌜ (Going reading) × (All (λ c. c ≤ 7) (now costs)) × (length (now costs) % 4 ≡ 0) × (1632 ≤ length (now output)) ⌝ }
     ensures { λ r. ⌜ (Going r) × (Took (reading .stream) (now (costs .entry)) (r .stream)) ⌝ }
 {
     let mut stream = reading.stream;
     let mut writer = reading.writer;
     let mut at: usize = 0;
     while at < costs.len() {
-        let fed = symbol_stream::feed(stream, &costs[at..], room);
+        let fed = symbol_stream::feed(stream, &costs[at..], output);
         let next = fed.stream;
         let count = fed.count;
         let taken = fed.taken;
         stream = next;
-        writer = write_bits(writer, &room[..count]);
+        writer = write_bits(writer, &output[..count]);
         at += taken;
     }
     let symbols = std::num::wrapping_add_u64(reading.symbols, (costs.len() / 4) as u64);
@@ -141,14 +141,14 @@ pub fn feed_costs(reading: Reading, costs: &[u8], room: &mut [u8]) -> Reading
 }
 
 // Reads what is left of the stream, and says how many symbols make no whole pattern and how many bits no whole byte: whether nothing failed.
-pub fn finish(reading: Reading, room: &mut [u8]) -> bool
-    requires { ⌜ (Going reading) × (1632 ≤ length (now room)) ⌝ }
+pub fn finish(reading: Reading, output: &mut [u8]) -> bool
+    requires { ⌜ (Going reading) × (1632 ≤ length (now output)) ⌝ }
 {
     let stream = reading.stream;
     let writer = reading.writer;
-    let closed = symbol_stream::close(stream, room);
+    let closed = symbol_stream::close(stream, output);
     let count = closed.count;
-    let last = write_bits(writer, &room[..count]);
+    let last = write_bits(writer, &output[..count]);
     if last.failed {
         os::fail(b"standard output");
         return false;

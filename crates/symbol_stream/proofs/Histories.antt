@@ -13,8 +13,8 @@ use Rattle.trellis.proofs.Laws.{decoded-unique}
 use Rattle.run_reader.specs.Cost.{runCost, costsOf, Costed}
 use Rattle.run_reader.specs.Read.{symbolsPerPattern, runBits, BestRead}
 use Rattle.run_reader.proofs.Reading.{decoded-as, read-as}
-use Rattle.symbol_stream.specs.Stream.{fullSymbols, keptSymbols, keptBits, Decided, few, run, heldOf, Ready, Feeds, gathered, read, Closes}
-use Rattle.symbol_stream.specs.History.{Feedings, fresh, feeding, Came, Ended, Took}
+use Rattle.symbol_stream.specs.Stream.{fullSymbols, keptSymbols, keptBits, Decided, few, run, heldOf, StreamReady, FeedsSymbols, gathered, read, Closes}
+use Rattle.symbol_stream.specs.History.{SymbolFeedings, fresh, feeding, SymbolsCame, Ended, Took}
 use Rattle.symbol_stream.specs.declared.SymbolStream.{SymbolStream}
 use Rattle.symbol_stream.proofs.Costs.{costed-take, costed-drop, costed-append, costed-front, costed-back}
 use Rattle.symbol_stream.proofs.Streams.{numbers, kept-le}
@@ -50,9 +50,9 @@ module _ {R : Type 0} (cost : R → ℕ → ℕ) where
     pub decided : Decided cost (s .rate) (s .memory) rs out (next .memory) left
     pub held : Costed cost left (heldOf next)
 
-  feeds-decided : (s : SymbolStream) → Ready s → (piece room : List ℕ) {next : SymbolStream} {taken count : ℕ} {exit : List ℕ} → Feeds s piece room next taken count exit
+  feeds-decided : (s : SymbolStream) → StreamReady s → (piece output : List ℕ) {next : SymbolStream} {taken count : ℕ} {exit : List ℕ} → FeedsSymbols s piece output next taken count exit
       → (rs : List R) → Costed cost rs (heldOf s ++ take taken piece) → Step s next rs (take count exit)
-  feeds-decided s g piece room {next} {taken} {count} {exit} (gathered l et ec ex h) rs c =
+  feeds-decided s g piece output {next} {taken} {count} {exit} (gathered l et ec ex h) rs c =
       let a : take taken piece ≡ piece = ap (λ (k : ℕ). take k piece) et ∙ take-length piece in
       let c′ : Costed cost rs (heldOf s ++ piece) = subst (λ (p : List ℕ). Costed cost rs (heldOf s ++ p)) a c in
       let n = numbers (s .rate) (g .known) in
@@ -61,7 +61,7 @@ module _ {R : Type 0} (cost : R → ℕ → ℕ) where
         decided = rw (h .memory-is, ec) (few {rs = rs} (omega (arith, c′ .size, n .full-costs)));
         held = rw (h .held-is) c′;
       }
-  feeds-decided s g piece room {next} {taken} {count} {exit} (read costs es le size ec after f h) rs c =
+  feeds-decided s g piece output {next} {taken} {count} {exit} (read costs es le size ec after f h) rs c =
       let rate = s .rate in
       let m = s .memory in
       let n = numbers rate (g .known) in
@@ -87,27 +87,27 @@ module _ {R : Type 0} (cost : R → ℕ → ℕ) where
 -- ---- histories
 
 pub record Fed (rate : ℕ) (costs : List ℕ) (s : SymbolStream) : Type 0 where
-  pub ready : Ready s
+  pub ready : StreamReady s
   pub rate-is : s .rate ≡ rate
   pub fours : length costs % 4 ≡ 0
 
-held-length : (s : SymbolStream) → Ready s → length (heldOf s) ≡ s .count
+held-length : (s : SymbolStream) → StreamReady s → length (heldOf s) ≡ s .count
 held-length s g = length-take-le (s .count) (s .held) (omega (arith, g .size, g .below, numbers (s .rate) (g .known) .costs-most))
 
 -- whole symbols are taken of a piece
-pub taken-fours : (s : SymbolStream) → Ready s → (piece room : List ℕ) {next : SymbolStream} {taken count : ℕ} {exit : List ℕ} → length piece % 4 ≡ 0
-    → Feeds s piece room next taken count exit → (length (take taken piece) % 4 ≡ 0) × (next .rate ≡ s .rate)
-taken-fours s g piece room {taken = taken} e (gathered l et ec ex h) =
+pub taken-fours : (s : SymbolStream) → StreamReady s → (piece output : List ℕ) {next : SymbolStream} {taken count : ℕ} {exit : List ℕ} → length piece % 4 ≡ 0
+    → FeedsSymbols s piece output next taken count exit → (length (take taken piece) % 4 ≡ 0) × (next .rate ≡ s .rate)
+taken-fours s g piece output {taken = taken} e (gathered l et ec ex h) =
     (ap (λ (k : ℕ). k % 4) (ap length (ap (λ (k : ℕ). take k piece) et ∙ take-length piece)) ∙ e, h .rate-is)
-taken-fours s g piece room {taken = taken} e (read costs es le size ec after f h) =
+taken-fours s g piece output {taken = taken} e (read costs es le size ec after f h) =
     let n = numbers (s .rate) (g .known) in
     (omega (arith, size, ap length es, length-append (heldOf s) (take taken piece), held-length s g, g .fours, n .full-costs), h .rate-is)
 
-pub fed : {rate : ℕ} {costs out : List ℕ} {s : SymbolStream} → Feedings rate costs out s → Fed rate costs s
+pub fed : {rate : ℕ} {costs out : List ℕ} {s : SymbolStream} → SymbolFeedings rate costs out s → Fed rate costs s
 fed (fresh g h) = record { ready = g; rate-is = h .rate-is; fours = refl }
-fed (feeding {costs} {s = s} piece room exit taken count before long e f g) =
+fed (feeding {costs} {s = s} piece output exit taken count before long e f g) =
     let b = fed before in
-    let t = taken-fours s (b .ready) piece room e f in
+    let t = taken-fours s (b .ready) piece output e f in
     record {
       ready = g;
       rate-is = t .1 ∙ b .rate-is;
@@ -115,8 +115,8 @@ fed (feeding {costs} {s = s} piece room exit taken count before long e f g) =
     }
 
 -- Whatever pieces the costs of symbols came in, the bits so far are those that overlapping runs decide of all the symbols.
-pub every-history : {R : Type 0} (cost : R → ℕ → ℕ) {rate : ℕ} {costs out : List ℕ} {s : SymbolStream} → Feedings rate costs out s → (rs : List R) → Costed cost rs costs
-    → Came cost rate rs out s
+pub every-history : {R : Type 0} (cost : R → ℕ → ℕ) {rate : ℕ} {costs out : List ℕ} {s : SymbolStream} → SymbolFeedings rate costs out s → (rs : List R) → Costed cost rs costs
+    → SymbolsCame cost rate rs out s
 every-history cost {rate} {s = s} (fresh g h) rs c =
     let e : length rs ≡ 0 = omega (arith, c .size) in
     let n = numbers (s .rate) (g .known) in
@@ -125,12 +125,12 @@ every-history cost {rate} {s = s} (fresh g h) rs c =
       decided = rw (h .memory-is) (few {rs = rs} (rw (sym (h .rate-is)) (omega (arith, n .kept-some, n .kept-fewer))));
       held = rw (h .held-is) c;
     }
-every-history cost {rate} {s = next} (feeding {costs} {out} {s} piece room exit taken count before long e f g) rs c =
+every-history cost {rate} {s = next} (feeding {costs} {out} {s} piece output exit taken count before long e f g) rs c =
     let b = fed before in
     let k : ℕ = length costs / 4 in
     let came = every-history cost before (take k rs) (costed-front cost costs (take taken piece) (b .fours) c) in
     let more = costed-append cost (came .held) (costed-back cost costs (take taken piece) (b .fours) c) in
-    let step = feeds-decided cost s (b .ready) piece room f (came .left ++ drop k rs) more in
+    let step = feeds-decided cost s (b .ready) piece output f (came .left ++ drop k rs) more in
     let d : Decided cost rate (s .memory) (came .left ++ drop k rs) (take count exit) (next .memory) (step .left) =
     subst (λ (r : ℕ). Decided cost r (s .memory) (came .left ++ drop k rs) (take count exit) (next .memory) (step .left)) (b .rate-is) (step .decided) in
     let hr : rate < 5 = rw (sym (b .rate-is)) (b .ready .known) in
@@ -143,7 +143,7 @@ every-history cost {rate} {s = next} (feeding {costs} {out} {s} piece room exit 
     }
 
 -- so any two ways of cutting them give the same
-pub any-pieces : {R : Type 0} (cost : R → ℕ → ℕ) {rate : ℕ} {costs out out′ : List ℕ} {s s′ : SymbolStream} → Feedings rate costs out s → Feedings rate costs out′ s′
+pub any-pieces : {R : Type 0} (cost : R → ℕ → ℕ) {rate : ℕ} {costs out out′ : List ℕ} {s s′ : SymbolStream} → SymbolFeedings rate costs out s → SymbolFeedings rate costs out′ s′
     → (rs : List R) → Costed cost rs costs → (out ≡ out′) × (s .memory ≡ s′ .memory)
 any-pieces cost f f′ rs c =
     let u = decided-unique cost (every-history cost f rs c .decided) (every-history cost f′ rs c .decided) in
@@ -152,9 +152,9 @@ any-pieces cost f f′ rs c =
 -- ---- the end
 
 -- what is left of the symbols is read as far as it makes whole patterns
-pub every-end : {R : Type 0} (cost : R → ℕ → ℕ) (s : SymbolStream) → Ready s → (left : List R) → Costed cost left (heldOf s) → {room exit : List ℕ} {count rest : ℕ}
-    → Closes s room count rest exit → Ended cost (s .rate) (s .memory) left room count rest exit
-every-end cost s g left c {room} {exit} {count} {rest} e =
+pub every-end : {R : Type 0} (cost : R → ℕ → ℕ) (s : SymbolStream) → StreamReady s → (left : List R) → Costed cost left (heldOf s) → {output exit : List ℕ} {count rest : ℕ}
+    → Closes s output count rest exit → Ended cost (s .rate) (s .memory) left output count rest exit
+every-end cost s g left c {output} {exit} {count} {rest} e =
     let p = symbolsPerPattern (s .rate) in
     let k : ℕ = p * e .whole in
     let n : length left ≡ rest + k = omega (arith, c .size, held-length s g, e .split) in
@@ -169,7 +169,7 @@ every-end cost s g left c {room} {exit} {count} {rest} e =
       after = e .after;
       bits =
           read-as cost (take k left) (take (4 * k) (heldOf s)) ck (s .rate) (s .memory) (g .known) (g .in-range) (ap (λ (j : ℕ). j % p) l ∙ mul-mod-right p (e .whole))
-          (subst (λ (j : ℕ). BestRead (runCost (costsOf (take (4 * k) (heldOf s))) (s .rate) (s .memory)) (runBits (s .rate) j) (s .memory) room (e .after) (e .total) count exit) (sym q) (e .bits));
+          (subst (λ (j : ℕ). BestRead (runCost (costsOf (take (4 * k) (heldOf s))) (s .rate) (s .memory)) (runBits (s .rate) j) (s .memory) output (e .after) (e .total) count exit) (sym q) (e .bits));
     }
 
 -- ---- one piece after the other
@@ -177,14 +177,14 @@ every-end cost s g left c {room} {exit} {count} {rest} e =
 pub took-none : (s : SymbolStream) → Took s [] s
 took-none s = record {
   out = [];
-  after = λ {rate} {before} {bits} f. subst (λ (l : List ℕ). Feedings rate l (bits ++ []) s) (sym (append-nil before)) (subst (λ (l : List ℕ). Feedings rate before l s) (sym (append-nil bits)) f);
+  after = λ {rate} {before} {bits} f. subst (λ (l : List ℕ). SymbolFeedings rate l (bits ++ []) s) (sym (append-nil before)) (subst (λ (l : List ℕ). SymbolFeedings rate before l s) (sym (append-nil bits)) f);
 }
 
-pub took-more : {s t next : SymbolStream} {costs : List ℕ} → Took s costs t → (piece room exit : List ℕ) (taken count : ℕ) → 1632 ≤ length room → length piece % 4 ≡ 0
-    → Feeds t piece room next taken count exit → Ready next → Took s (costs ++ take taken piece) next
-took-more {next = next} {costs} k piece room exit taken count long e f g = record {
+pub took-more : {s t next : SymbolStream} {costs : List ℕ} → Took s costs t → (piece output exit : List ℕ) (taken count : ℕ) → 1632 ≤ length output → length piece % 4 ≡ 0
+    → FeedsSymbols t piece output next taken count exit → StreamReady next → Took s (costs ++ take taken piece) next
+took-more {next = next} {costs} k piece output exit taken count long e f g = record {
   out = k .out ++ take count exit;
   after = λ {rate} {before} {bits} h.
-      subst (λ (l : List ℕ). Feedings rate l (bits ++ (k .out ++ take count exit)) next) (append-assoc before costs (take taken piece))
-      (subst (λ (l : List ℕ). Feedings rate (before ++ costs ++ take taken piece) l next) (append-assoc bits (k .out) (take count exit)) (feeding piece room exit taken count (k .after h) long e f g));
+      subst (λ (l : List ℕ). SymbolFeedings rate l (bits ++ (k .out ++ take count exit)) next) (append-assoc before costs (take taken piece))
+      (subst (λ (l : List ℕ). SymbolFeedings rate (before ++ costs ++ take taken piece) l next) (append-assoc bits (k .out) (take count exit)) (feeding piece output exit taken count (k .after h) long e f g));
 }

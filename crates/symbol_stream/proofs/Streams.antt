@@ -19,7 +19,7 @@ use Rattle.puncturing.specs.Mode.{modeOf}
 use Rattle.puncturing.specs.Step.{patternLength}
 use Rattle.run_reader.specs.Cost.{runCost, costsOf}
 use Rattle.run_reader.specs.Read.{symbolsPerPattern, runBits, Readable, BestRead}
-use Rattle.symbol_stream.specs.Stream.{runPatterns, keptPatterns, fullSymbols, keptSymbols, keptBits, fullCosts, keptCosts, heldOf, FullRead, Ready, Feeds, gathered, read, Closes}
+use Rattle.symbol_stream.specs.Stream.{runPatterns, keptPatterns, fullSymbols, keptSymbols, keptBits, fullCosts, keptCosts, heldOf, FullRead, StreamReady, FeedsSymbols, gathered, read, Closes}
 
 -- ---- the memory after bits, one after the other
 
@@ -113,8 +113,8 @@ short-run rate n most =
 
 -- the costs of k symbols that make whole patterns, no more than a longest run, can be read
 pub short-readable : (rate m : ℕ) → rate < 5 → m < 64 → (l : List ℕ) (k : ℕ) → length l ≡ 4 * k → k % symbolsPerPattern rate ≡ 0 → k ≤ fullSymbols rate
-    → All (λ x. x ≤ 7) l → (room : List ℕ) → 1632 ≤ length room → Readable rate m l room
-short-readable rate m hr hm l k size whole most small room long =
+    → All (λ x. x ≤ 7) l → (output : List ℕ) → 1632 ≤ length output → Readable rate m l output
+short-readable rate m hr hm l k size whole most small output long =
     let q : length l / 4 ≡ k = omega arith in
     let b : runBits rate (length l / 4) ≤ 1632 = rw q (short-run rate k most) in
     record { known = hr; in-range = hm; fours = omega arith; whole = rw q whole; most = b; small = small; fits = omega (arith, b) }
@@ -127,17 +127,17 @@ kept-le rate hr = rw (mul-div-right (1632 / patternLength rate) (some-symbols ra
     less : 1632 / patternLength rate - (100 / patternLength rate + 1) ≤ 1632 / patternLength rate
     less = omega arith
 
--- a longest run: the bits that are kept stand at the front of the room
-module _ (rate m : ℕ) (hr : rate < 5) (hm : m < 64) (l room : List ℕ) (size : length l ≡ fullCosts rate) where
+-- a longest run: the bits that are kept stand at the front of the output
+module _ (rate m : ℕ) (hr : rate < 5) (hm : m < 64) (l output : List ℕ) (size : length l ≡ fullCosts rate) where
   pub full-quarter : length l / 4 ≡ fullSymbols rate
   full-quarter = omega (arith, numbers rate hr .full-costs)
 
-  pub full-readable : All (λ x. x ≤ 7) l → 1632 ≤ length room → Readable rate m l room
+  pub full-readable : All (λ x. x ≤ 7) l → 1632 ≤ length output → Readable rate m l output
   full-readable small long =
       let n = numbers rate hr in
-      short-readable rate m hr hm l (fullSymbols rate) (size ∙ n .full-costs) (n .full-whole) (omega arith) small room long
+      short-readable rate m hr hm l (fullSymbols rate) (size ∙ n .full-costs) (n .full-whole) (omega arith) small output long
 
-  pub front : {after total count : ℕ} {exit : List ℕ} → (o : BestRead (runCost (costsOf l) rate m) (runBits rate (length l / 4)) m room after total count exit)
+  pub front : {after total count : ℕ} {exit : List ℕ} → (o : BestRead (runCost (costsOf l) rate m) (runBits rate (length l / 4)) m output after total count exit)
       → (k : ℕ) → k ≡ keptBits rate
       → (take (k - 0) exit ≡ take (keptBits rate) (o .bits)) × Bits (take (k - 0) exit) × (k ≤ length exit)
   front {exit = exit} o k e =
@@ -146,15 +146,15 @@ module _ (rate m : ℕ) (hr : rate < 5) (hm : m < 64) (l room : List ℕ) (size 
       let f : keptBits rate ≤ length (o .bits) = omega (arith, kept-le rate hr, o .decoded .best .size, n) in
       let b = o .written in
       let t : take (k - 0) exit ≡ take (keptBits rate) (o .bits) =
-      ap (λ (j : ℕ). take j exit) z ∙ (ap (take (keptBits rate)) b ∙ take-append-le (keptBits rate) (o .bits) (drop (runBits rate (length l / 4)) room) f) in (
+      ap (λ (j : ℕ). take j exit) z ∙ (ap (take (keptBits rate)) b ∙ take-append-le (keptBits rate) (o .bits) (drop (runBits rate (length l / 4)) output) f) in (
         t,
         subst Bits (sym t) (take-bits (keptBits rate) (o .decoded .best .binary)),
-        omega (arith, ap length b, length-append (o .bits) (drop (runBits rate (length l / 4)) room)),
+        omega (arith, ap length b, length-append (o .bits) (drop (runBits rate (length l / 4)) output)),
       )
 
 -- ---- feeding a piece
 
-module _ (s : SymbolStream) (g : Ready s) (piece : List ℕ) (w : All (λ x. x ≤ 7) piece) (fours : length piece % 4 ≡ 0) where
+module _ (s : SymbolStream) (g : StreamReady s) (piece : List ℕ) (w : All (λ x. x ≤ 7) piece) (fours : length piece % 4 ≡ 0) where
   abbrev h : List ℕ
   h = heldOf s
 
@@ -172,10 +172,10 @@ module _ (s : SymbolStream) (g : Ready s) (piece : List ℕ) (w : All (λ x. x �
         ap length eH
         ∙ omega (arith, length-append (h ++ p) (drop (s .count + length p) (s .held)), length-append h p, held-length, length-drop (s .count + length p) (s .held), g .size)
 
-  pub gathers : (room H : List ℕ) → length piece < fullCosts (s .rate) - s .count → H ≡ h ++ piece ++ drop (s .count + length piece) (s .held)
+  pub gathers : (output H : List ℕ) → length piece < fullCosts (s .rate) - s .count → H ≡ h ++ piece ++ drop (s .count + length piece) (s .held)
       → let next : SymbolStream = record { rate = s .rate; memory = s .memory; held = H; count = s .count + length piece } in
-      (Feeds s piece room next (length piece) 0 room) × (Ready next)
-  gathers room H l eH =
+      (FeedsSymbols s piece output next (length piece) 0 output) × (StreamReady next)
+  gathers output H l eH =
       let b = behind piece H (s .count + length piece) refl eH in
       let n = numbers (s .rate) (g .known) in (
         gathered (omega (arith, length-append h piece, held-length)) refl refl refl (record { rate-is = refl; memory-is = refl; held-is = b }),
@@ -231,10 +231,10 @@ module _ (s : SymbolStream) (g : Ready s) (piece : List ℕ) (w : All (λ x. x �
           ∙ (take-at (take (full - from) (drop from H)) (drop (0 + length (take (full - from) (drop from H))) zeros) (full - from) tail-length
           ∙ (sym (drop-take from (full - from) H) ∙ ap (λ (k : ℕ). drop from (take k H)) (sym z)))
 
-      pub reads : (room exit : List ℕ) (after kept : ℕ) → kept ≡ keptBits (s .rate) → FullRead (s .rate) (s .memory) (take (full - 0) H) room after exit
+      pub reads : (output exit : List ℕ) (after kept : ℕ) → kept ≡ keptBits (s .rate) → FullRead (s .rate) (s .memory) (take (full - 0) H) output after exit
           → let next : SymbolStream = record { rate = s .rate; memory = after; held = N; count = full - from } in
-          (Feeds s piece room next (full - s .count) kept exit) × (Ready next)
-      reads room exit after kept ek f =
+          (FeedsSymbols s piece output next (full - s .count) kept exit) × (StreamReady next)
+      reads output exit after kept ek f =
           let n = numbers (s .rate) (g .known) in
           let z : full - s .count - 0 ≡ full - s .count = omega arith in (
             read (take (full - 0) H) (run-of ∙ ap (λ (k : ℕ). h ++ take k piece) z) enough run-length ek after f
@@ -258,7 +258,7 @@ module _ (s : SymbolStream) (g : Ready s) (piece : List ℕ) (w : All (λ x. x �
           )
 
 -- the room for what is put
-pub placed-fits : (s : SymbolStream) → Ready s → (piece : List ℕ) → (full : ℕ) → full ≡ fullCosts (s .rate) → full - s .count ≤ length piece
+pub placed-fits : (s : SymbolStream) → StreamReady s → (piece : List ℕ) → (full : ℕ) → full ≡ fullCosts (s .rate) → full - s .count ≤ length piece
     → s .count + length (take (full - s .count - 0) piece) ≤ length (s .held)
 placed-fits s g piece full e enough =
     omega (
@@ -278,7 +278,7 @@ pub mod-le : (n k : ℕ) → n % k ≤ n
 mod-le n k = omega (arith, mod-add-div n k)
 
 -- of so many symbols as are held those that make whole patterns
-module _ (s : SymbolStream) (g : Ready s) (k : ℕ) (e : k ≡ symbolsPerPattern (s .rate)) where
+module _ (s : SymbolStream) (g : StreamReady s) (k : ℕ) (e : k ≡ symbolsPerPattern (s .rate)) where
   abbrev n : ℕ
   n = s .count / 4
 
@@ -306,17 +306,17 @@ module _ (s : SymbolStream) (g : Ready s) (k : ℕ) (e : k ≡ symbolsPerPattern
   taken-length : length (take end (s .held)) ≡ 4 * whole
   taken-length = length-take-le end (s .held) (omega (arith, end-le, g .size)) ∙ end-is
 
-  pub end-readable : (room : List ℕ) → 1632 ≤ length room → Readable (s .rate) (s .memory) (take end (s .held)) room
-  end-readable room long =
+  pub end-readable : (output : List ℕ) → 1632 ≤ length output → Readable (s .rate) (s .memory) (take end (s .held)) output
+  end-readable output long =
       short-readable (s .rate) (s .memory) (g .known) (g .in-range) (take end (s .held)) whole taken-length
       (mul-mod-right (symbolsPerPattern (s .rate)) (n / symbolsPerPattern (s .rate)))
       (omega (arith, whole-le, g .below, numbers (s .rate) (g .known) .full-costs))
-      (subst (All (λ x. x ≤ 7)) (sym taken-is) (all-take (4 * whole) (heldOf s) (g .small))) room long
+      (subst (All (λ x. x ≤ 7)) (sym taken-is) (all-take (4 * whole) (heldOf s) (g .small))) output long
 
-  pub closes : (room : List ℕ) {after total count : ℕ} {exit : List ℕ}
-      → BestRead (runCost (costsOf (take end (s .held))) (s .rate) (s .memory)) (runBits (s .rate) (length (take end (s .held)) / 4)) (s .memory) room after total count exit
-      → Closes s room count (n % k) exit
-  closes room {after} {total} {count} {exit} o =
+  pub closes : (output : List ℕ) {after total count : ℕ} {exit : List ℕ}
+      → BestRead (runCost (costsOf (take end (s .held))) (s .rate) (s .memory)) (runBits (s .rate) (length (take end (s .held)) / 4)) (s .memory) output after total count exit
+      → Closes s output count (n % k) exit
+  closes output {after} {total} {count} {exit} o =
       let p = symbolsPerPattern (s .rate) in
       let q : length (take end (s .held)) / 4 ≡ whole = omega (arith, taken-length) in
       record {
@@ -326,6 +326,6 @@ module _ (s : SymbolStream) (g : Ready s) (k : ℕ) (e : k ≡ symbolsPerPattern
         total = total;
         after = after;
         bits =
-            subst (λ (l : List ℕ). BestRead (runCost (costsOf l) (s .rate) (s .memory)) (runBits (s .rate) whole) (s .memory) room after total count exit) taken-is
-            (subst (λ (j : ℕ). BestRead (runCost (costsOf (take end (s .held))) (s .rate) (s .memory)) (runBits (s .rate) j) (s .memory) room after total count exit) q o);
+            subst (λ (l : List ℕ). BestRead (runCost (costsOf l) (s .rate) (s .memory)) (runBits (s .rate) whole) (s .memory) output after total count exit) taken-is
+            (subst (λ (j : ℕ). BestRead (runCost (costsOf (take end (s .held))) (s .rate) (s .memory)) (runBits (s .rate) j) (s .memory) output after total count exit) q o);
       }

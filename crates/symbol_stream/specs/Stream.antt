@@ -47,18 +47,18 @@ unfoldable pub keptCosts : ℕ → ℕ
 keptCosts rate = 4 * keptSymbols rate
 
 -- a longest run that is read, and the memory after the bits of it that are kept
-pub record FullRead (rate memory : ℕ) (costs room : List ℕ) (after : ℕ) (exit : List ℕ) : Type 0 where
+pub record FullRead (rate memory : ℕ) (costs output : List ℕ) (after : ℕ) (exit : List ℕ) : Type 0 where
   pub total : ℕ
   pub last : ℕ
   pub count : ℕ
-  pub out : BestRead (runCost (costsOf costs) rate memory) (runBits rate (length costs / 4)) memory room last total count exit
+  pub out : BestRead (runCost (costsOf costs) rate memory) (runBits rate (length costs / 4)) memory output last total count exit
   pub leaves : after ≡ memoryAfter memory (take (keptBits rate) (out .bits))
 
 -- a stream in progress, and what it holds
 abbrev pub heldOf : SymbolStream → List ℕ
 heldOf s = take (s .count) (s .held)
 
-pub record Ready (s : SymbolStream) : Type 0 where
+pub record StreamReady (s : SymbolStream) : Type 0 where
   pub known : s .rate < 5
   pub in-range : s .memory < 64
   pub size : length (s .held) ≡ 6528
@@ -66,26 +66,26 @@ pub record Ready (s : SymbolStream) : Type 0 where
   pub below : s .count < fullCosts (s .rate)
   pub small : All (λ c. c ≤ 7) (heldOf s)
 
-pub record Holds (s : SymbolStream) (rate memory : ℕ) (costs : List ℕ) : Type 0 where
+pub record StreamHolds (s : SymbolStream) (rate memory : ℕ) (costs : List ℕ) : Type 0 where
   pub rate-is : s .rate ≡ rate
   pub memory-is : s .memory ≡ memory
   pub held-is : heldOf s ≡ costs
 
--- What feeding a piece does: where there are not enough symbols for a run, they are held. Else so many are taken as make one, and it is read; the room
+-- What feeding a piece does: where there are not enough symbols for a run, they are held. Else so many are taken as make one, and it is read; the output
 -- has its bits, of which those that count says are decided.
-pub data Feeds (s : SymbolStream) (piece room : List ℕ) (next : SymbolStream) (taken count : ℕ) (exit : List ℕ) : Type 0 where
-  gathered : length (heldOf s ++ piece) < fullCosts (s .rate) → taken ≡ length piece → count ≡ 0 → exit ≡ room
-      → Holds next (s .rate) (s .memory) (heldOf s ++ piece) → Feeds s piece room next taken count exit
+pub data FeedsSymbols (s : SymbolStream) (piece output : List ℕ) (next : SymbolStream) (taken count : ℕ) (exit : List ℕ) : Type 0 where
+  gathered : length (heldOf s ++ piece) < fullCosts (s .rate) → taken ≡ length piece → count ≡ 0 → exit ≡ output
+      → StreamHolds next (s .rate) (s .memory) (heldOf s ++ piece) → FeedsSymbols s piece output next taken count exit
   read : (costs : List ℕ) → costs ≡ heldOf s ++ take taken piece → taken ≤ length piece → length costs ≡ fullCosts (s .rate) → count ≡ keptBits (s .rate)
-      → (after : ℕ) → FullRead (s .rate) (s .memory) costs room after exit → Holds next (s .rate) after (drop (keptCosts (s .rate)) costs)
-      → Feeds s piece room next taken count exit
+      → (after : ℕ) → FullRead (s .rate) (s .memory) costs output after exit → StreamHolds next (s .rate) after (drop (keptCosts (s .rate)) costs)
+      → FeedsSymbols s piece output next taken count exit
 
 -- What the end of a stream gives: the bits of the whole patterns that are held, and how many symbols are behind them.
-pub record Closes (s : SymbolStream) (room : List ℕ) (count rest : ℕ) (exit : List ℕ) : Type 0 where
+pub record Closes (s : SymbolStream) (output : List ℕ) (count rest : ℕ) (exit : List ℕ) : Type 0 where
   pub whole : ℕ
   pub split : 4 * (rest + symbolsPerPattern (s .rate) * whole) ≡ s .count
   pub few : rest < symbolsPerPattern (s .rate)
   pub total : ℕ
   pub after : ℕ
   pub bits :
-      BestRead (runCost (costsOf (take (4 * (symbolsPerPattern (s .rate) * whole)) (heldOf s))) (s .rate) (s .memory)) (runBits (s .rate) (symbolsPerPattern (s .rate) * whole)) (s .memory) room after total count exit
+      BestRead (runCost (costsOf (take (4 * (symbolsPerPattern (s .rate) * whole)) (heldOf s))) (s .rate) (s .memory)) (runBits (s .rate) (symbolsPerPattern (s .rate) * whole)) (s .memory) output after total count exit

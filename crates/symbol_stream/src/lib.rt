@@ -8,7 +8,7 @@ ghost use lib.ListN.{length};
 ghost use Rattle.common.specs.Lists.{All};
 ghost use Rattle.convolutional_code.specs.Code.{memoryAfter};
 ghost use Rattle.convolutional_code.specs.Bits.{Bits};
-ghost use Rattle.symbol_stream.specs.Stream.{fullCosts, keptCosts, keptBits, FullRead, Ready, Holds, Feeds, Closes};
+ghost use Rattle.symbol_stream.specs.Stream.{fullCosts, keptCosts, keptBits, FullRead, StreamReady, StreamHolds, FeedsSymbols, Closes};
 use common::put;
 use convolutional_code::next_memory;
 use run_reader::read_costs;
@@ -79,20 +79,20 @@ fn memory_after(memory: u8, bits: &[u8]) -> u8
     m
 }
 
-// Reads a longest run into the room: the memory after the bits of it that are kept.
-fn read_full(rate: u8, memory: u8, costs: &[u8], room: &mut [u8]) -> u8
-    requires { ⌜ (rate < 5) × (memory < 64) × (length (now costs) ≡ fullCosts rate) × (All (λ c. c ≤ 7) (now costs)) × (1632 ≤ length (now room)) ⌝ }
-    ensures { λ r. ⌜ FullRead rate memory (now (costs .entry)) (now (room .entry)) r (now (room .exit)) ⌝ }
+// Reads a longest run into the output: the memory after the bits of it that are kept.
+fn read_full(rate: u8, memory: u8, costs: &[u8], output: &mut [u8]) -> u8
+    requires { ⌜ (rate < 5) × (memory < 64) × (length (now costs) ≡ fullCosts rate) × (All (λ c. c ≤ 7) (now costs)) × (1632 ≤ length (now output)) ⌝ }
+    ensures { λ r. ⌜ FullRead rate memory (now (costs .entry)) (now (output .entry)) r (now (output .exit)) ⌝ }
 {
-    read_costs(rate, memory, costs, room);
+    read_costs(rate, memory, costs, output);
     let kept = kept_bits(rate);
-    memory_after(memory, &room[0..kept])
+    memory_after(memory, &output[0..kept])
 }
 
 // A stream of which nothing has come.
 pub fn open(rate: u8) -> SymbolStream
     requires { ⌜ rate < 5 ⌝ }
-    ensures { λ r. ⌜ (Ready r) × (Holds r rate 0 []) ⌝ }
+    ensures { λ r. ⌜ (StreamReady r) × (StreamHolds r rate 0 []) ⌝ }
 {
     SymbolStream {
         rate,
@@ -103,10 +103,10 @@ pub fn open(rate: u8) -> SymbolStream
 }
 
 // Takes the costs of symbols of a piece: as many as make a longest run with those that are held, or all. Where they make one, it is read into the
-// room, and the bits that are decided stand at its front.
-pub fn feed(stream: SymbolStream, piece: &[u8], room: &mut [u8]) -> Fed
-    requires { ⌜ (Ready stream) × (All (λ c. c ≤ 7) (now piece)) × (length (now piece) % 4 ≡ 0) × (1632 ≤ length (now room)) ⌝ }
-    ensures { λ r. ⌜ (Feeds stream (now (piece .entry)) (now (room .entry)) (r .stream) (r .taken) (r .count) (now (room .exit))) × (Ready (r .stream)) ⌝ }
+// output, and the bits that are decided stand at its front.
+pub fn feed(stream: SymbolStream, piece: &[u8], output: &mut [u8]) -> Fed
+    requires { ⌜ (StreamReady stream) × (All (λ c. c ≤ 7) (now piece)) × (length (now piece) % 4 ≡ 0) × (1632 ≤ length (now output)) ⌝ }
+    ensures { λ r. ⌜ (FeedsSymbols stream (now (piece .entry)) (now (output .entry)) (r .stream) (r .taken) (r .count) (now (output .exit))) × (StreamReady (r .stream)) ⌝ }
 {
     let rate = stream.rate;
     let memory = stream.memory;
@@ -128,7 +128,7 @@ pub fn feed(stream: SymbolStream, piece: &[u8], room: &mut [u8]) -> Fed
         };
     }
     put(&piece[0..space], count, &mut held);
-    let after = read_full(rate, memory, &held[0..full], room);
+    let after = read_full(rate, memory, &held[0..full], output);
     let from = kept_costs(rate);
     let mut next = [0u8; 6528];
     put(&held[from..full], 0, &mut next);
@@ -144,10 +144,10 @@ pub fn feed(stream: SymbolStream, piece: &[u8], room: &mut [u8]) -> Fed
     }
 }
 
-// The end of a stream: reads the whole patterns that are held into the room.
-pub fn close(stream: SymbolStream, room: &mut [u8]) -> Closed
-    requires { ⌜ (Ready stream) × (1632 ≤ length (now room)) ⌝ }
-    ensures { λ r. ⌜ Closes stream (now (room .entry)) (r .count) (r .rest) (now (room .exit)) ⌝ }
+// The end of a stream: reads the whole patterns that are held into the output.
+pub fn close(stream: SymbolStream, output: &mut [u8]) -> Closed
+    requires { ⌜ (StreamReady stream) × (1632 ≤ length (now output)) ⌝ }
+    ensures { λ r. ⌜ Closes stream (now (output .entry)) (r .count) (r .rest) (now (output .exit)) ⌝ }
 {
     let rate = stream.rate;
     let memory = stream.memory;
@@ -156,7 +156,7 @@ pub fn close(stream: SymbolStream, room: &mut [u8]) -> Closed
     let symbols = count / 4;
     let rest = symbols % symbol_count(rate) as usize;
     let end = 4 * (symbols - rest);
-    let read = read_costs(rate, memory, &held[0..end], room);
+    let read = read_costs(rate, memory, &held[0..end], output);
     Closed {
         count: read.count,
         rest,

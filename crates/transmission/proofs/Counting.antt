@@ -1,4 +1,4 @@
--- A loop that takes from a room what each packet needs.
+-- A loop that takes from the space what each packet needs.
 -- Assumes nothing.
 use mathlib.Core.Path.{_≡_, ap, sym, _∙_}
 use mathlib.Core.List.{List}
@@ -29,21 +29,21 @@ same-place : (rate place : ℕ) → rate < 6 → place < patternLength rate → 
 unfolding blockBitsBy modeOf
 same-place rate place h k = agreed-of 6 (λ r p. (p + 1632) % patternLength r) (λ r p. (p + blockBits r) % patternLength r) tt rate place h k
 
--- k of n packets have been counted, from room, and left is what they leave
-pub record Counting (rate n room : ℕ) (place left k : ℕ) : Type 0 where
+-- k of n packets have been counted, from the space, and left is what they leave
+pub record Counting (rate n space : ℕ) (place left k : ℕ) : Type 0 where
   pub known : rate < 6
   pub within : k ≤ n
   pub in-pattern : place < patternLength rate
-  pub balance : symbolsIn rate 0 (blockBits rate * n) + left ≡ room + symbolsIn rate place (blockBits rate * (n - k))
+  pub balance : symbolsIn rate 0 (blockBits rate * n) + left ≡ space + symbolsIn rate place (blockBits rate * (n - k))
 
-pub counting-start : (rate n room : ℕ) → rate < 6 → Counting rate n room 0 room 0
-counting-start rate n room h = record { known = h; within = omega arith; in-pattern = well-formed rate h .some-bits; balance = ap (λ (m : ℕ). symbolsIn rate 0 (blockBits rate * m) + room) (sym none) ∙ add-comm _ _ }
+pub counting-start : (rate n space : ℕ) → rate < 6 → Counting rate n space 0 space 0
+counting-start rate n space h = record { known = h; within = omega arith; in-pattern = well-formed rate h .some-bits; balance = ap (λ (m : ℕ). symbolsIn rate 0 (blockBits rate * m) + space) (sym none) ∙ add-comm _ _ }
   where
     none : n - 0 ≡ n
     none = omega arith
 
-module _ {rate n room place left k : ℕ} (c : Counting rate n room place left k) where
-  pub counting-end : n ≤ k → symbolsIn rate 0 (blockBits rate * n) ≤ room
+module _ {rate n space place left k : ℕ} (c : Counting rate n space place left k) where
+  pub counting-end : n ≤ k → symbolsIn rate 0 (blockBits rate * n) ≤ space
   unfolding countBy
   counting-end h =
       let z : n - k ≡ 0 = omega (arith, c .within) in
@@ -63,11 +63,11 @@ module _ {rate n room place left k : ℕ} (c : Counting rate n room place left k
         ∙ ap (λ (p : ℕ). symbolsIn rate place b + symbolsIn rate p (b * rest))
         (place-after rate place b (c .in-pattern) ∙ sym (same-place rate place (c .known) (c .in-pattern)))
 
-    pub counting-short : left < symbolsIn rate place (blockBits rate) → room < symbolsIn rate 0 (blockBits rate * n)
+    pub counting-short : left < symbolsIn rate place (blockBits rate) → space < symbolsIn rate 0 (blockBits rate * n)
     counting-short l = omega (arith, c .balance, split)
 
     pub counting-more : {length needed : ℕ} → length ≡ patternLength rate → needed ≡ symbolsIn rate place (blockBits rate) → needed ≤ left
-        → Counting rate n room ((place + 1632) % length) (left - needed) (k + 1)
+        → Counting rate n space ((place + 1632) % length) (left - needed) (k + 1)
     counting-more {length} {needed} e f l =
         let p : (place + 1632) % patternLength rate ≡ (place + 1632) % length = ap (λ (m : ℕ). (place + 1632) % m) (sym e) in
         record {

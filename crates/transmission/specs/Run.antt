@@ -26,30 +26,30 @@ abbrev pub runSymbols : ℕ → List ℕ → List ℕ
 runSymbols rate bytes = onAir (modeOf rate) (packetsFor (packetsOf bytes))
 
 -- what the tests tell: all of them can be sent
-pub record Sendable (rate : ℕ) (bytes room : List ℕ) : Type 0 where
+pub record Sendable (rate : ℕ) (bytes output : List ℕ) : Type 0 where
   pub sent : modeOf rate .sent ≡ true
   pub whole : length bytes % 188 ≡ 0
-  pub fits : length (runSymbols rate bytes) ≤ length room
+  pub fits : length (runSymbols rate bytes) ≤ length output
 
 -- What is refused. A constructor's answer comes first: 6 for a mode that is not sent. Then, as for one packet, 1 where the bytes make no whole packets,
--- 4 where the room is too short for all the symbols; 0 where nothing is.
+-- 4 where the output is too short for all the symbols; 0 where nothing is.
 abbrev pub runRefusal : ℕ → List ℕ → List ℕ → ℕ
-runRefusal rate bytes room =
-    pick (modeOf rate .sent) (pick (eqb (length bytes % 188) 0) (pick (ltb (length room) (length (runSymbols rate bytes))) 4 0) 1) 6
+runRefusal rate bytes output =
+    pick (modeOf rate .sent) (pick (eqb (length bytes % 188) 0) (pick (ltb (length output) (length (runSymbols rate bytes))) 4 0) 1) 6
 
 -- the number of the answer: the refusal, or else 15 where a null packet was put in
 abbrev pub runNumber : ℕ → List ℕ → List ℕ → ℕ
-runNumber rate bytes room = pick (eqb (runRefusal rate bytes room) 0) (pick (synced (packetsOf bytes)) 0 15) (runRefusal rate bytes room)
+runNumber rate bytes output = pick (eqb (runRefusal rate bytes output) 0) (pick (synced (packetsOf bytes)) 0 15) (runRefusal rate bytes output)
 
 abbrev pub runCount : ℕ → List ℕ → List ℕ → ℕ
-runCount rate bytes room = pick (eqb (runRefusal rate bytes room) 0) (length (runSymbols rate bytes)) 0
+runCount rate bytes output = pick (eqb (runRefusal rate bytes output) 0) (length (runSymbols rate bytes)) 0
 
-abbrev pub runRoom : ℕ → List ℕ → List ℕ → List ℕ
-runRoom rate bytes room =
-    pick (eqb (runRefusal rate bytes room) 0) (runSymbols rate bytes ++ drop (length (runSymbols rate bytes)) room) room
+abbrev pub runOutput : ℕ → List ℕ → List ℕ → List ℕ
+runOutput rate bytes output =
+    pick (eqb (runRefusal rate bytes output) 0) (runSymbols rate bytes ++ drop (length (runSymbols rate bytes)) output) output
 
 -- what a run promises
-pub record Runs (rate : ℕ) (bytes room : List ℕ) (number count : ℕ) (left : List ℕ) : Type 0 where
-  pub answered : number ≡ runNumber rate bytes room
-  pub counted : count ≡ runCount rate bytes room
-  pub written : left ≡ runRoom rate bytes room
+pub record SendsRun (rate : ℕ) (bytes output : List ℕ) (number count : ℕ) (left : List ℕ) : Type 0 where
+  pub answered : number ≡ runNumber rate bytes output
+  pub counted : count ≡ runCount rate bytes output
+  pub written : left ≡ runOutput rate bytes output

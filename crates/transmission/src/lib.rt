@@ -7,7 +7,7 @@ ghost use lib.ListN.{length, drop};
 ghost use Rattle.answer.specs.Number.{numberOf};
 ghost use Rattle.puncturing.specs.Mode.{blockBits};
 ghost use Rattle.puncturing.specs.Step.{symbolsIn};
-ghost use Rattle.transmission.specs.Run.{packetsOf, synced, runSymbols, Sendable, Runs};
+ghost use Rattle.transmission.specs.Run.{packetsOf, synced, runSymbols, Sendable, SendsRun};
 use answer::Answer;
 use inner_code::InnerCoder;
 use puncturing::is_sent;
@@ -37,15 +37,15 @@ fn is_synced(packets: &[u8]) -> bool
     true
 }
 
-// Whether a room is too short for the symbols of so many packets.
-fn is_short(rate: u8, packets: usize, room: usize) -> bool
+// Whether there is too little space for the symbols of so many packets.
+fn is_short(rate: u8, packets: usize, space: usize) -> bool
     requires { ⌜ rate < 6 ⌝ }
-    ensures { λ r. ⌜ r ≡ ltb room (symbolsIn rate 0 (blockBits rate * packets)) ⌝ }
+    ensures { λ r. ⌜ r ≡ ltb space (symbolsIn rate 0 (blockBits rate * packets)) ⌝ }
 {
     let lengths = InnerCoder::PATTERN_LENGTHS;
     let length = lengths[rate as usize] as u16;
     let mut place: u8 = 0;
-    let mut left = room;
+    let mut left = space;
     let mut k: usize = 0;
     while k < packets {
         let coder = InnerCoder {
@@ -66,11 +66,11 @@ fn is_short(rate: u8, packets: usize, room: usize) -> bool
 }
 
 // Sends the packets one after the other. Gives the number of symbols.
-fn send_packets(rate: u8, packets: &[u8], room: &mut [u8]) -> usize
-    requires { ⌜ Sendable rate (now packets) (now room) ⌝ }
+fn send_packets(rate: u8, packets: &[u8], output: &mut [u8]) -> usize
+    requires { ⌜ Sendable rate (now packets) (now output) ⌝ }
     ensures { λ r. ⌜
         (r ≡ length (runSymbols rate (now (packets .entry))))
-        × (now (room .exit) ≡ runSymbols rate (now (packets .entry)) ++ drop (length (runSymbols rate (now (packets .entry)))) (now (room .entry))) ⌝ }
+        × (now (output .exit) ≡ runSymbols rate (now (packets .entry)) ++ drop (length (runSymbols rate (now (packets .entry)))) (now (output .entry))) ⌝ }
 {
     let created = Sender::new(rate);
     let mut sender = created.sender;
@@ -78,7 +78,7 @@ fn send_packets(rate: u8, packets: &[u8], room: &mut [u8]) -> usize
     let mut count: usize = 0;
     while at < packets.len() {
         let end = at + Sender::PACKET_LENGTH;
-        let sent = sender.send(&packets[at..end], &mut room[count..]);
+        let sent = sender.send(&packets[at..end], &mut output[count..]);
         sender = sent.sender;
         count += sent.count;
         at = end;
@@ -88,8 +88,8 @@ fn send_packets(rate: u8, packets: &[u8], room: &mut [u8]) -> usize
 
 // Sends a whole list of packets with a fresh sender: writes the symbols that EN 300 421 gives for them, with a null packet
 // in place of each that does not begin with the sync byte. Nothing is written unless all of them can be sent.
-pub fn send_run(rate: u8, packets: &[u8], room: &mut [u8]) -> Run
-    ensures { λ r. ⌜ Runs rate (now (packets .entry)) (now (room .entry)) (numberOf (r .answer)) (r .count) (now (room .exit)) ⌝ }
+pub fn send_run(rate: u8, packets: &[u8], output: &mut [u8]) -> Run
+    ensures { λ r. ⌜ SendsRun rate (now (packets .entry)) (now (output .entry)) (numberOf (r .answer)) (r .count) (now (output .exit)) ⌝ }
 {
     if !is_sent(rate) {
         return Run {
@@ -103,13 +103,13 @@ pub fn send_run(rate: u8, packets: &[u8], room: &mut [u8]) -> Run
             count: 0,
         };
     }
-    if is_short(rate, packets.len() / Sender::PACKET_LENGTH, room.len()) {
+    if is_short(rate, packets.len() / Sender::PACKET_LENGTH, output.len()) {
         return Run {
-            answer: Answer::RoomLength,
+            answer: Answer::OutputLength,
             count: 0,
         };
     }
-    let count = send_packets(rate, packets, room);
+    let count = send_packets(rate, packets, output);
     if !is_synced(packets) {
         return Run {
             answer: Answer::NullPacket,

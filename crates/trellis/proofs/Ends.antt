@@ -9,16 +9,16 @@ use native.Mathlib.Nat.{eq-or-lt-of-le}
 use native.Mathlib.Numerals.{add-one}
 use native.Mathlib.Omega.{arith}
 use Rattle.trellis.specs.Best.{Decoded}
-use Rattle.trellis.specs.Metric.{Costs, costFrom, metric, survivor, Ends}
+use Rattle.trellis.specs.Metric.{Costs, costFrom, metric, survivor, FirstLeast}
 use Rattle.trellis.proofs.Paths.{Answer, answer}
 
-pub ends-one : (M : ℕ → ℕ) → Ends M 1 0
+pub ends-one : (M : ℕ → ℕ) → FirstLeast M 1 0
 ends-one M = record { small = omega arith; least = λ t h. rw (is-zero t (omega arith)) (omega arith); first = λ t h. absurd (omega arith) }
   where
     is-zero : (t : ℕ) → t ≤ 0 → t ≡ 0
     is-zero t h = omega arith
 
-pub ends-new : (M : ℕ → ℕ) (n s : ℕ) → Ends M n s → M n < M s → Ends M (n + 1) n
+pub ends-new : (M : ℕ → ℕ) (n s : ℕ) → FirstLeast M n s → M n < M s → FirstLeast M (n + 1) n
 ends-new M n s e l =
     record {
       small = omega arith;
@@ -29,7 +29,7 @@ ends-new M n s e l =
     le-of : (t : ℕ) → t < n + 1 → t ≤ n
     le-of t h = omega arith
 
-pub ends-old : (M : ℕ → ℕ) (n s : ℕ) → Ends M n s → M s ≤ M n → Ends M (n + 1) s
+pub ends-old : (M : ℕ → ℕ) (n s : ℕ) → FirstLeast M n s → M s ≤ M n → FirstLeast M (n + 1) s
 ends-old M n s e l =
     record {
       small = omega arith;
@@ -42,7 +42,7 @@ ends-old M n s e l =
 
 record Least (M : ℕ → ℕ) (n : ℕ) : Type 0 where
   at : ℕ
-  ends : Ends M n at
+  ends : FirstLeast M n at
 
 least-of : (M : ℕ → ℕ) (n : ℕ) → Least M (suc n)
 least-of M zero = record { at = 0; ends = ends-one M }

@@ -16,7 +16,7 @@ use Rattle.convolutional_code.specs.Code.{nextMemory, memoryAfter}
 use Rattle.convolutional_code.proofs.Bits.{bits-tail}
 use Rattle.trellis.specs.Best.{Best}
 use Rattle.trellis.proofs.Order.{rank, bits-head, rank-ties}
-use Rattle.trellis.specs.Metric.{Costs, costFrom, far, from, via, choice, metric, path, survivor, Ends}
+use Rattle.trellis.specs.Metric.{Costs, costFrom, far, from, via, choice, metric, path, survivor, FirstLeast}
 
 -- memory, cost and rank of bits that stand newest first
 memory : ℕ → List ℕ → ℕ
@@ -332,7 +332,7 @@ pub record Answer (F : Costs) (n m s : ℕ) (bs : List ℕ) : Type 0 where
   pub costs : costFrom F 0 m bs ≡ metric F m n s
   pub ends : memoryAfter m bs ≡ s
 
-module _ (F : Costs) (c : (k s b : ℕ) → F k s b ≤ 14) (m : ℕ) (hm : m < 64) (s n : ℕ) (e : Ends (metric F m n) 64 s) where
+module _ (F : Costs) (c : (k s b : ℕ) → F k s b ≤ 14) (m : ℕ) (hm : m < 64) (s n : ℕ) (e : FirstLeast (metric F m n) 64 s) where
   -- what holds of s against any bits, newest first
   below : (zs : List ℕ) → Bits zs → length zs ≡ n → metric F m n s ≤ cost F m zs
   below zs w l =

@@ -47,7 +47,7 @@ abbrev pub survivor : Costs → ℕ → ℕ → ℕ → List ℕ
 survivor F m = path (choices F m)
 
 -- of the memories below n, s is the first with the least metric
-pub record Ends (M : ℕ → ℕ) (n s : ℕ) : Type 0 where
+pub record FirstLeast (M : ℕ → ℕ) (n s : ℕ) : Type 0 where
   pub small : s < n
   pub least : (t : ℕ) → t < n → M s ≤ M t
   pub first : (t : ℕ) → t < s → M s < M t

@@ -6,15 +6,15 @@ fn same_as_file(wanted: i32, symbols: &[u8], expected: &mut [u8]) -> bool {
     io::read_full(wanted, expected) == symbols.len() && check::same(symbols, expected)
 }
 
-// Whether the next bytes of a file are the first so many of the room. They are read into expected.
-pub fn same_symbols(wanted: i32, room: &[u8], expected: &mut [u8], count: usize) -> bool {
-    if count > room.len() {
+// Whether the next bytes of a file are the first so many of the output. They are read into expected.
+pub fn same_symbols(wanted: i32, output: &[u8], expected: &mut [u8], count: usize) -> bool {
+    if count > output.len() {
         return false;
     }
     if count > expected.len() {
         return false;
     }
-    same_as_file(wanted, &room[..count], &mut expected[..count])
+    same_as_file(wanted, &output[..count], &mut expected[..count])
 }
 
 // Whether nothing is left of a file.

@@ -15,7 +15,7 @@ use lib.Seq.{getD-set-same, getD-set-other, drop-cons, drop-set-lt, drop-length}
 use Rattle.common.specs.Choice.{pick}
 use Rattle.common.proofs.Computed as computed
 use Rattle.trellis.specs.Best.{Decoded}
-use Rattle.trellis.specs.Metric.{Costs, costFrom, far, from, via, choice, metric, choices, path, survivor, Ends}
+use Rattle.trellis.specs.Metric.{Costs, costFrom, far, from, via, choice, metric, choices, path, survivor, FirstLeast}
 use Rattle.trellis.proofs.Paths.{choice-lt, Answer, answer}
 use Rattle.trellis.proofs.Spread.{metric-le, spread}
 use Rattle.viterbi_decoder.specs.Step.{at, stepCosts, Small}
@@ -166,33 +166,33 @@ path-same D E (suc n) h b s l =
 
 -- the path still to be written, then what is written, is the whole
 pub Whole : (ℕ → ℕ → ℕ) → ℕ → ℕ → List ℕ → List ℕ → Type 0
-Whole D k s room all = reverse (path D k s) ++ drop k room ≡ all
+Whole D k s output all = reverse (path D k s) ++ drop k output ≡ all
 
-drop-set : (room : List ℕ) (k b : ℕ) → k < length room → drop k (set room k b) ≡ b ∷ drop (suc k) room
-drop-set room k b h =
-    drop-cons (set room k b) k 0 (rw length-set h) ∙ rw (getD-set-same room k b 0 h, drop-set-lt (suc k) room k b (omega arith))
+drop-set : (output : List ℕ) (k b : ℕ) → k < length output → drop k (set output k b) ≡ b ∷ drop (suc k) output
+drop-set output k b h =
+    drop-cons (set output k b) k 0 (rw length-set h) ∙ rw (getD-set-same output k b 0 h, drop-set-lt (suc k) output k b (omega arith))
 
-trace-suc : (D : ℕ → ℕ → ℕ) (k s : ℕ) (room all : List ℕ) → k < length room → Whole D (suc k) s room all → Whole D k (from s (D k s)) (set room k (s / 32)) all
+trace-suc : (D : ℕ → ℕ → ℕ) (k s : ℕ) (output all : List ℕ) → k < length output → Whole D (suc k) s output all → Whole D k (from s (D k s)) (set output k (s / 32)) all
 unfolding Whole path
-trace-suc D k s room all h e =
+trace-suc D k s output all h e =
     let p : List ℕ = path D k (from s (D k s)) in
-    rw (drop-set room k (s / 32) h) (sym (append-assoc (reverse p) (s / 32 ∷ []) (drop (suc k) room)) ∙ (rw reverse-cons at e))
+    rw (drop-set output k (s / 32) h) (sym (append-assoc (reverse p) (s / 32 ∷ []) (drop (suc k) output)) ∙ (rw reverse-cons at e))
 
-pub trace-none : (D : ℕ → ℕ → ℕ) (s : ℕ) (room : List ℕ) → Whole D (length room) s room (reverse (path D (length room) s))
+pub trace-none : (D : ℕ → ℕ → ℕ) (s : ℕ) (output : List ℕ) → Whole D (length output) s output (reverse (path D (length output) s))
 unfolding Whole
-trace-none D s room = rw (drop-length, append-nil)
+trace-none D s output = rw (drop-length, append-nil)
 
-pub trace-more : (D : ℕ → ℕ → ℕ) (k s d : ℕ) (room all : List ℕ) → 0 < k → k ≤ length room → Whole D k s room all → d ≡ D (k - 1) s
-    → Whole D (k - 1) (from s d) (set room (k - 1) (s / 32)) all
-trace-more D zero s d room all h l e q = absurd (omega arith)
-trace-more D (suc k) s d room all h l e q =
+pub trace-more : (D : ℕ → ℕ → ℕ) (k s d : ℕ) (output all : List ℕ) → 0 < k → k ≤ length output → Whole D k s output all → d ≡ D (k - 1) s
+    → Whole D (k - 1) (from s d) (set output (k - 1) (s / 32)) all
+trace-more D zero s d output all h l e q = absurd (omega arith)
+trace-more D (suc k) s d output all h l e q =
     let one : suc k - 1 ≡ k = omega arith in
-    rw (q, one) (trace-suc D k s room all l e)
+    rw (q, one) (trace-suc D k s output all l e)
 
-pub trace-all : (D : ℕ → ℕ → ℕ) (k s : ℕ) (room all : List ℕ) → k ≡ 0 → Whole D k s room all → room ≡ all
+pub trace-all : (D : ℕ → ℕ → ℕ) (k s : ℕ) (output all : List ℕ) → k ≡ 0 → Whole D k s output all → output ≡ all
 unfolding Whole path
-trace-all D zero s room all h e = e
-trace-all D (suc k) s room all h e = absurd (omega arith)
+trace-all D zero s output all h e = e
+trace-all D (suc k) s output all h e = absurd (omega arith)
 
 pub decision-lt : (row : List ℕ) (s d : ℕ) → d ≡ decision row s → d < 2
 unfolding decision
@@ -209,18 +209,18 @@ lane-from r zero h l = computed.agree-at (λ r. lane (r / 2 + 32 * 0)) (λ r. fr
 lane-from r (suc zero) h l = computed.agree-at (λ r. lane (r / 2 + 32 * 1)) (λ r. from (lane r) 1) 64 tt r h
 lane-from r (suc (suc d)) h l = absurd (omega arith)
 
-pub trace-lane : (rows : List (List ℕ)) (k r d : ℕ) (room all : List ℕ) → 0 < k → k ≤ length room → r < 64 → Whole (table rows) k (lane r) room all
+pub trace-lane : (rows : List (List ℕ)) (k r d : ℕ) (output all : List ℕ) → 0 < k → k ≤ length output → r < 64 → Whole (table rows) k (lane r) output all
     → d ≡ decision (getD rows (k - 1) []) r
-    → Whole (table rows) (k - 1) (lane (r / 2 + 32 * d)) (set room (k - 1) (r % 2)) all
-trace-lane rows k r d room all h l hr w e =
+    → Whole (table rows) (k - 1) (lane (r / 2 + 32 * d)) (set output (k - 1) (r % 2)) all
+trace-lane rows k r d output all h l hr w e =
     let hd : d < 2 = decision-lt _ _ _ e in
     let e′ : d ≡ table rows (k - 1) (lane r) = e ∙ ap (decision (getD rows (k - 1) [])) (sym (lane-lane r hr)) in
-    rw (lane-from r d hr hd, lane-bit r hr) (trace-more (table rows) k (lane r) d room all h l w e′)
+    rw (lane-from r d hr hd, lane-bit r hr) (trace-more (table rows) k (lane r) d output all h l w e′)
 
 -- ---- the whole run
 
 module _ {F : Costs} {m n : ℕ} {ms : List ℕ} {o : ℕ} {rows : List (List ℕ)} (f : Forward F m n ms o rows) where
-  ends-same : (os : List ℕ) → ((s : ℕ) → s < 64 → at os s ≡ held ms s) → {s : ℕ} → Ends (at os) 64 s → Ends (metric F m n) 64 s
+  ends-same : (os : List ℕ) → ((s : ℕ) → s < 64 → at os s ≡ held ms s) → {s : ℕ} → FirstLeast (at os) 64 s → FirstLeast (metric F m n) 64 s
   ends-same os eo {s} e =
       record {
         small = e .small;
@@ -231,7 +231,7 @@ module _ {F : Costs} {m n : ℕ} {ms : List ℕ} {o : ℕ} {rows : List (List �
       below : (t : ℕ) → t < s → t < 64
       below t h = omega (arith, e .small)
 
-  pub decoded : ((k s b : ℕ) → F k s b ≤ 14) → m < 64 → (os : List ℕ) → ((s : ℕ) → s < 64 → at os s ≡ held ms s) → {s : ℕ} → Ends (at os) 64 s → (l : ℕ) → l ≡ lane s
+  pub decoded : ((k s b : ℕ) → F k s b ≤ 14) → m < 64 → (os : List ℕ) → ((s : ℕ) → s < 64 → at os s ≡ held ms s) → {s : ℕ} → FirstLeast (at os) 64 s → (l : ℕ) → l ≡ lane s
       → Decoded (costFrom F 0 m) n m (reverse (path (table rows) n (lane l))) (at os s + o) s
   decoded h hm os eo {s} e l el =
       let back : lane l ≡ s = ap lane el ∙ lane-lane s (e .small) in

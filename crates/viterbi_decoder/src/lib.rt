@@ -7,7 +7,7 @@ ghost use lib.Dec.{eqb};
 ghost use lib.ListN.{length};
 ghost use Rattle.common.specs.Choice.{pick};
 ghost use Rattle.trellis.specs.Best.{Decoded};
-ghost use Rattle.trellis.specs.Metric.{far, costFrom, path, Ends};
+ghost use Rattle.trellis.specs.Metric.{far, costFrom, path, FirstLeast};
 ghost use Rattle.viterbi_decoder.specs.Step.{at, decided, stepCost, stepCosts, Small};
 ghost use Rattle.viterbi_decoder.specs.Lanes.{lane, held, Tables, CostRows, lesser as lesserOf, second as secondOf, weightOf, packedByte, wordOf, decision as decisionOf, Stepped, Forward, table};
 
@@ -318,7 +318,7 @@ fn ordered(metrics: &[u8; 64]) -> [u8; 64]
 
 // The first of the memories with the least metric.
 fn first_least(metrics: &[u8; 64]) -> usize
-    ensures { λ r. ⌜ Ends (at (now (metrics .entry))) 64 r ⌝ }
+    ensures { λ r. ⌜ FirstLeast (at (now (metrics .entry))) 64 r ⌝ }
 {
     let mut best = 0;
     let mut s = 1;
@@ -436,15 +436,15 @@ fn decision(row: &[u8; 16], lane: usize) -> usize
 }
 
 // The path that ends in a lane, written from its last bit back.
-fn trace(rows: &[[u8; 16]; 1632], end: usize, room: &mut [u8])
-    requires { ⌜ (length (now room) ≤ 1632) × (end < 64) ⌝ }
-    ensures { λ _. ⌜ now (room .exit) ≡ reverse (path (table (now (rows .entry))) (length (now (room .entry))) (lane end)) ⌝ }
+fn trace(rows: &[[u8; 16]; 1632], end: usize, output: &mut [u8])
+    requires { ⌜ (length (now output) ≤ 1632) × (end < 64) ⌝ }
+    ensures { λ _. ⌜ now (output .exit) ≡ reverse (path (table (now (rows .entry))) (length (now (output .entry))) (lane end)) ⌝ }
 {
     let mut r = end;
-    let mut k = room.len();
+    let mut k = output.len();
     while 0 < k {
         k -= 1;
-        room[k] = (r % 2) as u8;
+        output[k] = (r % 2) as u8;
         let row = rows[k];
         r = r / 2 + 32 * decision(&row, r);
     }
@@ -455,18 +455,18 @@ pub struct Run {
     pub cost: usize,
 }
 
-// The best bits of a run, into room. There are four costs for each bit: X as 0, X as 1, Y as 0, Y as 1.
-pub fn decode(steps: &[u8], memory: usize, room: &mut [u8]) -> Run
-    requires { ⌜ (4 * length (now room) ≤ length (now steps)) × (length (now room) ≤ 1632) × (memory < 64) × Small (now steps) ⌝ }
-    ensures { λ r. ⌜ Decoded (costFrom (stepCosts (now (steps .entry))) 0 memory) (length (now (room .entry))) memory (now (room .exit)) (r .cost) (r .memory) ⌝ }
+// The best bits of a run, into the output. There are four costs for each bit: X as 0, X as 1, Y as 0, Y as 1.
+pub fn decode(steps: &[u8], memory: usize, output: &mut [u8]) -> Run
+    requires { ⌜ (4 * length (now output) ≤ length (now steps)) × (length (now output) ≤ 1632) × (memory < 64) × Small (now steps) ⌝ }
+    ensures { λ r. ⌜ Decoded (costFrom (stepCosts (now (steps .entry))) 0 memory) (length (now (output .entry))) memory (now (output .exit)) (r .cost) (r .memory) ⌝ }
 {
     let mut rows = [[0u8; 16]; 1632];
-    let last = forward(steps, memory, room.len(), &mut rows);
+    let last = forward(steps, memory, output.len(), &mut rows);
     let lanes = last.metrics;
     let offset = last.offset;
     let metrics = ordered(&lanes);
     let end = first_least(&metrics);
-    trace(&rows, lane_of(end), room);
+    trace(&rows, lane_of(end), output);
     Run {
         memory: end,
         cost: metrics[end] as usize + offset,

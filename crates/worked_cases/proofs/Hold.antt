@@ -13,7 +13,7 @@ use Rattle.galois.specs.Field256.{timesX, rounds, mul}
 use Rattle.reed_solomon.specs.Code as code
 use Rattle.reed_solomon.specs.Encode.{generatorTail, divided, remainderFrom, checkBytes, encoded}
 use Rattle.reed_solomon.proofs.LongDivision.{encoded-only}
-use Rattle.randomizer.specs.Prbs.{loaded, output, stepped, steps, bits, sequence, generator, enabled, masks}
+use Rattle.randomizer.specs.Prbs.{loaded, outputBit, stepped, steps, stepBits, sequence, period, enabled, masks}
 use Rattle.randomizer.specs.Packet.{randomized}
 use Rattle.delay_branches.specs.Branch.{baseOf, queue}
 use Rattle.delay_branches.specs.Column.{column}
@@ -40,5 +40,5 @@ damaged-no-codeword c =
 
 -- every row of the table holds
 pub cases-hold : All Holds cases
-unfolding listOf power plus scale product timesX rounds mul loaded output stepped steps bits sequence generator enabled masks randomized zipWith code.factors code.generator generatorTail divided remainderFrom checkBytes baseOf queue column fresh leaving blockOut modes modeOf bitsOf symbolsAfter symbols puncturedBy heldBy coderBy flatten groups encodedBits uncodedNumbers sequenced streamSymbols
+unfolding listOf power plus scale product timesX rounds mul loaded outputBit stepped steps stepBits sequence period enabled masks randomized zipWith code.factors code.generator generatorTail divided remainderFrom checkBytes baseOf queue column fresh leaving blockOut modes modeOf bitsOf symbolsAfter symbols puncturedBy heldBy coderBy flatten groups encodedBits uncodedNumbers sequenced streamSymbols
 cases-hold = (refl, (refl, (refl, (refl, (refl, (unit-coded, (damaged-no-codeword, (refl, (refl, (refl, (refl, (refl, (refl, (refl, (refl, (refl, tt))))))))))))))))

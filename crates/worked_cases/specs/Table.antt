@@ -50,13 +50,13 @@ abbrev pub streamed : ℕ → List ℕ
 streamed rate = symbols (modeOf rate) (bitsOf (0x80 ∷ []))
 
 -- the bytes 1, 2, .. 204: none of them is 0
-abbrev pub numbered : List ℕ
-numbered = listOf 204 (λ n. n + 1)
+abbrev pub countingBytes : List ℕ
+countingBytes = listOf 204 (λ n. n + 1)
 
 abbrev pub cases : List Case
 cases =
     -- the generator begins 03 F6 08 34
-    gives (take 4 prbs.generator) (0x03 ∷ 0xF6 ∷ 0x08 ∷ 0x34 ∷ [])
+    gives (take 4 prbs.period) (0x03 ∷ 0xF6 ∷ 0x08 ∷ 0x34 ∷ [])
     -- 47 and 187 zeros at place 0 begin B8 03 F6 08 34; at place 1 the first byte stays 47
     ∷ gives (take 5 (randomized 0 emptyPacket)) (0xB8 ∷ 0x03 ∷ 0xF6 ∷ 0x08 ∷ 0x34 ∷ [])
     ∷ gives (take 1 (randomized 1 emptyPacket)) (0x47 ∷ [])
@@ -80,5 +80,5 @@ cases =
     -- 01 and five zeros: the last bit of 01 runs on in the memory into the next three bytes
     ∷ gives (streamSymbols (modeOf 5) (0x01 ∷ replicate 5 0)) (replicate 7 0 ++ 3 ∷ 1 ∷ 3 ∷ 3 ∷ 0 ∷ 2 ∷ 3 ∷ 0 ∷ 0 ∷ [])
     -- the first block from fresh branches keeps 17 bytes, places 0, 12 .. 192, and zeros elsewhere
-    ∷ gives (blockOut Sending fresh numbered) (listOf 204 (λ n. pick (eqb (n % 12) 0) (n + 1) 0))
+    ∷ gives (blockOut Sending fresh countingBytes) (listOf 204 (λ n. pick (eqb (n % 12) 0) (n + 1) 0))
     ∷ []

@@ -65,10 +65,10 @@ fn read(decisions: Decisions, rate: u8, points: &[Point]) -> Vec<u8> {
     let (mut at, mut memory, mut out) = (0, 0, Vec::with_capacity(whole * bits));
     while at < whole {
         let patterns = full.min(whole - at);
-        let mut room = vec![0; patterns * bits];
-        read_run(decisions, rate, memory, &points[at * symbols..(at + patterns) * symbols], &mut room);
+        let mut output = vec![0; patterns * bits];
+        read_run(decisions, rate, memory, &points[at * symbols..(at + patterns) * symbols], &mut output);
         let keep = if patterns < full { patterns } else { kept };
-        out.extend_from_slice(&room[..keep * bits]);
+        out.extend_from_slice(&output[..keep * bits]);
         // The coder's memory: its last six bits, the newest counting 32.
         memory = out.iter().rev().take(6).enumerate().map(|(age, bit)| bit << (5 - age)).sum();
         at += keep;
@@ -138,10 +138,10 @@ fn over_the_channel(rate: u8, eb_n0: f64, seed: u64, tallies: &mut [Tally; 2]) {
         tally.wrong += got[..counted].iter().zip(&sent).filter(|(a, b)| a != b).count() as u64;
         let blocks = bytes_of(&got);
         let whole = blocks.len() / BLOCK_LENGTH;
-        let mut room = vec![0; whole * PACKET_LENGTH];
-        let written = library::receive_run(&blocks, &mut room, &mut [0; COUNTS_LENGTH], &mut [0]);
+        let mut output = vec![0; whole * PACKET_LENGTH];
+        let written = library::receive_run(&blocks, &mut output, &mut [0; COUNTS_LENGTH], &mut [0]);
         let due = (whole - 11) as u64;
-        let (right, wrong) = delivered(&packets, &room[..written as usize]);
+        let (right, wrong) = delivered(&packets, &output[..written as usize]);
         tally.packets += due;
         tally.lost += due - right;
         tally.never_sent += wrong;

@@ -79,34 +79,34 @@ fn hex(bytes: &[u8]) -> String {
     bytes.iter().map(|b| format!("{b:02x}")).collect::<Vec<_>>().join(" ")
 }
 
-// One comparison of each function. Rooms start with the same bytes on both
+// One comparison of each function. Outputs start with the same bytes on both
 // sides and are compared whole, so a byte written beyond the answer shows.
 
 type PacketStage = fn(u8, &[u8], &mut [u8]) -> u8;
 
-fn packet_stage(s: &mut Score, sides: (PacketStage, PacketStage), place: u8, packet: &[u8], room: Vec<u8>) -> u8 {
-    let (mut a, mut b) = (room.clone(), room);
+fn packet_stage(s: &mut Score, sides: (PacketStage, PacketStage), place: u8, packet: &[u8], output: Vec<u8>) -> u8 {
+    let (mut a, mut b) = (output.clone(), output);
     let want = sides.0(place, packet, &mut a);
     let got = sides.1(place, packet, &mut b);
-    let inputs = format!("place {place}, packet of {}, room of {}", packet.len(), a.len());
-    s.same(&inputs, &[("answer", &[want]), ("room", &a)], &[("answer", &[got]), ("room", &b)]);
+    let inputs = format!("place {place}, packet of {}, output of {}", packet.len(), a.len());
+    s.same(&inputs, &[("answer", &[want]), ("output", &a)], &[("answer", &[got]), ("output", &b)]);
     want
 }
 
-fn randomize(s: &mut Score, place: u8, packet: &[u8], room: Vec<u8>) -> u8 {
-    packet_stage(s, (expected::randomize, library::randomize), place, packet, room)
+fn randomize(s: &mut Score, place: u8, packet: &[u8], output: Vec<u8>) -> u8 {
+    packet_stage(s, (expected::randomize, library::randomize), place, packet, output)
 }
 
-fn derandomize(s: &mut Score, place: u8, packet: &[u8], room: Vec<u8>) -> u8 {
-    packet_stage(s, (expected::derandomize, library::derandomize), place, packet, room)
+fn derandomize(s: &mut Score, place: u8, packet: &[u8], output: Vec<u8>) -> u8 {
+    packet_stage(s, (expected::derandomize, library::derandomize), place, packet, output)
 }
 
-fn rs_encode(s: &mut Score, data: &[u8], room: Vec<u8>) {
-    let (mut a, mut b) = (room.clone(), room);
+fn rs_encode(s: &mut Score, data: &[u8], output: Vec<u8>) {
+    let (mut a, mut b) = (output.clone(), output);
     let want = expected::rs_encode(data, &mut a);
     let got = library::rs_encode(data, &mut b);
-    let inputs = format!("data of {}, room of {}", data.len(), a.len());
-    s.same(&inputs, &[("answer", &[want]), ("room", &a)], &[("answer", &[got]), ("room", &b)]);
+    let inputs = format!("data of {}, output of {}", data.len(), a.len());
+    s.same(&inputs, &[("answer", &[want]), ("output", &a)], &[("answer", &[got]), ("output", &b)]);
 }
 
 fn rs_decode(s: &mut Score, block: &[u8], count: Vec<u8>) -> (u8, Vec<u8>) {
@@ -145,35 +145,35 @@ fn rs_decode_marked(s: &mut Score, block: &[u8], marks: &[u8], count: Vec<u8>) -
     (want, m, a)
 }
 
-fn send_run(s: &mut Score, rate: u8, packets: &[u8], room: Vec<u8>, answer: Vec<u8>) -> (u8, u64) {
-    let (mut a, mut b) = (room.clone(), room);
+fn send_run(s: &mut Score, rate: u8, packets: &[u8], output: Vec<u8>, answer: Vec<u8>) -> (u8, u64) {
+    let (mut a, mut b) = (output.clone(), output);
     let (mut m, mut n) = (answer.clone(), answer);
     let want = expected::send_run(rate, packets, &mut a, &mut m);
     let got = library::send_run(rate, packets, &mut b, &mut n);
-    let inputs = format!("rate {rate}, packets of {}, room of {}, answer of {}", packets.len(), a.len(), m.len());
+    let inputs = format!("rate {rate}, packets of {}, output of {}, answer of {}", packets.len(), a.len(), m.len());
     s.same(
         &inputs,
-        &[("symbols", &want.to_le_bytes()), ("answer", &m), ("room", &a)],
-        &[("symbols", &got.to_le_bytes()), ("answer", &n), ("room", &b)],
+        &[("symbols", &want.to_le_bytes()), ("answer", &m), ("output", &a)],
+        &[("symbols", &got.to_le_bytes()), ("answer", &n), ("output", &b)],
     );
     (m.first().copied().unwrap_or(0), want)
 }
 
-fn receive_run(s: &mut Score, blocks: &[u8], room: Vec<u8>, counts: Vec<u8>) -> (Vec<u8>, [u64; 8]) {
-    receive_run_told(s, blocks, room, counts, vec![0xA5])
+fn receive_run(s: &mut Score, blocks: &[u8], output: Vec<u8>, counts: Vec<u8>) -> (Vec<u8>, [u64; 8]) {
+    receive_run_told(s, blocks, output, counts, vec![0xA5])
 }
 
-fn receive_run_told(s: &mut Score, blocks: &[u8], room: Vec<u8>, counts: Vec<u8>, answer: Vec<u8>) -> (Vec<u8>, [u64; 8]) {
-    let (mut a, mut b) = (room.clone(), room);
+fn receive_run_told(s: &mut Score, blocks: &[u8], output: Vec<u8>, counts: Vec<u8>, answer: Vec<u8>) -> (Vec<u8>, [u64; 8]) {
+    let (mut a, mut b) = (output.clone(), output);
     let (mut m, mut n) = (counts.clone(), counts);
     let (mut t, mut u) = (answer.clone(), answer);
     let want = expected::receive_run(blocks, &mut a, &mut m, &mut t);
     let got = library::receive_run(blocks, &mut b, &mut n, &mut u);
-    let inputs = format!("blocks of {}, room of {}, counts of {}, answer of {}", blocks.len(), a.len(), m.len(), t.len());
+    let inputs = format!("blocks of {}, output of {}, counts of {}, answer of {}", blocks.len(), a.len(), m.len(), t.len());
     s.same(
         &inputs,
-        &[("bytes", &want.to_le_bytes()), ("counts", &m), ("answer", &t), ("room", &a)],
-        &[("bytes", &got.to_le_bytes()), ("counts", &n), ("answer", &u), ("room", &b)],
+        &[("bytes", &want.to_le_bytes()), ("counts", &m), ("answer", &t), ("output", &a)],
+        &[("bytes", &got.to_le_bytes()), ("counts", &n), ("answer", &u), ("output", &b)],
     );
     let mut eight = [0; 8];
     if m.len() >= COUNTS_LENGTH {
@@ -190,17 +190,17 @@ fn receive_run_marked(
     s: &mut Score,
     blocks: &[u8],
     marks: &[u8],
-    room: Vec<u8>,
+    output: Vec<u8>,
     counts: Vec<u8>,
     answer: Vec<u8>,
 ) -> (Vec<u8>, Vec<u8>, Vec<u8>) {
-    let (mut a, mut b) = (room.clone(), room);
+    let (mut a, mut b) = (output.clone(), output);
     let (mut m, mut n) = (counts.clone(), counts);
     let (mut t, mut u) = (answer.clone(), answer);
     let want = expected::receive_run_marked(blocks, marks, &mut a, &mut m, &mut t);
     let got = library::receive_run_marked(blocks, marks, &mut b, &mut n, &mut u);
     let inputs = format!(
-        "blocks of {}, marks of {}, room of {}, counts of {}, answer of {}",
+        "blocks of {}, marks of {}, output of {}, counts of {}, answer of {}",
         blocks.len(),
         marks.len(),
         a.len(),
@@ -209,46 +209,46 @@ fn receive_run_marked(
     );
     s.same(
         &inputs,
-        &[("bytes", &want.to_le_bytes()), ("counts", &m), ("answer", &t), ("room", &a)],
-        &[("bytes", &got.to_le_bytes()), ("counts", &n), ("answer", &u), ("room", &b)],
+        &[("bytes", &want.to_le_bytes()), ("counts", &m), ("answer", &t), ("output", &a)],
+        &[("bytes", &got.to_le_bytes()), ("counts", &n), ("answer", &u), ("output", &b)],
     );
     a.truncate(want as usize);
     (a, t, m)
 }
 
 /// The answer, and the block where there is one.
-fn recording_block(s: &mut Score, recording: &[u8], blocks: u64, p: u64, room: Vec<u8>, count: Vec<u8>) -> (u8, Vec<u8>) {
-    let (mut a, mut b) = (room.clone(), room);
+fn recording_block(s: &mut Score, recording: &[u8], blocks: u64, p: u64, output: Vec<u8>, count: Vec<u8>) -> (u8, Vec<u8>) {
+    let (mut a, mut b) = (output.clone(), output);
     let (mut m, mut n) = (count.clone(), count);
     let want = expected::recording_block(recording, blocks, p, &mut a, &mut m);
     let got = library::recording_block(recording, blocks, p, &mut b, &mut n);
     let inputs = format!(
-        "recording of {}, {blocks} blocks, block {p}, room of {}, count of {}",
+        "recording of {}, {blocks} blocks, block {p}, output of {}, count of {}",
         recording.len(),
         a.len(),
         m.len()
     );
     s.same(
         &inputs,
-        &[("answer", &[want]), ("count", &m), ("room", &a)],
-        &[("answer", &[got]), ("count", &n), ("room", &b)],
+        &[("answer", &[want]), ("count", &m), ("output", &a)],
+        &[("answer", &[got]), ("count", &n), ("output", &b)],
     );
     a.truncate(if want == 0 { BLOCK_LENGTH } else { 0 });
     (want, a)
 }
 
 /// The bits that the reference read, the memory after them and the number.
-fn read_run(s: &mut Score, rate: u8, memory: u8, symbols: &[u8], room: Vec<u8>, result: Vec<u8>) -> (u8, Vec<u8>, u8, u32) {
-    let (mut a, mut b) = (room.clone(), room);
+fn read_run(s: &mut Score, rate: u8, memory: u8, symbols: &[u8], output: Vec<u8>, result: Vec<u8>) -> (u8, Vec<u8>, u8, u32) {
+    let (mut a, mut b) = (output.clone(), output);
     let (mut m, mut n) = (result.clone(), result);
     let want = expected::read_run(rate, memory, symbols, &mut a, &mut m);
     let got = library::read_run(rate, memory, symbols, &mut b, &mut n);
     let inputs =
-        format!("rate {rate}, memory {memory}, symbols of {}, room of {}, result of {}", symbols.len(), a.len(), m.len());
+        format!("rate {rate}, memory {memory}, symbols of {}, output of {}, result of {}", symbols.len(), a.len(), m.len());
     s.same(
         &inputs,
-        &[("bits", &want.to_le_bytes()), ("result", &m), ("room", &a)],
-        &[("bits", &got.to_le_bytes()), ("result", &n), ("room", &b)],
+        &[("bits", &want.to_le_bytes()), ("result", &m), ("output", &a)],
+        &[("bits", &got.to_le_bytes()), ("result", &n), ("output", &b)],
     );
     a.truncate(want as usize);
     if m.len() < RESULT_LENGTH {
@@ -267,13 +267,13 @@ struct Received {
 
 /// The answer, the bits that the reference read, the memory after them and what
 /// they cost.
-fn read_soft_run(s: &mut Score, rate: u8, memory: u8, run: &Received, room: Vec<u8>, result: Vec<u8>) -> (u8, Vec<u8>, u8, u32) {
-    let (mut a, mut b) = (room.clone(), room);
+fn read_soft_run(s: &mut Score, rate: u8, memory: u8, run: &Received, output: Vec<u8>, result: Vec<u8>) -> (u8, Vec<u8>, u8, u32) {
+    let (mut a, mut b) = (output.clone(), output);
     let (mut m, mut n) = (result.clone(), result);
     let want = expected::read_soft_run(rate, memory, &run.i, &run.q, &run.lost, &mut a, &mut m);
     let got = library::read_soft_run(rate, memory, &run.i, &run.q, &run.lost, &mut b, &mut n);
     let inputs = format!(
-        "rate {rate}, memory {memory}, lists of {}, {} and {}, room of {}, result of {}",
+        "rate {rate}, memory {memory}, lists of {}, {} and {}, output of {}, result of {}",
         run.i.len(),
         run.q.len(),
         run.lost.len(),
@@ -282,8 +282,8 @@ fn read_soft_run(s: &mut Score, rate: u8, memory: u8, run: &Received, room: Vec<
     );
     s.same(
         &inputs,
-        &[("bits", &want.to_le_bytes()), ("result", &m), ("room", &a)],
-        &[("bits", &got.to_le_bytes()), ("result", &n), ("room", &b)],
+        &[("bits", &want.to_le_bytes()), ("result", &m), ("output", &a)],
+        &[("bits", &got.to_le_bytes()), ("result", &n), ("output", &b)],
     );
     a.truncate(want as usize);
     if m.len() < RESULT_LENGTH {
@@ -357,7 +357,7 @@ fn count_before(r: &mut Xorshift) -> Vec<u8> {
     vec![0xA5; length]
 }
 
-fn room_of(r: &mut Xorshift, need: usize) -> Vec<u8> {
+fn output_of(r: &mut Xorshift, need: usize) -> Vec<u8> {
     let more = if r.below(2) == 0 { 0 } else { 1 + r.below(300) };
     r.bytes(need + more)
 }
@@ -365,28 +365,28 @@ fn room_of(r: &mut Xorshift, need: usize) -> Vec<u8> {
 fn stage_kinds(s: &mut Score) {
     s.kind("randomize", 20_000, |s, r, case| {
         let packet = packets(r, 1);
-        let room = room_of(r, 188);
-        assert_eq!(randomize(s, case as u8 % 8, &packet, room), 0);
+        let output = output_of(r, 188);
+        assert_eq!(randomize(s, case as u8 % 8, &packet, output), 0);
     });
     s.kind("derandomize", 20_000, |s, r, case| {
         let mut packet = packets(r, 1);
         packet[0] = [SYNC, INVERTED_SYNC, r.byte(), r.byte()][r.below(4)];
-        let room = room_of(r, 188);
-        assert_eq!(derandomize(s, case as u8 % 8, &packet, room), 0);
+        let output = output_of(r, 188);
+        assert_eq!(derandomize(s, case as u8 % 8, &packet, output), 0);
     });
     s.kind("randomize and derandomize: refusals", 256, |s, r, case| {
         // Every place, every first byte, and short room, alone and together.
         let place = case as u8;
         for length in [0, 1, 187, 188, 189, 204, 376] {
-            for room in [0, 1, 187, 188, 189] {
+            for output in [0, 1, 187, 188, 189] {
                 let mut packet = r.bytes(length);
                 for first in [SYNC, INVERTED_SYNC, 0x46, case as u8] {
                     if length > 0 {
                         packet[0] = first;
                     }
                     for p in [place, case as u8 % 8] {
-                        randomize(s, p, &packet, r.bytes(room));
-                        derandomize(s, p, &packet, r.bytes(room));
+                        randomize(s, p, &packet, r.bytes(output));
+                        derandomize(s, p, &packet, r.bytes(output));
                     }
                 }
             }
@@ -398,13 +398,13 @@ fn stage_kinds(s: &mut Score) {
             // Each place with each of several values, alone.
             data[case as usize / 4 % 188] = r.byte();
         }
-        let room = room_of(r, 204);
-        rs_encode(s, &data, room);
+        let output = output_of(r, 204);
+        rs_encode(s, &data, output);
     });
     s.kind("rs_encode: refusals", 410, |s, r, case| {
-        for room in [0, 1, 187, 188, 203, 204, 205] {
+        for output in [0, 1, 187, 188, 203, 204, 205] {
             let data = r.bytes(case as usize);
-            rs_encode(s, &data, r.bytes(room));
+            rs_encode(s, &data, r.bytes(output));
         }
         rs_encode(s, &[7; 188], r.bytes(case as usize));
     });
@@ -690,8 +690,8 @@ fn marked_kinds(s: &mut Score) {
                 }
             })
             .collect();
-        let room = room_of(r, stream.len() / 204 * 188);
-        let (_, answer, counts) = receive_run_marked(s, &stream, &marks, room, vec![0xA5; COUNTS_LENGTH], vec![0xA5]);
+        let output = output_of(r, stream.len() / 204 * 188);
+        let (_, answer, counts) = receive_run_marked(s, &stream, &marks, output, vec![0xA5; COUNTS_LENGTH], vec![0xA5]);
         assert_eq!(answer, [0]);
         for (sum, bytes) in total.iter_mut().zip(counts.chunks_exact(8)) {
             *sum += u64::from_le_bytes(bytes.try_into().unwrap());
@@ -720,10 +720,10 @@ fn marked_kinds(s: &mut Score) {
         stream.iter_mut().for_each(|byte| if r.below(40 + case as usize) == 0 { *byte = r.byte() });
         let none = vec![0; stream.len()];
         let (got, _, counts) = receive_run_marked(s, &stream, &none, vec![0xA5; 30 * 188], vec![0xA5; COUNTS_LENGTH], vec![0xA5]);
-        let (mut room, mut told, mut answer) = (vec![0xA5; 30 * 188], vec![0xA5; COUNTS_LENGTH], vec![0xA5]);
-        let written = library::receive_run(&stream, &mut room, &mut told, &mut answer);
-        room.truncate(written as usize);
-        assert_eq!((room, told), (got, counts));
+        let (mut output, mut told, mut answer) = (vec![0xA5; 30 * 188], vec![0xA5; COUNTS_LENGTH], vec![0xA5]);
+        let written = library::receive_run(&stream, &mut output, &mut told, &mut answer);
+        output.truncate(written as usize);
+        assert_eq!((output, told), (got, counts));
     });
     s.kind("receive_run_marked: refusals", 60, |s, r, case| {
         let count = case as usize % 20;
@@ -740,9 +740,9 @@ fn marked_kinds(s: &mut Score) {
         longer.push(0);
         for marks in [&good[..], &bad, &longer, &good[..good.len().saturating_sub(1)], &[]] {
             for (counts, answer) in [0, 63, 64, 65].into_iter().flat_map(|c| [0, 1, 2].map(|a| (c, a))) {
-                for room in [188 * count, (188 * count).saturating_sub(1), 0] {
-                    let room = r.bytes(room);
-                    receive_run_marked(s, &stream, marks, room, vec![0xA5; counts], vec![0xA5; answer]);
+                for output in [188 * count, (188 * count).saturating_sub(1), 0] {
+                    let output = r.bytes(output);
+                    receive_run_marked(s, &stream, marks, output, vec![0xA5; counts], vec![0xA5; answer]);
                 }
             }
         }
@@ -766,8 +766,8 @@ fn send_kinds(s: &mut Score) {
             let count = if case < 50 { case as usize } else { 50 + r.below(150) };
             let p = packets(r, count);
             let need = symbols_of(rate, count);
-            let room = room_of(r, need);
-            let (answer, symbols) = send_run(s, rate, &p, room, vec![0xA5; 1 + case as usize % 3]);
+            let output = output_of(r, need);
+            let (answer, symbols) = send_run(s, rate, &p, output, vec![0xA5; 1 + case as usize % 3]);
             assert_eq!((answer, symbols as usize), (0, need));
             sent += count;
             if need > 0 {
@@ -788,8 +788,8 @@ fn send_kinds(s: &mut Score) {
         }
         for rate in SENT {
             let need = symbols_of(rate, count);
-            let room = room_of(r, need);
-            let (answer, symbols) = send_run(s, rate, &list, room, vec![0xA5]);
+            let output = output_of(r, need);
+            let (answer, symbols) = send_run(s, rate, &list, output, vec![0xA5]);
             assert_eq!((answer, symbols as usize), (if bad.contains(&true) { 15 } else { 0 }, need));
             send_run(s, rate, &list, r.bytes(need - 1), vec![0xA5]);
         }
@@ -809,9 +809,9 @@ fn send_kinds(s: &mut Score) {
             let mut both = wrong.clone();
             both.push(SYNC);
             for list in [&good[..], &wrong, short, &longer, &both, &[]] {
-                for room in [need + 5, need, need - 1, r.below(need), 0] {
+                for output in [need + 5, need, need - 1, r.below(need), 0] {
                     for answer in [0, 1, 2] {
-                        send_run(s, rate, list, r.bytes(room), vec![0xA5; answer]);
+                        send_run(s, rate, list, r.bytes(output), vec![0xA5; answer]);
                     }
                 }
             }
@@ -838,8 +838,8 @@ fn read_kinds(s: &mut Score) {
         let length = InnerCoder::pattern_length(rate);
         let count = length * r.below(12 / length + 1);
         let symbols = random(r, symbols_in(rate, count));
-        let room = room_of(r, count);
-        read_run(s, rate, r.byte() % 64, &symbols, room, vec![0xA5; RESULT_LENGTH + case as usize % 3]);
+        let output = output_of(r, count);
+        read_run(s, rate, r.byte() % 64, &symbols, output, vec![0xA5; RESULT_LENGTH + case as usize % 3]);
     });
     s.kind("read_run: all runs of at most five bits at 1/2", 64, |s, _, case| {
         for count in 0..6usize {
@@ -855,8 +855,8 @@ fn read_kinds(s: &mut Score) {
         let length = InnerCoder::pattern_length(rate);
         let patterns = if case < 20 { LONGEST / length } else { r.below(LONGEST / length + 1) };
         let symbols = random(r, symbols_in(rate, length * patterns));
-        let room = room_of(r, length * patterns);
-        worst = worst.max(read_run(s, rate, r.byte() % 64, &symbols, room, vec![0xA5; RESULT_LENGTH]).3);
+        let output = output_of(r, length * patterns);
+        worst = worst.max(read_run(s, rate, r.byte() % 64, &symbols, output, vec![0xA5; RESULT_LENGTH]).3);
     });
     if worst > 0 {
         println!("  most differing bits: {worst}");
@@ -868,8 +868,8 @@ fn read_kinds(s: &mut Score) {
         let two = [case as u8 / 5 % 4, r.byte() % 4];
         let period = 1 + r.below(4);
         let symbols: Vec<u8> = (0..symbols_in(rate, count)).map(|i| two[(i % period == 0) as usize]).collect();
-        let room = room_of(r, count);
-        read_run(s, rate, r.byte() % 64, &symbols, room, vec![0xA5; RESULT_LENGTH]);
+        let output = output_of(r, count);
+        read_run(s, rate, r.byte() % 64, &symbols, output, vec![0xA5; RESULT_LENGTH]);
     });
     let (mut read, mut whole) = (0u64, 0u64);
     s.kind("read_run: sent and harmed", 1_000, |s, r, case| {
@@ -896,8 +896,8 @@ fn read_kinds(s: &mut Score) {
             symbols[low..high].fill(0);
         }
         let harmed: u32 = symbols.iter().zip(&unharmed).map(|(a, b)| (a ^ b).count_ones()).sum();
-        let room = room_of(r, sent.len());
-        let (answer, got, after, differing) = read_run(s, rate, memory, &symbols, room, vec![0xA5; RESULT_LENGTH]);
+        let output = output_of(r, sent.len());
+        let (answer, got, after, differing) = read_run(s, rate, memory, &symbols, output, vec![0xA5; RESULT_LENGTH]);
         assert_eq!(answer, 0);
         assert!(differing <= harmed);
         if harmed == 0 {
@@ -948,13 +948,13 @@ fn read_kinds(s: &mut Score) {
                         }
                         let count = length * patterns;
                         // The longest ones are read by the other kinds: the reference takes its time for them.
-                        let mut rooms = vec![count.saturating_sub(1), 0];
+                        let mut outputs = vec![count.saturating_sub(1), 0];
                         if patterns < most {
-                            rooms.extend([count, count + 3]);
+                            outputs.extend([count, count + 3]);
                         }
-                        for room in rooms {
+                        for output in outputs {
                             for result in [0, 5, 6, 7] {
-                                read_run(s, rate, memory, &symbols, r.bytes(room), vec![0xA5; result]);
+                                read_run(s, rate, memory, &symbols, r.bytes(output), vec![0xA5; result]);
                             }
                         }
                     }
@@ -1011,16 +1011,16 @@ fn read_soft_kinds(s: &mut Score) {
         let length = InnerCoder::pattern_length(rate);
         let count = length * r.below(12 / length + 1);
         let run = anything(r, symbols_in(rate, count));
-        let room = room_of(r, count);
-        read_soft_run(s, rate, r.byte() % 64, &run, room, vec![0xA5; RESULT_LENGTH + case as usize % 3]);
+        let output = output_of(r, count);
+        read_soft_run(s, rate, r.byte() % 64, &run, output, vec![0xA5; RESULT_LENGTH + case as usize % 3]);
     });
     s.kind("read_soft_run: anything, where nothing was sent", 200, |s, r, case| {
         let rate = case as u8 % 5;
         let length = InnerCoder::pattern_length(rate);
         let patterns = if case < 10 { LONGEST / length } else { r.below(LONGEST / length + 1) };
         let run = anything(r, symbols_in(rate, length * patterns));
-        let room = room_of(r, length * patterns);
-        read_soft_run(s, rate, r.byte() % 64, &run, room, vec![0xA5; RESULT_LENGTH]);
+        let output = output_of(r, length * patterns);
+        read_soft_run(s, rate, r.byte() % 64, &run, output, vec![0xA5; RESULT_LENGTH]);
     });
     s.kind("read_soft_run: every symbol lost", 320, |s, r, case| {
         let rate = case as u8 % 5;
@@ -1029,8 +1029,8 @@ fn read_soft_kinds(s: &mut Score) {
         let mut run = anything(r, symbols_in(rate, count));
         run.lost.fill(1);
         let memory = r.byte() % 64;
-        let room = room_of(r, count);
-        let told = read_soft_run(s, rate, memory, &run, room, vec![0xA5; RESULT_LENGTH]);
+        let output = output_of(r, count);
+        let told = read_soft_run(s, rate, memory, &run, output, vec![0xA5; RESULT_LENGTH]);
         assert_eq!(told, (0, vec![0; count], memory.checked_shr(count as u32).unwrap_or(0), 0));
     });
     s.kind("read_soft_run: points of 1.0 and -1.0, and read_run", 600, |s, r, case| {
@@ -1044,15 +1044,15 @@ fn read_soft_kinds(s: &mut Score) {
             lost: vec![0; symbols.len()],
         };
         let memory = r.byte() % 64;
-        let room = room_of(r, length * patterns);
+        let output = output_of(r, length * patterns);
         // Of the library's two functions one against the other, and then each against the reference.
-        let (mut a, mut b) = (room.clone(), room.clone());
+        let (mut a, mut b) = (output.clone(), output.clone());
         let (mut m, mut n) = ([0xA5; RESULT_LENGTH], [0xA5; RESULT_LENGTH]);
         let hard = library::read_run(rate, memory, &symbols, &mut a, &mut m);
         let soft = library::read_soft_run(rate, memory, &run.i, &run.q, &run.lost, &mut b, &mut n);
         let number = |result: &[u8]| u32::from_le_bytes(result[2..RESULT_LENGTH].try_into().unwrap());
         assert_eq!((hard, &a, &m[..2], 7 * number(&m)), (soft, &b, &n[..2], number(&n)));
-        read_soft_run(s, rate, memory, &run, room, vec![0xA5; RESULT_LENGTH]);
+        read_soft_run(s, rate, memory, &run, output, vec![0xA5; RESULT_LENGTH]);
     });
     let (mut read, mut whole, mut hard_whole) = (0u64, 0u64, 0u64);
     s.kind("read_soft_run: sent with noise", 600, |s, r, case| {
@@ -1072,8 +1072,8 @@ fn read_soft_kinds(s: &mut Score) {
             q: symbols.iter().map(|s| signal(s & 1) + noise(r)).collect(),
             lost: symbols.iter().map(|_| (one_in > 0 && r.below(one_in) == 0) as u8).collect(),
         };
-        let room = room_of(r, sent.len());
-        let (answer, got, after, cost) = read_soft_run(s, rate, memory, &run, room, vec![0xA5; RESULT_LENGTH]);
+        let output = output_of(r, sent.len());
+        let (answer, got, after, cost) = read_soft_run(s, rate, memory, &run, output, vec![0xA5; RESULT_LENGTH]);
         assert_eq!(answer, 0);
         if strength == 0.0 && one_in == 0 {
             assert_eq!((&got, after, cost), (&sent, coder.memory(), 0));
@@ -1113,13 +1113,13 @@ fn read_soft_kinds(s: &mut Score) {
                             _ => {}
                         }
                         let count = length * patterns;
-                        let mut rooms = vec![count.saturating_sub(1), 0];
+                        let mut outputs = vec![count.saturating_sub(1), 0];
                         if patterns < most {
-                            rooms.extend([count, count + 3]);
+                            outputs.extend([count, count + 3]);
                         }
-                        for room in rooms {
+                        for output in outputs {
                             for result in [0, 5, 6, 7] {
-                                read_soft_run(s, rate, memory, &run, r.bytes(room), vec![0xA5; result]);
+                                read_soft_run(s, rate, memory, &run, r.bytes(output), vec![0xA5; result]);
                             }
                         }
                     }
@@ -1141,7 +1141,7 @@ fn stream_of(blocks: &[Vec<u8>]) -> Vec<u8> {
     stream
 }
 
-/// Receives a stream from any of its blocks on, with bursts of wrong bytes from these bytes on; all are in blocks that are repaired.
+/// Receives a stream from any of its blocks on, with bursts of wrong bytes from these bytes on; all are in blocks that are corrected.
 /// The packets that came, those that come where nothing is lost, and the counts.
 fn burst_from(s: &mut Score, r: &mut Xorshift, length: usize, starts: &[usize]) -> (Vec<u8>, Vec<u8>, [u64; 8]) {
     let from = r.below(16);
@@ -1151,8 +1151,8 @@ fn burst_from(s: &mut Score, r: &mut Xorshift, length: usize, starts: &[usize]) 
     for start in starts {
         harm(r, &mut stream, length, *start, start + length);
     }
-    let room = room_of(r, stream.len() / 204 * 188);
-    let (got, eight) = receive_run(s, &stream, room, vec![0xA5; COUNTS_LENGTH]);
+    let output = output_of(r, stream.len() / 204 * 188);
+    let (got, eight) = receive_run(s, &stream, output, vec![0xA5; COUNTS_LENGTH]);
     let first = (from + 7) / 8 * 8;
     (got, p[188 * first..188 * (from + blocks - 11)].to_vec(), eight)
 }
@@ -1160,7 +1160,7 @@ fn burst_from(s: &mut Score, r: &mut Xorshift, length: usize, starts: &[usize]) 
 fn receive_kinds(s: &mut Score) {
     let mut total = [0u64; 8];
     let mut add = |eight: [u64; 8]| total.iter_mut().zip(eight).for_each(|(t, c)| *t += c);
-    let room_for = |r: &mut Xorshift, stream: &[u8]| room_of(r, stream.len() / 204 * 188);
+    let output_for = |r: &mut Xorshift, stream: &[u8]| output_of(r, stream.len() / 204 * 188);
 
     s.kind("receive_run: unharmed", 80, |s, r, case| {
         let count = if case < 60 { case as usize } else { 60 + r.below(200) };
@@ -1168,8 +1168,8 @@ fn receive_kinds(s: &mut Score) {
         let mut stream = interleaved_stream(&p);
         let rest = r.below(204);
         stream.extend(r.bytes(rest));
-        let room = room_for(r, &stream);
-        let (got, eight) = receive_run(s, &stream, room, vec![0xA5; COUNTS_LENGTH + case as usize % 3]);
+        let output = output_for(r, &stream);
+        let (got, eight) = receive_run(s, &stream, output, vec![0xA5; COUNTS_LENGTH + case as usize % 3]);
         assert_eq!(got, p[..188 * count.saturating_sub(11)]);
         add(eight);
     });
@@ -1177,11 +1177,11 @@ fn receive_kinds(s: &mut Score) {
         let p = packets(r, 14);
         let mut stream = interleaved_stream(&p);
         stream.truncate(13 * 204 + case as usize);
-        let room = room_for(r, &stream);
-        add(receive_run(s, &stream, room, vec![0xA5; COUNTS_LENGTH]).1);
+        let output = output_for(r, &stream);
+        add(receive_run(s, &stream, output, vec![0xA5; COUNTS_LENGTH]).1);
         // And no whole block at all.
-        let room = room_of(r, 0);
-        add(receive_run(s, &stream[..case as usize], room, vec![0xA5; COUNTS_LENGTH]).1);
+        let output = output_of(r, 0);
+        add(receive_run(s, &stream[..case as usize], output, vec![0xA5; COUNTS_LENGTH]).1);
     });
     s.kind("receive_run: harmed bytes", 160, |s, r, case| {
         let count = 20 + r.below(120);
@@ -1200,16 +1200,16 @@ fn receive_kinds(s: &mut Score) {
             let high = (low + length).min(stream.len());
             stream[low..high].iter_mut().for_each(|byte| *byte = r.byte());
         }
-        let room = room_for(r, &stream);
-        add(receive_run(s, &stream, room, vec![0xA5; COUNTS_LENGTH]).1);
+        let output = output_for(r, &stream);
+        add(receive_run(s, &stream, output, vec![0xA5; COUNTS_LENGTH]).1);
     });
     s.kind("receive_run: from inside a group", 120, |s, r, case| {
         let count = 24 + r.below(60);
         let p = packets(r, count);
         let stream = interleaved_stream(&p);
         let from = case as usize % 24;
-        let room = room_for(r, &stream[204 * from..]);
-        add(receive_run(s, &stream[204 * from..], room, vec![0xA5; COUNTS_LENGTH]).1);
+        let output = output_for(r, &stream[204 * from..]);
+        add(receive_run(s, &stream[204 * from..], output, vec![0xA5; COUNTS_LENGTH]).1);
     });
     // Bursts of 96 bytes, at every offset of twelve blocks and as near to each other as document 02, P9, allows: none in 2,448
     // bytes with another, so 2,448 bytes from the last wrong one to the next. Every packet is given.
@@ -1265,11 +1265,11 @@ fn receive_kinds(s: &mut Score) {
             let at = 204 * r.below(stream.len() / 204);
             stream.drain(at..at + 204);
         }
-        let room = room_for(r, &stream);
-        add(receive_run(s, &stream, room, vec![0xA5; COUNTS_LENGTH]).1);
+        let output = output_for(r, &stream);
+        add(receive_run(s, &stream, output, vec![0xA5; COUNTS_LENGTH]).1);
     });
     s.kind("receive_run: sync bytes at random", 200, |s, r, _| {
-        // Every packet begins B8 or 47 or neither, some blocks beyond repair:
+        // Every packet begins B8 or 47 or neither, some blocks uncorrectable:
         // walks through all moves of the place.
         let count = 20 + r.below(120);
         let mut due = 0;
@@ -1287,8 +1287,8 @@ fn receive_kinds(s: &mut Score) {
             })
             .collect();
         let stream = stream_of(&blocks);
-        let room = room_for(r, &stream);
-        add(receive_run(s, &stream, room, vec![0xA5; COUNTS_LENGTH]).1);
+        let output = output_for(r, &stream);
+        add(receive_run(s, &stream, output, vec![0xA5; COUNTS_LENGTH]).1);
     });
     histories_from_every_state(s, &mut add);
     s.kind("receive_run: anything", 200, |s, r, case| {
@@ -1299,8 +1299,8 @@ fn receive_kinds(s: &mut Score) {
             2 => vec![r.byte(); length],
             _ => r.bytes(length),
         };
-        let room = room_for(r, &stream);
-        add(receive_run(s, &stream, room, vec![0xA5; COUNTS_LENGTH]).1);
+        let output = output_for(r, &stream);
+        add(receive_run(s, &stream, output, vec![0xA5; COUNTS_LENGTH]).1);
     });
     s.kind("receive_run: long recordings", 8, |s, r, case| {
         let p = packets(r, 1500);
@@ -1313,17 +1313,17 @@ fn receive_kinds(s: &mut Score) {
         }
         let rest = r.below(204);
         stream.extend(r.bytes(rest));
-        let room = room_for(r, &stream);
-        add(receive_run(s, &stream, room, vec![0xA5; COUNTS_LENGTH]).1);
+        let output = output_for(r, &stream);
+        add(receive_run(s, &stream, output, vec![0xA5; COUNTS_LENGTH]).1);
     });
     s.kind("receive_run: refusals", 60, |s, r, case| {
         let count = case as usize % 30;
         let p = packets(r, count);
         let stream = interleaved_stream(&p);
         for (counts, answer) in [0, 1, 56, 63, 64, 65].into_iter().flat_map(|c| [0, 1, 2].map(|a| (c, a))) {
-            let mut lent = |room: usize| {
-                let room = r.bytes(room);
-                receive_run_told(s, &stream, room, vec![0xA5; counts], vec![0xA5; answer]);
+            let mut lent = |output: usize| {
+                let output = r.bytes(output);
+                receive_run_told(s, &stream, output, vec![0xA5; counts], vec![0xA5; answer]);
             };
             lent(188 * count);
             if count > 0 {
@@ -1365,9 +1365,9 @@ fn recording_kinds(s: &mut Score) {
         recording.extend(r.bytes(rest));
         let blocks = recording.len() as u64 / 204;
         for p in 0..blocks {
-            let room = room_of(r, 204);
+            let output = output_of(r, 204);
             let before = count_before(r);
-            let (answer, block) = recording_block(s, &recording, blocks, p, room, before);
+            let (answer, block) = recording_block(s, &recording, blocks, p, output, before);
             lost += (answer == 8) as u64;
             // The twelve blocks from block p on are all that matters.
             let at = 204 * p as usize;
@@ -1377,7 +1377,7 @@ fn recording_kinds(s: &mut Score) {
         }
     });
     if lost > 0 {
-        println!("  beyond repair: {lost}");
+        println!("  uncorrectable: {lost}");
         assert!(lost >= 100, "{lost}");
     }
     s.kind("recording_block: only 204 bytes matter", 200, |s, r, case| {
@@ -1398,9 +1398,9 @@ fn recording_kinds(s: &mut Score) {
         let whole = length as u64 / 204;
         for blocks in [whole, whole + 1, whole.wrapping_sub(1), 0, 12, u64::MAX] {
             for p in [0, 1, whole.wrapping_sub(12), whole.wrapping_sub(11), whole, 4_294_967_283, 4_294_967_284, u64::MAX - 11, u64::MAX] {
-                for room in [0, 203, 204, 205] {
+                for output in [0, 203, 204, 205] {
                     for count in [0, 1, 2, 3] {
-                        recording_block(s, &recording, blocks, p, r.bytes(room), vec![0xA5; count]);
+                        recording_block(s, &recording, blocks, p, r.bytes(output), vec![0xA5; count]);
                     }
                 }
             }
@@ -1467,8 +1467,8 @@ fn histories_from_every_state(s: &mut Score, add: &mut impl FnMut([u64; 8])) {
         let mut whole: Vec<Vec<u8>> = blocks.iter().map(|&what| pool[what as usize][r.below(16)].clone()).collect();
         whole.extend((0..11).map(|_| vec![0; BLOCK_LENGTH]));
         let stream = stream_of(&whole);
-        let room = room_of(r, stream.len() / 204 * 188);
-        add(receive_run(s, &stream, room, vec![0xA5; 64]).1);
+        let output = output_of(r, stream.len() / 204 * 188);
+        add(receive_run(s, &stream, output, vec![0xA5; 64]).1);
     });
 }
 

@@ -1,5 +1,5 @@
 //! Compares the part for the bridge with the reference, and with the library's own
-//! receiver: answers and every byte of state and room, on seeded, repeatable inputs.
+//! receiver: answers and every byte of state and output, on seeded, repeatable inputs.
 //! What the library is lent ends, or begins, where memory may not be touched.
 //!
 //! `compare_bridge` runs all; `compare_bridge KIND` one kind; `compare_bridge KIND CASE` one case.
@@ -67,7 +67,7 @@ struct Score {
     failed_all: u64,
     state: guarded::Page,
     block: guarded::Page,
-    room: guarded::Page,
+    output: guarded::Page,
 }
 
 impl Score {
@@ -99,35 +99,35 @@ impl Score {
             println!("DIFFERENT {} {}: {inputs}", self.kind, self.case);
             println!("  answer: reference {}, library {}", want.0, got.0);
             let differs = |a: &[u8], b: &[u8]| a.iter().zip(b).position(|(x, y)| x != y);
-            println!("  first byte that differs: state {:?}, room {:?}", differs(want.1, got.1), differs(want.2, got.2));
+            println!("  first byte that differs: state {:?}, output {:?}", differs(want.1, got.1), differs(want.2, got.2));
         }
     }
 
-    /// Takes a block on both sides: the answer, the state and the room after it.
-    fn take(&mut self, r: &mut Xorshift, state: &[u8], block: &[u8], room: &[u8]) -> (u8, Vec<u8>, Vec<u8>) {
-        let (mut a, mut b) = (state.to_vec(), room.to_vec());
+    /// Takes a block on both sides: the answer, the state and the output after it.
+    fn take(&mut self, r: &mut Xorshift, state: &[u8], block: &[u8], output: &[u8]) -> (u8, Vec<u8>, Vec<u8>) {
+        let (mut a, mut b) = (state.to_vec(), output.to_vec());
         let want = expected::take(&mut a, block, &mut b);
         let at_end = r.below(2) == 0;
         let lent = self.state.lend(state, at_end);
-        let lent_room = self.room.lend(room, at_end);
-        let got = library::take(lent, self.block.lend(block, at_end), lent_room);
-        let (lent, lent_room) = (lent.to_vec(), lent_room.to_vec());
-        let inputs = format!("take, state of {}, block of {}, room of {}", state.len(), block.len(), room.len());
-        self.same(&inputs, (want, &a, &b), (got, &lent, &lent_room));
-        (got, lent, lent_room)
+        let lent_output = self.output.lend(output, at_end);
+        let got = library::take(lent, self.block.lend(block, at_end), lent_output);
+        let (lent, lent_output) = (lent.to_vec(), lent_output.to_vec());
+        let inputs = format!("take, state of {}, block of {}, output of {}", state.len(), block.len(), output.len());
+        self.same(&inputs, (want, &a, &b), (got, &lent, &lent_output));
+        (got, lent, lent_output)
     }
 
-    fn count(&mut self, r: &mut Xorshift, state: &[u8], number: u8, room: &[u8]) -> (u8, Vec<u8>) {
-        let mut b = room.to_vec();
+    fn count(&mut self, r: &mut Xorshift, state: &[u8], number: u8, output: &[u8]) -> (u8, Vec<u8>) {
+        let mut b = output.to_vec();
         let want = expected::count(state, number, &mut b);
         let at_end = r.below(2) == 0;
         let lent = self.state.lend(state, at_end);
-        let lent_room = self.room.lend(room, at_end);
-        let got = library::count(lent, number, lent_room);
-        let (lent, lent_room) = (lent.to_vec(), lent_room.to_vec());
-        let inputs = format!("count {number}, state of {}, room of {}", state.len(), room.len());
-        self.same(&inputs, (want, state, &b), (got, &lent, &lent_room));
-        (got, lent_room)
+        let lent_output = self.output.lend(output, at_end);
+        let got = library::count(lent, number, lent_output);
+        let (lent, lent_output) = (lent.to_vec(), lent_output.to_vec());
+        let inputs = format!("count {number}, state of {}, output of {}", state.len(), output.len());
+        self.same(&inputs, (want, state, &b), (got, &lent, &lent_output));
+        (got, lent_output)
     }
 
     fn fresh(&mut self, r: &mut Xorshift, length: usize) -> (u8, Vec<u8>) {
@@ -235,15 +235,15 @@ fn pass_kinds(s: &mut Score) {
         let mut given = Vec::new();
         for block in all.chunks_exact(BLOCK_LENGTH) {
             let more = r.below(3);
-            let room = r.bytes(PACKET_LENGTH + more);
-            let (answer, after, left) = s.take(r, &state, block, &room);
+            let output = r.bytes(PACKET_LENGTH + more);
+            let (answer, after, left) = s.take(r, &state, block, &output);
             if answer == 0 {
                 given.extend(&left[..PACKET_LENGTH]);
             }
             // A call that is refused in between changes nothing.
             if r.below(8) == 0 {
-                s.take(r, &after, &block[1..], &room);
-                s.take(r, &after, block, &room[..PACKET_LENGTH - 1]);
+                s.take(r, &after, &block[1..], &output);
+                s.take(r, &after, block, &output[..PACKET_LENGTH - 1]);
             }
             state = after;
         }
@@ -253,9 +253,9 @@ fn pass_kinds(s: &mut Score) {
             assert_eq!(answer, 0);
             counts.extend(count);
         }
-        let (mut room, mut own, mut told) = (vec![0; PACKET_LENGTH * (all.len() / BLOCK_LENGTH)], vec![0; 64], [0xA5]);
-        let written = exports::library::receive_run(&all, &mut room, &mut own, &mut told) as usize;
-        s.same("the library's receiver", (told[0], &own, &room[..written]), (0, &counts, &given));
+        let (mut output, mut own, mut told) = (vec![0; PACKET_LENGTH * (all.len() / BLOCK_LENGTH)], vec![0; 64], [0xA5]);
+        let written = exports::library::receive_run(&all, &mut output, &mut own, &mut told) as usize;
+        s.same("the library's receiver", (told[0], &own, &output[..written]), (0, &counts, &given));
     });
 }
 
@@ -278,9 +278,9 @@ fn state_kinds(s: &mut Score) {
             }
         }
         let length = [0, 187, 188, 189][r.below(4)];
-        let room = r.bytes(length);
+        let output = r.bytes(length);
         let block = some_block(r);
-        tell(s.take(r, &state, &block, &room).0);
+        tell(s.take(r, &state, &block, &output).0);
         let number = r.byte() % 10;
         let length = r.below(10);
         let lent = r.bytes(length);
@@ -293,13 +293,13 @@ fn state_kinds(s: &mut Score) {
         if case % 2 == 0 {
             let reached = 13 + r.below(20);
             expected::fresh(&mut state);
-            let room = &mut [0; PACKET_LENGTH];
+            let output = &mut [0; PACKET_LENGTH];
             for block in stream(r, reached).chunks_exact(BLOCK_LENGTH) {
-                expected::take(&mut state, block, room);
+                expected::take(&mut state, block, output);
             }
         }
         let block = some_block(r);
-        let room = r.bytes(PACKET_LENGTH);
+        let output = r.bytes(PACKET_LENGTH);
         for bit in 0..BITS + 80 {
             let bit = match bit.checked_sub(BITS) {
                 None => 8 * POSITIONS + bit,
@@ -308,8 +308,8 @@ fn state_kinds(s: &mut Score) {
             };
             let mut other = state.clone();
             other[bit / 8] ^= 1 << (bit % 8);
-            tell(s.take(r, &other, &block, &room).0);
-            s.count(r, &other, (bit % 8) as u8, &room[..8]);
+            tell(s.take(r, &other, &block, &output).0);
+            s.count(r, &other, (bit % 8) as u8, &output[..8]);
         }
     });
     if s.only_kind.is_none() {
@@ -326,14 +326,14 @@ fn refusal_kinds(s: &mut Score) {
             long.extend(r.bytes(3));
             for length in [0, 1, case as usize, STATE_LENGTH - 1, STATE_LENGTH, STATE_LENGTH + 1, STATE_LENGTH + 3] {
                 for block in [0, 203, 204, 205] {
-                    for room in [0, 187, 188] {
-                        let (block, room) = (r.bytes(block), r.bytes(room));
-                        s.take(r, &long[..length], &block, &room);
+                    for output in [0, 187, 188] {
+                        let (block, output) = (r.bytes(block), r.bytes(output));
+                        s.take(r, &long[..length], &block, &output);
                     }
                 }
-                for room in 0..10 {
-                    let room = r.bytes(room);
-                    s.count(r, &long[..length], case as u8, &room);
+                for output in 0..10 {
+                    let output = r.bytes(output);
+                    s.count(r, &long[..length], case as u8, &output);
                 }
                 s.fresh(r, length);
             }
@@ -351,17 +351,17 @@ fn refusal_kinds(s: &mut Score) {
         for (k, count) in numbers.iter().enumerate() {
             state[COUNTS + 8 * k..COUNTS + 8 * k + 8].copy_from_slice(&count.to_le_bytes());
         }
-        let (block, room) = (some_block(r), r.bytes(PACKET_LENGTH));
-        let (answer, after, _) = s.take(r, &state, &block, &room);
+        let (block, output) = (some_block(r), r.bytes(PACKET_LENGTH));
+        let (answer, after, _) = s.take(r, &state, &block, &output);
         assert_ne!(answer, 7);
-        assert_eq!(s.take(r, &after, &block, &room).0, 7);
+        assert_eq!(s.take(r, &after, &block, &output).0, 7);
         for number in 0..8 {
-            s.count(r, &after, number, &room);
+            s.count(r, &after, number, &output);
         }
     });
     // Marks that came before the bridge takes over act when their bytes leave the delays. The wrong bytes of each block are among the seventeen
     // of its first branch, which come eleven blocks before it leaves: so those of the blocks that came before are marked, all of them, and sixteen are
-    // repaired; those of the blocks after are not, and eight are.
+    // corrected; those of the blocks after are not, and eight are.
     s.kind("marks in the delays", 180, |s, r, case| {
         let wrong = case as usize % 18;
         let sent = packets(r, 40);
@@ -379,11 +379,11 @@ fn refusal_kinds(s: &mut Score) {
         let turn = 11 + r.below(12);
         let mut lost = Vec::new();
         for (k, (block, marked)) in all.chunks_exact(BLOCK_LENGTH).zip(marks.chunks_exact(BLOCK_LENGTH)).enumerate() {
-            let mut room = r.bytes(PACKET_LENGTH);
+            let mut output = r.bytes(PACKET_LENGTH);
             if k < turn {
-                expected::take_marked(&mut state, block, marked, &mut room);
+                expected::take_marked(&mut state, block, marked, &mut output);
             } else {
-                let (answer, after, _) = s.take(r, &state, block, &room);
+                let (answer, after, _) = s.take(r, &state, block, &output);
                 lost.push(answer == 8);
                 state = after;
             }
@@ -434,7 +434,7 @@ fn main() {
         failed_all: 0,
         state: page(),
         block: page(),
-        room: page(),
+        output: page(),
     };
     pass_kinds(&mut s);
     state_kinds(&mut s);

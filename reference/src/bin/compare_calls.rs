@@ -17,11 +17,11 @@ fn expected(rate: u8, inputs: &[Vec<u8>]) -> Vec<u8> {
     let mut sender = Sender::fresh(rate).ok().expect("a mode that is sent");
     let mut out = Vec::new();
     for input in inputs {
-        let mut room = [0; 1632];
-        let (answer, count) = sender.send(input, &mut room);
+        let mut output = [0; 1632];
+        let (answer, count) = sender.send(input, &mut output);
         out.push(answer.number());
         out.extend((count as u16).to_le_bytes());
-        out.extend(&room[..count]);
+        out.extend(&output[..count]);
     }
     out
 }

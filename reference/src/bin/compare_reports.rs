@@ -1,7 +1,7 @@
 //! Compares the reader, the mover and the writer of pass reports with the reference,
 //! through the program `report_calls`: texts of both forms, each with every change,
 //! deletion and insertion of one byte and cut at every place, numbers at their limits
-//! and beyond, reports as numbers, room of every length. What is moved is moved back,
+//! and beyond, reports as numbers, outputs of every length. What is moved is moved back,
 //! and must be the text that it was.
 //!
 //! `compare_reports PROGRAM`, PROGRAM being `target/bin/report_calls`.
@@ -12,7 +12,7 @@ use reference::xorshift::Xorshift;
 use std::io::Write;
 use std::process::{exit, Command, Stdio};
 
-const ROOM: u16 = 320;
+const OUTPUT: u16 = 320;
 
 /// What is done with the bytes, as `report_calls` wants it told.
 const AGAIN: u8 = 0;
@@ -20,16 +20,16 @@ const NUMBERS: u8 = 3;
 
 struct Case {
     kind: u8,
-    room: u16,
+    output: u16,
     bytes: Vec<u8>,
 }
 
 fn case(kind: u8, text: impl Into<Vec<u8>>) -> Case {
-    Case { kind, room: ROOM, bytes: text.into() }
+    Case { kind, output: OUTPUT, bytes: text.into() }
 }
 
 /// A report as numbers.
-fn numbers(report: &Report, room: u16) -> Case {
+fn numbers(report: &Report, output: u16) -> Case {
     let (kind, bits) = match report.bits {
         Bits::Absent => (0, 0),
         Bits::Dash => (1, 0),
@@ -39,7 +39,7 @@ fn numbers(report: &Report, room: u16) -> Case {
     for number in report.counts.into_iter().chain([bits, report.rest]) {
         bytes.extend(number.to_le_bytes());
     }
-    Case { kind: NUMBERS, room, bytes }
+    Case { kind: NUMBERS, output, bytes }
 }
 
 /// The report in the bytes of such a case.
@@ -52,11 +52,11 @@ fn report_in(bytes: &[u8]) -> Report {
 type Given = Result<String, Answer>;
 
 fn expected(case: &Case) -> Given {
-    let room = case.room as usize;
+    let output = case.output as usize;
     match case.kind {
-        AGAIN => write(&read(&case.bytes)?, room),
-        NUMBERS => write(&report_in(&case.bytes), room),
-        form => moved(&case.bytes, form, room),
+        AGAIN => write(&read(&case.bytes)?, output),
+        NUMBERS => write(&report_in(&case.bytes), output),
+        form => moved(&case.bytes, form, output),
     }
 }
 
@@ -70,7 +70,7 @@ fn got(program: &str, cases: &[Case]) -> Vec<(u8, Vec<u8>)> {
     let mut framed = Vec::new();
     for case in cases {
         framed.push(case.kind);
-        framed.extend(case.room.to_le_bytes());
+        framed.extend(case.output.to_le_bytes());
         framed.extend((case.bytes.len() as u16).to_le_bytes());
         framed.extend(&case.bytes);
     }
@@ -115,12 +115,12 @@ impl Comparison {
                 self.different += 1;
                 if self.different - before <= 3 {
                     let given = String::from_utf8_lossy(&case.bytes);
-                    println!("DIFFERENT {kind}, case {n}, kind {}, room {}: {number}, not {want}\n{given}", case.kind, case.room);
+                    println!("DIFFERENT {kind}, case {n}, kind {}, output {}: {number}, not {want}\n{given}", case.kind, case.output);
                 }
             }
             self.answered[[0, 4, 17, 18, 19].iter().position(|&a| a == want).unwrap()] += 1;
             if want == 0 && (case.kind == 1 || case.kind == 2) {
-                back.push((Case { kind: 3 - case.kind, room: case.bytes.len() as u16, bytes: text }, &case.bytes));
+                back.push((Case { kind: 3 - case.kind, output: case.bytes.len() as u16, bytes: text }, &case.bytes));
             }
         }
         self.compared += cases.len();
@@ -225,7 +225,7 @@ fn main() {
                 for rest in [MOST_REST, MOST_REST + 1] {
                     let report = report(counts, bits, rest);
                     cases.extend((0..3).map(|kind| case(kind, report.text())));
-                    cases.push(numbers(&report, ROOM));
+                    cases.push(numbers(&report, OUTPUT));
                 }
             }
         }
@@ -245,11 +245,11 @@ fn main() {
         if r.below(8) == 0 {
             report.rest = wide(&mut r);
         }
-        cases.push(numbers(&report, ROOM));
+        cases.push(numbers(&report, OUTPUT));
     }
     all.run("reports as numbers", cases);
 
-    // Good reports of all sizes; lines reordered, doubled or left out; two reports as one text; room of every length.
+    // Good reports of all sizes; lines reordered, doubled or left out; two reports as one text; outputs of every length.
     let mut cases = Vec::new();
     for _ in 0..10_000 {
         let text = random(&mut r).text();
@@ -268,12 +268,12 @@ fn main() {
         for other in base() {
             cases.extend((0..3).map(|kind| case(kind, text.clone() + &other.text())));
         }
-        for room in 0..=ROOM {
-            cases.extend((0..3).map(|kind| Case { kind, room, bytes: text.clone().into_bytes() }));
-            cases.push(numbers(&report, room));
+        for output in 0..=OUTPUT {
+            cases.extend((0..3).map(|kind| Case { kind, output, bytes: text.clone().into_bytes() }));
+            cases.push(numbers(&report, output));
         }
     }
-    all.run("good reports, other orders of their lines, two of them, room of every length", cases);
+    all.run("good reports, other orders of their lines, two of them, outputs of every length", cases);
 
     println!("pass reports: {} cases compared, {} different; answered 0, 4, 17, 18, 19: {:?}", all.compared, all.different, all.answered);
     exit((all.different > 0) as i32);

@@ -13,7 +13,7 @@ fn main() -> std::io::Result<()> {
     let marks = std::env::args_os().nth(1).map_or(Ok(Vec::new()), std::fs::read)?;
     let mut blocks_of_marks = marks.chunks(BLOCK_LENGTH);
     let mut receiver = Receiver::fresh();
-    let mut room = [0; PACKET_LENGTH];
+    let mut output = [0; PACKET_LENGTH];
     let mut block = [0; BLOCK_LENGTH];
     let mut rest = 0;
     loop {
@@ -24,7 +24,7 @@ fn main() -> std::io::Result<()> {
             let mut marked = [0; BLOCK_LENGTH];
             let given = blocks_of_marks.next().unwrap_or(&[]);
             marked[..given.len()].copy_from_slice(given);
-            receiver.receive_marked(&block, &marked, &mut room);
+            receiver.receive_marked(&block, &marked, &mut output);
             if receiver.counts().taken == reference::receiver::MOST_BLOCKS {
                 break;
             }

@@ -2,7 +2,7 @@
 //! `recorded_block FILE P > block`, the answer and the counts on standard error.
 
 use reference::answer::Answer;
-use reference::recording::repaired_block;
+use reference::recording::decoded_block;
 use reference::BLOCK_LENGTH;
 use std::io::Write;
 
@@ -10,13 +10,13 @@ fn main() {
     let mut arguments = std::env::args().skip(1);
     let recording = std::fs::read(arguments.next().expect("FILE")).expect("the recording");
     let p = arguments.next().expect("P").parse().expect("a number");
-    let mut room = [0; BLOCK_LENGTH];
+    let mut output = [0; BLOCK_LENGTH];
     let blocks = (recording.len() / BLOCK_LENGTH) as u64;
-    let (answer, changed) = repaired_block(&recording, blocks, p, &mut room);
+    let (answer, changed) = decoded_block(&recording, blocks, p, &mut output);
     if answer == Answer::Done {
         // Whole before the line on standard error.
         let mut output = std::io::stdout();
-        output.write_all(&room).and_then(|()| output.flush()).expect("standard output");
+        output.write_all(&output).and_then(|()| output.flush()).expect("standard output");
     }
     eprintln!("answer={} changed={} bits={}", answer.number(), changed.bytes, changed.bits);
 }

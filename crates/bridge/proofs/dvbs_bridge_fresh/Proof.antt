@@ -2,7 +2,7 @@
 -- Assumes nothing.
 use mathlib.Core.Path.{refl, ap, _∙_}
 use borrow.Author.Tests.{eq-eqb, ne-eqb}
-use Rattle.bridge.specs.State.{bytesOf}
+use Rattle.bridge.specs.State.{stateBytes}
 use borrow.Author.Needs.{needs}
 use Rattle.bridge.proofs.dvbs_bridge_fresh.Statement.{statement}
 use Rattle.bridge.proofs.dvbs_bridge_fresh.Tie as tie
@@ -23,7 +23,7 @@ same-length : tie.Need-same-length
 same-length c = search needs
 
 returns-2 : tie.Need-returns-2
-returns-2 c = simp (eq-eqb _ _ (c .before .before .before .before .before .if1 .left)) (refl, c .before .before .write-state .ensures ∙ ap bytesOf (c .before .before .before .before .new .ensures))
+returns-2 c = simp (eq-eqb _ _ (c .before .before .before .before .before .if1 .left)) (refl, c .before .before .write-state .ensures ∙ ap stateBytes (c .before .before .before .before .new .ensures))
 
 pub dvbs-bridge-fresh-spec : {M : Type 1} → statement M
 dvbs-bridge-fresh-spec =

@@ -39,9 +39,9 @@ returns-2 : tie.Need-returns-2
 returns-2 c =
     let a = c .before .before .before .before .before .before .before .before .before .before .before .before .before .before .args in
     let receive = c .before .before .before .before .before .before .receive in
-    refused-takes (a .state .now) (a .block .now) (a .room .now) (c .before .before .before .before .before .before .before .before .before .before .if1 .left) (λ i. c .before .before .before .before .before .before .before .before .before .before .before .before .before .slice-known .given i .fits)
+    refused-takes (a .state .now) (a .block .now) (a .output .now) (c .before .before .before .before .before .before .before .before .before .before .if1 .left) (λ i. c .before .before .before .before .before .before .before .before .before .before .before .before .before .slice-known .given i .fits)
     (receive .result) (receive .last .1 .1 .0)
-    (subst (λ (s : Receiver). Receives s (a .block .now) (a .room .now) (receive .result) (receive .last .1 .1 .0)) (c .before .before .before .before .before .before .before .before .read-state .ensures) (receive .ensures))
+    (subst (λ (s : Receiver). Receives s (a .block .now) (a .output .now) (receive .result) (receive .last .1 .1 .0)) (c .before .before .before .before .before .before .before .before .read-state .ensures) (receive .ensures))
     (c .before .before .number2 .result) (c .before .before .number2 .ensures) (sym (c .before .is-refusal .ensures) ∙ c .if2 .taken)
 
 write-state-requires : tie.Need-write-state-requires
@@ -58,10 +58,10 @@ returns-3 c =
     let a = c .before .before .before .before .before .before .before .before .before .before .before .before .before .before .before .before .before .before .args in
     let receive = c .before .before .before .before .before .before .before .before .before .before .receive in
     let number = c .before .before .before .before .before .before .number2 in
-    subst (λ (after : List ℕ). BridgeTakes (a .state .now) (a .block .now) (a .room .now) (number .result) after (receive .last .1 .1 .0)) (sym (c .before .before .write-state .ensures))
-    (taken-takes (a .state .now) (a .block .now) (a .room .now) (c .before .before .before .before .before .before .before .before .before .before .before .before .before .before .if1 .left) (λ i. c .before .before .before .before .before .before .before .before .before .before .before .before .before .before .before .before .before .slice-known .given i .fits)
+    subst (λ (after : List ℕ). BridgeTakes (a .state .now) (a .block .now) (a .output .now) (number .result) after (receive .last .1 .1 .0)) (sym (c .before .before .write-state .ensures))
+    (taken-takes (a .state .now) (a .block .now) (a .output .now) (c .before .before .before .before .before .before .before .before .before .before .before .before .before .before .if1 .left) (λ i. c .before .before .before .before .before .before .before .before .before .before .before .before .before .before .before .before .before .slice-known .given i .fits)
     (receive .result) (receive .last .1 .1 .0)
-    (subst (λ (s : Receiver). Receives s (a .block .now) (a .room .now) (receive .result) (receive .last .1 .1 .0)) (c .before .before .before .before .before .before .before .before .before .before .before .before .read-state .ensures) (receive .ensures))
+    (subst (λ (s : Receiver). Receives s (a .block .now) (a .output .now) (receive .result) (receive .last .1 .1 .0)) (c .before .before .before .before .before .before .before .before .before .before .before .before .read-state .ensures) (receive .ensures))
     (number .result) (number .ensures) (sym (c .before .before .before .before .before .is-refusal .ensures) ∙ c .before .before .before .before .if2 .left))
 
 pub dvbs-bridge-take-spec : {M : Type 1} → statement M

@@ -6,7 +6,7 @@ use native.Mathlib.Omega.{arith}
 use lib.Bits.{bitXor}
 use lib.ListN.{length}
 use Rattle.common.proofs.Written.{Written, written-none, written-next, written-whole}
-use Rattle.byte_lanes.specs.Lanes.{advanced}
+use Rattle.byte_lanes.specs.Lanes.{hornerStep}
 use Rattle.byte_lanes.proofs.Powers.{length-advanced, advanced-at}
 use borrow.Author.Needs.{needs}
 use Rattle.byte_lanes.proofs.advance.Statement.{statement}
@@ -16,13 +16,13 @@ use Rattle.byte_lanes.proofs.advance.Lts as lts
 use Rattle.galois.proofs.mul.Reads as mul-reads
 
 abbrev Inv-loop : tie.InvT-loop
-Inv-loop c x v r₀ j₀ r j = Written 0 r₀ (advanced x v c) r j
+Inv-loop c x v r₀ j₀ r j = Written 0 r₀ (hornerStep x v c) r j
 
 abbrev μ-loop : tie.MeasureT-loop
 μ-loop c x v r₀ j₀ r j = 16 - j
 
 -- the list written has sixteen bytes
-size : (s : lts.Start (mul-reads.Asked, mul-reads.Learnt) reads.Pre reads.Post Inv-loop μ-loop) → length (advanced (s .args .t1) (s .args .t2) (s .args .c)) ≡ 16
+size : (s : lts.Start (mul-reads.Asked, mul-reads.Learnt) reads.Pre reads.Post Inv-loop μ-loop) → length (hornerStep (s .args .t1) (s .args .t2) (s .args .c)) ≡ 16
 size s = length-advanced (s .args .t1) (s .args .t2) (s .args .c) (s .good .0 .1 .0 .1) (s .good .1 .0 .1 .0 .1)
 
 loop-holds : tie.Need-loop-holds Inv-loop μ-loop

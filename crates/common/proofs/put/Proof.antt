@@ -10,22 +10,22 @@ use Rattle.common.proofs.put.Statement.{statement}
 use Rattle.common.proofs.put.Tie as tie
 
 abbrev Inv-loop : tie.InvT-loop
-Inv-loop list at room₀ i₀ room i = Written at room₀ list room i
+Inv-loop list at output₀ i₀ output i = Written at output₀ list output i
 
 abbrev μ-loop : tie.MeasureT-loop
-μ-loop list at room₀ i₀ room i = length list - i
+μ-loop list at output₀ i₀ output i = length list - i
 
 loop-holds : tie.Need-loop-holds Inv-loop μ-loop
 loop-holds c = written-none (search needs)
 
-shared-slice-read-room : tie.Need-shared-slice-read-room Inv-loop μ-loop
-shared-slice-read-room c = search needs
+shared-slice-read-output : tie.Need-shared-slice-read-output Inv-loop μ-loop
+shared-slice-read-output c = search needs
 
-add-room : tie.Need-add-room Inv-loop μ-loop
-add-room c = search needs
+add-output : tie.Need-add-output Inv-loop μ-loop
+add-output c = search needs
 
-slice-write-room : tie.Need-slice-write-room Inv-loop μ-loop
-slice-write-room c = omega (arith, written-length (c .before .before .loop .inv))
+slice-write-output : tie.Need-slice-write-output Inv-loop μ-loop
+slice-write-output c = omega (arith, written-length (c .before .before .loop .inv))
 
 add-i : tie.Need-add-i Inv-loop μ-loop
 add-i c = search needs
@@ -52,9 +52,9 @@ put-spec =
     Inv-loop
     μ-loop
     loop-holds
-    shared-slice-read-room
-    add-room
-    slice-write-room
+    shared-slice-read-output
+    add-output
+    slice-write-output
     add-i
     loop-less
     loop-again

@@ -7,7 +7,7 @@ use native.Mathlib.Nat.{zero-add}
 use native.Mathlib.Omega.{arith}
 use lib.ListN.{length, getD}
 use Rattle.common.proofs.Written.{Written, written-none, written-more, written-length}
-use Rattle.common.proofs.Rooms.{placed-all}
+use Rattle.common.proofs.Outputs.{placed-all}
 use Rattle.convolutional_code.specs.Sweep.{sweep, totalAt}
 use Rattle.convolutional_code.proofs.Bits.{bits-at}
 use Rattle.convolutional_code.proofs.Sweep.{length-sweep, sweep-at}
@@ -87,8 +87,8 @@ loop-again c =
     let at : getD (sweep (taps a) h 0 (a .args .bits)) (l .n) 0 ≡ totalAt (taps a) h (l .n) % 2
     = sweep-at (taps a) h 0 (a .args .bits) (l .n) (omega arith) ∙ ap (λ (n : ℕ). totalAt (taps a) h n % 2) (zero-add (l .n))
     in
-    let room : l .n < length (sweep (taps a) h 0 (a .args .bits)) = rw (length-sweep (taps a) h 0 (a .args .bits)) (omega arith) in
-    (omega arith, written-more (l .inv .1) _ _ room refl (c .parity .ensures ∙ sym at))
+    let output : l .n < length (sweep (taps a) h 0 (a .args .bits)) = rw (length-sweep (taps a) h 0 (a .args .bits)) (omega arith) in
+    (omega arith, written-more (l .inv .1) _ _ output refl (c .parity .ensures ∙ sym at))
 
 same-length : tie.Need-same-length Inv-loop μ-loop
 same-length c = written-length (c .before .loop .inv .1)

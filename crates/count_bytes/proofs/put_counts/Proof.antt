@@ -15,27 +15,27 @@ use Rattle.count_bytes.proofs.put_counts.Statement.{statement}
 use Rattle.count_bytes.proofs.put_counts.Tie as tie
 
 -- the first i of eight numbers are written
-record Put (room₀ numbers room : List ℕ) (i : ℕ) : Type 0 where
+record Put (output₀ numbers output : List ℕ) (i : ℕ) : Type 0 where
   pub within : i ≤ 8
-  pub same : room ≡ eightEach (take i numbers) ++ drop (8 * i) room₀
+  pub same : output ≡ eightEach (take i numbers) ++ drop (8 * i) output₀
 
-module _ (room₀ numbers : List ℕ) (h : 64 ≤ length room₀) (n : length numbers ≡ 8) where
-  put-start : Put room₀ numbers room₀ 0
+module _ (output₀ numbers : List ℕ) (h : 64 ≤ length output₀) (n : length numbers ≡ 8) where
+  put-start : Put output₀ numbers output₀ 0
   unfolding eightEach
   put-start = record { within = omega arith; same = refl }
 
   front-length : (i : ℕ) → i ≤ 8 → length (eightEach (take i numbers)) ≡ 8 * i
   front-length i k = each-length (take i numbers) ∙ let m = length-take i numbers in omega arith
 
-  put-length : (room : List ℕ) (i : ℕ) → Put room₀ numbers room i → length room ≡ length room₀
-  put-length room i p =
+  put-length : (output : List ℕ) (i : ℕ) → Put output₀ numbers output i → length output ≡ length output₀
+  put-length output i p =
       let w = p .within in
-      ap length (p .same) ∙ length-append (eightEach (take i numbers)) (drop (8 * i) room₀)
-      ∙ let a = front-length i w in let b = length-drop (8 * i) room₀ in omega arith
+      ap length (p .same) ∙ length-append (eightEach (take i numbers)) (drop (8 * i) output₀)
+      ∙ let a = front-length i w in let b = length-drop (8 * i) output₀ in omega arith
 
-  put-more : (room next : List ℕ) (i : ℕ) → Put room₀ numbers room i → i < 8 → next ≡ placed room (8 * i) (toBytes 8 (getD numbers i 0))
-      → Put room₀ numbers next (i + 1)
-  put-more room next i p l e =
+  put-more : (output next : List ℕ) (i : ℕ) → Put output₀ numbers output i → i < 8 → next ≡ placed output (8 * i) (toBytes 8 (getD numbers i 0))
+      → Put output₀ numbers next (i + 1)
+  put-more output next i p l e =
       let x : List ℕ = toBytes 8 (getD numbers i 0) in
       let front : List ℕ = eightEach (take i numbers) in
       let more : front ++ x ≡ eightEach (take (i + 1) numbers)
@@ -45,26 +45,26 @@ module _ (room₀ numbers : List ℕ) (h : 64 ≤ length room₀) (n : length nu
         within = omega arith;
         same =
             e ∙ ap (λ (r : List ℕ). placed r (8 * i) x) (p .same)
-            ∙ put-after front x room₀ (8 * i) (front-length i (p .within))
-            ∙ ap₂ (λ (r : List ℕ) (j : ℕ). r ++ drop j room₀) more end;
+            ∙ put-after front x output₀ (8 * i) (front-length i (p .within))
+            ∙ ap₂ (λ (r : List ℕ) (j : ℕ). r ++ drop j output₀) more end;
       }
     where
       step : (i : ℕ) → suc i ≡ i + 1
       step i = omega arith
 
-  put-end : (room : List ℕ) (i : ℕ) → Put room₀ numbers room i → 8 ≤ i → room ≡ eightEach (take 8 numbers) ++ drop 64 room₀
-  put-end room i p l =
+  put-end : (output : List ℕ) (i : ℕ) → Put output₀ numbers output i → 8 ≤ i → output ≡ eightEach (take 8 numbers) ++ drop 64 output₀
+  put-end output i p l =
       let e : i ≡ 8 = omega (arith, p .within) in
-      p .same ∙ ap (λ (j : ℕ). eightEach (take j numbers) ++ drop (8 * j) room₀) e
+      p .same ∙ ap (λ (j : ℕ). eightEach (take j numbers) ++ drop (8 * j) output₀) e
 
 abbrev Inv-loop : tie.InvT-loop
-Inv-loop room₀ numbers i₀ room i = Put room₀ numbers room i
+Inv-loop output₀ numbers i₀ output i = Put output₀ numbers output i
 
 abbrev μ-loop : tie.MeasureT-loop
-μ-loop room₀ numbers i₀ room i = 8 - i
+μ-loop output₀ numbers i₀ output i = 8 - i
 
 loop-holds : tie.Need-loop-holds Inv-loop μ-loop
-loop-holds c = let a = c .before .args in put-start (a .room .now) (numbersOf (a .counts)) (c .before .pre) refl
+loop-holds c = let a = c .before .args in put-start (a .output .now) (numbersOf (a .counts)) (c .before .pre) refl
 
 mul-put-number : tie.Need-mul-put-number Inv-loop μ-loop
 mul-put-number c = search needs
@@ -80,7 +80,7 @@ put-number-requires c κs =
     let l = c .before .before in
     let s = l .before .before in
     let a = s .args in
-    omega (arith, c .before .loop-test .taken, put-length (a .room .now) (numbersOf (a .counts)) (s .pre) refl (l .loop .room) (l .loop .i) (l .loop .inv), s .pre)
+    omega (arith, c .before .loop-test .taken, put-length (a .output .now) (numbersOf (a .counts)) (s .pre) refl (l .loop .output) (l .loop .i) (l .loop .inv), s .pre)
 
 add-i : tie.Need-add-i Inv-loop μ-loop
 add-i c = search needs
@@ -93,7 +93,7 @@ loop-again c =
     let l = c .before .before .before .before .before in
     let s = l .before .before in
     let a = s .args in
-    put-more (a .room .now) (numbersOf (a .counts)) (s .pre) refl (l .loop .room) (c .before .before .put-number .last .1 .1 .0) (l .loop .i) (l .loop .inv)
+    put-more (a .output .now) (numbersOf (a .counts)) (s .pre) refl (l .loop .output) (c .before .before .put-number .last .1 .1 .0) (l .loop .i) (l .loop .inv)
     (c .before .before .before .before .loop-test .taken) (c .before .before .put-number .ensures)
 
 same-length : tie.Need-same-length Inv-loop μ-loop
@@ -101,7 +101,7 @@ same-length c =
     let l = c .before in
     let s = l .before .before in
     let a = s .args in
-    put-length (a .room .now) (numbersOf (a .counts)) (s .pre) refl (l .loop .room) (l .loop .i) (l .loop .inv)
+    put-length (a .output .now) (numbersOf (a .counts)) (s .pre) refl (l .loop .output) (l .loop .i) (l .loop .inv)
 
 returns : tie.Need-returns Inv-loop μ-loop
 unfolding countBytes
@@ -109,7 +109,7 @@ returns c =
     let l = c .before in
     let s = l .before .before in
     let a = s .args in
-    put-end (a .room .now) (numbersOf (a .counts)) (s .pre) refl (l .loop .room) (l .loop .i) (l .loop .inv) (c .loop-test .left)
+    put-end (a .output .now) (numbersOf (a .counts)) (s .pre) refl (l .loop .output) (l .loop .i) (l .loop .inv) (c .loop-test .left)
 
 pub put-counts-spec : {M : Type 1} → statement M
 put-counts-spec =

@@ -7,7 +7,7 @@ use native.Mathlib.Omega.{arith}
 use lib.ListN.{length, set}
 use Rattle.common.specs.Lists.{placed}
 use Rattle.common.proofs.Written.{Written, written-none, written-more, written-length}
-use Rattle.common.proofs.Rooms.{placed-all}
+use Rattle.common.proofs.Outputs.{placed-all}
 use Rattle.count_bytes.specs.Bytes.{byteAt, toBytes}
 use Rattle.count_bytes.proofs.Numbers.{length-to, byte-to}
 use borrow.Author.Needs.{needs}
@@ -15,17 +15,17 @@ use Rattle.count_bytes.proofs.put_number.Statement.{statement}
 use Rattle.count_bytes.proofs.put_number.Tie as tie
 
 abbrev Inv-loop : tie.InvT-loop
-Inv-loop number at room₀ k₀ room k = Written at room₀ (toBytes 8 number) room k
+Inv-loop number at output₀ k₀ output k = Written at output₀ (toBytes 8 number) output k
 
 abbrev μ-loop : tie.MeasureT-loop
-μ-loop number at room₀ k₀ room k = 8 - k
+μ-loop number at output₀ k₀ output k = 8 - k
 
-more : (number at : ℕ) (room₀ room : List ℕ) (k v : ℕ) → Written at room₀ (toBytes 8 number) room k → k < 8 → v ≡ byteAt k number
-    → Written at room₀ (toBytes 8 number) (set room (at + k) v) (k + 1)
-more number at room₀ room k v w h e = written-more w (at + k) v (omega (arith, length-to 8 number)) refl (e ∙ byte-to 8 number k h)
+more : (number at : ℕ) (output₀ output : List ℕ) (k v : ℕ) → Written at output₀ (toBytes 8 number) output k → k < 8 → v ≡ byteAt k number
+    → Written at output₀ (toBytes 8 number) (set output (at + k) v) (k + 1)
+more number at output₀ output k v w h e = written-more w (at + k) v (omega (arith, length-to 8 number)) refl (e ∙ byte-to 8 number k h)
 
-finish : (number at : ℕ) (room₀ room : List ℕ) (k : ℕ) → Written at room₀ (toBytes 8 number) room k → 8 ≤ k → room ≡ placed room₀ at (toBytes 8 number)
-finish number at room₀ room k w h =
+finish : (number at : ℕ) (output₀ output : List ℕ) (k : ℕ) → Written at output₀ (toBytes 8 number) output k → 8 ≤ k → output ≡ placed output₀ at (toBytes 8 number)
+finish number at output₀ output k w h =
     let n : length (toBytes 8 number) ≡ k = omega (arith, w .within, length-to 8 number) in
     placed-all w n
 
@@ -35,11 +35,11 @@ loop-holds c = let a = c .before .args in written-none (omega (arith, length-to 
 byte-at-requires : tie.Need-byte-at-requires Inv-loop μ-loop
 byte-at-requires c κs = search needs
 
-add-room : tie.Need-add-room Inv-loop μ-loop
-add-room c = search needs
+add-output : tie.Need-add-output Inv-loop μ-loop
+add-output c = search needs
 
-slice-write-room : tie.Need-slice-write-room Inv-loop μ-loop
-slice-write-room c =
+slice-write-output : tie.Need-slice-write-output Inv-loop μ-loop
+slice-write-output c =
     let l = c .before .before in
     omega (arith, c .before .loop-test .taken, written-length (l .loop .inv), l .before .before .pre)
 
@@ -66,8 +66,8 @@ put-number-spec =
     μ-loop
     loop-holds
     byte-at-requires
-    add-room
-    slice-write-room
+    add-output
+    slice-write-output
     add-k
     loop-less
     loop-again

@@ -10,10 +10,10 @@ use Rattle.delay_branches.proofs.copy_column.Statement.{statement}
 use Rattle.delay_branches.proofs.copy_column.Tie as tie
 
 abbrev Inv-loop : tie.InvT-loop
-Inv-loop j block room₀ k₀ room k = (k ≤ 17) × Placing j (column j block) room₀ room k
+Inv-loop j block output₀ k₀ output k = (k ≤ 17) × Placing j (column j block) output₀ output k
 
 abbrev μ-loop : tie.MeasureT-loop
-μ-loop j block room₀ k₀ room k = 17 - k
+μ-loop j block output₀ k₀ output k = 17 - k
 
 loop-holds : tie.Need-loop-holds Inv-loop μ-loop
 loop-holds c = (omega arith, placing-none _ _ _)
@@ -24,11 +24,11 @@ mul-n c = search needs
 add-n : tie.Need-add-n Inv-loop μ-loop
 add-n c = search needs
 
-shared-slice-read-room : tie.Need-shared-slice-read-room Inv-loop μ-loop
-shared-slice-read-room c = search needs
+shared-slice-read-output : tie.Need-shared-slice-read-output Inv-loop μ-loop
+shared-slice-read-output c = search needs
 
-slice-write-room : tie.Need-slice-write-room Inv-loop μ-loop
-slice-write-room c = let e = c .before .before .loop .inv .1 .same in search needs
+slice-write-output : tie.Need-slice-write-output Inv-loop μ-loop
+slice-write-output c = let e = c .before .before .loop .inv .1 .same in search needs
 
 add-k : tie.Need-add-k Inv-loop μ-loop
 add-k c = search needs
@@ -63,8 +63,8 @@ copy-column-spec =
     loop-holds
     mul-n
     add-n
-    shared-slice-read-room
-    slice-write-room
+    shared-slice-read-output
+    slice-write-output
     add-k
     loop-less
     loop-again

@@ -15,10 +15,10 @@ use Rattle.delay_branches.proofs.exchange_round.Statement.{statement}
 use Rattle.delay_branches.proofs.exchange_round.Tie as tie
 
 abbrev Inv-loop : tie.InvT-loop
-Inv-loop cells₀ position j block room₀ size p₀ k₀ cells room p k = (k ≤ 17) × (size ≡ length cells₀) × Turning cells₀ position (column j block) cells p k × Placing j (take 17 (turned position cells₀ ++ column j block)) room₀ room k
+Inv-loop cells₀ position j block output₀ size p₀ k₀ cells output p k = (k ≤ 17) × (size ≡ length cells₀) × Turning cells₀ position (column j block) cells p k × Placing j (take 17 (turned position cells₀ ++ column j block)) output₀ output k
 
 abbrev μ-loop : tie.MeasureT-loop
-μ-loop cells₀ position j block room₀ size p₀ k₀ cells room p k = 17 - k
+μ-loop cells₀ position j block output₀ size p₀ k₀ cells output p k = 17 - k
 
 loop-holds : tie.Need-loop-holds Inv-loop μ-loop
 loop-holds c =
@@ -40,8 +40,8 @@ shared-slice-read-cells c = search needs
 slice-write-cells : tie.Need-slice-write-cells Inv-loop μ-loop
 slice-write-cells c = c .before .before .before .loop .inv .2 .small
 
-slice-write-room : tie.Need-slice-write-room Inv-loop μ-loop
-slice-write-room c = let e = c .before .before .before .loop .inv .3 .same in search needs
+slice-write-output : tie.Need-slice-write-output Inv-loop μ-loop
+slice-write-output c = let e = c .before .before .before .loop .inv .3 .same in search needs
 
 next-of-requires : tie.Need-next-of-requires Inv-loop μ-loop
 next-of-requires c κs = let t = c .before .before .before .loop .inv .2 in let e = t .same in let l = t .small in omega arith
@@ -97,7 +97,7 @@ exchange-round-spec =
     slice-read-out
     shared-slice-read-cells
     slice-write-cells
-    slice-write-room
+    slice-write-output
     next-of-requires
     add-k
     loop-less

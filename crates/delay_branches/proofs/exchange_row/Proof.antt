@@ -9,7 +9,7 @@ use borrow.Author.Tests.{lt-ltb}
 use lib.ListN.{length, take}
 use lib.Seq.{getD-take}
 use Rattle.delay_branches.specs.Branch.{turned}
-use Rattle.delay_branches.specs.Block.{advanced}
+use Rattle.delay_branches.specs.Block.{positionAdvanced}
 use Rattle.delay_branches.specs.Column.{column}
 use Rattle.delay_branches.proofs.Columns.{Placing, placing-none, placing-more, placing-all, length-column, getD-column}
 use Rattle.delay_branches.proofs.Rings.{nextOf, length-leaving, advanced-next, Turning, turning-none, turning-out, turning-more, turning-all}
@@ -17,20 +17,20 @@ use Rattle.delay_branches.proofs.exchange_row.Statement.{statement}
 use Rattle.delay_branches.proofs.exchange_row.Tie as tie
 
 -- the position does not come round
-straight : (size p k : ℕ) → p + k < size → advanced size p k ≡ p + k
+straight : (size p k : ℕ) → p + k < size → positionAdvanced size p k ≡ p + k
 straight size p k h = simp (lt-ltb (p + k) size h)
 
 abbrev Inv-loop : tie.InvT-loop
-Inv-loop cells₀ position j block room₀ k₀ cells room k = (k ≤ 17) × Turning cells₀ position (column j block) cells (advanced (length cells₀) position k) k × Placing j (take 17 (turned position cells₀ ++ column j block)) room₀ room k
+Inv-loop cells₀ position j block output₀ k₀ cells output k = (k ≤ 17) × Turning cells₀ position (column j block) cells (positionAdvanced (length cells₀) position k) k × Placing j (take 17 (turned position cells₀ ++ column j block)) output₀ output k
 
 abbrev μ-loop : tie.MeasureT-loop
-μ-loop cells₀ position j block room₀ k₀ cells room k = 17 - k
+μ-loop cells₀ position j block output₀ k₀ cells output k = 17 - k
 
 loop-holds : tie.Need-loop-holds Inv-loop μ-loop
 loop-holds c =
     let s = c .before .before .before in
     let a = s .args in
-    let e : advanced (length (a .cells .now)) (a .position) 0 ≡ a .position = straight (length (a .cells .now)) (a .position) 0 (omega arith) ∙ omega arith in
+    let e : positionAdvanced (length (a .cells .now)) (a .position) 0 ≡ a .position = straight (length (a .cells .now)) (a .position) 0 (omega arith) ∙ omega arith in
     (omega arith, rw e (turning-none _ _ _ (omega arith)), placing-none _ _ _)
 
 mul-n : tie.Need-mul-n Inv-loop μ-loop
@@ -51,8 +51,8 @@ shared-slice-read-cells c = search needs
 slice-write-cells : tie.Need-slice-write-cells Inv-loop μ-loop
 slice-write-cells c = let e = c .before .before .before .loop .inv .1 .same in omega arith
 
-slice-write-room : tie.Need-slice-write-room Inv-loop μ-loop
-slice-write-room c = let e = c .before .before .before .loop .inv .2 .same in search needs
+slice-write-output : tie.Need-slice-write-output Inv-loop μ-loop
+slice-write-output c = let e = c .before .before .before .loop .inv .2 .same in search needs
 
 add-k : tie.Need-add-k Inv-loop μ-loop
 add-k c = search needs
@@ -123,7 +123,7 @@ exchange-row-spec =
     slice-read-out
     shared-slice-read-cells
     slice-write-cells
-    slice-write-room
+    slice-write-output
     add-k
     loop-less
     loop-again

@@ -13,10 +13,10 @@ use Rattle.delay_branches.proofs.pass_cells.Statement.{statement}
 use Rattle.delay_branches.proofs.pass_cells.Tie as tie
 
 abbrev Inv-loop : tie.InvT-loop
-Inv-loop side cells₀ block room₀ next₀ base₀ j₀ cells room next base j = (j ≤ 12) × Passing side (laid cells₀ next₀) block room₀ room cells next base j
+Inv-loop side cells₀ block output₀ next₀ base₀ j₀ cells output next base j = (j ≤ 12) × Passing side (laid cells₀ next₀) block output₀ output cells next base j
 
 abbrev μ-loop : tie.MeasureT-loop
-μ-loop side cells₀ block room₀ next₀ base₀ j₀ cells room next base j = 12 - j
+μ-loop side cells₀ block output₀ next₀ base₀ j₀ cells output next base j = 12 - j
 
 -- the branches that came
 whole : (c : tie.Start Inv-loop μ-loop) → Good (c .args .side) (laid (c .args .cells .now) (c .args .positions))

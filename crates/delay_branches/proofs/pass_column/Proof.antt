@@ -6,7 +6,7 @@ use Prim.Native.Nat.{ℕ}
 use native.Mathlib.Omega.{arith}
 use borrow.Author.Tests.{ne-eqb}
 use lib.ListN.{length}
-use Rattle.delay_branches.specs.Column.{column, placed}
+use Rattle.delay_branches.specs.Column.{column, scattered}
 use Rattle.delay_branches.specs.Block.{positionAfter}
 use Rattle.delay_branches.proofs.Columns.{length-column}
 use Rattle.delay_branches.proofs.Rings.{through, advanced-small}
@@ -26,7 +26,7 @@ returns c =
     let s = t .before .before .before .before in
     let a = s .args in
     let e = through (a .position) (a .cells .now) (column (a .j) (a .block .now)) (t .if1 .taken) (length-column (a .j) (a .block .now)) in
-    (e .0, e .1, c .before .before .copy-column .ensures ∙ ap (λ (l : List ℕ). placed (a .j) l (a .room .now)) (e .2))
+    (e .0, e .1, c .before .before .copy-column .ensures ∙ ap (λ (l : List ℕ). scattered (a .j) l (a .output .now)) (e .2))
 
 exchange-column-requires : tie.Need-exchange-column-requires
 exchange-column-requires c κs =

@@ -5,20 +5,20 @@ use mathlib.Core.Bool.{true}
 use Prim.Native.Nat.{ℕ, _-_, _*_, _≤_, max}
 use native.Mathlib.Omega.{arith}
 use borrow.Author.Needs.{needs}
-use Rattle.delay_branches.specs.Branch.{sizeOf, within}
+use Rattle.delay_branches.specs.Branch.{sizeOf, positionsWithin}
 use Rattle.delay_branches.proofs.Cells.{delay-small}
 use Rattle.delay_branches.proofs.Positions.{within-more, within-fails}
 use Rattle.delay_branches.proofs.positions_within.Statement.{statement}
 use Rattle.delay_branches.proofs.positions_within.Tie as tie
 
 abbrev Inv-loop : tie.InvT-loop
-Inv-loop side positions j₀ j = (j ≤ 12) × (within side positions j ≡ true)
+Inv-loop side positions j₀ j = (j ≤ 12) × (positionsWithin side positions j ≡ true)
 
 abbrev μ-loop : tie.MeasureT-loop
 μ-loop side positions j₀ j = 12 - j
 
 loop-holds : tie.Need-loop-holds Inv-loop μ-loop
-unfolding within
+unfolding positionsWithin
 loop-holds c = (omega arith, refl)
 
 delay-requires : tie.Need-delay-requires Inv-loop μ-loop

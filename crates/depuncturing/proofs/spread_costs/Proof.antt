@@ -42,7 +42,7 @@ returns c =
     let w = c .before .before .before .before .before in
     let s = c .before .before .before .before .before .before .before .before in
     rw (w .if1 .taken)
-    (half-spread (s .args .costs .now) (s .args .room .now) (c .before .before .put .last .1 .1 .0) (s .args .n) (4 * s .args .n - 0) (omega arith) (enough w) (s .pre .5) (c .before .before .put .ensures))
+    (half-spread (s .args .costs .now) (s .args .output .now) (c .before .before .put .last .1 .1 .0) (s .args .n) (4 * s .args .n - 0) (omega arith) (enough w) (s .pre .5) (c .before .before .put .ensures))
 
 same-length-2 : tie.Need-same-length-2
 same-length-2 c = search needs

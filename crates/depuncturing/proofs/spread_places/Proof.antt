@@ -8,10 +8,10 @@ use Rattle.depuncturing.proofs.spread_places.Statement.{statement}
 use Rattle.depuncturing.proofs.spread_places.Tie as tie
 
 abbrev Inv-loop : tie.InvT-loop
-Inv-loop costs rate pattern n room₀ kinds k₀ place₀ j₀ at₀ room k place j at = Spreading costs rate n k place j at room₀ room
+Inv-loop costs rate pattern n output₀ kinds k₀ place₀ j₀ at₀ output k place j at = Spreading costs rate n k place j at output₀ output
 
 abbrev μ-loop : tie.MeasureT-loop
-μ-loop costs rate pattern n room₀ kinds k₀ place₀ j₀ at₀ room k place j at = n - k
+μ-loop costs rate pattern n output₀ kinds k₀ place₀ j₀ at₀ output k place j at = n - k
 
 loop-holds : tie.Need-loop-holds Inv-loop μ-loop
 loop-holds c = spreading-none _ _ _ _
@@ -28,26 +28,26 @@ array-read-q c = omega (arith, in-pattern _ _ _ _ ((c .before .loop) .inv) ((c .
 four-of-requires : tie.Need-four-of-requires Inv-loop μ-loop
 four-of-requires c κs = asks _ _ _ _ (c .before .loop .inv) (c .loop-test .taken) ((c .before .before .before .before) .pre .0) (in-pattern _ _ _ _ ((c .before .loop) .inv) ((c .before .before .before .before) .pre .1) ((c .before .before .before .before) .pre .2) .0) ((c .before .before .before .before) .pre .4) _ (table-is _ _ ((c .before .before .before .before) .pre .0) (in-pattern _ _ _ _ ((c .before .loop) .inv) ((c .before .before .before .before) .pre .1) ((c .before .before .before .before) .pre .2) .0))
 
-slice-write-room : tie.Need-slice-write-room Inv-loop μ-loop
-slice-write-room c = omega (arith, (c .before .before .loop) .inv .written .len)
+slice-write-output : tie.Need-slice-write-output Inv-loop μ-loop
+slice-write-output c = omega (arith, (c .before .before .loop) .inv .written .len)
 
 add-at1 : tie.Need-add-at1 Inv-loop μ-loop
 add-at1 c = omega arith
 
-slice-write-room-2 : tie.Need-slice-write-room-2 Inv-loop μ-loop
-slice-write-room-2 c = simp length-set (omega (arith, (c .before .before .loop) .inv .written .len))
+slice-write-output-2 : tie.Need-slice-write-output-2 Inv-loop μ-loop
+slice-write-output-2 c = simp length-set (omega (arith, (c .before .before .loop) .inv .written .len))
 
 add-at2 : tie.Need-add-at2 Inv-loop μ-loop
 add-at2 c = omega arith
 
-slice-write-room-3 : tie.Need-slice-write-room-3 Inv-loop μ-loop
-slice-write-room-3 c = simp length-set (omega (arith, (c .before .before .loop) .inv .written .len))
+slice-write-output-3 : tie.Need-slice-write-output-3 Inv-loop μ-loop
+slice-write-output-3 c = simp length-set (omega (arith, (c .before .before .loop) .inv .written .len))
 
 add-at3 : tie.Need-add-at3 Inv-loop μ-loop
 add-at3 c = omega arith
 
-slice-write-room-4 : tie.Need-slice-write-room-4 Inv-loop μ-loop
-slice-write-room-4 c = simp length-set (omega (arith, (c .before .before .loop) .inv .written .len))
+slice-write-output-4 : tie.Need-slice-write-output-4 Inv-loop μ-loop
+slice-write-output-4 c = simp length-set (omega (arith, (c .before .before .loop) .inv .written .len))
 
 add-at : tie.Need-add-at Inv-loop μ-loop
 add-at c = omega arith
@@ -89,13 +89,13 @@ spread-places-spec =
     add-q
     array-read-q
     four-of-requires
-    slice-write-room
+    slice-write-output
     add-at1
-    slice-write-room-2
+    slice-write-output-2
     add-at2
-    slice-write-room-3
+    slice-write-output-3
     add-at3
-    slice-write-room-4
+    slice-write-output-4
     add-at
     following-requires
     add-k

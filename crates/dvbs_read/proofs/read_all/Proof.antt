@@ -9,10 +9,10 @@ use Rattle.dvbs_read.proofs.read_all.Statement.{statement}
 use Rattle.dvbs_read.proofs.read_all.Tie as tie
 
 abbrev Inv-loop : tie.InvT-loop
-Inv-loop input₀ costs₀ room₀ reading₀ more₀ turns₀ input costs room reading more turns = (Going reading) × (length input ≡ 16384) × (length costs ≡ 65536) × (length room ≡ 1632)
+Inv-loop input₀ costs₀ output₀ reading₀ more₀ turns₀ input costs output reading more turns = (Going reading) × (length input ≡ 16384) × (length costs ≡ 65536) × (length output ≡ 1632)
 
 abbrev μ-loop : tie.MeasureT-loop
-μ-loop input₀ costs₀ room₀ reading₀ more₀ turns₀ input costs room reading more turns = turns
+μ-loop input₀ costs₀ output₀ reading₀ more₀ turns₀ input costs output reading more turns = turns
 
 loop-holds : tie.Need-loop-holds Inv-loop μ-loop
 loop-holds c = (c .pre, length-replicate {A = ℕ} 16384 0, length-replicate {A = ℕ} 65536 0, length-replicate {A = ℕ} 1632 0)

@@ -11,10 +11,10 @@ use Rattle.dvbs_read_soft.proofs.point_costs.Statement.{statement}
 use Rattle.dvbs_read_soft.proofs.point_costs.Tie as tie
 
 abbrev Inv-loop : tie.InvT-loop
-Inv-loop bytes count room₀ k₀ room k = (k ≤ count) × Each (Holds (pointAt bytes)) (length room₀) room (4 * k)
+Inv-loop bytes count output₀ k₀ output k = (k ≤ count) × Each (Holds (pointAt bytes)) (length output₀) output (4 * k)
 
 abbrev μ-loop : tie.MeasureT-loop
-μ-loop bytes count room₀ k₀ room k = count - k
+μ-loop bytes count output₀ k₀ output k = count - k
 
 loop-holds : tie.Need-loop-holds Inv-loop μ-loop
 loop-holds c = (omega arith, each-none refl)
@@ -43,7 +43,7 @@ loop-again c =
     let l = c .before .before .before .before .before .before .loop in (
       omega arith,
       rw (c .before .before .put-costs .ensures)
-          (four-more (pointAt (a .args .bytes .now)) (length (a .args .room .now)) (l .k) (c .before .before .before .before .point-at .result) (omega arith) (c .before .before .before .before .point-at .ensures) (l .inv .1)),
+          (four-more (pointAt (a .args .bytes .now)) (length (a .args .output .now)) (l .k) (c .before .before .before .before .point-at .result) (omega arith) (c .before .before .before .before .point-at .ensures) (l .inv .1)),
     )
 
 same-length : tie.Need-same-length Inv-loop μ-loop

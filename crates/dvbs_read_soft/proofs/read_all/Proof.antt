@@ -10,10 +10,10 @@ use Rattle.dvbs_read_soft.proofs.read_all.Statement.{statement}
 use Rattle.dvbs_read_soft.proofs.read_all.Tie as tie
 
 abbrev Inv-loop : tie.InvT-loop
-Inv-loop input₀ costs₀ room₀ points₀ more₀ turns₀ t12 t13 input costs room points more turns = (Going (points .reading)) × (points .held < 8) × (length (points .tail) ≡ 8) × (length input ≡ 65544) × (length costs ≡ 32772) × (length room ≡ 1632)
+Inv-loop input₀ costs₀ output₀ points₀ more₀ turns₀ t12 t13 input costs output points more turns = (Going (points .reading)) × (points .held < 8) × (length (points .tail) ≡ 8) × (length input ≡ 65544) × (length costs ≡ 32772) × (length output ≡ 1632)
 
 abbrev μ-loop : tie.MeasureT-loop
-μ-loop input₀ costs₀ room₀ points₀ more₀ turns₀ t12 t13 input costs room points more turns = turns
+μ-loop input₀ costs₀ output₀ points₀ more₀ turns₀ t12 t13 input costs output points more turns = turns
 
 loop-holds : tie.Need-loop-holds Inv-loop μ-loop
 loop-holds c = (c .pre, omega arith, refl, length-replicate {A = ℕ} 65544 0, length-replicate {A = ℕ} 32772 0, length-replicate {A = ℕ} 1632 0)

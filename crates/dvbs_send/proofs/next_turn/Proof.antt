@@ -45,7 +45,7 @@ returns c =
     let r = n .before .before .before .before in
     let s = r .before .before .before .before .before in
     turns (s .args .sending) (r .read .last .1 .0) (s .args .symbols .now) (s .args .answers .now) (cells s) (positions s) (s .pre .range)
-    (r .read .kept .1 .0 ∙ s .pre .piece) (s .pre .room) (s .pre .numbers) (n .count .ensures .1) (f .feed .ensures)
+    (r .read .kept .1 .0 ∙ s .pre .piece) (s .pre .output) (s .pre .numbers) (n .count .ensures .1) (f .feed .ensures)
 
 pub next-turn-spec : {M : Type 1} → statement M
 next-turn-spec =

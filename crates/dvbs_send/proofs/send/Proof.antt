@@ -19,7 +19,7 @@ send-all-requires : tie.Need-send-all-requires
 send-all-requires c κs = record {
   range = c .before .before .before .pre;
   piece = length-replicate {A = ℕ} 47940 0;
-  room = length-replicate {A = ℕ} 416160 0;
+  output = length-replicate {A = ℕ} 416160 0;
   numbers = length-replicate {A = ℕ} 255 0;
 }
 

@@ -5,14 +5,14 @@ use Prim.Native.Nat.{_≤_}
 use native.Mathlib.Omega.{arith}
 use lib.ListN.{length}
 use lib.Seq.{length-take-le}
-use Rattle.dvbs_send.specs.Turn.{Ready}
+use Rattle.dvbs_send.specs.Turn.{Buffers}
 use borrow.Author.Needs.{needs}
 use Rattle.dvbs_send.proofs.send_all.Statement.{statement}
 use Rattle.dvbs_send.proofs.send_all.Tie as tie
 
 abbrev Inv-loop : tie.InvT-loop
 Inv-loop buffer₀ symbols₀ answers₀ sending₀ packets₀ turns₀ t13 t14 buffer symbols answers sending packets turns =
-    Ready sending buffer symbols answers
+    Buffers sending buffer symbols answers
 
 abbrev μ-loop : tie.MeasureT-loop
 μ-loop buffer₀ symbols₀ answers₀ sending₀ packets₀ turns₀ t13 t14 buffer symbols answers sending packets turns = turns
@@ -81,7 +81,7 @@ same-length-8 c =
     let t = c .before .before .before .before .before .before .before .before .before .before .before .before .before .before .before in
     let l = t .before .before .before .before .before in
     let s = l .before .before .before .before in
-    omega (arith, t .next-turn .kept .1 .1 .0, l .loop .inv .room, s .pre .room)
+    omega (arith, t .next-turn .kept .1 .1 .0, l .loop .inv .output, s .pre .output)
 
 same-length-9 : tie.Need-same-length-9 Inv-loop μ-loop
 same-length-9 c =
@@ -118,7 +118,7 @@ loop-again c =
     record {
       range = t .next-turn .ensures .range;
       piece = t .next-turn .kept .1 .0 ∙ l .piece;
-      room = t .next-turn .kept .1 .1 .0 ∙ l .room;
+      output = t .next-turn .kept .1 .1 .0 ∙ l .output;
       numbers = t .next-turn .kept .1 .1 .1 .0 ∙ l .numbers;
     }
 

@@ -2,7 +2,7 @@
 -- Assumes nothing.
 use mathlib.Core.Path.{_∙_, subst}
 use native.Mathlib.Omega.{arith}
-use Rattle.error_correction.specs.Correction.{one, FoundRoots}
+use Rattle.error_correction.specs.Correction.{onePolynomial, FoundRoots}
 use Rattle.error_correction.proofs.RootSearch.{found-none}
 use Rattle.error_correction.proofs.find_erasures.Statement.{statement}
 use Rattle.error_correction.proofs.find_erasures.Tie as tie
@@ -16,7 +16,7 @@ find-roots-requires c κs = (c .before .before .pre .0, λ z. absurd (c .if1 .le
 returns-2 : tie.Need-returns-2
 returns-2 c =
     let r = c .find-roots .result in
-    subst (FoundRoots (c .before .before .before .args .u .now) one (r .degrees) (r .places)) (c .find-roots .ensures .number ∙ c .before .before .before .pre .1) (c .find-roots .ensures)
+    subst (FoundRoots (c .before .before .before .args .u .now) onePolynomial (r .degrees) (r .places)) (c .find-roots .ensures .number ∙ c .before .before .before .pre .1) (c .find-roots .ensures)
 
 pub find-erasures-spec : {M : Type 1} → statement M
 find-erasures-spec = tie.close (tie.spec returns find-roots-requires returns-2)

@@ -7,7 +7,7 @@ use lib.ListN.{length, take, drop}
 use Rattle.byte_lanes.specs.Lanes.{PowersFrom}
 use Rattle.byte_lanes.proofs.Powers.{powers-next}
 use Rattle.error_correction.specs.Correction.{valuesOf}
-use Rattle.error_correction.proofs.RootSearch.{ends-of, length-prefix, lanes-next, Searched, searched-none, searched-room, searched-more, searched-all}
+use Rattle.error_correction.proofs.RootSearch.{ends-of, length-prefix, lanes-next, Searched, searched-none, searched-fits, searched-more, searched-all}
 use borrow.Author.Needs.{needs}
 use Rattle.error_correction.proofs.find_roots.Statement.{statement}
 use Rattle.error_correction.proofs.find_roots.Tie as tie
@@ -61,7 +61,7 @@ with-erasures-requires c κs = (omega (arith, c .before .before .before .loop .i
 list-zeros-requires : tie.Need-list-zeros-requires Inv-loop μ-loop
 list-zeros-requires c κs =
     let l = c .before .before .before .before .before .before .loop in
-    (omega (arith, l .inv .1), searched-room _ _ _ _ _ _ (l .inv .4) _ _ (omega (arith, l .inv .1)) (l .inv .3) (next (c .before .before)) (c .before .before .before .before .before .before .before .before .before .before .before .pre .2))
+    (omega (arith, l .inv .1), searched-fits _ _ _ _ _ _ (l .inv .4) _ _ (omega (arith, l .inv .1)) (l .inv .3) (next (c .before .before)) (c .before .before .before .before .before .before .before .before .before .before .before .pre .2))
 
 next-powers-requires : tie.Need-next-powers-requires Inv-loop μ-loop
 next-powers-requires c κs = search needs

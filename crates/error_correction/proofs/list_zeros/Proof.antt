@@ -7,7 +7,7 @@ use Prim.Native.Nat.{ℕ, _+_, _-_, _≤_, _<_}
 use native.Mathlib.Omega.{arith}
 use lib.ListN.{length, getD, take, length-take}
 use lib.Seq.{getD-take}
-use Rattle.error_correction.proofs.RootSearch.{ListedTo, listed-none, listed-as, listed-past, listed-skip, listed-more, listed-room, listed-all}
+use Rattle.error_correction.proofs.RootSearch.{ListedTo, listed-none, listed-as, listed-past, listed-skip, listed-more, listed-fits, listed-all}
 use borrow.Author.Needs.{needs}
 use Rattle.error_correction.proofs.list_zeros.Statement.{statement}
 use Rattle.error_correction.proofs.list_zeros.Tie as tie
@@ -27,12 +27,12 @@ abbrev μ-loop : tie.MeasureT-loop
 μ-loop count i v x degrees₀ places₀ count₀ l₀ degrees places count' l = 16 - l
 
 -- there is room for one zero more
-room : (c : tie.Then2 Inv-loop μ-loop) → c .before .before .before .loop .count < 16
-room c =
+output : (c : tie.Then2 Inv-loop μ-loop) → c .before .before .before .loop .count < 16
+output c =
     let s = c .before .before .before .before in
     let l = c .before .before .before .loop in
     let n = s .good .1 .1 .1 .0 .1 .0 .1 in
-    listed-room _ _ _ _ _ _ _ _ _ _ (l .inv .1) (counts _ (s .args .i) (l .l) n (search needs) (c .before .if1 .taken)) (lane _ (s .args .i) (l .l) n (search needs) (c .before .if1 .taken) ∙ c .if2 .taken) (s .pre .1)
+    listed-fits _ _ _ _ _ _ _ _ _ _ (l .inv .1) (counts _ (s .args .i) (l .l) n (search needs) (c .before .if1 .taken)) (lane _ (s .args .i) (l .l) n (search needs) (c .before .if1 .taken) ∙ c .if2 .taken) (s .pre .1)
 
 loop-holds : tie.Need-loop-holds Inv-loop μ-loop
 loop-holds c = (search needs, listed-none _ _ _ _ _ _ (c .good .0 .1 .0 .1) (c .good .1 .0 .1 .0 .1))
@@ -47,16 +47,16 @@ array-read-if2 : tie.Need-array-read-if2 Inv-loop μ-loop
 array-read-if2 c = search needs
 
 array-write-degrees : tie.Need-array-write-degrees Inv-loop μ-loop
-array-write-degrees c = room c
+array-write-degrees c = output c
 
 array-read-places : tie.Need-array-read-places Inv-loop μ-loop
 array-read-places c = search needs
 
 array-write-places : tie.Need-array-write-places Inv-loop μ-loop
-array-write-places c = room c
+array-write-places c = output c
 
 add-count : tie.Need-add-count Inv-loop μ-loop
-add-count c = record { fits = omega (arith, room c) }
+add-count c = record { fits = omega (arith, output c) }
 
 add-l : tie.Need-add-l Inv-loop μ-loop
 add-l c = search needs

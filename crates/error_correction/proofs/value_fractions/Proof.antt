@@ -9,7 +9,7 @@ use lib.Seq.{length-take-le, getD-take, getD-at}
 use lib.ListN.{List·getD-append}
 use Rattle.algebra.specs.Polynomial.{plus}
 use Rattle.galois.specs.Field256.{numbers}
-use Rattle.byte_lanes.specs.Lanes.{advanced}
+use Rattle.byte_lanes.specs.Lanes.{hornerStep}
 use Rattle.error_correction.specs.Correction.{monic}
 use Rattle.error_correction.proofs.ErrorValues.{SummedLanes, lanes-none, lanes-more, lanes-all}
 use borrow.Author.Needs.{needs}
@@ -76,7 +76,7 @@ loop-less : tie.Need-loop-less Inv-loop μ-loop
 loop-less c = search needs
 
 loop-again : tie.Need-loop-again Inv-loop μ-loop
-unfolding advanced
+unfolding hornerStep
 loop-again c =
     let l = c .before .before .before .before .before .before .before .loop in
     let t = c .before .before .before .before .before .before .before .before in

@@ -5,14 +5,14 @@ use Prim.Native.Nat.{_-_, _≤_}
 use native.Mathlib.Omega.{arith}
 use Rattle.common.proofs.Choice.{flag-false, flag-true}
 use Rattle.galois.proofs.Instance.{byte}
-use Rattle.error_locator.specs.Locator.{Kept, Pivoted}
+use Rattle.error_locator.specs.Locator.{Reduced, Pivoted}
 use Rattle.error_locator.proofs.KeyEquations.{kept-start, kept-more, eliminated, eliminated-all}
 use borrow.Author.Needs.{needs}
 use Rattle.error_locator.proofs.eliminate.Statement.{statement}
 use Rattle.error_locator.proofs.eliminate.Tie as tie
 
 abbrev Inv-loop : tie.InvT-loop
-Inv-loop m₀ size d₀ k₀ m d k = (k ≤ size) × Kept m₀ m size k (byte d)
+Inv-loop m₀ size d₀ k₀ m d k = (k ≤ size) × Reduced m₀ m size k (byte d)
 
 abbrev μ-loop : tie.MeasureT-loop
 μ-loop m₀ size d₀ k₀ m d k = size - k

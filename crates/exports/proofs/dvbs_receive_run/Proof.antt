@@ -10,7 +10,7 @@ use lib.ListN.{set}
 use Rattle.common.specs.Choice.{pick}
 use Rattle.answer.specs.Number.{numberOf}
 use Rattle.receiver.specs.Receive.{freshReceiver}
-use Rattle.recording.specs.Recording.{Answers, recordingNumber}
+use Rattle.recording.specs.Recording.{AnswersRecording, recordingNumber}
 use Rattle.exports.specs.ReceiveRun.{receiveRunNumber, untold, refused}
 use Rattle.exports.proofs.Runs.{run-exported}
 use borrow.Author.Needs.{needs}
@@ -29,8 +29,8 @@ same-length c = search needs
 returns-2 : tie.Need-returns-2
 returns-2 c =
     let a = c .before .before .before .before .before .before .args in
-    let e : 4 ≡ receiveRunNumber (a .blocks .now) (a .room .now) (a .counts .now)
-    = sym (ap (λ (t : Bool). pick t 4 (recordingNumber freshReceiver (a .blocks .now) (a .room .now))) (lt-ltb _ _ (c .if2 .taken))) in
+    let e : 4 ≡ receiveRunNumber (a .blocks .now) (a .output .now) (a .counts .now)
+    = sym (ap (λ (t : Bool). pick t 4 (recordingNumber freshReceiver (a .blocks .now) (a .output .now))) (lt-ltb _ _ (c .if2 .taken))) in
     refused (c .before .if1 .left) (subst (λ (n : ℕ). 0 < n) e (omega arith)) refl refl refl (ap (set (a .answer .now) 0) e)
 
 receive-run-requires : tie.Need-receive-run-requires
@@ -53,11 +53,11 @@ returns-3 c =
     let a = c .before .before .before .before .before .before .before .before .before .before .before .before .before .before .before .before .before .args in
     let k = c .before .before .before .before .before .before .before .before .before .receive-run in
     let p = c .before .before .before .before .put-recorded in
-    let e : recordingNumber freshReceiver (a .blocks .now) (a .room .now) ≡ receiveRunNumber (a .blocks .now) (a .room .now) (a .counts .now)
-    = sym (ap (λ (t : Bool). pick t 4 (recordingNumber freshReceiver (a .blocks .now) (a .room .now))) (le-ltb _ _ (c .before .before .before .before .before .before .before .before .before .before .before .if2 .left))) in
-    run-exported (a .blocks .now) [] (a .room .now) (k .last .1 .0) (a .counts .now) (p .last .1 .0) (a .answer .now) (p .last .1 .1 .0) _ _ (numberOf (k .result .answer)) (k .result .count) (k .result .receiver) (c .before .before .before .before .before .before .before .before .before .before .before .before .if1 .left)
+    let e : recordingNumber freshReceiver (a .blocks .now) (a .output .now) ≡ receiveRunNumber (a .blocks .now) (a .output .now) (a .counts .now)
+    = sym (ap (λ (t : Bool). pick t 4 (recordingNumber freshReceiver (a .blocks .now) (a .output .now))) (le-ltb _ _ (c .before .before .before .before .before .before .before .before .before .before .before .if2 .left))) in
+    run-exported (a .blocks .now) [] (a .output .now) (k .last .1 .0) (a .counts .now) (p .last .1 .0) (a .answer .now) (p .last .1 .1 .0) _ _ (numberOf (k .result .answer)) (k .result .count) (k .result .receiver) (c .before .before .before .before .before .before .before .before .before .before .before .before .if1 .left)
     (p .ensures .0) (p .ensures .1) (p .ensures .2)
-    (subst (λ (n : ℕ). Answers freshReceiver (a .blocks .now) [] (a .room .now) n (numberOf (k .result .answer)) (k .result .count) (k .result .receiver) (k .last .1 .0)) e (k .ensures .0))
+    (subst (λ (n : ℕ). AnswersRecording freshReceiver (a .blocks .now) [] (a .output .now) n (numberOf (k .result .answer)) (k .result .count) (k .result .receiver) (k .last .1 .0)) e (k .ensures .0))
 
 pub dvbs-receive-run-spec : {M : Type 1} → statement M
 dvbs-receive-run-spec =

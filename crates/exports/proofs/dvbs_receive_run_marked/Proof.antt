@@ -9,7 +9,7 @@ use lib.ListN.{set}
 use Rattle.answer.specs.Number.{numberOf}
 use Rattle.receiver.specs.Receive.{freshReceiver}
 use Rattle.receiver.proofs.Reached.{sound-range, sound-fresh}
-use Rattle.recording.specs.Recording.{Answers, marksFor, markedNumber}
+use Rattle.recording.specs.Recording.{AnswersRecording, marksFor, markedNumber}
 use Rattle.exports.specs.ReceiveRun.{markedRunNumber, untold, refused}
 use Rattle.exports.proofs.Runs.{run-exported}
 use borrow.Author.Needs.{needs}
@@ -35,7 +35,7 @@ same-length c = search needs
 returns-2 : tie.Need-returns-2
 returns-2 c =
     let a = c .before .before .before .before .before .before .before .before .args in
-    let e : 20 ≡ markedRunNumber (a .blocks .now) (a .marks .now) (a .room .now) (a .counts .now) = sym (simp (sym (c .before .are-marks-for .ensures) ∙ not-true _ (c .if2 .taken))) in
+    let e : 20 ≡ markedRunNumber (a .blocks .now) (a .marks .now) (a .output .now) (a .counts .now) = sym (simp (sym (c .before .are-marks-for .ensures) ∙ not-true _ (c .if2 .taken))) in
     refused (c .before .before .if1 .left) (subst (λ (n : ℕ). 0 < n) e (omega arith)) refl refl refl (ap (set (a .answer .now) 0) e)
 
 slice-write-answer-2 : tie.Need-slice-write-answer-2
@@ -47,7 +47,7 @@ same-length-2 c = search needs
 returns-3 : tie.Need-returns-3
 returns-3 c =
     let a = c .before .before .before .before .before .before .before .before .before .args in
-    let e : 4 ≡ markedRunNumber (a .blocks .now) (a .marks .now) (a .room .now) (a .counts .now) = sym (simp (marked (c .before), lt-ltb _ _ (c .if3 .taken))) in
+    let e : 4 ≡ markedRunNumber (a .blocks .now) (a .marks .now) (a .output .now) (a .counts .now) = sym (simp (marked (c .before), lt-ltb _ _ (c .if3 .taken))) in
     refused (c .before .before .before .if1 .left) (subst (λ (n : ℕ). 0 < n) e (omega arith)) refl refl refl (ap (set (a .answer .now) 0) e)
 
 receive-marked-run-requires : tie.Need-receive-marked-run-requires
@@ -70,11 +70,11 @@ returns-4 c =
     let a = c .before .before .before .before .before .before .before .before .before .before .before .before .before .before .before .before .before .before .before .before .args in
     let k = c .before .before .before .before .before .before .before .before .before .receive-marked-run in
     let p = c .before .before .before .before .put-recorded in
-    let e : markedNumber freshReceiver (a .blocks .now) (a .marks .now) (a .room .now) ≡ markedRunNumber (a .blocks .now) (a .marks .now) (a .room .now) (a .counts .now)
+    let e : markedNumber freshReceiver (a .blocks .now) (a .marks .now) (a .output .now) ≡ markedRunNumber (a .blocks .now) (a .marks .now) (a .output .now) (a .counts .now)
     = simp (sound-range freshReceiver sound-fresh, marked (c .before .before .before .before .before .before .before .before .before .before .before .before), le-ltb _ _ (c .before .before .before .before .before .before .before .before .before .before .before .if3 .left)) in
-    run-exported (a .blocks .now) (a .marks .now) (a .room .now) (k .last .1 .1 .0) (a .counts .now) (p .last .1 .0) (a .answer .now) (p .last .1 .1 .0) _ _ (numberOf (k .result .answer)) (k .result .count) (k .result .receiver) (c .before .before .before .before .before .before .before .before .before .before .before .before .before .before .if1 .left)
+    run-exported (a .blocks .now) (a .marks .now) (a .output .now) (k .last .1 .1 .0) (a .counts .now) (p .last .1 .0) (a .answer .now) (p .last .1 .1 .0) _ _ (numberOf (k .result .answer)) (k .result .count) (k .result .receiver) (c .before .before .before .before .before .before .before .before .before .before .before .before .before .before .if1 .left)
     (p .ensures .0) (p .ensures .1) (p .ensures .2)
-    (subst (λ (n : ℕ). Answers freshReceiver (a .blocks .now) (a .marks .now) (a .room .now) n (numberOf (k .result .answer)) (k .result .count) (k .result .receiver) (k .last .1 .1 .0)) e (k .ensures))
+    (subst (λ (n : ℕ). AnswersRecording freshReceiver (a .blocks .now) (a .marks .now) (a .output .now) n (numberOf (k .result .answer)) (k .result .count) (k .result .receiver) (k .last .1 .1 .0)) e (k .ensures))
 
 pub dvbs-receive-run-marked-spec : {M : Type 1} → statement M
 dvbs-receive-run-marked-spec =

@@ -6,7 +6,7 @@ use Prim.Native.Nat.{ℕ, _+_, min}
 use borrow.Author.Tests.{eq-eqb, ne-eqb}
 use lib.Dec.{eqb, ltb}
 use Rattle.common.specs.Choice.{pick}
-use Rattle.recorded_block.specs.Block.{wholeBlocks}
+use Rattle.recorded_block.specs.Block.{blockCount}
 use Rattle.exports.specs.RecordingBlock.{no-count, called}
 use borrow.Author.Needs.{needs}
 use Rattle.exports.proofs.dvbs_recording_block.Statement.{statement}
@@ -18,24 +18,24 @@ refused true true d = refl
 refused true false d = refl
 refused false u d = refl
 
-slice-aggregate-repaired-block : tie.Need-slice-aggregate-repaired-block
-slice-aggregate-repaired-block c = search needs
+slice-aggregate-decoded-block : tie.Need-slice-aggregate-decoded-block
+slice-aggregate-decoded-block c = search needs
 
-repaired-block-requires : tie.Need-repaired-block-requires
-repaired-block-requires c κs = search needs
+decoded-block-requires : tie.Need-decoded-block-requires
+decoded-block-requires c κs = search needs
 
 number-requires : tie.Need-number-requires
 number-requires c κs = search needs
 
 returns : tie.Need-returns
 returns c =
-    let g = c .before .before .repaired-block .ensures in
+    let g = c .before .before .decoded-block .ensures in
     let a = c .before .before .before .before .before .before .before .before .args in
     no-count (c .before .before .before .before .if1 .taken)
-    (c .number .ensures ∙ g .number ∙ refused (eqb (a .blocks) (wholeBlocks (a .recording .now))) (ltb (min (a .blocks) 4294967295) (a .p + 12)) _) refl refl
+    (c .number .ensures ∙ g .number ∙ refused (eqb (a .blocks) (blockCount (a .recording .now))) (ltb (min (a .blocks) 4294967295) (a .p + 12)) _) refl refl
 
-repaired-block-requires-2 : tie.Need-repaired-block-requires-2
-repaired-block-requires-2 c κs = search needs
+decoded-block-requires-2 : tie.Need-decoded-block-requires-2
+decoded-block-requires-2 c κs = search needs
 
 number-requires-2 : tie.Need-number-requires-2
 number-requires-2 c κs = search needs
@@ -54,7 +54,7 @@ same-length-2 c = search needs
 
 returns-2 : tie.Need-returns-2
 returns-2 c =
-    let d = c .before .before .before .before .repaired-block2 in
+    let d = c .before .before .before .before .decoded-block2 in
     called (c .before .before .before .before .before .before .if1 .left) (d .result) (d .ensures) (c .before .number2 .ensures) (sym (simp (eq-eqb _ _ (c .if2 .taken))))
 
 same-length-3 : tie.Need-same-length-3
@@ -62,18 +62,18 @@ same-length-3 c = search needs
 
 returns-3 : tie.Need-returns-3
 returns-3 c =
-    let d = c .before .before .before .before .repaired-block2 in
+    let d = c .before .before .before .before .decoded-block2 in
     called (c .before .before .before .before .before .before .if1 .left) (d .result) (d .ensures) (c .before .number2 .ensures) (sym (simp (ne-eqb _ _ (c .if2 .left))))
 
 pub dvbs-recording-block-spec : {M : Type 1} → statement M
 dvbs-recording-block-spec =
     tie.close
     (tie.spec
-    slice-aggregate-repaired-block
-    repaired-block-requires
+    slice-aggregate-decoded-block
+    decoded-block-requires
     number-requires
     returns
-    repaired-block-requires-2
+    decoded-block-requires-2
     number-requires-2
     slice-write-count
     slice-write-count-2

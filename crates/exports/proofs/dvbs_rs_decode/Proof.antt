@@ -1,7 +1,7 @@
 -- `exports::dvbs_rs_decode` meets its contract.
 -- Assumes nothing.
 use mathlib.Core.Path.{refl}
-use Rattle.exports.specs.Decode.{block-length, no-room, answered}
+use Rattle.exports.specs.Decode.{block-length, count-short, answered}
 use borrow.Author.Needs.{needs}
 use Rattle.exports.proofs.dvbs_rs_decode.Statement.{statement}
 use Rattle.exports.proofs.dvbs_rs_decode.Tie as tie
@@ -10,7 +10,7 @@ returns : tie.Need-returns
 returns c = block-length (c .if1 .taken) (record { numbered = refl; block-kept = refl; count-kept = refl })
 
 returns-2 : tie.Need-returns-2
-returns-2 c = no-room (c .before .if1 .left) (c .if2 .taken) (record { numbered = refl; block-kept = refl; count-kept = refl })
+returns-2 c = count-short (c .before .if1 .left) (c .if2 .taken) (record { numbered = refl; block-kept = refl; count-kept = refl })
 
 decode-requires : tie.Need-decode-requires
 decode-requires c κs = search needs

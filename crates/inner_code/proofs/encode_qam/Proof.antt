@@ -29,7 +29,7 @@ returns c =
       refl,
       (λ i. record { rate = p .1 i; memory = r .0 i; place = 0; held = 0 }) ∙ qam-after coder (p .0) (p .1) block (p .2),
       sym count,
-      r .1 ∙ ap₂ (λ (s : List ℕ) (k : ℕ). s ++ drop k (a .args .room .now)) (qam-symbols coder (p .0) (p .1) block (p .2)) (sym count),
+      r .1 ∙ ap₂ (λ (s : List ℕ) (k : ℕ). s ++ drop k (a .args .output .now)) (qam-symbols coder (p .0) (p .1) block (p .2)) (sym count),
     )
 
 pub encode-qam-spec : {M : Type 1} → statement M

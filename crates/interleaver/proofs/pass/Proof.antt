@@ -3,7 +3,7 @@
 use mathlib.Core.Path.{_≡_, refl, sym, _∙_}
 use mathlib.Core.Bool.{true}
 use borrow.Author.Tests.{eq-eqb, ne-eqb, lt-ltb, le-ltb, not-true, not-false}
-use Rattle.delay_branches.specs.Branch.{inRange}
+use Rattle.delay_branches.specs.Branch.{branchesInRange}
 use borrow.Author.Needs.{needs}
 use Rattle.interleaver.proofs.pass.Statement.{statement}
 use Rattle.interleaver.proofs.pass.Tie as tie
@@ -15,7 +15,7 @@ returns : tie.Need-returns
 returns c = simp (sym (c .before .positions-within .ensures) ∙ not-true _ (c .if1 .taken)) (refl, refl, refl)
 
 -- past the first test
-good : (c : tie.Else1) → let a = c .before .before .before .before .before .args in inRange (a .side) (a .branches) ≡ true
+good : (c : tie.Else1) → let a = c .before .before .before .before .before .args in branchesInRange (a .side) (a .branches) ≡ true
 good c = sym (c .before .positions-within .ensures) ∙ not-false _ (c .if1 .left)
 
 returns-2 : tie.Need-returns-2

@@ -11,15 +11,15 @@ use Rattle.convolutional_code.proofs.Bits.{bits-at}
 use Rattle.puncturing.specs.declared.Punctured.{Punctured}
 use Rattle.puncturing.proofs.Places.{up}
 use Rattle.puncturing.proofs.Steps.{held-le}
-use Rattle.puncturing.proofs.Run.{Going, going-start, going-none, going-one, going-room, going-end}
+use Rattle.puncturing.proofs.Run.{Going, going-start, going-none, going-one, going-fits, going-end}
 use Rattle.puncturing.proofs.puncture_bits.Statement.{statement}
 use Rattle.puncturing.proofs.puncture_bits.Tie as tie
 
 abbrev Inv-loop : tie.InvT-loop
-Inv-loop rate place held coded from to room₀ at p₀ i₀ count₀ n₀ room p i count n = Going rate place held coded from to room₀ at room p i count n
+Inv-loop rate place held coded from to output₀ at p₀ i₀ count₀ n₀ output p i count n = Going rate place held coded from to output₀ at output p i count n
 
 abbrev μ-loop : tie.MeasureT-loop
-μ-loop rate place held coded from to room₀ at p₀ i₀ count₀ n₀ room p i count n = to - n
+μ-loop rate place held coded from to output₀ at p₀ i₀ count₀ n₀ output p i count n = to - n
 
 loop-holds : tie.Need-loop-holds Inv-loop μ-loop
 loop-holds c = let g = c .before .before .pre in going-start (g .0) (g .1) (g .2) (g .5) (g .7)
@@ -49,19 +49,19 @@ enum-known-symbol : tie.Need-enum-known-symbol Inv-loop μ-loop
 enum-known-symbol c = search needs
 
 -- a symbol has room
-has-room : (c : tie.After-symbol Inv-loop μ-loop)
+symbol-fits : (c : tie.After-symbol Inv-loop μ-loop)
     → let l = c .before .before .before .before .before .before .loop in
-    l .count < length (l .room)
-has-room c =
+    l .count < length (l .output)
+symbol-fits c =
     let p = c .before .before in
     let a = p .before .before .before .before .before .before .before in
-    going-room (p .before .before .before .before .loop .inv) (a .pre .3) (omega arith) (sym (c .symbol .given .1) ∙ ap (λ (x : Punctured). x .symbol) (p .puncture .ensures))
+    going-fits (p .before .before .before .before .loop .inv) (a .pre .3) (omega arith) (sym (c .symbol .given .1) ∙ ap (λ (x : Punctured). x .symbol) (p .puncture .ensures))
 
-slice-write-room : tie.Need-slice-write-room Inv-loop μ-loop
-slice-write-room c = has-room (c .before)
+slice-write-output : tie.Need-slice-write-output Inv-loop μ-loop
+slice-write-output c = symbol-fits (c .before)
 
 add-count : tie.Need-add-count Inv-loop μ-loop
-add-count c = omega (arith, has-room (c .before), written-length (c .before .before .before .before .before .before .before .loop .inv .written))
+add-count c = omega (arith, symbol-fits (c .before), written-length (c .before .before .before .before .before .before .before .loop .inv .written))
 
 enum-told : tie.Need-enum-told Inv-loop μ-loop
 enum-told c = search needs
@@ -101,7 +101,7 @@ puncture-bits-spec =
     shared-slice-read-puncture-2
     puncture-requires
     enum-known-symbol
-    slice-write-room
+    slice-write-output
     add-count
     enum-told
     add-n

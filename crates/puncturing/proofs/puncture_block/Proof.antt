@@ -5,7 +5,7 @@ use Prim.Native.Nat.{ℕ, _+_, _-_, _*_, _/_, _%_, _≤_, _<_}
 use native.Mathlib.Nat.{mod-lt, div-add-mod'}
 use native.Mathlib.Omega.{arith}
 use Rattle.puncturing.specs.Step.{patternLength}
-use Rattle.puncturing.specs.Run.{placeAfter}
+use Rattle.puncturing.specs.Run.{patternPlaceAfter}
 use Rattle.puncturing.proofs.Places.{length-le, up}
 use Rattle.puncturing.proofs.Parts.{to-start}
 use borrow.Author.Needs.{needs}
@@ -60,7 +60,7 @@ puncture-parts-requires c κs =
     let a = p .before .before .before in
     let g = a .pre in
     let start =
-    ap (λ (n : ℕ). placeAfter (a .args .rate) (a .args .place) ((n - a .args .place) % n)) (len p)
+    ap (λ (n : ℕ). patternPlaceAfter (a .args .rate) (a .args .place) ((n - a .args .place) % n)) (len p)
     ∙ to-start (a .args .rate) (a .args .place) (g .0) (g .1)
     in
     let head = (p .pattern-length .result - a .args .place) % p .pattern-length .result in

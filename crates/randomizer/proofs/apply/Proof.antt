@@ -15,10 +15,10 @@ use Rattle.randomizer.proofs.apply.Statement.{statement}
 use Rattle.randomizer.proofs.apply.Tie as tie
 
 -- a packet at place k is sent with the 188 masks of that place
-sent : (k place : ℕ) (packet room : List ℕ) → place ≡ k → length packet ≡ 188
-    → zipWith bitXor packet (take 188 (drop (188 * k) quick)) ++ room ≡ randomized place packet ++ room
+sent : (k place : ℕ) (packet output : List ℕ) → place ≡ k → length packet ≡ 188
+    → zipWith bitXor packet (take 188 (drop (188 * k) quick)) ++ output ≡ randomized place packet ++ output
 unfolding randomized
-sent k place packet room e n = rw (masks-quick, e, ← n, xors-take)
+sent k place packet output e n = rw (masks-quick, e, ← n, xors-take)
 
 -- a place that is none of the first k + 1, where it is none of the first k
 above : (n k : ℕ) → k ≤ n → (n ≡ k → ⊥) → k < n

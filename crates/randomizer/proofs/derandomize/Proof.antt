@@ -25,8 +25,8 @@ returns-3 c =
 apply-requires : tie.Need-apply-requires
 apply-requires c κs = search needs
 
-slice-write-room : tie.Need-slice-write-room
-slice-write-room c = search needs
+slice-write-output : tie.Need-slice-write-output
+slice-write-output c = search needs
 
 same-length : tie.Need-same-length
 same-length c = search needs
@@ -46,4 +46,4 @@ returns-4 c =
 pub derandomize-spec : {M : Type 1} → statement M
 derandomize-spec =
     tie.close
-    (tie.spec returns returns-2 returns-3 apply-requires slice-write-room same-length returns-4)
+    (tie.spec returns returns-2 returns-3 apply-requires slice-write-output same-length returns-4)

@@ -16,10 +16,10 @@ use Rattle.randomizer.proofs.xor_into.Reads as reads
 use Rattle.randomizer.proofs.xor_into.Lts as lts
 
 abbrev Inv-loop : tie.InvT-loop
-Inv-loop packet masks room₀ i₀ room i = Written 0 room₀ (zipWith bitXor packet masks) room i
+Inv-loop packet masks output₀ i₀ output i = Written 0 output₀ (zipWith bitXor packet masks) output i
 
 abbrev μ-loop : tie.MeasureT-loop
-μ-loop packet masks room₀ i₀ room i = 188 - i
+μ-loop packet masks output₀ i₀ output i = 188 - i
 
 -- the list written has 188 bytes
 out-length : (c : lts.Start reads.Pre reads.Post Inv-loop μ-loop) → length (zipWith bitXor (c .args .packet .now) (c .args .masks .now)) ≡ 188
@@ -28,14 +28,14 @@ out-length c = length-xors (c .args .packet .now) (c .args .masks .now) (omega a
 loop-holds : tie.Need-loop-holds Inv-loop μ-loop
 loop-holds c = written-none (let e = out-length c in omega arith)
 
-shared-slice-read-room : tie.Need-shared-slice-read-room Inv-loop μ-loop
-shared-slice-read-room c = search needs
+shared-slice-read-output : tie.Need-shared-slice-read-output Inv-loop μ-loop
+shared-slice-read-output c = search needs
 
-element-copy-out-room : tie.Need-element-copy-out-room Inv-loop μ-loop
-element-copy-out-room c = search needs
+element-copy-out-output : tie.Need-element-copy-out-output Inv-loop μ-loop
+element-copy-out-output c = search needs
 
-slice-write-room : tie.Need-slice-write-room Inv-loop μ-loop
-slice-write-room c = omega (arith, written-length (c .before .before .before .loop .inv))
+slice-write-output : tie.Need-slice-write-output Inv-loop μ-loop
+slice-write-output c = omega (arith, written-length (c .before .before .before .loop .inv))
 
 add-i : tie.Need-add-i Inv-loop μ-loop
 add-i c = search needs
@@ -68,9 +68,9 @@ xor-into-spec =
     Inv-loop
     μ-loop
     loop-holds
-    shared-slice-read-room
-    element-copy-out-room
-    slice-write-room
+    shared-slice-read-output
+    element-copy-out-output
+    slice-write-output
     add-i
     loop-less
     loop-again

@@ -6,9 +6,9 @@ use Prim.Native.Nat.{ℕ}
 use native.Mathlib.Omega.{arith}
 use lib.ListN.{length, length-replicate}
 use Rattle.delay_branches.specs.Branch.{laid}
-use Rattle.delay_branches.specs.Block.{blockOut, after}
+use Rattle.delay_branches.specs.Block.{blockOut, branchesAfter}
 use Rattle.delay_branches.specs.declared.Side.the-variants.{Receiving}
-use Rattle.receiver.proofs.Calls.{room-filled}
+use Rattle.receiver.proofs.Calls.{output-filled}
 use Rattle.receiver.proofs.MarkDelays.{none-leaves, none-stays}
 use borrow.Author.Needs.{needs}
 use Rattle.receiver.proofs.delay_marks.Statement.{statement}
@@ -20,7 +20,7 @@ returns c =
     let p = s .args .positions in
     let z = s .pre .4 (c .if1 .taken) in (
       z .0
-          ∙ sym (ap₂ (λ (k m : List ℕ). after Receiving (laid k p) m .cells) (z .0) (z .1)
+          ∙ sym (ap₂ (λ (k m : List ℕ). branchesAfter Receiving (laid k p) m .cells) (z .0) (z .1)
           ∙ none-stays p (record { cells = length-replicate {A = ℕ} 1122 0; positions = search needs; range = s .pre .0 })),
       s .pre .3 ∙ sym (ap₂ (λ (k m : List ℕ). blockOut Receiving (laid k p) m) (z .0) (z .1) ∙ none-leaves p),
     )
@@ -40,7 +40,7 @@ returns-2 : tie.Need-returns-2
 returns-2 c =
     let s = c .before .before .before .before .before .before .before .before .before .before .before in
     let e = c .before .before .before .before .pass-cells .ensures in
-    (e .1, room-filled _ (s .args .room .now) _ (ap length (s .pre .3) ∙ length-replicate {A = ℕ} 204 0) (e .2))
+    (e .1, output-filled _ (s .args .output .now) _ (ap length (s .pre .3) ∙ length-replicate {A = ℕ} 204 0) (e .2))
 
 pub delay-marks-spec : {M : Type 1} → statement M
 delay-marks-spec = tie.close (tie.spec returns pass-cells-requires same-length same-length-2 returns-2)

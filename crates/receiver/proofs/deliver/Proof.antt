@@ -43,7 +43,7 @@ returns-2 c =
     let o = c .before .before .before .before .before .before .outcome .given in
     let l : length (take 188 (s .args .left .now)) ≡ 188 = length-take-le 188 (s .args .left .now) (let n = s .pre .1 in omega arith) in
     simp (o .1)
-    (refl, c .before .before .derandomize .ensures .1 ∙ derandomize-done (o .0 .0) (take 188 (s .args .left .now)) (subst PlaceOf (o .1) (s .pre .0)) l (s .args .room .now) (s .pre .2) .1)
+    (refl, c .before .before .derandomize .ensures .1 ∙ derandomize-done (o .0 .0) (take 188 (s .args .left .now)) (subst PlaceOf (o .1) (s .pre .0)) l (s .args .output .now) (s .pre .2) .1)
 
 returns-3 : tie.Need-returns-3
 returns-3 c = search needs

@@ -19,7 +19,7 @@ use Rattle.group_sync.specs.declared.GroupStep.{GroupStep}
 use Rattle.group_sync.proofs.Synchronization.{outcome-place}
 use Rattle.reception_counts.specs.Counts.{outcomeNumber, counted}
 use Rattle.receiver.specs.Receive.{delayedBlock, delayedMarks}
-use Rattle.receiver.proofs.Calls.{state-range, filling-call, repairing-call, room-for, room-filled, left-length}
+use Rattle.receiver.proofs.Calls.{state-range, filling-call, decoding-call, output-for, output-filled, left-length}
 use Rattle.receiver.proofs.MarkDelays.{none-leaves}
 use borrow.Author.Needs.{needs}
 use Rattle.receiver.proofs.take_block.Statement.{statement}
@@ -31,7 +31,7 @@ decodes : (c : tie.After-decode-block)
 decodes c =
     let a = c .before .before .before .before .before .before .before .before .before .before .before .before .before .before .before .before .before .before .before .before .before .before .before .before .args in
     subst₂ (λ (m b : List ℕ). DecodesMarked m b (c .decode-block .last .0) (c .decode-block .result))
-    (c .before .before .before .before .before .before .delay-marks .ensures .1) (room-filled (delayedBlock (a .receiver) (a .block .now)) (replicate 204 0) _ refl (c .before .before .before .before .before .before .before .before .before .before .before .pass-cells .ensures .2)) (c .decode-block .ensures)
+    (c .before .before .before .before .before .before .delay-marks .ensures .1) (output-filled (delayedBlock (a .receiver) (a .block .now)) (replicate 204 0) _ refl (c .before .before .before .before .before .before .before .before .before .before .before .pass-cells .ensures .2)) (c .decode-block .ensures)
 
 slice-aggregate-pass-cells : tie.Need-slice-aggregate-pass-cells
 slice-aggregate-pass-cells c = search needs
@@ -59,14 +59,14 @@ count-requires : tie.Need-count-requires
 count-requires c κs =
     let s = c .before .before .before .before .before .before .before .before .before .before .before .before .before .before .before .before .before .before .before .before .before in
     let a = s .args in
-    room-for (a .receiver) (a .block .now) (a .marks .now) (a .room .now) (s .pre .0) noChange (record { few = omega arith; least = omega arith; most = omega arith })
+    output-for (a .receiver) (a .block .now) (a .marks .now) (a .output .now) (s .pre .0) noChange (record { few = omega arith; least = omega arith; most = omega arith })
 
 returns : tie.Need-returns
 returns c =
     let s = c .before .before .before .before .before .before .before .before .before .before .before .before .before .before .before .before .before .before .before .before .before .before in
     let a = s .args in
     let p = c .before .before .before .before .before .before .before .before .before .pass-cells in
-    filling-call (a .receiver) (a .block .now) (a .marks .now) (a .room .now) (s .pre .0) (c .before .if1 .taken) _ (record { branches = laid (p .last .1 .0) (p .result) }) (c .before .before .before .before .delay-marks .last .0) (c .count .result) _
+    filling-call (a .receiver) (a .block .now) (a .marks .now) (a .output .now) (s .pre .0) (c .before .if1 .taken) _ (record { branches = laid (p .last .1 .0) (p .result) }) (c .before .before .before .before .delay-marks .last .0) (c .count .result) _
     refl (λ i. laid (p .ensures .1 i) (p .ensures .0 i)) (c .before .before .before .before .delay-marks .ensures .0) (c .count .ensures) refl
 
 slice-aggregate-decode-block : tie.Need-slice-aggregate-decode-block
@@ -84,11 +84,11 @@ decode-block-requires c κs =
     ∙ ap₂ (λ (k m : List ℕ). blockOut Receiving (laid k (s .args .receiver .deinterleaver .branches .positions)) m) (e .0) (e .1)
     ∙ none-leaves (s .args .receiver .deinterleaver .branches .positions)
 
-array-read-repair-of : tie.Need-array-read-repair-of
-array-read-repair-of c = search needs
+array-read-decoding-of : tie.Need-array-read-decoding-of
+array-read-decoding-of c = search needs
 
-repair-of-requires : tie.Need-repair-of-requires
-repair-of-requires c κs = search needs
+decoding-of-requires : tie.Need-decoding-of-requires
+decoding-of-requires c κs = search needs
 
 step-requires : tie.Need-step-requires
 step-requires c κs = search needs
@@ -107,7 +107,7 @@ count-requires-2 c κs =
     let s = c .before .before .before .before .before .before .before .before .before .before .before .before .before .before .before .before .before .before .before .before .before .before .before .before .before .before .before .before .before in
     let a = s .args in
     let e = c .before .before .before .before .before in
-    room-for (a .receiver) (a .block .now) (a .marks .now) (a .room .now) (s .pre .0) _
+    output-for (a .receiver) (a .block .now) (a .marks .now) (a .output .now) (s .pre .0) _
     (subst FewChanges (sym (c .changed .ensures ∙ tells-changes _ _ (e .decode-block .last .0) (e .decode-block .result) (decodes e)))
     (few-changes (delayedMarks (a .receiver) (a .marks .now)) (delayedBlock (a .receiver) (a .block .now)) (e .decode-block .last .0) (e .decode-block .result) (decodes e)))
 
@@ -120,7 +120,7 @@ deliver-requires c κs =
     let a = s .args in
     let e = c .before .before .before .before .before in
     let d = c .before .before .before .before .before .before .before .before in (
-      subst (λ (g : GroupStep). PlaceOf (g .outcome)) (sym (e .step .ensures)) (outcome-place (a .receiver .sync) (c .before .before .before .before .before .before .repair-of .result) (state-range (a .receiver) (s .pre .0 .range) .sync)),
+      subst (λ (g : GroupStep). PlaceOf (g .outcome)) (sym (e .step .ensures)) (outcome-place (a .receiver .sync) (c .before .before .before .before .before .before .decoding-of .result) (state-range (a .receiver) (s .pre .0 .range) .sync)),
       left-length (delayedMarks (a .receiver) (a .marks .now)) (delayedBlock (a .receiver) (a .block .now)) (d .decode-block .last .0) (d .decode-block .result) (decodes d) (length-out Receiving (a .receiver .deinterleaver .branches) (a .block .now)),
       s .pre .0 .enough,
     )
@@ -136,8 +136,8 @@ returns-2 c =
     let e = c .before .before .before .before .before .before .before .before .before .before .before in
     let k = c .before .before .before .before .before .before .before .before .step in
     let v = c .before .before .deliver .ensures in
-    repairing-call (a .receiver) (a .block .now) (a .marks .now) (a .room .now) (s .pre .0) (c .before .before .before .before .before .before .before .before .before .before .before .before .before .before .if1 .left) (e .decode-block .last .0) (e .decode-block .result) (decodes e)
-    (k .result) (k .ensures ∙ ap (groupStep (a .receiver .sync)) (c .before .before .before .before .before .before .before .before .before .repair-of .ensures)) _ (record { branches = laid (p .last .1 .0) (p .result) }) (c .before .before .before .before .before .before .before .before .before .before .before .before .before .before .before .before .before .delay-marks .last .0) (c .before .before .before .before .before .count2 .result) _
+    decoding-call (a .receiver) (a .block .now) (a .marks .now) (a .output .now) (s .pre .0) (c .before .before .before .before .before .before .before .before .before .before .before .before .before .before .if1 .left) (e .decode-block .last .0) (e .decode-block .result) (decodes e)
+    (k .result) (k .ensures ∙ ap (groupStep (a .receiver .sync)) (c .before .before .before .before .before .before .before .before .before .decoding-of .ensures)) _ (record { branches = laid (p .last .1 .0) (p .result) }) (c .before .before .before .before .before .before .before .before .before .before .before .before .before .before .before .before .before .delay-marks .last .0) (c .before .before .before .before .before .count2 .result) _
     (v .0) (λ i. laid (p .ensures .1 i) (p .ensures .0 i)) (c .before .before .before .before .before .before .before .before .before .before .before .before .before .before .before .before .before .delay-marks .ensures .0)
     (c .before .before .before .before .before .count2 .ensures ∙ ap (λ (x : Changed). counted (a .receiver .counts) (outcomeNumber (k .result .outcome)) (x .bytes) (x .bits)) (c .before .before .before .before .before .before .changed .ensures)) (v .1)
 
@@ -156,8 +156,8 @@ take-block-spec =
     slice-aggregate-decode-block
     slice-aggregate-decode-block-2
     decode-block-requires
-    array-read-repair-of
-    repair-of-requires
+    array-read-decoding-of
+    decoding-of-requires
     step-requires
     changed-requires
     cast-count

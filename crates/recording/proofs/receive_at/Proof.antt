@@ -47,7 +47,7 @@ returns : tie.Need-returns
 returns c =
     let a = c .before .before .before .before .before .before .before .before .before .before .args in
     let k = c .before .before .receive-marked in
-    subst₂ (λ (b m : List ℕ). ReceivesMarked (a .receiver) b m (a .room .now) (k .result) (k .last .1 .1 .1 .0))
+    subst₂ (λ (b m : List ℕ). ReceivesMarked (a .receiver) b m (a .output .now) (k .result) (k .last .1 .1 .1 .0))
     (one-block (a .bytes .now) (a .at)) (c .before .before .before .before .before .before .marks-at .ensures) (k .ensures)
 
 pub receive-at-spec : {M : Type 1} → statement M

@@ -4,16 +4,16 @@ use Prim.Native.Nat.{_-_}
 use native.Mathlib.Omega.{arith}
 use lib.ListN.{length}
 use Rattle.answer.specs.Number.{numberOf}
-use Rattle.recording.proofs.Recordings.{Progress, progress-start, progress-end, progress-room, progress-length, progress-count, progress-more}
+use Rattle.recording.proofs.Recordings.{Progress, progress-start, progress-end, progress-fits, progress-length, progress-count, progress-more}
 use borrow.Author.Needs.{needs}
 use Rattle.recording.proofs.receive_marked_blocks.Statement.{statement}
 use Rattle.recording.proofs.receive_marked_blocks.Tie as tie
 
 abbrev Inv-loop : tie.InvT-loop
-Inv-loop bytes marks room₀ state₀ at₀ count₀ room state at count = Progress state₀ bytes marks room₀ room state at count
+Inv-loop bytes marks output₀ state₀ at₀ count₀ output state at count = Progress state₀ bytes marks output₀ output state at count
 
 abbrev μ-loop : tie.MeasureT-loop
-μ-loop bytes marks room₀ state₀ at₀ count₀ room state at count = length bytes - at
+μ-loop bytes marks output₀ state₀ at₀ count₀ output state at count = length bytes - at
 
 loop-holds : tie.Need-loop-holds Inv-loop μ-loop
 loop-holds c = progress-start _ _ _ _ (c .before .before .before .pre .0)
@@ -22,10 +22,10 @@ sub-loop : tie.Need-sub-loop Inv-loop μ-loop
 sub-loop c = c .loop .inv .within
 
 sub-receive-at : tie.Need-sub-receive-at Inv-loop μ-loop
-sub-receive-at c = progress-room (c .before .loop .inv)
+sub-receive-at c = progress-fits (c .before .loop .inv)
 
 part-receive-at-start : tie.Need-part-receive-at-start Inv-loop μ-loop
-part-receive-at-start c = progress-room (c .before .loop .inv)
+part-receive-at-start c = progress-fits (c .before .loop .inv)
 
 part-receive-at-end : tie.Need-part-receive-at-end Inv-loop μ-loop
 part-receive-at-end c = search needs

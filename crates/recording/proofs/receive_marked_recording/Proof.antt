@@ -8,14 +8,14 @@ use native.Mathlib.Omega.{arith}
 use borrow.Author.Tests.{not-true, not-false, eqb-true}
 use Rattle.common.proofs.Choice.{both-true}
 use Rattle.answer.specs.Number.{numberOf}
-use Rattle.receiver.specs.Receive.{inRange}
-use Rattle.recording.specs.Recording.{recordingNumber, markedNumber, Answers, refused, marksFor}
+use Rattle.receiver.specs.Receive.{receiverInRange}
+use Rattle.recording.specs.Recording.{recordingNumber, markedNumber, AnswersRecording, refused, marksFor}
 use borrow.Author.Needs.{needs}
 use Rattle.recording.proofs.receive_marked_recording.Statement.{statement}
 use Rattle.recording.proofs.receive_marked_recording.Tie as tie
 
 -- past the first test, and past that of the marks
-good : (c : tie.Else1) → inRange (c .before .before .before .before .before .args .receiver) ≡ true
+good : (c : tie.Else1) → receiverInRange (c .before .before .before .before .before .args .receiver) ≡ true
 good c = sym (c .before .in-range .ensures) ∙ not-false _ (c .if1 .left)
 
 marked : (c : tie.Else2) → marksFor (c .before .before .before .before .before .before .before .args .bytes .now) (c .before .before .before .before .before .before .before .args .marks .now) ≡ true
@@ -43,8 +43,8 @@ returns-3 : tie.Need-returns-3
 returns-3 c =
     let a = c .before .before .before .before .before .before .before .before .before .before .before .args in
     let k = c .before .before .take-recording in
-    let e : recordingNumber (a .receiver) (a .bytes .now) (a .room .now) ≡ markedNumber (a .receiver) (a .bytes .now) (a .marks .now) (a .room .now) = sym (simp (good (c .before .before .before .before .before .before), marked (c .before .before .before .before))) in
-    subst (λ (n : ℕ). Answers (a .receiver) (a .bytes .now) (a .marks .now) (a .room .now) n (numberOf (k .result .answer)) (k .result .count) (k .result .receiver) (k .last .1 .1 .1 .0)) e (k .ensures)
+    let e : recordingNumber (a .receiver) (a .bytes .now) (a .output .now) ≡ markedNumber (a .receiver) (a .bytes .now) (a .marks .now) (a .output .now) = sym (simp (good (c .before .before .before .before .before .before), marked (c .before .before .before .before))) in
+    subst (λ (n : ℕ). AnswersRecording (a .receiver) (a .bytes .now) (a .marks .now) (a .output .now) n (numberOf (k .result .answer)) (k .result .count) (k .result .receiver) (k .last .1 .1 .1 .0)) e (k .ensures)
 
 pub receive-marked-recording-spec : {M : Type 1} → statement M
 receive-marked-recording-spec =

@@ -21,7 +21,7 @@ returns : tie.Need-returns
 returns c =
     let a = c .before .before .before .before .before .before .before .before .args in
     let k = c .before .before .receive-marked-recording in
-    subst (λ (s : Receiver). ReceivesMarkedRecording s (a .bytes .now) (a .marks .now) (a .room .now) (numberOf (k .result .answer)) (k .result .count) (k .result .receiver) (k .last .1 .1 .1 .0)) (c .before .before .before .before .new .ensures) (k .ensures)
+    subst (λ (s : Receiver). ReceivesMarkedRecording s (a .bytes .now) (a .marks .now) (a .output .now) (numberOf (k .result .answer)) (k .result .count) (k .result .receiver) (k .last .1 .1 .1 .0)) (c .before .before .before .before .new .ensures) (k .ensures)
 
 pub receive-marked-run-spec : {M : Type 1} → statement M
 receive-marked-run-spec =

@@ -25,9 +25,9 @@ returns c =
     let a = n .before .before .before .args in
     let k = r .receive-recording in
     let p =
-    subst (λ (s : Receiver). ReceivesRecording s (a .bytes .now) (a .room .now) (numberOf (k .result .answer)) (k .result .count) (k .result .receiver) (k .last .1 .1 .0))
+    subst (λ (s : Receiver). ReceivesRecording s (a .bytes .now) (a .output .now) (numberOf (k .result .answer)) (k .result .count) (k .result .receiver) (k .last .1 .1 .0))
     (n .new .ensures) (k .ensures) in
-    (p, returned (a .bytes .now) (a .room .now) (numberOf (k .result .answer)) (k .result .count) (k .result .receiver) (k .last .1 .1 .0) p)
+    (p, returned (a .bytes .now) (a .output .now) (numberOf (k .result .answer)) (k .result .count) (k .result .receiver) (k .last .1 .1 .0) p)
 
 pub receive-run-spec : {M : Type 1} → statement M
 receive-run-spec = tie.close (tie.spec new-requires receive-recording-requires same-length returns)

@@ -5,7 +5,7 @@ use mathlib.Core.Bool.{true}
 use native.Mathlib.Omega.{arith}
 use borrow.Author.Tests.{lt-ltb, le-ltb, not-true, not-false}
 use Rattle.reception_counts.proofs.Ranges.{counts-range}
-use Rattle.receiver.specs.Receive.{inRange}
+use Rattle.receiver.specs.Receive.{receiverInRange}
 use Rattle.receiver.proofs.Calls.{state-range}
 use Rattle.recording.specs.Recording.{refused, taken}
 use borrow.Author.Needs.{needs}
@@ -19,7 +19,7 @@ returns : tie.Need-returns
 returns c = refused (simp (sym (c .before .in-range .ensures) ∙ not-true _ (c .if1 .taken))) (omega arith) refl refl refl
 
 -- past the first test
-good : (c : tie.Else1) → inRange (c .before .before .before .before .before .before .args .receiver) ≡ true
+good : (c : tie.Else1) → receiverInRange (c .before .before .before .before .before .before .args .receiver) ≡ true
 good c = sym (c .before .in-range .ensures) ∙ not-false _ (c .if1 .left)
 
 mul-if2 : tie.Need-mul-if2

@@ -1,4 +1,4 @@
--- `reed_solomon::decode` meets its contract: a block whose residue is zero is a codeword, and any other is repaired, as one without marks.
+-- `reed_solomon::decode` meets its contract: a block whose residue is zero is a codeword, and any other is corrected, as one without marks.
 -- Assumes nothing.
 use mathlib.Core.Path.{refl, sym, ap, _∙_}
 use native.Mathlib.Omega.{arith}
@@ -33,17 +33,17 @@ returns-2 c =
     without-marks m m (Corrected noChange)
     (n, no-marks, clean m n noMarks refl (omega (arith, marked-none 204)) (bytes-of m (λ i. c .before .before .before .before .before .slice-known .given i .fits)) (ap allZero (sym (c .before .before .residue .ensures)) ∙ sym (c .before .is-zero .ensures) ∙ c .if2 .taken))
 
-slice-aggregate-repair : tie.Need-slice-aggregate-repair
-slice-aggregate-repair c = search needs
+slice-aggregate-correct-errors : tie.Need-slice-aggregate-correct-errors
+slice-aggregate-correct-errors c = search needs
 
-repair-requires : tie.Need-repair-requires
-repair-requires c κs = (c .before .before .before .before .before .before .if1 .left, c .before .before .before .before .residue .ensures, no-marks, sym (marked-none 204), omega arith)
+correct-errors-requires : tie.Need-correct-errors-requires
+correct-errors-requires c κs = (c .before .before .before .before .before .before .if1 .left, c .before .before .before .before .residue .ensures, no-marks, sym (marked-none 204), omega arith)
 
 same-length-2 : tie.Need-same-length-2
 same-length-2 c = search needs
 
 returns-3 : tie.Need-returns-3
-returns-3 c = without-marks (c .before .before .before .before .before .before .before .before .before .before .before .args .block .now) (c .before .before .repair .last .0) (c .before .before .repair .result) (c .before .before .repair .ensures)
+returns-3 c = without-marks (c .before .before .before .before .before .before .before .before .before .before .before .args .block .now) (c .before .before .correct-errors .last .0) (c .before .before .correct-errors .result) (c .before .before .correct-errors .ensures)
 
 pub decode-spec : {M : Type 1} → statement M
 decode-spec =
@@ -54,7 +54,7 @@ decode-spec =
     is-zero-requires
     same-length
     returns-2
-    slice-aggregate-repair
-    repair-requires
+    slice-aggregate-correct-errors
+    correct-errors-requires
     same-length-2
     returns-3)

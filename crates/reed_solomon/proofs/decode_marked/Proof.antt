@@ -1,4 +1,4 @@
--- `reed_solomon::decode_marked` meets its contract: with more than sixteen marks no codeword is near enough, a block whose residue is zero is a codeword, and any other is repaired.
+-- `reed_solomon::decode_marked` meets its contract: with more than sixteen marks no codeword is near enough, a block whose residue is zero is a codeword, and any other is corrected.
 -- Assumes nothing.
 use mathlib.Core.Path.{refl, sym, ap, _∙_}
 use native.Mathlib.Omega.{arith}
@@ -54,8 +54,8 @@ returns-4 c =
           (ap allZero (sym (c .before .before .residue .ensures)) ∙ sym (c .before .is-zero .ensures) ∙ c .if4 .taken),
     )
 
-repair-requires : tie.Need-repair-requires
-repair-requires c κs = (c .before .before .before .before .before .before .before .before .before .if1 .left, c .before .before .before .residue .ensures, valid (c .before .before .before .before .before .before .before), c .before .before .before .before .before .before .count-marks .ensures, omega arith)
+correct-errors-requires : tie.Need-correct-errors-requires
+correct-errors-requires c κs = (c .before .before .before .before .before .before .before .before .before .if1 .left, c .before .before .before .residue .ensures, valid (c .before .before .before .before .before .before .before), c .before .before .before .before .before .before .count-marks .ensures, omega arith)
 
 same-length-2 : tie.Need-same-length-2
 same-length-2 c = search needs
@@ -77,6 +77,6 @@ decode-marked-spec =
     is-zero-requires
     same-length
     returns-4
-    repair-requires
+    correct-errors-requires
     same-length-2
     returns-5)

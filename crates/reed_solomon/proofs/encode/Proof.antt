@@ -14,11 +14,11 @@ use Rattle.reed_solomon.proofs.encode.Statement.{statement}
 use Rattle.reed_solomon.proofs.encode.Tie as tie
 
 -- the two parts, one after the other
-written : (m room first check : List ℕ) → length m ≡ 188 → check ≡ checkBytes m → first ≡ take 0 room ++ m ++ drop (0 + length m) room
-    → take 188 first ++ check ++ drop (188 + length check) first ≡ (m ++ checkBytes m) ++ drop 204 room
-written m room first check n e f =
-    ap₂ (λ (l k : List ℕ). take 188 l ++ k ++ drop (188 + length k) l) (f ∙ ap (λ (k : ℕ). m ++ drop k room) (zero-add (length m) ∙ n)) e
-    ∙ put-after m (checkBytes m) room 188 n ∙ ap (λ (k : ℕ). (m ++ checkBytes m) ++ drop (188 + k) room) (check-remainder m .size)
+written : (m output first check : List ℕ) → length m ≡ 188 → check ≡ checkBytes m → first ≡ take 0 output ++ m ++ drop (0 + length m) output
+    → take 188 first ++ check ++ drop (188 + length check) first ≡ (m ++ checkBytes m) ++ drop 204 output
+written m output first check n e f =
+    ap₂ (λ (l k : List ℕ). take 188 l ++ k ++ drop (188 + length k) l) (f ∙ ap (λ (k : ℕ). m ++ drop k output) (zero-add (length m) ∙ n)) e
+    ∙ put-after m (checkBytes m) output 188 n ∙ ap (λ (k : ℕ). (m ++ checkBytes m) ++ drop (188 + k) output) (check-remainder m .size)
 
 returns : tie.Need-returns
 returns c = simp (ne-eqb _ _ (c .if1 .taken)) (refl, refl)
@@ -49,7 +49,7 @@ returns-3 c =
     let m = s .args .message .now in
     let n : length m ≡ 188 = k .before .before .if1 .left in
     simp (eq-eqb _ _ (k .before .before .if1 .left), le-ltb _ _ (k .before .if2 .left))
-    (refl, c .before .before .put2 .ensures ∙ written m (s .args .room .now) (p .put .last .1 .1 .0) (k .check-bytes .result) n (k .check-bytes .ensures) (p .put .ensures))
+    (refl, c .before .before .put2 .ensures ∙ written m (s .args .output .now) (p .put .last .1 .1 .0) (k .check-bytes .result) n (k .check-bytes .ensures) (p .put .ensures))
 
 pub encode-spec : {M : Type 1} → statement M
 encode-spec =

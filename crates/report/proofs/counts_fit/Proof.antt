@@ -5,20 +5,20 @@ use mathlib.Core.Bool.{true}
 use Prim.Native.Nat.{ℕ, _-_, _≤_}
 use native.Mathlib.Omega.{arith}
 use borrow.Author.Needs.{needs}
-use Rattle.report.specs.Text.{within}
+use Rattle.report.specs.Text.{numbersWithin}
 use Rattle.report.proofs.Table.{table}
 use Rattle.report.proofs.LineRuns.{within-more, within-fails}
 use Rattle.report.proofs.counts_fit.Statement.{statement}
 use Rattle.report.proofs.counts_fit.Tie as tie
 
 abbrev Inv-loop : tie.InvT-loop
-Inv-loop values i₀ i = (i ≤ 8) × (within i values ≡ true)
+Inv-loop values i₀ i = (i ≤ 8) × (numbersWithin i values ≡ true)
 
 abbrev μ-loop : tie.MeasureT-loop
 μ-loop values i₀ i = 8 - i
 
 loop-holds : tie.Need-loop-holds Inv-loop μ-loop
-unfolding within
+unfolding numbersWithin
 loop-holds c = (omega arith, refl)
 
 mul-if1 : tie.Need-mul-if1 Inv-loop μ-loop
@@ -55,7 +55,7 @@ returns-2 : tie.Need-returns-2 Inv-loop μ-loop
 returns-2 c =
     let l = c .before .loop in
     let e : l .i ≡ 8 = omega arith in
-    sym (subst (λ (k : ℕ). within k (c .before .before .args .t1) ≡ true) e (l .inv .1))
+    sym (subst (λ (k : ℕ). numbersWithin k (c .before .before .args .t1) ≡ true) e (l .inv .1))
 
 pub counts-fit-spec : {M : Type 1} → statement M
 counts-fit-spec =

@@ -18,7 +18,7 @@ returns : tie.Need-returns
 returns c =
     let a = c .before .before .before .before .before .args in
     let r = c .before .before .read-report in
-    move-unread (a .text .now) (a .form) (a .room .now) (numberOf (r .result .answer)) (r .result .report) (r .ensures)
+    move-unread (a .text .now) (a .form) (a .output .now) (numberOf (r .result .answer)) (r .result .report) (r .ensures)
     (λ z. c .if1 .taken (c .before .number .ensures ∙ z))
 
 can-move-requires : tie.Need-can-move-requires
@@ -28,7 +28,7 @@ returns-2 : tie.Need-returns-2
 returns-2 c =
     let a = c .before .before .before .before .before .before .before .before .args in
     let r = c .before .before .before .before .before .read-report in
-    move-refused (a .text .now) (a .form) (a .room .now) (numberOf (r .result .answer)) (r .result .report) (r .ensures)
+    move-refused (a .text .now) (a .form) (a .output .now) (numberOf (r .result .answer)) (r .result .report) (r .ensures)
     (sym (c .before .before .before .before .number .ensures) ∙ c .before .before .before .if1 .left) (sym (c .before .can-move .ensures) ∙ not-true _ (c .if2 .taken))
 
 other-bits-requires : tie.Need-other-bits-requires
@@ -45,7 +45,7 @@ returns-3 c =
     let a = c .before .before .before .before .before .before .before .before .before .before .before .before .before .args in
     let r = c .before .before .before .before .before .before .before .before .before .before .read-report in
     let w = c .before .before .write-report in
-    move-done (a .text .now) (a .form) (a .room .now) (numberOf (r .result .answer)) (r .result .report) (r .ensures)
+    move-done (a .text .now) (a .form) (a .output .now) (numberOf (r .result .answer)) (r .result .report) (r .ensures)
     (sym (c .before .before .before .before .before .before .before .before .before .number .ensures) ∙ c .before .before .before .before .before .before .before .before .if1 .left) (sym (c .before .before .before .before .before .before .can-move .ensures) ∙ not-false _ (c .before .before .before .before .before .if2 .left))
     (c .before .before .before .before .other-bits .result) (c .before .before .before .before .other-bits .ensures) _ _ _ (w .ensures .0) (w .ensures .1) (w .ensures .2)
 

@@ -39,7 +39,7 @@ same-length c = search needs
 returns-2 : tie.Need-returns-2
 returns-2 c =
     let a = c .before .before .before .before .before .before .before .before .args in
-    rw (c .before .before .before .before .before .enum-told2 .given .1, dash-is, c .before .before .put .ensures) (put-appended (a .room .now) _ (a .at) (a .at + 31) (omega arith) (omega arith))
+    rw (c .before .before .before .before .before .enum-told2 .given .1, dash-is, c .before .before .put .ensures) (put-appended (a .output .now) _ (a .at) (a .at + 31) (omega arith) (omega arith))
 
 same-length-2 : tie.Need-same-length-2
 same-length-2 c = search needs

@@ -12,10 +12,10 @@ use Rattle.report.proofs.put_rows.Statement.{statement}
 use Rattle.report.proofs.put_rows.Tie as tie
 
 abbrev Inv-loop : tie.InvT-loop
-Inv-loop room₀ values at₀ i₀ room at i = (i ≤ 8) × Appended (linesText i values) room₀ room 0 at (31 * i)
+Inv-loop output₀ values at₀ i₀ output at i = (i ≤ 8) × Appended (linesText i values) output₀ output 0 at (31 * i)
 
 abbrev μ-loop : tie.MeasureT-loop
-μ-loop room₀ values at₀ i₀ room at i = 8 - i
+μ-loop output₀ values at₀ i₀ output at i = 8 - i
 
 loop-holds : tie.Need-loop-holds Inv-loop μ-loop
 loop-holds c = (omega arith, no-lines _ _)

@@ -52,7 +52,7 @@ returns-3 c =
     let f : fits (a .report) ≡ true = sym (c .before .before .before .before .before .before .before .report-fits .ensures) ∙ not-false _ (c .before .before .before .before .before .before .if1 .left) in
     let g : sums (a .report) ≡ true = sym (c .before .before .before .before .before .sums-right .ensures) ∙ not-false _ (c .before .before .before .before .if2 .left) in
     let n = size (c .before .before) .0 in
-    simp (f, g, lt-ltb (length (a .room .now)) (length (reportText (a .report))) (omega (arith, c .if3 .taken))) (refl, refl, refl)
+    simp (f, g, lt-ltb (length (a .output .now)) (length (reportText (a .report))) (omega (arith, c .if3 .taken))) (refl, refl, refl)
 
 array-share-prefix-text : tie.Need-array-share-prefix-text
 array-share-prefix-text c = search needs
@@ -77,10 +77,10 @@ returns-4 c =
     let e = c .before .before .before .before .before .before .before in
     let n = size e .0 in
     let t : take (e .compose .result) (e .compose .last .1 .0) ≡ reportText (a .report) = e .compose .ensures .text in
-    simp (f, g, le-ltb (length (a .room .now)) (length (reportText (a .report))) (omega (arith, c .before .before .before .before .before .if3 .left))) (
+    simp (f, g, le-ltb (length (a .output .now)) (length (reportText (a .report))) (omega (arith, c .before .before .before .before .before .if3 .left))) (
       refl,
       n,
-      c .before .before .put .ensures ∙ ap (λ (l : List ℕ). take 0 (a .room .now) ++ l ++ drop (0 + length l) (a .room .now)) t,
+      c .before .before .put .ensures ∙ ap (λ (l : List ℕ). take 0 (a .output .now) ++ l ++ drop (0 + length l) (a .output .now)) t,
     )
 
 pub write-report-spec : {M : Type 1} → statement M

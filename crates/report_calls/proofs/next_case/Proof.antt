@@ -45,8 +45,8 @@ array-read-answer-case c = search needs
 slice-aggregate-answer-case : tie.Need-slice-aggregate-answer-case
 slice-aggregate-answer-case c = search needs
 
-array-borrow-prefix-room : tie.Need-array-borrow-prefix-room
-array-borrow-prefix-room c = search needs
+array-borrow-prefix-output : tie.Need-array-borrow-prefix-output
+array-borrow-prefix-output c = search needs
 
 slice-aggregate-answer-case-2 : tie.Need-slice-aggregate-answer-case-2
 slice-aggregate-answer-case-2 c = sym (length-take-le _ _ (search needs))
@@ -74,7 +74,7 @@ next-case-spec =
     returns-3
     array-read-answer-case
     slice-aggregate-answer-case
-    array-borrow-prefix-room
+    array-borrow-prefix-output
     slice-aggregate-answer-case-2
     answer-case-requires
     returns-4)

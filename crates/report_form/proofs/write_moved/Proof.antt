@@ -11,7 +11,7 @@ use borrow.Author.Needs.{needs}
 use Rattle.report_form.proofs.write_moved.Statement.{statement}
 use Rattle.report_form.proofs.write_moved.Tie as tie
 
--- what was written is within the room
+-- what was written is within the output
 small : (c : tie.After-move-report) → c .move-report .result .length ≤ length (c .move-report .last .1 .1 .0)
 small c = let h = move-within (c .move-report .ensures) in search needs
 
@@ -42,8 +42,8 @@ returns c = search needs
 slice-aggregate-write-whole : tie.Need-slice-aggregate-write-whole
 slice-aggregate-write-whole c = search needs
 
-array-share-prefix-room : tie.Need-array-share-prefix-room
-array-share-prefix-room c = small (c .before .before .before .before)
+array-share-prefix-output : tie.Need-array-share-prefix-output
+array-share-prefix-output c = small (c .before .before .before .before)
 
 slice-aggregate-write-whole-2 : tie.Need-slice-aggregate-write-whole-2
 slice-aggregate-write-whole-2 c = sym (length-take-le _ _ (small (c .before .before .before .before .before)))
@@ -67,7 +67,7 @@ write-moved-spec =
     write-all-requires
     returns
     slice-aggregate-write-whole
-    array-share-prefix-room
+    array-share-prefix-output
     slice-aggregate-write-whole-2
     write-whole-requires
     returns-2)

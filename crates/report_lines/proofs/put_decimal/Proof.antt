@@ -47,8 +47,8 @@ returns c =
     let n : d .result ≡ length (decimal (s .args .value)) = d .ensures .0 .1 ∙ ap length t in
     let a = s .args in
     rw (n)
-    (rw (c .before .before .put .ensures ∙ ap (λ (l : List ℕ). take (a .at) (a .room .now) ++ l ++ drop (a .at + length l) (a .room .now)) t)
-    (put-appended (a .room .now) (decimal (a .value)) (a .at) (a .at + 20) (omega arith) (omega arith)))
+    (rw (c .before .before .put .ensures ∙ ap (λ (l : List ℕ). take (a .at) (a .output .now) ++ l ++ drop (a .at + length l) (a .output .now)) t)
+    (put-appended (a .output .now) (decimal (a .value)) (a .at) (a .at + 20) (omega arith) (omega arith)))
 
 pub put-decimal-spec : {M : Type 1} → statement M
 put-decimal-spec =

@@ -20,8 +20,8 @@ add-put-decimal c = search needs
 put-decimal-requires : tie.Need-put-decimal-requires
 put-decimal-requires c κs = search needs
 
-slice-write-room : tie.Need-slice-write-room
-slice-write-room c = search needs
+slice-write-output : tie.Need-slice-write-output
+slice-write-output c = search needs
 
 add-result : tie.Need-add-result
 add-result c = search needs
@@ -29,14 +29,14 @@ add-result c = search needs
 -- the key and the number
 numbered : (c : tie.After-put-decimal)
     → let a = c .before .before .before .before .before .before .before .before .args in
-    Appended (a .key .now ++ decimal (a .value)) (a .room .now) (c .put-decimal .last .1 .1 .0) (a .at) (c .put-decimal .result)
+    Appended (a .key .now ++ decimal (a .value)) (a .output .now) (c .put-decimal .last .1 .1 .0) (a .at) (c .put-decimal .result)
     (a .at + length (a .key .now) + 20)
 numbered c =
     let a = c .before .before .before .before .before .before .before .before .args in
     let p = c .before .before .before .before .put in
-    joined-appended (a .key .now) (decimal (a .value)) (a .room .now) (p .last .1 .1 .0) (c .put-decimal .last .1 .1 .0) (a .at)
+    joined-appended (a .key .now) (decimal (a .value)) (a .output .now) (p .last .1 .1 .0) (c .put-decimal .last .1 .1 .0) (a .at)
     (a .at + length (a .key .now)) (c .put-decimal .result) (a .at + length (a .key .now)) (a .at + length (a .key .now) + 20)
-    (rw (p .ensures) (put-appended (a .room .now) (a .key .now) (a .at) (a .at + length (a .key .now)) (omega arith) (omega arith))) (c .put-decimal .ensures)
+    (rw (p .ensures) (put-appended (a .output .now) (a .key .now) (a .at) (a .at + length (a .key .now)) (omega arith) (omega arith))) (c .put-decimal .ensures)
 
 same-length : tie.Need-same-length
 same-length c = length-set (c .before .before .put-decimal .last .1 .1 .0) (c .before .before .put-decimal .result) 0x0A ∙ numbered (c .before .before) .same
@@ -47,8 +47,8 @@ returns c =
     let s = c .before .before .before .before .before .before .before .before .before .before in
     let a = s .args in
     let k = numbered (c .before .before) in
-    let h : c .before .before .put-decimal .result < length (a .room .now) = omega (arith, k .bound, s .pre) in
-    byte-appended (a .key .now ++ decimal (a .value)) (a .room .now) (c .before .before .put-decimal .last .1 .1 .0) (a .at)
+    let h : c .before .before .put-decimal .result < length (a .output .now) = omega (arith, k .bound, s .pre) in
+    byte-appended (a .key .now ++ decimal (a .value)) (a .output .now) (c .before .before .put-decimal .last .1 .1 .0) (a .at)
     (c .before .before .put-decimal .result) (a .at + length (a .key .now) + 20) (a .at + length (a .key .now) + 21) 0x0A k h (omega arith)
 
 pub put-line-spec : {M : Type 1} → statement M
@@ -58,7 +58,7 @@ put-line-spec =
     put-requires
     add-put-decimal
     put-decimal-requires
-    slice-write-room
+    slice-write-output
     add-result
     same-length
     returns)

@@ -3,7 +3,7 @@
 use mathlib.Core.Path.{sym}
 use native.Mathlib.Omega.{arith}
 use borrow.Author.Tests.{lt-ltb, le-ltb}
-use Rattle.run_reader.proofs.Outcome.{not-true, not-false, bits-some, pattern-some, broken, long, count-le, bad-symbol, no-room, room-enough}
+use Rattle.run_reader.proofs.Outcome.{not-true, not-false, bits-some, pattern-some, broken, long, count-le, bad-symbol, too-short, space-enough}
 use borrow.Author.Needs.{needs}
 use Rattle.run_reader.proofs.answer_due.Statement.{statement}
 use Rattle.run_reader.proofs.answer_due.Tie as tie
@@ -30,31 +30,31 @@ cast-pattern : tie.Need-cast-pattern
 cast-pattern c = search needs
 
 rem-if4 : tie.Need-rem-if4
-rem-if4 c = pattern-some (c .before .before .before .before .before .args .rate) (c .before .before .before .before .before .args .memory) (c .before .before .before .before .before .args .symbols) (c .before .before .before .before .before .args .valid) (c .before .before .before .before .before .args .room) (c .before .before .before .before .if1 .left) (c .before .before .before .if2 .left) (c .before .pattern-length .result) (c .symbol-count .result) (c .before .pattern-length .ensures) (c .symbol-count .ensures)
+rem-if4 c = pattern-some (c .before .before .before .before .before .args .rate) (c .before .before .before .before .before .args .memory) (c .before .before .before .before .before .args .symbols) (c .before .before .before .before .before .args .valid) (c .before .before .before .before .before .args .space) (c .before .before .before .before .if1 .left) (c .before .before .before .if2 .left) (c .before .pattern-length .result) (c .symbol-count .result) (c .before .pattern-length .ensures) (c .symbol-count .ensures)
 
 returns-4 : tie.Need-returns-4
-returns-4 c = rw (not-false (c .before .before .before .before .before .before .args .lists) (c .before .before .before .if3 .left)) (broken (c .before .before .before .before .before .before .args .rate) (c .before .before .before .before .before .before .args .memory) (c .before .before .before .before .before .before .args .symbols) (c .before .before .before .before .before .before .args .valid) (c .before .before .before .before .before .before .args .room) (c .before .before .before .before .before .if1 .left) (c .before .before .before .before .if2 .left) (c .before .before .pattern-length .result) (c .before .symbol-count .result) (c .before .before .pattern-length .ensures) (c .before .symbol-count .ensures) (c .if4 .taken))
+returns-4 c = rw (not-false (c .before .before .before .before .before .before .args .lists) (c .before .before .before .if3 .left)) (broken (c .before .before .before .before .before .before .args .rate) (c .before .before .before .before .before .before .args .memory) (c .before .before .before .before .before .before .args .symbols) (c .before .before .before .before .before .before .args .valid) (c .before .before .before .before .before .before .args .space) (c .before .before .before .before .before .if1 .left) (c .before .before .before .before .if2 .left) (c .before .before .pattern-length .result) (c .before .symbol-count .result) (c .before .before .pattern-length .ensures) (c .before .symbol-count .ensures) (c .if4 .taken))
 
 div-patterns : tie.Need-div-patterns
-div-patterns c = pattern-some (c .before .before .before .before .before .before .args .rate) (c .before .before .before .before .before .before .args .memory) (c .before .before .before .before .before .before .args .symbols) (c .before .before .before .before .before .before .args .valid) (c .before .before .before .before .before .before .args .room) (c .before .before .before .before .before .if1 .left) (c .before .before .before .before .if2 .left) (c .before .before .pattern-length .result) (c .before .symbol-count .result) (c .before .before .pattern-length .ensures) (c .before .symbol-count .ensures)
+div-patterns c = pattern-some (c .before .before .before .before .before .before .args .rate) (c .before .before .before .before .before .before .args .memory) (c .before .before .before .before .before .before .args .symbols) (c .before .before .before .before .before .before .args .valid) (c .before .before .before .before .before .before .args .space) (c .before .before .before .before .before .if1 .left) (c .before .before .before .before .if2 .left) (c .before .before .pattern-length .result) (c .before .symbol-count .result) (c .before .before .pattern-length .ensures) (c .before .symbol-count .ensures)
 
 div-if5 : tie.Need-div-if5
-div-if5 c = bits-some (c .before .before .before .before .before .before .args .rate) (c .before .before .before .before .before .before .args .memory) (c .before .before .before .before .before .before .args .symbols) (c .before .before .before .before .before .before .args .valid) (c .before .before .before .before .before .before .args .room) (c .before .before .before .before .before .if1 .left) (c .before .before .before .before .if2 .left) (c .before .before .pattern-length .result) (c .before .symbol-count .result) (c .before .before .pattern-length .ensures) (c .before .symbol-count .ensures)
+div-if5 c = bits-some (c .before .before .before .before .before .before .args .rate) (c .before .before .before .before .before .before .args .memory) (c .before .before .before .before .before .before .args .symbols) (c .before .before .before .before .before .before .args .valid) (c .before .before .before .before .before .before .args .space) (c .before .before .before .before .before .if1 .left) (c .before .before .before .before .if2 .left) (c .before .before .pattern-length .result) (c .before .symbol-count .result) (c .before .before .pattern-length .ensures) (c .before .symbol-count .ensures)
 
 returns-5 : tie.Need-returns-5
-returns-5 c = rw (not-false (c .before .before .before .before .before .before .before .args .lists) (c .before .before .before .before .if3 .left)) (long (c .before .before .before .before .before .before .before .args .rate) (c .before .before .before .before .before .before .before .args .memory) (c .before .before .before .before .before .before .before .args .symbols) (c .before .before .before .before .before .before .before .args .valid) (c .before .before .before .before .before .before .before .args .room) (c .before .before .before .before .before .before .if1 .left) (c .before .before .before .before .before .if2 .left) (c .before .before .before .pattern-length .result) (c .before .before .symbol-count .result) (c .before .before .before .pattern-length .ensures) (c .before .before .symbol-count .ensures) (c .before .if4 .left) (c .if5 .taken))
+returns-5 c = rw (not-false (c .before .before .before .before .before .before .before .args .lists) (c .before .before .before .before .if3 .left)) (long (c .before .before .before .before .before .before .before .args .rate) (c .before .before .before .before .before .before .before .args .memory) (c .before .before .before .before .before .before .before .args .symbols) (c .before .before .before .before .before .before .before .args .valid) (c .before .before .before .before .before .before .before .args .space) (c .before .before .before .before .before .before .if1 .left) (c .before .before .before .before .before .if2 .left) (c .before .before .before .pattern-length .result) (c .before .before .symbol-count .result) (c .before .before .before .pattern-length .ensures) (c .before .before .symbol-count .ensures) (c .before .if4 .left) (c .if5 .taken))
 
 returns-6 : tie.Need-returns-6
-returns-6 c = rw (not-false (c .before .before .before .before .before .before .before .before .args .lists) (c .before .before .before .before .before .if3 .left)) (bad-symbol (c .before .before .before .before .before .before .before .before .args .rate) (c .before .before .before .before .before .before .before .before .args .memory) (c .before .before .before .before .before .before .before .before .args .symbols) (c .before .before .before .before .before .before .before .before .args .valid) (c .before .before .before .before .before .before .before .before .args .room) (c .before .before .before .before .before .before .before .if1 .left) (c .before .before .before .before .before .before .if2 .left) (c .before .before .before .before .pattern-length .result) (c .before .before .before .symbol-count .result) (c .before .before .before .before .pattern-length .ensures) (c .before .before .before .symbol-count .ensures) (c .before .before .if4 .left) (c .before .if5 .left) (not-true (c .before .before .before .before .before .before .before .before .args .valid) (c .if6 .taken)))
+returns-6 c = rw (not-false (c .before .before .before .before .before .before .before .before .args .lists) (c .before .before .before .before .before .if3 .left)) (bad-symbol (c .before .before .before .before .before .before .before .before .args .rate) (c .before .before .before .before .before .before .before .before .args .memory) (c .before .before .before .before .before .before .before .before .args .symbols) (c .before .before .before .before .before .before .before .before .args .valid) (c .before .before .before .before .before .before .before .before .args .space) (c .before .before .before .before .before .before .before .if1 .left) (c .before .before .before .before .before .before .if2 .left) (c .before .before .before .before .pattern-length .result) (c .before .before .before .symbol-count .result) (c .before .before .before .before .pattern-length .ensures) (c .before .before .before .symbol-count .ensures) (c .before .before .if4 .left) (c .before .if5 .left) (not-true (c .before .before .before .before .before .before .before .before .args .valid) (c .if6 .taken)))
 
 mul-if7 : tie.Need-mul-if7
-mul-if7 c = omega (arith, count-le (c .before .before .before .before .before .before .before .before .args .rate) (c .before .before .before .before .before .before .before .before .args .memory) (c .before .before .before .before .before .before .before .before .args .symbols) (c .before .before .before .before .before .before .before .before .args .valid) (c .before .before .before .before .before .before .before .before .args .room) (c .before .before .before .before .before .before .before .if1 .left) (c .before .before .before .before .before .before .if2 .left) (c .before .before .before .before .pattern-length .result) (c .before .before .before .symbol-count .result) (c .before .before .before .before .pattern-length .ensures) (c .before .before .before .symbol-count .ensures) (c .before .before .if4 .left) (c .before .if5 .left))
+mul-if7 c = omega (arith, count-le (c .before .before .before .before .before .before .before .before .args .rate) (c .before .before .before .before .before .before .before .before .args .memory) (c .before .before .before .before .before .before .before .before .args .symbols) (c .before .before .before .before .before .before .before .before .args .valid) (c .before .before .before .before .before .before .before .before .args .space) (c .before .before .before .before .before .before .before .if1 .left) (c .before .before .before .before .before .before .if2 .left) (c .before .before .before .before .pattern-length .result) (c .before .before .before .symbol-count .result) (c .before .before .before .before .pattern-length .ensures) (c .before .before .before .symbol-count .ensures) (c .before .before .if4 .left) (c .before .if5 .left))
 
 returns-7 : tie.Need-returns-7
-returns-7 c = rw (not-false (c .before .before .before .before .before .before .before .before .before .args .lists) (c .before .before .before .before .before .before .if3 .left)) (no-room (c .before .before .before .before .before .before .before .before .before .args .rate) (c .before .before .before .before .before .before .before .before .before .args .memory) (c .before .before .before .before .before .before .before .before .before .args .symbols) (c .before .before .before .before .before .before .before .before .before .args .valid) (c .before .before .before .before .before .before .before .before .before .args .room) (c .before .before .before .before .before .before .before .before .if1 .left) (c .before .before .before .before .before .before .before .if2 .left) (c .before .before .before .before .before .pattern-length .result) (c .before .before .before .before .symbol-count .result) (c .before .before .before .before .before .pattern-length .ensures) (c .before .before .before .before .symbol-count .ensures) (c .before .before .before .if4 .left) (c .before .before .if5 .left) (not-false (c .before .before .before .before .before .before .before .before .before .args .valid) (c .before .if6 .left)) (c .if7 .taken))
+returns-7 c = rw (not-false (c .before .before .before .before .before .before .before .before .before .args .lists) (c .before .before .before .before .before .before .if3 .left)) (too-short (c .before .before .before .before .before .before .before .before .before .args .rate) (c .before .before .before .before .before .before .before .before .before .args .memory) (c .before .before .before .before .before .before .before .before .before .args .symbols) (c .before .before .before .before .before .before .before .before .before .args .valid) (c .before .before .before .before .before .before .before .before .before .args .space) (c .before .before .before .before .before .before .before .before .if1 .left) (c .before .before .before .before .before .before .before .if2 .left) (c .before .before .before .before .before .pattern-length .result) (c .before .before .before .before .symbol-count .result) (c .before .before .before .before .before .pattern-length .ensures) (c .before .before .before .before .symbol-count .ensures) (c .before .before .before .if4 .left) (c .before .before .if5 .left) (not-false (c .before .before .before .before .before .before .before .before .before .args .valid) (c .before .if6 .left)) (c .if7 .taken))
 
 returns-8 : tie.Need-returns-8
-returns-8 c = rw (not-false (c .before .before .before .before .before .before .before .before .before .args .lists) (c .before .before .before .before .before .before .if3 .left)) (room-enough (c .before .before .before .before .before .before .before .before .before .args .rate) (c .before .before .before .before .before .before .before .before .before .args .memory) (c .before .before .before .before .before .before .before .before .before .args .symbols) (c .before .before .before .before .before .before .before .before .before .args .valid) (c .before .before .before .before .before .before .before .before .before .args .room) (c .before .before .before .before .before .before .before .before .if1 .left) (c .before .before .before .before .before .before .before .if2 .left) (c .before .before .before .before .before .pattern-length .result) (c .before .before .before .before .symbol-count .result) (c .before .before .before .before .before .pattern-length .ensures) (c .before .before .before .before .symbol-count .ensures) (c .before .before .before .if4 .left) (c .before .before .if5 .left) (not-false (c .before .before .before .before .before .before .before .before .before .args .valid) (c .before .if6 .left)) (c .if7 .left))
+returns-8 c = rw (not-false (c .before .before .before .before .before .before .before .before .before .args .lists) (c .before .before .before .before .before .before .if3 .left)) (space-enough (c .before .before .before .before .before .before .before .before .before .args .rate) (c .before .before .before .before .before .before .before .before .before .args .memory) (c .before .before .before .before .before .before .before .before .before .args .symbols) (c .before .before .before .before .before .before .before .before .before .args .valid) (c .before .before .before .before .before .before .before .before .before .args .space) (c .before .before .before .before .before .before .before .before .if1 .left) (c .before .before .before .before .before .before .before .if2 .left) (c .before .before .before .before .before .pattern-length .result) (c .before .before .before .before .symbol-count .result) (c .before .before .before .before .before .pattern-length .ensures) (c .before .before .before .before .symbol-count .ensures) (c .before .before .before .if4 .left) (c .before .before .if5 .left) (not-false (c .before .before .before .before .before .before .before .before .before .args .valid) (c .before .if6 .left)) (c .if7 .left))
 
 pub answer-due-spec : {M : Type 1} → statement M
 answer-due-spec =

@@ -9,10 +9,10 @@ use Rattle.run_reader.proofs.decision_costs.Statement.{statement}
 use Rattle.run_reader.proofs.decision_costs.Tie as tie
 
 abbrev Inv-loop : tie.InvT-loop
-Inv-loop symbols room₀ i₀ at₀ room i at = Deciding symbols room₀ room i at
+Inv-loop symbols output₀ i₀ at₀ output i at = Deciding symbols output₀ output i at
 
 abbrev μ-loop : tie.MeasureT-loop
-μ-loop symbols room₀ i₀ at₀ room i at = length symbols - i
+μ-loop symbols output₀ i₀ at₀ output i at = length symbols - i
 
 loop-holds : tie.Need-loop-holds Inv-loop μ-loop
 loop-holds c = deciding-none _ _
@@ -20,32 +20,32 @@ loop-holds c = deciding-none _ _
 shared-slice-read-s : tie.Need-shared-slice-read-s Inv-loop μ-loop
 shared-slice-read-s c = search needs
 
-slice-write-room : tie.Need-slice-write-room Inv-loop μ-loop
-slice-write-room c = omega (arith, (c .before .before .loop .inv) .written .len)
+slice-write-output : tie.Need-slice-write-output Inv-loop μ-loop
+slice-write-output c = omega (arith, (c .before .before .loop .inv) .written .len)
 
 add-at1 : tie.Need-add-at1 Inv-loop μ-loop
 add-at1 c = omega arith
 
-sub-room : tie.Need-sub-room Inv-loop μ-loop
-sub-room c = symbol-bits (c .before .before .before .args .symbols .now) (c .before .before .loop .i) (c .before .before .before .pre .0) (c .before .loop-test .taken) .0
+sub-output : tie.Need-sub-output Inv-loop μ-loop
+sub-output c = symbol-bits (c .before .before .before .args .symbols .now) (c .before .before .loop .i) (c .before .before .before .pre .0) (c .before .loop-test .taken) .0
 
-slice-write-room-2 : tie.Need-slice-write-room-2 Inv-loop μ-loop
-slice-write-room-2 c = simp length-set (omega (arith, (c .before .before .loop .inv) .written .len))
+slice-write-output-2 : tie.Need-slice-write-output-2 Inv-loop μ-loop
+slice-write-output-2 c = simp length-set (omega (arith, (c .before .before .loop .inv) .written .len))
 
 add-at2 : tie.Need-add-at2 Inv-loop μ-loop
 add-at2 c = omega arith
 
-slice-write-room-3 : tie.Need-slice-write-room-3 Inv-loop μ-loop
-slice-write-room-3 c = simp length-set (omega (arith, (c .before .before .loop .inv) .written .len))
+slice-write-output-3 : tie.Need-slice-write-output-3 Inv-loop μ-loop
+slice-write-output-3 c = simp length-set (omega (arith, (c .before .before .loop .inv) .written .len))
 
 add-at3 : tie.Need-add-at3 Inv-loop μ-loop
 add-at3 c = omega arith
 
-sub-room-2 : tie.Need-sub-room-2 Inv-loop μ-loop
-sub-room-2 c = symbol-bits (c .before .before .before .args .symbols .now) (c .before .before .loop .i) (c .before .before .before .pre .0) (c .before .loop-test .taken) .1
+sub-output-2 : tie.Need-sub-output-2 Inv-loop μ-loop
+sub-output-2 c = symbol-bits (c .before .before .before .args .symbols .now) (c .before .before .loop .i) (c .before .before .before .pre .0) (c .before .loop-test .taken) .1
 
-slice-write-room-4 : tie.Need-slice-write-room-4 Inv-loop μ-loop
-slice-write-room-4 c = simp length-set (omega (arith, (c .before .before .loop .inv) .written .len))
+slice-write-output-4 : tie.Need-slice-write-output-4 Inv-loop μ-loop
+slice-write-output-4 c = simp length-set (omega (arith, (c .before .before .loop .inv) .written .len))
 
 add-at : tie.Need-add-at Inv-loop μ-loop
 add-at c = omega arith
@@ -73,15 +73,15 @@ decision-costs-spec =
     μ-loop
     loop-holds
     shared-slice-read-s
-    slice-write-room
+    slice-write-output
     add-at1
-    sub-room
-    slice-write-room-2
+    sub-output
+    slice-write-output-2
     add-at2
-    slice-write-room-3
+    slice-write-output-3
     add-at3
-    sub-room-2
-    slice-write-room-4
+    sub-output-2
+    slice-write-output-4
     add-at
     add-i
     loop-less

@@ -10,14 +10,14 @@ use lib.Signed.{ltZ}
 use mir.Syntax.{w64}
 use mir.Val.{toZ, ofZ}
 use Rattle.input_pieces.proofs.Laws.{nothing-read}
-use Rattle.season.specs.Turn.{Input, Going}
+use Rattle.season.specs.Turn.{InputCame, SeasonGoing}
 use Rattle.season.proofs.Turns.{going-none, came, input-more, few-came, going-more, ends-failed, ends-read, ends-refused}
 use borrow.Author.Needs.{needs}
 use Rattle.season.proofs.read_all.Statement.{statement}
 use Rattle.season.proofs.read_all.Tie as tie
 
 abbrev Inv-loop : tie.InvT-loop
-Inv-loop buffer₀ season₀ came₀ buffer season came = (Going season came) × (length buffer ≡ 65536) × (length buffer ≡ length buffer₀)
+Inv-loop buffer₀ season₀ came₀ buffer season came = (SeasonGoing season came) × (length buffer ≡ 65536) × (length buffer ≡ length buffer₀)
 
 abbrev μ-loop : tie.MeasureT-loop
 μ-loop buffer₀ season₀ came₀ buffer season came = 1270080 - came
@@ -36,7 +36,7 @@ same : (c : tie.After-next-turn Inv-loop μ-loop) → length (c .next-turn .last
 same c = c .next-turn .kept .1 .0
 
 -- what came, with the piece
-more : (c : tie.After-next-turn Inv-loop μ-loop) → Input (c .next-turn .result .season) (c .before .before .loop .came + c .next-turn .result .piece .length)
+more : (c : tie.After-next-turn Inv-loop μ-loop) → InputCame (c .next-turn .result .season) (c .before .before .loop .came + c .next-turn .result .piece .length)
 more c = input-more (c .before .before .loop .inv .0) (c .next-turn .ensures) (same c)
 
 add-came : tie.Need-add-came Inv-loop μ-loop
@@ -74,7 +74,7 @@ returns-3 c = ends-refused (more (c .before .before .before .before .before .bef
 -- the season goes on
 on : (c : tie.Else3 Inv-loop μ-loop)
     → let r = c .before .before .before .before .before .before .before .before .before in
-    Going (r .next-turn .result .season) (r .before .before .loop .came + r .next-turn .result .piece .length)
+    SeasonGoing (r .next-turn .result .season) (r .before .before .loop .came + r .next-turn .result .piece .length)
 on c =
     let r = c .before .before .before .before .before .before .before .before .before in
     going-more (r .before .before .loop .inv .0) (r .next-turn .ensures) (same r) (sym (c .before .number .ensures) ∙ c .if3 .left)

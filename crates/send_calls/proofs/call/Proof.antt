@@ -1,4 +1,4 @@
--- `send_calls::call` is safe: a call writes no more than its room.
+-- `send_calls::call` is safe: a call writes no more than its output.
 -- Assumes nothing.
 use mathlib.Core.Path.{sym}
 use native.Mathlib.Omega.{arith}

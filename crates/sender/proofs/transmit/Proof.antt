@@ -65,7 +65,7 @@ returns c =
     let k = coding s packet g (a .pre .2) (replicate 204 0) (o .encode .last .1 .0) _ refl m (o .encode .ensures .1) in
     let b = interleaving s packet g (a .pre .2) (replicate 204 0) (i .interleave .last .1 .1 .0) _ _ refl k (i .interleave .ensures .1) (i .interleave .ensures .2) in
     let t = e .encode2 .ensures in
-    let w = modulating s packet g (a .pre .2) (a .pre .1) (a .args .room .now) _ _ _ _ _ (a .pre .4) (b .1) (t .0) (t .2) (t .1) (t .3) in
+    let w = modulating s packet g (a .pre .2) (a .pre .1) (a .args .output .now) _ _ _ _ _ (a .pre .4) (b .1) (t .0) (t .2) (t .1) (t .3) in
     (w .0, w .1, (λ i. record { place = (s .place + 1) % 8; interleaver = record { branches = b .0 i }; coder = w .2 i }), w .3)
 
 pub transmit-spec : {M : Type 1} → statement M

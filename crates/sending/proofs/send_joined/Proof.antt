@@ -38,7 +38,7 @@ returns c =
     let more = s .args .more .now in
     let size = padded-full (front ++ more)
     (length-append front more ∙ omega (arith, s .pre, length-take-le (s .args .held) (s .args .pending) (omega (arith, s .pre, pending-size s)))) in
-    subst (λ (l : List ℕ). Sends modeOf (s .args .sender) l (s .args .room .now) (numberOf (r .result .answer)) (r .result .count) (r .result .sender) (r .last .1 .1 .0))
+    subst (λ (l : List ℕ). Sends modeOf (s .args .sender) l (s .args .output .now) (numberOf (r .result .answer)) (r .result .count) (r .result .sender) (r .last .1 .1 .0))
     (c .before .before .before .before .before .joined .ensures ∙ size) (r .ensures)
 
 pub send-joined-spec : {M : Type 1} → statement M

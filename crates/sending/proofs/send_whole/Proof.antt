@@ -5,17 +5,17 @@ use Prim.Native.Nat.{_+_, _-_}
 use native.Mathlib.Omega.{arith}
 use lib.ListN.{length}
 use Rattle.sending.proofs.Pieces.{sending-range}
-use Rattle.sending.proofs.Progress.{ready-of, Progress, progress-start, room-length, answers-length, count-within, packets-fit, progress-total, progress-more, progress-end}
+use Rattle.sending.proofs.Progress.{ready-of, Progress, progress-start, output-length, answers-length, count-within, packets-fit, progress-total, progress-more, progress-end}
 use borrow.Author.Needs.{needs}
 use Rattle.sending.proofs.send_whole.Statement.{statement}
 use Rattle.sending.proofs.send_whole.Tie as tie
 
 abbrev Inv-loop : tie.InvT-loop
-Inv-loop piece room₀ answers₀ pending sender₀ held₀ at₀ count₀ packets₀ room answers sender held at count packets =
-    Progress (record { sender = sender₀; pending = pending; held = held₀ }) piece room₀ answers₀ room answers sender held at count packets
+Inv-loop piece output₀ answers₀ pending sender₀ held₀ at₀ count₀ packets₀ output answers sender held at count packets =
+    Progress (record { sender = sender₀; pending = pending; held = held₀ }) piece output₀ answers₀ output answers sender held at count packets
 
 abbrev μ-loop : tie.MeasureT-loop
-μ-loop piece room₀ answers₀ pending sender₀ held₀ at₀ count₀ packets₀ room answers sender held at count packets = length piece - at + held
+μ-loop piece output₀ answers₀ pending sender₀ held₀ at₀ count₀ packets₀ output answers sender held at count packets = length piece - at + held
 
 -- the arrays are whole
 size : (s : tie.Start Inv-loop μ-loop) → length (s .args .sending .pending) ≡ 188
@@ -31,7 +31,7 @@ loop-holds : tie.Need-loop-holds Inv-loop μ-loop
 loop-holds c =
     let s = c .before .before .before .before .before in
     let r = sending-range (s .args .sending) (s .pre .range) in
-    progress-start (s .args .sending) (s .args .piece .now) (s .args .room .now) (s .args .answers .now) (ready-of (s .args .sending .sender) (cells s) (positions s) (r .0) (s .pre .sent)) (r .1)
+    progress-start (s .args .sending) (s .args .piece .now) (s .args .output .now) (s .args .answers .now) (ready-of (s .args .sending .sender) (cells s) (positions s) (r .0) (s .pre .sent)) (r .1)
 
 sub-loop : tie.Need-sub-loop Inv-loop μ-loop
 sub-loop c = search needs
@@ -126,7 +126,7 @@ same-length : tie.Need-same-length Inv-loop μ-loop
 same-length c =
     let e = c .before .before in
     let s = e .before .before .before .before .before .before .before in
-    room-length (size s) (s .pre) (e .before .loop .inv)
+    output-length (size s) (s .pre) (e .before .loop .inv)
 
 same-length-2 : tie.Need-same-length-2 Inv-loop μ-loop
 same-length-2 c =

@@ -11,10 +11,10 @@ use Rattle.soft_decision.proofs.write_costs.Statement.{statement}
 use Rattle.soft_decision.proofs.write_costs.Tie as tie
 
 abbrev Inv-loop : tie.InvT-loop
-Inv-loop is qs lost room₀ k₀ room k = (k ≤ length is) × Each (Holds (symbolAt is qs lost)) (length room₀) room (4 * k)
+Inv-loop is qs lost output₀ k₀ output k = (k ≤ length is) × Each (Holds (symbolAt is qs lost)) (length output₀) output (4 * k)
 
 abbrev μ-loop : tie.MeasureT-loop
-μ-loop is qs lost room₀ k₀ room k = length is - k
+μ-loop is qs lost output₀ k₀ output k = length is - k
 
 loop-holds : tie.Need-loop-holds Inv-loop μ-loop
 loop-holds c = (omega arith, each-none refl)
@@ -40,7 +40,7 @@ loop-again c =
     let l = c .before .before .before .before .before .before .loop in (
       omega arith,
       rw (c .before .before .put-costs .ensures)
-          (four-more (symbolAt (a .args .is .now) (a .args .qs .now) (a .args .lost .now)) (length (a .args .room .now)) (l .k) (c .before .before .before .before .received-at .result) (omega arith) (c .before .before .before .before .received-at .ensures) (l .inv .1)),
+          (four-more (symbolAt (a .args .is .now) (a .args .qs .now) (a .args .lost .now)) (length (a .args .output .now)) (l .k) (c .before .before .before .before .received-at .result) (omega arith) (c .before .before .before .before .received-at .ensures) (l .inv .1)),
     )
 
 same-length : tie.Need-same-length Inv-loop μ-loop

@@ -14,7 +14,7 @@ size c = search needs
 returns : tie.Need-returns
 returns c =
     let s = c .before .before .before .before .before in
-    pieces.finish-none (s .args .stream) (size s) (s .pre .0) (s .args .filler .now) (s .args .room .now) (s .pre .1) (c .if1 .taken)
+    pieces.finish-none (s .args .stream) (size s) (s .pre .0) (s .args .filler .now) (s .args .output .now) (s .pre .1) (c .if1 .taken)
 
 joined-requires : tie.Need-joined-requires
 joined-requires c κs = search needs

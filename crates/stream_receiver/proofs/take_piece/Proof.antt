@@ -24,7 +24,7 @@ add-t12 c = search needs
 returns : tie.Need-returns
 returns c =
     let s = c .before .before .before .before .before .before in
-    keep-piece (s .args .stream) (size s) (s .pre .0) (s .args .piece .now) (s .args .room .now) (c .joined .result) (omega arith) (c .joined .ensures)
+    keep-piece (s .args .stream) (size s) (s .pre .0) (s .args .piece .now) (s .args .output .now) (c .joined .result) (omega arith) (c .joined .ensures)
 
 take-blocks-requires : tie.Need-take-blocks-requires
 take-blocks-requires c κs = search needs

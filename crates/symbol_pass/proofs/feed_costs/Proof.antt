@@ -12,10 +12,10 @@ use Rattle.symbol_pass.proofs.feed_costs.Statement.{statement}
 use Rattle.symbol_pass.proofs.feed_costs.Tie as tie
 
 abbrev Inv-loop : tie.InvT-loop
-Inv-loop reading costs room₀ stream₀ writer₀ at₀ room stream writer at = (Feeding (reading .stream) costs stream at) × (writer .bits < 8) × (length room ≡ length room₀)
+Inv-loop reading costs output₀ stream₀ writer₀ at₀ output stream writer at = (Feeding (reading .stream) costs stream at) × (writer .bits < 8) × (length output ≡ length output₀)
 
 abbrev μ-loop : tie.MeasureT-loop
-μ-loop reading costs room₀ stream₀ writer₀ at₀ room stream writer at = length costs - at
+μ-loop reading costs output₀ stream₀ writer₀ at₀ output stream writer at = length costs - at
 
 loop-holds : tie.Need-loop-holds Inv-loop μ-loop
 loop-holds c = let a = c .before .before .before .before in (feeding-none (a .args .reading .stream) (a .pre .0 .ready) (a .args .costs .now), a .pre .0 .few, refl)

@@ -32,13 +32,13 @@ part-read-costs-end : tie.Need-part-read-costs-end
 part-read-costs-end c = let a = c .before .before .before .before in omega (arith, a .pre .0 .size, end-le (a .args .stream) (a .pre .0) _ (c .before .symbol-count .ensures))
 
 read-costs-requires : tie.Need-read-costs-requires
-read-costs-requires c κs = let a = c .before .before .before .before .before .before in end-readable (a .args .stream) (a .pre .0) _ (c .before .before .before .symbol-count .ensures) (a .args .room .now) (a .pre .1)
+read-costs-requires c κs = let a = c .before .before .before .before .before .before in end-readable (a .args .stream) (a .pre .0) _ (c .before .before .before .symbol-count .ensures) (a .args .output .now) (a .pre .1)
 
 same-length : tie.Need-same-length
 same-length c = search needs
 
 returns : tie.Need-returns
-returns c = let a = c .before .before .before .before .before .before .before .before .before in closes (a .args .stream) (a .pre .0) _ (c .before .before .before .before .before .before .symbol-count .ensures) (a .args .room .now) (c .before .before .read-costs .ensures .1)
+returns c = let a = c .before .before .before .before .before .before .before .before .before in closes (a .args .stream) (a .pre .0) _ (c .before .before .before .before .before .before .symbol-count .ensures) (a .args .output .now) (c .before .before .read-costs .ensures .1)
 
 pub close-spec : {M : Type 1} → statement M
 close-spec =

@@ -28,7 +28,7 @@ add-t20 c = search needs
 returns : tie.Need-returns
 returns c =
     let a = c .before .before .before .before .before .before .before .before in
-    gathers (a .args .stream) (a .pre .0) (a .args .piece .now) (a .pre .1) (a .pre .2) (a .args .room .now) _ (rw (← c .before .before .before .before .full-costs .ensures) (c .before .before .before .if1 .taken)) (c .before .put .ensures)
+    gathers (a .args .stream) (a .pre .0) (a .args .piece .now) (a .pre .1) (a .pre .2) (a .args .output .now) _ (rw (← c .before .before .before .before .full-costs .ensures) (c .before .before .before .if1 .taken)) (c .before .put .ensures)
 
 sub-put : tie.Need-sub-put
 sub-put c = search needs
@@ -108,7 +108,7 @@ returns-2 : tie.Need-returns-2
 returns-2 c =
     let a = c .before .before .before .before .before .before .before .before .before .before .before .before .before .before .before .before .before .before .before .before .before .before in
     let f = c .before .before .before .before .before .before .before .before .before .before .before .before .before .before .before .before .before .before .full-costs in
-    reads (a .args .stream) (a .pre .0) (a .args .piece .now) (a .pre .1) (a .pre .2) (f .result) (f .ensures) (c .before .before .before .before .before .before .before .before .before .before .before .before .before .before .before .before .before .if1 .left) (c .before .before .before .before .before .before .before .before .before .before .before .before .before .before .put2 .last .1 .1 .0) (c .before .before .before .before .before .before .before .before .before .before .before .before .before .before .put2 .ensures) (c .before .before .before .before .before .before .kept-costs .result) (c .before .before .before .before .before .before .kept-costs .ensures) (c .before .before .put3 .last .1 .1 .0) _ refl (c .before .before .put3 .ensures) (a .args .room .now) _ _ _ (c .kept-bits .ensures) (c .before .before .before .before .before .before .before .before .before .read-full .ensures)
+    reads (a .args .stream) (a .pre .0) (a .args .piece .now) (a .pre .1) (a .pre .2) (f .result) (f .ensures) (c .before .before .before .before .before .before .before .before .before .before .before .before .before .before .before .before .before .if1 .left) (c .before .before .before .before .before .before .before .before .before .before .before .before .before .before .put2 .last .1 .1 .0) (c .before .before .before .before .before .before .before .before .before .before .before .before .before .before .put2 .ensures) (c .before .before .before .before .before .before .kept-costs .result) (c .before .before .before .before .before .before .kept-costs .ensures) (c .before .before .put3 .last .1 .1 .0) _ refl (c .before .before .put3 .ensures) (a .args .output .now) _ _ _ (c .kept-bits .ensures) (c .before .before .before .before .before .before .before .before .before .read-full .ensures)
 
 pub feed-spec : {M : Type 1} → statement M
 feed-spec =

@@ -17,10 +17,10 @@ use Rattle.transmission.proofs.is_short.Statement.{statement}
 use Rattle.transmission.proofs.is_short.Tie as tie
 
 abbrev Inv-loop : tie.InvT-loop
-Inv-loop rate packets room length place₀ left₀ k₀ place left k = Counting rate packets room place left k
+Inv-loop rate packets space length place₀ left₀ k₀ place left k = Counting rate packets space place left k
 
 abbrev μ-loop : tie.MeasureT-loop
-μ-loop rate packets room length place₀ left₀ k₀ place left k = packets - k
+μ-loop rate packets space length place₀ left₀ k₀ place left k = packets - k
 
 -- the table of the pattern lengths
 lengths : List ℕ

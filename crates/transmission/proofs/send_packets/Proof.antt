@@ -4,16 +4,16 @@ use Prim.Native.Nat.{_-_}
 use native.Mathlib.Omega.{arith}
 use lib.ListN.{length}
 use Rattle.transmission.proofs.Buffers.{scanning-left}
-use Rattle.transmission.proofs.Progress.{Progress, progress-start, progress-end, progress-length, progress-room, progress-total, progress-more}
+use Rattle.transmission.proofs.Progress.{Progress, progress-start, progress-end, progress-length, progress-fits, progress-total, progress-more}
 use borrow.Author.Needs.{needs}
 use Rattle.transmission.proofs.send_packets.Statement.{statement}
 use Rattle.transmission.proofs.send_packets.Tie as tie
 
 abbrev Inv-loop : tie.InvT-loop
-Inv-loop rate packets room₀ sender₀ at₀ count₀ room sender at count = Progress rate packets room₀ room sender at count
+Inv-loop rate packets output₀ sender₀ at₀ count₀ output sender at count = Progress rate packets output₀ output sender at count
 
 abbrev μ-loop : tie.MeasureT-loop
-μ-loop rate packets room₀ sender₀ at₀ count₀ room sender at count = length packets - at
+μ-loop rate packets output₀ sender₀ at₀ count₀ output sender at count = length packets - at
 
 new-requires : tie.Need-new-requires Inv-loop μ-loop
 new-requires c κs = search needs
@@ -36,10 +36,10 @@ part-send-end : tie.Need-part-send-end Inv-loop μ-loop
 part-send-end c = omega (arith, scanning-left (c .before .loop .inv .scanning) (c .loop-test .taken))
 
 sub-send-2 : tie.Need-sub-send-2 Inv-loop μ-loop
-sub-send-2 c = progress-room (c .before .before .before .before .before .before .before .pre) (c .before .before .loop .inv)
+sub-send-2 c = progress-fits (c .before .before .before .before .before .before .before .pre) (c .before .before .loop .inv)
 
 part-send-start-2 : tie.Need-part-send-start-2 Inv-loop μ-loop
-part-send-start-2 c = progress-room (c .before .before .before .before .before .before .before .pre) (c .before .before .loop .inv)
+part-send-start-2 c = progress-fits (c .before .before .before .before .before .before .before .pre) (c .before .before .loop .inv)
 
 part-send-end-2 : tie.Need-part-send-end-2 Inv-loop μ-loop
 part-send-end-2 c = search needs

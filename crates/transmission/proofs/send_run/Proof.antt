@@ -20,7 +20,7 @@ is-sent-requires c κs = search needs
 returns : tie.Need-returns
 returns c =
     let a = c .before .before .before .before in
-    run-refused (a .args .rate) (a .args .packets .now) (a .args .room .now) 6 (simp (sym (c .before .is-sent .ensures) ∙ not-true _ (c .if1 .taken))) refl
+    run-refused (a .args .rate) (a .args .packets .now) (a .args .output .now) 6 (simp (sym (c .before .is-sent .ensures) ∙ not-true _ (c .if1 .taken))) refl
 
 -- past the first test
 sent : (c : tie.Else1) → modeOf (c .before .before .before .before .args .rate) .sent ≡ true
@@ -29,16 +29,16 @@ sent c = sym (c .before .is-sent .ensures) ∙ not-false _ (c .if1 .left)
 returns-2 : tie.Need-returns-2
 returns-2 c =
     let a = c .before .before .before .before .before in
-    run-refused (a .args .rate) (a .args .packets .now) (a .args .room .now) 1 (simp (sent (c .before), ne-eqb _ _ (c .if2 .taken))) refl
+    run-refused (a .args .rate) (a .args .packets .now) (a .args .output .now) 1 (simp (sent (c .before), ne-eqb _ _ (c .if2 .taken))) refl
 
 -- the third test
 short : (c : tie.After-is-short)
     → let a = c .before .before .before .before .before .before .args in
-    ltb (length (a .room .now)) (length (runSymbols (a .rate) (a .packets .now))) ≡ c .is-short .result
+    ltb (length (a .output .now)) (length (runSymbols (a .rate) (a .packets .now))) ≡ c .is-short .result
 short c =
     let e = c .before in
     let a = e .before .before .before .before .before .args in
-    ap (ltb (length (a .room .now))) (length-run (a .rate) (sent-known (a .rate) (sent (e .before))) (a .packets .now)) ∙ sym (c .is-short .ensures)
+    ap (ltb (length (a .output .now))) (length-run (a .rate) (sent-known (a .rate) (sent (e .before))) (a .packets .now)) ∙ sym (c .is-short .ensures)
 
 is-short-requires : tie.Need-is-short-requires
 is-short-requires c κs = sent-known (c .before .before .before .before .before .args .rate) (sent (c .before))
@@ -47,13 +47,13 @@ returns-3 : tie.Need-returns-3
 returns-3 c =
     let e = c .before .before in
     let a = e .before .before .before .before .before in
-    run-refused (a .args .rate) (a .args .packets .now) (a .args .room .now) 4
+    run-refused (a .args .rate) (a .args .packets .now) (a .args .output .now) 4
     (simp (sent (e .before), eq-eqb _ _ (e .if2 .left), short (c .before) ∙ c .if3 .taken)) refl
 
 -- past it: nothing is refused
 taken : (c : tie.Else3)
     → let a = c .before .before .before .before .before .before .before .args in
-    runRefusal (a .rate) (a .packets .now) (a .room .now) ≡ 0
+    runRefusal (a .rate) (a .packets .now) (a .output .now) ≡ 0
 taken c =
     let e = c .before .before in
     simp (sent (e .before), eq-eqb _ _ (e .if2 .left), short (c .before) ∙ c .if3 .left)
@@ -76,7 +76,7 @@ returns-4 c =
     let f = t .before .before in
     let a = f .before .before .before .before .before .before .before in
     let r = t .send-packets .ensures in
-    run-answered (a .args .rate) (a .args .packets .now) (a .args .room .now) (taken f)
+    run-answered (a .args .rate) (a .args .packets .now) (a .args .output .now) (taken f)
     (sym (simp (sym (c .before .is-synced .ensures) ∙ not-true _ (c .if4 .taken)))) (r .0) (r .1)
 
 same-length-2 : tie.Need-same-length-2
@@ -88,7 +88,7 @@ returns-5 c =
     let f = t .before .before in
     let a = f .before .before .before .before .before .before .before in
     let r = t .send-packets .ensures in
-    run-answered (a .args .rate) (a .args .packets .now) (a .args .room .now) (taken f)
+    run-answered (a .args .rate) (a .args .packets .now) (a .args .output .now) (taken f)
     (sym (simp (sym (c .before .is-synced .ensures) ∙ not-false _ (c .if4 .left)))) (r .0) (r .1)
 
 pub send-run-spec : {M : Type 1} → statement M

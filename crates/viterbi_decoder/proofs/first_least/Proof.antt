@@ -5,13 +5,13 @@ use Prim.Native.Nat.{_-_, _≤_}
 use native.Mathlib.Omega.{arith}
 use Rattle.viterbi_decoder.specs.Step.{at}
 use mathlib.Core.Logic.{⊎-elim}
-use Rattle.trellis.specs.Metric.{Ends}
+use Rattle.trellis.specs.Metric.{FirstLeast}
 use Rattle.trellis.proofs.Ends.{ends-one, ends-new, ends-old}
 use Rattle.viterbi_decoder.proofs.first_least.Statement.{statement}
 use Rattle.viterbi_decoder.proofs.first_least.Tie as tie
 
 abbrev Inv-loop : tie.InvT-loop
-Inv-loop metrics best₀ s₀ best s = (s ≤ 64) × Ends (at metrics) s best
+Inv-loop metrics best₀ s₀ best s = (s ≤ 64) × FirstLeast (at metrics) s best
 
 abbrev μ-loop : tie.MeasureT-loop
 μ-loop metrics best₀ s₀ best s = 64 - s

@@ -12,22 +12,22 @@ use Rattle.viterbi_decoder.proofs.trace.Statement.{statement}
 use Rattle.viterbi_decoder.proofs.trace.Tie as tie
 
 abbrev Inv-loop : tie.InvT-loop
-Inv-loop rows end room₀ r₀ k₀ room r k = (length room ≡ length room₀) × (k ≤ length room₀) × (r < 64) × Whole (table rows) k (lane r) room (reverse (path (table rows) (length room₀) (lane end)))
+Inv-loop rows end output₀ r₀ k₀ output r k = (length output ≡ length output₀) × (k ≤ length output₀) × (r < 64) × Whole (table rows) k (lane r) output (reverse (path (table rows) (length output₀) (lane end)))
 
 abbrev μ-loop : tie.MeasureT-loop
-μ-loop rows end room₀ r₀ k₀ room r k = k
+μ-loop rows end output₀ r₀ k₀ output r k = k
 
 loop-holds : tie.Need-loop-holds Inv-loop μ-loop
-loop-holds c = (refl, omega arith, omega arith, trace-none _ (lane (c .before .args .end)) (c .before .args .room .now))
+loop-holds c = (refl, omega arith, omega arith, trace-none _ (lane (c .before .args .end)) (c .before .args .output .now))
 
 sub-k : tie.Need-sub-k Inv-loop μ-loop
 sub-k c = omega arith
 
-cast-room : tie.Need-cast-room Inv-loop μ-loop
-cast-room c = omega arith
+cast-output : tie.Need-cast-output Inv-loop μ-loop
+cast-output c = omega arith
 
-slice-write-room : tie.Need-slice-write-room Inv-loop μ-loop
-slice-write-room c = omega arith
+slice-write-output : tie.Need-slice-write-output Inv-loop μ-loop
+slice-write-output c = omega arith
 
 mul-row : tie.Need-mul-row Inv-loop μ-loop
 mul-row c = omega arith
@@ -48,7 +48,7 @@ loop-less : tie.Need-loop-less Inv-loop μ-loop
 loop-less c = omega arith
 
 loop-again : tie.Need-loop-again Inv-loop μ-loop
-loop-again c = let l = c .before .before .before .before .loop in let hk : l .k ≤ length (l .room) = omega arith in (length-set (l .room) _ _ ∙ l .inv .0, omega arith, omega (arith, decision-lt _ _ _ (c .decision .ensures)), trace-lane (c .before .before .before .before .before .before .args .rows .now) (l .k) (l .r) (c .decision .result) (l .room) _ (c .before .before .before .loop-test .taken) hk (l .inv .2) (l .inv .3) (c .decision .ensures))
+loop-again c = let l = c .before .before .before .before .loop in let hk : l .k ≤ length (l .output) = omega arith in (length-set (l .output) _ _ ∙ l .inv .0, omega arith, omega (arith, decision-lt _ _ _ (c .decision .ensures)), trace-lane (c .before .before .before .before .before .before .args .rows .now) (l .k) (l .r) (c .decision .result) (l .output) _ (c .before .before .before .loop-test .taken) hk (l .inv .2) (l .inv .3) (c .decision .ensures))
 
 same-length : tie.Need-same-length Inv-loop μ-loop
 same-length c = c .before .loop .inv .0
@@ -64,8 +64,8 @@ trace-spec =
     μ-loop
     loop-holds
     sub-k
-    cast-room
-    slice-write-room
+    cast-output
+    slice-write-output
     mul-row
     element-copy-out-row
     decision-requires

@@ -5,7 +5,7 @@ use mathlib.Core.Bool.{true}
 use borrow.Author.Tests.{eq-eqb, ne-eqb, lt-ltb, le-ltb, not-true, not-false}
 use lib.ListN.{length}
 use Rattle.puncturing.specs.Mode.{modeOf}
-use Rattle.inner_code.specs.Step.{inRange}
+use Rattle.inner_code.specs.Step.{coderInRange}
 use Rattle.inner_code.specs.Encode.{blockSymbols}
 use Rattle.inner_code.proofs.Coder.{in-range, length-block}
 use borrow.Author.Needs.{needs}
@@ -19,7 +19,7 @@ returns : tie.Need-returns
 returns c = simp (sym (c .before .in-range .ensures) ∙ not-true _ (c .if1 .taken)) (refl, refl, refl, refl)
 
 -- past the first test
-good : (c : tie.Else1) → inRange (c .before .before .before .before .args .self) ≡ true
+good : (c : tie.Else1) → coderInRange (c .before .before .before .before .args .self) ≡ true
 good c = sym (c .before .in-range .ensures) ∙ not-false _ (c .if1 .left)
 
 is-sent-requires : tie.Need-is-sent-requires

@@ -9,7 +9,7 @@ use Rattle.convolutional_code.specs.Code.{tapsX, tapsY, coded, nextMemory}
 use Rattle.puncturing.specs.Mode.{modeOf}
 use Rattle.puncturing.specs.Run.{punctureStep}
 use Rattle.puncturing.proofs.Steps.{held-le}
-use Rattle.inner_code.specs.Step.{inRange}
+use Rattle.inner_code.specs.Step.{coderInRange}
 use Rattle.inner_code.specs.Encode.{bitValue}
 use Rattle.inner_code.proofs.Coder.{in-range, rate-known}
 use borrow.Author.Needs.{needs}
@@ -23,7 +23,7 @@ returns : tie.Need-returns
 returns c = simp (sym (c .before .in-range .ensures) ∙ not-true _ (c .if1 .taken)) (refl, refl, refl)
 
 -- past the first test
-good : (c : tie.Else1) → inRange (c .before .before .args .self) ≡ true
+good : (c : tie.Else1) → coderInRange (c .before .before .args .self) ≡ true
 good c = sym (c .before .in-range .ensures) ∙ not-false _ (c .if1 .left)
 
 is-sent-requires : tie.Need-is-sent-requires

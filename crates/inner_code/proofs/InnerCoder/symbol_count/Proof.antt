@@ -3,7 +3,7 @@
 use mathlib.Core.Path.{_≡_, sym, _∙_}
 use mathlib.Core.Bool.{true}
 use borrow.Author.Tests.{not-true, not-false}
-use Rattle.inner_code.specs.Step.{inRange}
+use Rattle.inner_code.specs.Step.{coderInRange}
 use Rattle.inner_code.proofs.Coder.{in-range, rate-known}
 use borrow.Author.Needs.{needs}
 use Rattle.inner_code.proofs.InnerCoder.symbol_count.Statement.{statement}
@@ -16,7 +16,7 @@ returns : tie.Need-returns
 returns c = simp (sym (c .before .in-range .ensures) ∙ not-true _ (c .if1 .taken))
 
 -- past the test
-good : (c : tie.Else1) → inRange (c .before .before .args .self) ≡ true
+good : (c : tie.Else1) → coderInRange (c .before .before .args .self) ≡ true
 good c = sym (c .before .in-range .ensures) ∙ not-false _ (c .if1 .left)
 
 block-count-requires : tie.Need-block-count-requires

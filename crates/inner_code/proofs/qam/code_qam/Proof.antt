@@ -73,7 +73,7 @@ returns c =
     let ct = c .before .before .before .before .before .before .before .before .code-bytes .ensures in (
       ct .0 ∙ ap (λ (l : List ℕ). memoryAfter m (bitsOf l)) fb,
       c .before .before .sequence .ensures
-          ∙ ap₂ (λ (f k : List ℕ). numbered f k 0 544 ++ drop 544 (a .args .room .now)) fp (ct .1 ∙ ap (λ (l : List ℕ). blockMother m (bitsOf l)) fb),
+          ∙ ap₂ (λ (f k : List ℕ). numbered f k 0 544 ++ drop 544 (a .args .output .now)) fp (ct .1 ∙ ap (λ (l : List ℕ). blockMother m (bitsOf l)) fb),
     )
 
 pub code-qam-spec : {M : Type 1} → statement M

@@ -14,10 +14,10 @@ use Rattle.inner_code.proofs.qam.sequence.Statement.{statement}
 use Rattle.inner_code.proofs.qam.sequence.Tie as tie
 
 abbrev Inv-loop : tie.InvT-loop
-Inv-loop uncoded coded room₀ n₀ room n = (n ≤ 544) × Written 0 room₀ (numbered uncoded coded 0 544) room n
+Inv-loop uncoded coded output₀ n₀ output n = (n ≤ 544) × Written 0 output₀ (numbered uncoded coded 0 544) output n
 
 abbrev μ-loop : tie.MeasureT-loop
-μ-loop uncoded coded room₀ n₀ room n = 544 - n
+μ-loop uncoded coded output₀ n₀ output n = 544 - n
 
 loop-holds : tie.Need-loop-holds Inv-loop μ-loop
 loop-holds c =
@@ -41,8 +41,8 @@ number-requires c κs =
     let a = c .before .before .before .before .before .before .before .before in
     (a .pre .0 _, bits-at (a .pre .1) _, bits-at (a .pre .1) _)
 
-slice-write-room : tie.Need-slice-write-room Inv-loop μ-loop
-slice-write-room c =
+slice-write-output : tie.Need-slice-write-output Inv-loop μ-loop
+slice-write-output c =
     let l = c .before .before .before .before .before .loop in
     let a = c .before .before .before .before .before .before .before .before .before in
     omega (arith, written-length (l .inv .1), a .pre .4)
@@ -74,7 +74,7 @@ returns c =
     let k = a .args .coded .now in
     let n : 544 ≡ c .before .loop .n = omega (arith, c .before .loop .inv .0) in
     written-all (c .before .loop .inv .1) (length-numbered f k 0 544 ∙ n)
-    ∙ ap (λ (j : ℕ). numbered f k 0 544 ++ drop j (a .args .room .now)) (zero-add (c .before .loop .n) ∙ sym n)
+    ∙ ap (λ (j : ℕ). numbered f k 0 544 ++ drop j (a .args .output .now)) (zero-add (c .before .loop .n) ∙ sym n)
 
 pub sequence-spec : {M : Type 1} → statement M
 sequence-spec =
@@ -88,7 +88,7 @@ sequence-spec =
     shared-slice-read-number-2
     shared-slice-read-number-3
     number-requires
-    slice-write-room
+    slice-write-output
     add-n
     loop-less
     loop-again

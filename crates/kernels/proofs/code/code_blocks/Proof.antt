@@ -3,16 +3,16 @@
 use Prim.Native.Nat.{_-_}
 use native.Mathlib.Omega.{arith}
 use lib.ListN.{length}
-use Rattle.kernels.proofs.Codes.{Coding, coding-start, coding-length, coding-room, coding-end, coding-total, coding-more}
+use Rattle.kernels.proofs.Codes.{Coding, coding-start, coding-length, coding-fits, coding-end, coding-total, coding-more}
 use borrow.Author.Needs.{needs}
 use Rattle.kernels.proofs.code.code_blocks.Statement.{statement}
 use Rattle.kernels.proofs.code.code_blocks.Tie as tie
 
 abbrev Inv-loop : tie.InvT-loop
-Inv-loop rate blocks room₀ coder₀ at₀ count₀ room coder at count = Coding rate blocks room₀ room coder at count
+Inv-loop rate blocks output₀ coder₀ at₀ count₀ output coder at count = Coding rate blocks output₀ output coder at count
 
 abbrev μ-loop : tie.MeasureT-loop
-μ-loop rate blocks room₀ coder₀ at₀ count₀ room coder at count = length blocks - at
+μ-loop rate blocks output₀ coder₀ at₀ count₀ output coder at count = length blocks - at
 
 new-requires : tie.Need-new-requires Inv-loop μ-loop
 new-requires c κs = search needs
@@ -41,13 +41,13 @@ sub-encode-2 : tie.Need-sub-encode-2 Inv-loop μ-loop
 sub-encode-2 c =
     let l = c .before in
     let a = l .before .before .before .before .before .before in
-    coding-room (a .pre .1) (l .before .loop .inv)
+    coding-fits (a .pre .1) (l .before .loop .inv)
 
 part-encode-start-2 : tie.Need-part-encode-start-2 Inv-loop μ-loop
 part-encode-start-2 c =
     let l = c .before in
     let a = l .before .before .before .before .before .before in
-    coding-room (a .pre .1) (l .before .loop .inv)
+    coding-fits (a .pre .1) (l .before .loop .inv)
 
 part-encode-end-2 : tie.Need-part-encode-end-2 Inv-loop μ-loop
 part-encode-end-2 c = search needs

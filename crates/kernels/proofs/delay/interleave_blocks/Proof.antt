@@ -10,10 +10,10 @@ use Rattle.kernels.proofs.delay.interleave_blocks.Statement.{statement}
 use Rattle.kernels.proofs.delay.interleave_blocks.Tie as tie
 
 abbrev Inv-loop : tie.InvT-loop
-Inv-loop blocks room₀ interleaver₀ at₀ room interleaver at = Passing Sending blocks room₀ room (interleaver .branches) at
+Inv-loop blocks output₀ interleaver₀ at₀ output interleaver at = Passing Sending blocks output₀ output (interleaver .branches) at
 
 abbrev μ-loop : tie.MeasureT-loop
-μ-loop blocks room₀ interleaver₀ at₀ room interleaver at = length blocks - at
+μ-loop blocks output₀ interleaver₀ at₀ output interleaver at = length blocks - at
 
 new-requires : tie.Need-new-requires Inv-loop μ-loop
 new-requires c κs = search needs

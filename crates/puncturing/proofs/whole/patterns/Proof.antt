@@ -2,15 +2,15 @@
 -- Assumes nothing.
 use mathlib.Core.Path.{refl}
 use native.Mathlib.Omega.{arith}
-use Rattle.puncturing.proofs.Patterns.{Repeating, repeating-bit, repeating-room, repeating-more, repeating-end}
+use Rattle.puncturing.proofs.Patterns.{Repeating, repeating-bit, repeating-fits, repeating-more, repeating-end}
 use Rattle.puncturing.proofs.whole.patterns.Statement.{statement}
 use Rattle.puncturing.proofs.whole.patterns.Tie as tie
 
 abbrev Inv-loop : tie.InvT-loop
-Inv-loop coded from i q len turns room₀ at n₀ k₀ left₀ room n k left = Repeating i q coded len from turns room₀ at room n k left
+Inv-loop coded from i q len turns output₀ at n₀ k₀ left₀ output n k left = Repeating i q coded len from turns output₀ at output n k left
 
 abbrev μ-loop : tie.MeasureT-loop
-μ-loop coded from i q len turns room₀ at n₀ k₀ left₀ room n k left = left
+μ-loop coded from i q len turns output₀ at n₀ k₀ left₀ output n k left = left
 
 loop-holds : tie.Need-loop-holds Inv-loop μ-loop
 loop-holds c = record { bit = c .before .before .before .before .pre .6; end = refl; size = refl; symbols = refl }
@@ -25,14 +25,14 @@ pattern-requires c κs =
       a .pre .3,
       λ j. omega (arith, h, a .pre .4 j, a .pre .1),
       λ j. omega (arith, h, a .pre .5 j, a .pre .1),
-      repeating-room g (omega arith) (a .pre .7),
+      repeating-fits g (omega arith) (a .pre .7),
     )
 
 add-n : tie.Need-add-n Inv-loop μ-loop
 add-n c = omega (arith, repeating-bit (c .before .before .before .before .before .loop .inv) (omega arith))
 
 add-k : tie.Need-add-k Inv-loop μ-loop
-add-k c = omega (arith, repeating-room (c .before .before .before .before .before .loop .inv) (omega arith) (c .before .before .before .before .before .before .before .before .before .before .pre .7))
+add-k c = omega (arith, repeating-fits (c .before .before .before .before .before .loop .inv) (omega arith) (c .before .before .before .before .before .before .before .before .before .before .pre .7))
 
 sub-left : tie.Need-sub-left Inv-loop μ-loop
 sub-left c = omega arith

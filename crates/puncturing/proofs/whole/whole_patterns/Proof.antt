@@ -20,7 +20,7 @@ patterns-requires c κs =
     let g = a .pre in
     let t = c .before .before .before in
     let e = t .if1 .taken in
-    asked 0 (a .args .rate) (a .args .coded .now) (a .args .room .now) (a .args .from) (a .args .turns) (a .args .at) e (g .0) (g .1) (g .2) (g .3) (g .4)
+    asked 0 (a .args .rate) (a .args .coded .now) (a .args .output .now) (a .args .from) (a .args .turns) (a .args .at) e (g .0) (g .1) (g .2) (g .3) (g .4)
 
 same-length : tie.Need-same-length
 same-length c = search needs
@@ -32,7 +32,7 @@ returns c =
     let g = a .pre in
     let t = c .before .before .before .before .before .before in
     let e = t .if1 .taken in
-    given 0 (a .args .rate) (a .args .coded .now) (a .args .room .now) _ (a .args .from) (a .args .turns) (a .args .at) _ e (c .before .before .patterns .ensures)
+    given 0 (a .args .rate) (a .args .coded .now) (a .args .output .now) _ (a .args .from) (a .args .turns) (a .args .at) _ e (c .before .before .patterns .ensures)
 
 slice-aggregate-patterns-3 : tie.Need-slice-aggregate-patterns-3
 slice-aggregate-patterns-3 c = search needs
@@ -47,7 +47,7 @@ patterns-requires-2 c κs =
     let g = a .pre in
     let t = c .before .before .before in
     let e = t .if2 .taken in
-    asked 1 (a .args .rate) (a .args .coded .now) (a .args .room .now) (a .args .from) (a .args .turns) (a .args .at) e (g .0) (g .1) (g .2) (g .3) (g .4)
+    asked 1 (a .args .rate) (a .args .coded .now) (a .args .output .now) (a .args .from) (a .args .turns) (a .args .at) e (g .0) (g .1) (g .2) (g .3) (g .4)
 
 same-length-2 : tie.Need-same-length-2
 same-length-2 c = search needs
@@ -59,7 +59,7 @@ returns-2 c =
     let g = a .pre in
     let t = c .before .before .before .before .before .before in
     let e = t .if2 .taken in
-    given 1 (a .args .rate) (a .args .coded .now) (a .args .room .now) _ (a .args .from) (a .args .turns) (a .args .at) _ e (c .before .before .patterns2 .ensures)
+    given 1 (a .args .rate) (a .args .coded .now) (a .args .output .now) _ (a .args .from) (a .args .turns) (a .args .at) _ e (c .before .before .patterns2 .ensures)
 
 slice-aggregate-patterns-5 : tie.Need-slice-aggregate-patterns-5
 slice-aggregate-patterns-5 c = search needs
@@ -74,7 +74,7 @@ patterns-requires-3 c κs =
     let g = a .pre in
     let t = c .before .before .before in
     let e = t .if3 .taken in
-    asked 2 (a .args .rate) (a .args .coded .now) (a .args .room .now) (a .args .from) (a .args .turns) (a .args .at) e (g .0) (g .1) (g .2) (g .3) (g .4)
+    asked 2 (a .args .rate) (a .args .coded .now) (a .args .output .now) (a .args .from) (a .args .turns) (a .args .at) e (g .0) (g .1) (g .2) (g .3) (g .4)
 
 same-length-3 : tie.Need-same-length-3
 same-length-3 c = search needs
@@ -86,7 +86,7 @@ returns-3 c =
     let g = a .pre in
     let t = c .before .before .before .before .before .before in
     let e = t .if3 .taken in
-    given 2 (a .args .rate) (a .args .coded .now) (a .args .room .now) _ (a .args .from) (a .args .turns) (a .args .at) _ e (c .before .before .patterns3 .ensures)
+    given 2 (a .args .rate) (a .args .coded .now) (a .args .output .now) _ (a .args .from) (a .args .turns) (a .args .at) _ e (c .before .before .patterns3 .ensures)
 
 slice-aggregate-patterns-7 : tie.Need-slice-aggregate-patterns-7
 slice-aggregate-patterns-7 c = search needs
@@ -101,7 +101,7 @@ patterns-requires-4 c κs =
     let g = a .pre in
     let t = c .before .before .before in
     let e = t .if4 .taken in
-    asked 3 (a .args .rate) (a .args .coded .now) (a .args .room .now) (a .args .from) (a .args .turns) (a .args .at) e (g .0) (g .1) (g .2) (g .3) (g .4)
+    asked 3 (a .args .rate) (a .args .coded .now) (a .args .output .now) (a .args .from) (a .args .turns) (a .args .at) e (g .0) (g .1) (g .2) (g .3) (g .4)
 
 same-length-4 : tie.Need-same-length-4
 same-length-4 c = search needs
@@ -113,7 +113,7 @@ returns-4 c =
     let g = a .pre in
     let t = c .before .before .before .before .before .before in
     let e = t .if4 .taken in
-    given 3 (a .args .rate) (a .args .coded .now) (a .args .room .now) _ (a .args .from) (a .args .turns) (a .args .at) _ e (c .before .before .patterns4 .ensures)
+    given 3 (a .args .rate) (a .args .coded .now) (a .args .output .now) _ (a .args .from) (a .args .turns) (a .args .at) _ e (c .before .before .patterns4 .ensures)
 
 slice-aggregate-patterns-9 : tie.Need-slice-aggregate-patterns-9
 slice-aggregate-patterns-9 c = search needs
@@ -128,7 +128,7 @@ patterns-requires-5 c κs =
     let g = a .pre in
     let t = c .before .before .before in
     let e = four (a .args .rate) (g .0) (t .before .before .before .if1 .left) (t .before .before .if2 .left) (t .before .if3 .left) (t .if4 .left) in
-    asked 4 (a .args .rate) (a .args .coded .now) (a .args .room .now) (a .args .from) (a .args .turns) (a .args .at) e (g .0) (g .1) (g .2) (g .3) (g .4)
+    asked 4 (a .args .rate) (a .args .coded .now) (a .args .output .now) (a .args .from) (a .args .turns) (a .args .at) e (g .0) (g .1) (g .2) (g .3) (g .4)
 
 same-length-5 : tie.Need-same-length-5
 same-length-5 c = search needs
@@ -140,7 +140,7 @@ returns-5 c =
     let g = a .pre in
     let t = c .before .before .before .before .before .before in
     let e = four (a .args .rate) (g .0) (t .before .before .before .if1 .left) (t .before .before .if2 .left) (t .before .if3 .left) (t .if4 .left) in
-    given 4 (a .args .rate) (a .args .coded .now) (a .args .room .now) _ (a .args .from) (a .args .turns) (a .args .at) _ e (c .before .before .patterns5 .ensures)
+    given 4 (a .args .rate) (a .args .coded .now) (a .args .output .now) _ (a .args .from) (a .args .turns) (a .args .at) _ e (c .before .before .patterns5 .ensures)
 
 pub whole-patterns-spec : {M : Type 1} → statement M
 whole-patterns-spec =

@@ -8,7 +8,7 @@ use borrow.Author.Tests.{eq-eqb, ne-eqb, lt-ltb, le-ltb, not-true, not-false, eq
 use lib.ListN.{length, replicate}
 use Rattle.reed_solomon.specs.Marks.{areMarks}
 use Rattle.reed_solomon.proofs.Marks.{marks-of, largest-none, largest-most}
-use Rattle.receiver.specs.Receive.{inRange}
+use Rattle.receiver.specs.Receive.{receiverInRange}
 use Rattle.receiver.proofs.Calls.{parts-range, refused-call, state-range}
 use borrow.Author.Needs.{needs}
 use Rattle.receiver.proofs.Receiver.receive_marked.Statement.{statement}
@@ -18,10 +18,10 @@ sum-none : (a b : ℕ) → a + b ≡ 0 → (a ≡ 0) × (b ≡ 0)
 sum-none a b e = (omega arith, omega arith)
 
 -- the test of the state, past it, the marks in the delays, and past the test of the marks that come
-range : (c : tie.After-parts-in-range) → c .parts-in-range .result ≡ inRange (c .before .before .before .before .before .before .before .before .before .before .before .before .args .self)
+range : (c : tie.After-parts-in-range) → c .parts-in-range .result ≡ receiverInRange (c .before .before .before .before .before .before .before .before .before .before .before .before .args .self)
 range c = parts-range (c .before .before .before .before .before .before .before .before .before .before .before .before .args .self) _ _ (c .before .largest-mark .ensures) (c .parts-in-range .ensures)
 
-good : (c : tie.Else1) → inRange (c .before .before .before .before .before .before .before .before .before .before .before .before .before .args .self) ≡ true
+good : (c : tie.Else1) → receiverInRange (c .before .before .before .before .before .before .before .before .before .before .before .before .before .args .self) ≡ true
 good c = sym (range (c .before)) ∙ not-false _ (c .if1 .left)
 
 held : (c : tie.Start) → length (c .args .self .marks) ≡ 1122
@@ -43,12 +43,12 @@ returns : tie.Need-returns
 returns c =
     let a = c .before .before .before .before .before .before .before .before .before .before .before .before .before .args in
     let e = sym (range (c .before)) ∙ not-true _ (c .if1 .taken) in
-    refused-call (a .self) (a .block .now) (a .marks .now) (a .room .now) _ _ (simp e) (simp e) refl
+    refused-call (a .self) (a .block .now) (a .marks .now) (a .output .now) _ _ (simp e) (simp e) refl
 
 returns-2 : tie.Need-returns-2
 returns-2 c =
     let a = c .before .before .before .before .before .before .before .before .before .before .before .before .before .before .args in
-    refused-call (a .self) (a .block .now) (a .marks .now) (a .room .now) _ _ (simp (good (c .before), ne-eqb _ _ (c .if2 .taken))) (simp (good (c .before), ne-eqb _ _ (c .if2 .taken))) refl
+    refused-call (a .self) (a .block .now) (a .marks .now) (a .output .now) _ _ (simp (good (c .before), ne-eqb _ _ (c .if2 .taken))) (simp (good (c .before), ne-eqb _ _ (c .if2 .taken))) refl
 
 are-marks-requires : tie.Need-are-marks-requires
 are-marks-requires c κs = search needs
@@ -57,18 +57,18 @@ returns-3 : tie.Need-returns-3
 returns-3 c =
     let a = c .before .before .before .before .before .before .before .before .before .before .before .before .before .before .before .before .args in
     let e = sym (c .before .are-marks .ensures) ∙ not-true _ (c .if3 .taken) in
-    refused-call (a .self) (a .block .now) (a .marks .now) (a .room .now) _ _ (simp (good (c .before .before .before), eq-eqb _ _ (c .before .before .if2 .left), e)) (simp (good (c .before .before .before), eq-eqb _ _ (c .before .before .if2 .left), e)) refl
+    refused-call (a .self) (a .block .now) (a .marks .now) (a .output .now) _ _ (simp (good (c .before .before .before), eq-eqb _ _ (c .before .before .if2 .left), e)) (simp (good (c .before .before .before), eq-eqb _ _ (c .before .before .if2 .left), e)) refl
 
 returns-4 : tie.Need-returns-4
 returns-4 c =
     let a = c .before .before .before .before .before .before .before .before .before .before .before .before .before .before .before .before .before .args in
-    refused-call (a .self) (a .block .now) (a .marks .now) (a .room .now) _ _
+    refused-call (a .self) (a .block .now) (a .marks .now) (a .output .now) _ _
     (simp (good (c .before .before .before .before), eq-eqb _ _ (c .before .before .before .if2 .left), marked (c .before), lt-ltb _ _ (c .if4 .taken))) (simp (good (c .before .before .before .before), eq-eqb _ _ (c .before .before .before .if2 .left), marked (c .before), lt-ltb _ _ (c .if4 .taken))) refl
 
 returns-5 : tie.Need-returns-5
 returns-5 c =
     let a = c .before .before .before .before .before .before .before .before .before .before .before .before .before .before .before .before .before .before .args in
-    refused-call (a .self) (a .block .now) (a .marks .now) (a .room .now) _ _
+    refused-call (a .self) (a .block .now) (a .marks .now) (a .output .now) _ _
     (simp (good (c .before .before .before .before .before), eq-eqb _ _ (c .before .before .before .before .if2 .left), marked (c .before .before), le-ltb _ _ (c .before .if4 .left), le-ltb _ _ (c .if5 .taken)))
     (simp (good (c .before .before .before .before .before), eq-eqb _ _ (c .before .before .before .before .if2 .left), marked (c .before .before), le-ltb _ _ (c .before .if4 .left), le-ltb _ _ (c .if5 .taken))) refl
 

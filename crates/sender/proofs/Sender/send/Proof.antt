@@ -8,7 +8,7 @@ use lib.ListN.{length, getD}
 use Rattle.puncturing.specs.Mode.{modeOf}
 use Rattle.inner_code.specs.Encode.{symbolCount}
 use Rattle.sender.specs.Input.{isInput, isSynced, packetFor}
-use Rattle.sender.specs.Send.{inRange, isSent, refusal}
+use Rattle.sender.specs.Send.{senderInRange, isSent, sendRefusal}
 use Rattle.sender.proofs.Inputs.{packet-kept, packet-replaced, packet-size, packet-sync}
 use Rattle.sender.proofs.Stages.{refused, answered}
 use borrow.Author.Needs.{needs}
@@ -21,10 +21,10 @@ in-range-requires c κs = search needs
 returns : tie.Need-returns
 returns c =
     let a = c .before .before .before .before in
-    refused modeOf (a .args .self) (a .args .input .now) (a .args .room .now) 5 (simp (sym (c .before .in-range .ensures) ∙ not-true _ (c .if1 .taken))) refl
+    refused modeOf (a .args .self) (a .args .input .now) (a .args .output .now) 5 (simp (sym (c .before .in-range .ensures) ∙ not-true _ (c .if1 .taken))) refl
 
 -- past the first test
-good : (c : tie.Else1) → inRange modeOf (c .before .before .before .before .args .self) ≡ true
+good : (c : tie.Else1) → senderInRange modeOf (c .before .before .before .before .args .self) ≡ true
 good c = sym (c .before .in-range .ensures) ∙ not-false _ (c .if1 .left)
 
 is-sent-requires : tie.Need-is-sent-requires
@@ -34,7 +34,7 @@ returns-2 : tie.Need-returns-2
 returns-2 c =
     let e = c .before .before .before in
     let a = e .before .before .before .before in
-    refused modeOf (a .args .self) (a .args .input .now) (a .args .room .now) 6 (simp (good e, sym (c .before .is-sent .ensures) ∙ not-true _ (c .if2 .taken))) refl
+    refused modeOf (a .args .self) (a .args .input .now) (a .args .output .now) 6 (simp (good e, sym (c .before .is-sent .ensures) ∙ not-true _ (c .if2 .taken))) refl
 
 -- past the second test
 sent : (c : tie.Else2) → isSent modeOf (c .before .before .before .before .before .before .before .args .self) ≡ true
@@ -47,7 +47,7 @@ returns-3 : tie.Need-returns-3
 returns-3 c =
     let e = c .before .before in
     let a = e .before .before .before .before .before .before .before in
-    refused modeOf (a .args .self) (a .args .input .now) (a .args .room .now) 1
+    refused modeOf (a .args .self) (a .args .input .now) (a .args .output .now) 1
     (simp (good (e .before .before .before), sent e, sym (c .before .is-input .ensures) ∙ not-true _ (c .if3 .taken))) refl
 
 -- past the third
@@ -59,7 +59,7 @@ symbol-count-requires c κs = search needs
 
 -- what the first three tell
 module _ (c : tie.Else3) where
-  ranged : inRange modeOf (c .before .before .before .before .before .before .before .before .before .args .self) ≡ true
+  ranged : senderInRange modeOf (c .before .before .before .before .before .before .before .before .before .args .self) ≡ true
   ranged = good (c .before .before .before .before .before)
 
   on : isSent modeOf (c .before .before .before .before .before .before .before .before .before .args .self) ≡ true
@@ -69,14 +69,14 @@ returns-4 : tie.Need-returns-4
 returns-4 c =
     let e = c .before .before in
     let a = e .before .before .before .before .before .before .before .before .before in
-    refused modeOf (a .args .self) (a .args .input .now) (a .args .room .now) 4
+    refused modeOf (a .args .self) (a .args .input .now) (a .args .output .now) 4
     (simp (ranged e, on e, sized e, lt-ltb _ _ (rw (c .before .symbol-count .ensures) at (c .if4 .taken)))) refl
 
 -- past the last test
-long : (c : tie.Else4) → let a = c .before .before .before .before .before .before .before .before .before .before .before .args in symbolCount (a .self .coder) ≤ length (a .room .now)
+long : (c : tie.Else4) → let a = c .before .before .before .before .before .before .before .before .before .before .before .args in symbolCount (a .self .coder) ≤ length (a .output .now)
 long c = rw (c .before .symbol-count .ensures) at (c .if4 .left)
 
-taken : (c : tie.Else4) → let a = c .before .before .before .before .before .before .before .before .before .before .before .args in refusal modeOf (a .self) (a .input .now) (a .room .now) ≡ 0
+taken : (c : tie.Else4) → let a = c .before .before .before .before .before .before .before .before .before .before .before .args in sendRefusal modeOf (a .self) (a .input .now) (a .output .now) ≡ 0
 taken c = let e = c .before .before in simp (ranged e, on e, sized e, le-ltb _ _ (long c))
 
 is-synced-requires : tie.Need-is-synced-requires
@@ -107,7 +107,7 @@ returns-5 c =
     let n = t .before .before in
     let a = n .before .before .before .before .before .before .before .before .before .before .before in
     let p = r .transmit .ensures in
-    answered modeOf (a .args .self) (a .args .input .now) (a .args .room .now) (taken n)
+    answered modeOf (a .args .self) (a .args .input .now) (a .args .output .now) (taken n)
     (sym (packet-kept (a .args .input .now) (eqb-true _ _ (synced t)))) (p .0 ∙ sym (simp (synced t))) (p .1) (p .2) (p .3)
 
 null-packet-requires : tie.Need-null-packet-requires
@@ -139,7 +139,7 @@ returns-6 c =
     let n = t .before .before in
     let a = n .before .before .before .before .before .before .before .before .before .before .before in
     let q = r .transmit2 .ensures in
-    answered modeOf (a .args .self) (a .args .input .now) (a .args .room .now) (taken n) (null p) (sym (simp (replaced t))) (q .1) (q .2) (q .3)
+    answered modeOf (a .args .self) (a .args .input .now) (a .args .output .now) (taken n) (null p) (sym (simp (replaced t))) (q .1) (q .2) (q .3)
 
 pub send-spec : {M : Type 1} → statement M
 send-spec =

@@ -8,15 +8,15 @@ use native.Mathlib.Omega.{arith}
 use borrow.Author.Tests.{lt-ltb, le-ltb, not-true, not-false}
 use Rattle.puncturing.specs.Mode.{modeOf}
 use Rattle.sender.specs.Send.{isSent}
-use Rattle.sending.specs.Sending.{sendingInRange, feedNumber, Roomy, Feeds, refused, fed}
+use Rattle.sending.specs.Sending.{sendingInRange, sendingFeedNumber, OutputsFit, FeedsSending, refused, fed}
 use Rattle.sending.specs.declared.Sending.{Sending}
 use Rattle.sending.proofs.Pieces.{sending-range}
 use borrow.Author.Needs.{needs}
 use Rattle.sending.proofs.Sending.feed.Statement.{statement}
 use Rattle.sending.proofs.Sending.feed.Tie as tie
 
-refuse : (w : Sending) (piece room answers : List ℕ) (n : ℕ) → feedNumber w piece room answers ≡ n → 0 < n → Feeds w piece room answers n 0 0 w room answers
-refuse w piece room answers n e h = refused (sym e) (λ z. omega arith)
+refuse : (w : Sending) (piece output answers : List ℕ) (n : ℕ) → sendingFeedNumber w piece output answers ≡ n → 0 < n → FeedsSending w piece output answers n 0 0 w output answers
+refuse w piece output answers n e h = refused (sym e) (λ z. omega arith)
 
 in-range-requires : tie.Need-in-range-requires
 in-range-requires c κs = search needs
@@ -24,7 +24,7 @@ in-range-requires c κs = search needs
 returns : tie.Need-returns
 returns c =
     let s = c .before .before .before .before .before in
-    refuse (s .args .self) (s .args .piece .now) (s .args .room .now) (s .args .answers .now) 5
+    refuse (s .args .self) (s .args .piece .now) (s .args .output .now) (s .args .answers .now) 5
     (simp (sym (c .before .in-range .ensures) ∙ not-true _ (c .if1 .taken))) (omega arith)
 
 -- past the first test
@@ -38,7 +38,7 @@ returns-2 : tie.Need-returns-2
 returns-2 c =
     let e = c .before .before .before .before in
     let s = e .before .before .before .before .before in
-    refuse (s .args .self) (s .args .piece .now) (s .args .room .now) (s .args .answers .now) 6
+    refuse (s .args .self) (s .args .piece .now) (s .args .output .now) (s .args .answers .now) 6
     (simp (good e, sym (c .before .is-sent .ensures) ∙ not-true _ (c .if2 .taken))) (omega arith)
 
 -- past the second
@@ -55,7 +55,7 @@ returns-3 : tie.Need-returns-3
 returns-3 c =
     let e = c .before .before in
     let s = e .before .before .before .before .before .before .before .before .before in
-    refuse (s .args .self) (s .args .piece .now) (s .args .room .now) (s .args .answers .now) 4
+    refuse (s .args .self) (s .args .piece .now) (s .args .output .now) (s .args .answers .now) 4
     (simp (ranged e, sent e, lt-ltb _ _ (rw (c .before .whole-count .ensures) at (c .if3 .taken)))) (omega arith)
 
 returns-4 : tie.Need-returns-4
@@ -63,14 +63,14 @@ returns-4 c =
     let n = c .before .before in
     let e = n .before in
     let s = e .before .before .before .before .before .before .before .before .before in
-    refuse (s .args .self) (s .args .piece .now) (s .args .room .now) (s .args .answers .now) 4
+    refuse (s .args .self) (s .args .piece .now) (s .args .output .now) (s .args .answers .now) 4
     (simp (ranged e, sent e, le-ltb _ _ (rw (n .whole-count .ensures) at (c .before .if3 .left)), lt-ltb _ _ (rw (n .whole-count .ensures) at (c .if4 .taken)))) (omega arith)
 
 -- past the others
-roomy : (c : tie.Else4)
+output-fits : (c : tie.Else4)
     → let a = c .before .before .before .before .before .before .before .before .before .before .before .before .args in
-    Roomy (a .self) (a .piece .now) (a .room .now) (a .answers .now)
-roomy c =
+    OutputsFit (a .self) (a .piece .now) (a .output .now) (a .answers .now)
+output-fits c =
     let n = c .before .before in
     record {
       range = ranged (n .before);
@@ -80,7 +80,7 @@ roomy c =
     }
 
 send-whole-requires : tie.Need-send-whole-requires
-send-whole-requires c κs = roomy (c .before .before)
+send-whole-requires c κs = output-fits (c .before .before)
 
 same-length : tie.Need-same-length
 same-length c = search needs
@@ -92,7 +92,7 @@ returns-5 : tie.Need-returns-5
 returns-5 c =
     let r = c .before .before .before .before in
     let d = r .before .before .before in
-    let g = roomy d in
+    let g = output-fits d in
     fed (simp (g .range, g .sent, le-ltb _ _ (g .symbols), le-ltb _ _ (g .answers-fit))) (r .send-whole .ensures)
 
 pub feed-spec : {M : Type 1} → statement M

@@ -35,7 +35,7 @@ mul-if2 c = omega (arith, c .whole-blocks .ensures, few (c .before))
 returns-2 : tie.Need-returns-2
 returns-2 c =
     let s = c .before .before .before .before .before .before in
-    let t : length (s .args .room .now) < 188 * ((s .args .self .held + length (s .args .piece .now)) / 204) = omega (arith, c .if2 .taken, c .before .whole-blocks .ensures) in
+    let t : length (s .args .output .now) < 188 * ((s .args .self .held + length (s .args .piece .now)) / 204) = omega (arith, c .if2 .taken, c .before .whole-blocks .ensures) in
     refused (simp (good (c .before .before), lt-ltb _ _ t)) (omega arith) refl refl refl
 
 capacity-requires : tie.Need-capacity-requires
@@ -44,7 +44,7 @@ capacity-requires c κs = search needs
 -- what the second and the third test say
 enough : (c : tie.Else2)
     → let a = c .before .before .before .before .before .before .args in
-    188 * ((a .self .held + length (a .piece .now)) / 204) ≤ length (a .room .now)
+    188 * ((a .self .held + length (a .piece .now)) / 204) ≤ length (a .output .now)
 enough c = omega (arith, c .if2 .left, c .before .whole-blocks .ensures)
 
 capacity : (c : tie.After-capacity) → c .capacity .result ≡ capacityOf (c .before .before .before .before .before .before .before .args .self)

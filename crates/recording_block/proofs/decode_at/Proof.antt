@@ -1,11 +1,11 @@
--- `recording_block::repair_at` is safe.
+-- `recording_block::decode_at` is safe.
 -- Assumes nothing.
 use mathlib.Core.Path.{sym}
 use native.Mathlib.Omega.{arith}
 use lib.Seq.{length-take-le}
 use borrow.Author.Needs.{needs}
-use Rattle.recording_block.proofs.repair_at.Statement.{statement}
-use Rattle.recording_block.proofs.repair_at.Tie as tie
+use Rattle.recording_block.proofs.decode_at.Statement.{statement}
+use Rattle.recording_block.proofs.decode_at.Tie as tie
 
 mul-read-at : tie.Need-mul-read-at
 mul-read-at c = search needs
@@ -39,8 +39,8 @@ write-block-requires c κs = search needs
 returns-2 : tie.Need-returns-2
 returns-2 c = search needs
 
-pub repair-at-spec : {M : Type 1} → statement M
-repair-at-spec =
+pub decode-at-spec : {M : Type 1} → statement M
+decode-at-spec =
     tie.close
     (tie.spec
     mul-read-at

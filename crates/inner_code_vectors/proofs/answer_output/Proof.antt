@@ -1,10 +1,10 @@
--- `inner_code_vectors::answer_room` is safe and ends.
+-- `inner_code_vectors::answer_output` is safe and ends.
 -- Assumes nothing.
 use native.Mathlib.Omega.{arith}
 use lib.ListN.{length-take}
 use borrow.Author.Needs.{needs}
-use Rattle.inner_code_vectors.proofs.answer_room.Statement.{statement}
-use Rattle.inner_code_vectors.proofs.answer_room.Tie as tie
+use Rattle.inner_code_vectors.proofs.answer_output.Statement.{statement}
+use Rattle.inner_code_vectors.proofs.answer_output.Tie as tie
 
 returns : tie.Need-returns
 returns c = search needs
@@ -27,8 +27,8 @@ same-length c = search needs
 returns-2 : tie.Need-returns-2
 returns-2 c = search needs
 
-pub answer-room-spec : {M : Type 1} → statement M
-answer-room-spec =
+pub answer-output-spec : {M : Type 1} → statement M
+answer-output-spec =
     tie.close
     (tie.spec
     returns

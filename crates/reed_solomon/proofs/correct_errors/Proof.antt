@@ -1,4 +1,4 @@
--- `reed_solomon::repair` meets its contract: each step gives what the theorems of the decoder ask of it.
+-- `reed_solomon::decoding` meets its contract: each step gives what the theorems of the decoder ask of it.
 -- Assumes nothing.
 use mathlib.Core.Path.{sym, _∙_, subst}
 use mathlib.Core.List.{List}
@@ -12,11 +12,11 @@ use Rattle.error_locator.specs.Locator.{Modified}
 use Rattle.error_correction.specs.Correction.{rootsOf, Explained}
 use Rattle.reed_solomon.proofs.Completeness.{roots-most}
 use Rattle.reed_solomon.proofs.Marks.{marked-zero}
-use Rattle.reed_solomon.proofs.Outcome.{Decoding, rejected, repaired, degrees-range}
+use Rattle.reed_solomon.proofs.Outcome.{Decoding, rejected, corrected, degrees-range}
 use Rattle.reed_solomon.proofs.Zeros.{unmarked-degrees, erasures-count}
 use borrow.Author.Needs.{needs}
-use Rattle.reed_solomon.proofs.repair.Statement.{statement}
-use Rattle.reed_solomon.proofs.repair.Tie as tie
+use Rattle.reed_solomon.proofs.correct_errors.Statement.{statement}
+use Rattle.reed_solomon.proofs.correct_errors.Tie as tie
 
 -- the erasures and the roots of the locator are at most sixteen
 few-roots : (c : tie.After-locator) → length (rootsOf (c .before .before .before .before .before .by-degree .result) (c .locator .result)) ≤ 16
@@ -114,11 +114,11 @@ returns-2 c =
     let e = c .before .before .before .before .before .before .before .before in (
       e .before .before .before .before .before .before .before .before .before .before .before .before .before .before .before .pre .0,
       e .before .before .before .before .before .before .before .before .before .before .before .before .before .before .before .pre .2,
-      repaired (steps e) _ _ _ (flag-true (Explained (e .before .before .before .before .find-roots .result .places) (e .error-values .result) (e .before .before .before .before .before .before .before .before .before .before .before .before .syndromes .result)) (c .before .before .before .before .before .before .explains .result) (c .before .before .before .before .before .if1 .left) (c .before .before .before .before .before .before .explains .ensures)) (c .before .before .correct .ensures .1) (c .before .before .correct .ensures .0) (c .before .before .before .before .set-bits .ensures),
+      corrected (steps e) _ _ _ (flag-true (Explained (e .before .before .before .before .find-roots .result .places) (e .error-values .result) (e .before .before .before .before .before .before .before .before .before .before .before .before .syndromes .result)) (c .before .before .before .before .before .before .explains .result) (c .before .before .before .before .before .if1 .left) (c .before .before .before .before .before .before .explains .ensures)) (c .before .before .correct .ensures .1) (c .before .before .correct .ensures .0) (c .before .before .before .before .set-bits .ensures),
     )
 
-pub repair-spec : {M : Type 1} → statement M
-repair-spec =
+pub correct-errors-spec : {M : Type 1} → statement M
+correct-errors-spec =
     tie.close
     (tie.spec
     syndromes-requires

@@ -1,8 +1,8 @@
--- `receiver::repair_of` meets its contract.
+-- `receiver::decoding_of` meets its contract.
 -- Assumes nothing.
 use borrow.Author.Needs.{needs}
-use Rattle.receiver.proofs.repair_of.Statement.{statement}
-use Rattle.receiver.proofs.repair_of.Tie as tie
+use Rattle.receiver.proofs.decoding_of.Statement.{statement}
+use Rattle.receiver.proofs.decoding_of.Tie as tie
 
 enum-told : tie.Need-enum-told
 enum-told c = search needs
@@ -28,5 +28,5 @@ returns-3 c = search needs
 returns-4 : tie.Need-returns-4
 returns-4 c = search needs
 
-pub repair-of-spec : {M : Type 1} → statement M
-repair-of-spec = tie.close (tie.spec enum-told enum-told-2 enum-told-3 enum-told-4 returns returns-2 returns-3 returns-4)
+pub decoding-of-spec : {M : Type 1} → statement M
+decoding-of-spec = tie.close (tie.spec enum-told enum-told-2 enum-told-3 enum-told-4 returns returns-2 returns-3 returns-4)
