@@ -1,5 +1,6 @@
 -- The bits that are sent, before the inner code; and from bits that are read to the blocks that a receiver takes: eight bits make a byte, and 204 bytes
 -- a block.
+-- Clauses: document 01, "Inner code"; document 02, P1.
 -- Assumes nothing.
 use mathlib.Core.List.{List, flatten}
 use Prim.Native.Nat.{ℕ, _+_, _*_, _/_}

@@ -1,4 +1,5 @@
 -- What each call gives: its answer, by its tests in the order of document 01, the coder, and the output.
+-- Clauses: document 01, "Inner code" and "Answer numbers"; document 02, P10 and P12.
 -- Assumes nothing.
 use mathlib.Core.Bool.{Bool, true, false}
 use mathlib.Core.List.{List, [], _∷_, _++_}

@@ -1,5 +1,6 @@
 -- The outer code RS(204,188) of EN 300 421, 4.4.2: the generator polynomial, codewords, and in how many bytes and bits two blocks differ.
 -- Polynomials are lists of coefficients over GF(256), the lowest first.
+-- Clauses: document 01, "Outer code"; document 02, P3.
 -- Assumes nothing.
 use mathlib.Core.Path.{_≡_}
 use mathlib.Core.List.{List, [], _∷_, reverse}

@@ -1,4 +1,5 @@
 -- What decoding a block means where some of its bytes are marked as doubtful: errors and erasures decoding. A mark is 0 or 1, and a marked byte is an erasure.
+-- Clause: document 02, P11.
 -- Assumes nothing.
 use mathlib.Core.Path.{_≡_}
 use mathlib.Core.Bool.{Bool, false}

@@ -1,4 +1,5 @@
 -- What a run of received symbols costs a sequence of bits, by the inner coder's own definition.
+-- Clauses: document 02, P1 and P8.
 -- Assumes nothing.
 use mathlib.Core.Path.{_≡_}
 use mathlib.Core.List.{List, [], _∷_, map}

@@ -150,10 +150,6 @@ module _ (i : StreamReceiver) (size : length (i .pending) ≡ 204) (small : i .h
         ap (λ (j : ℕ). drop j came) k ∙ drop-append-add (heldBytes i) piece end
 
     module _ {m : ℕ} {middle : Receiver} {exit : List ℕ} (f : TakesRecording (i .receiver) (heldBytes i ++ take start piece) [] output m middle exit) where
-      pub first-count : m ≤ 188
-      unfolding first
-      first-count = omega (arith, takes-count f, length-first)
-
       pub first-length : length exit ≡ length output
       unfolding first
       first-length = takes-length f (omega (arith, length-first))
