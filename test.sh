@@ -1,5 +1,5 @@
 #!/bin/bash
-# The tests: what is made from the crates by scripts; the Rattle gate; then what stands beside the crates: the exported functions against the second coder and
+# The tests: that nothing is unused, and that the docs are in step; the Rattle gate; then what stands beside the crates: the exported functions against the second coder and
 # decoder of reference/, the programs on inputs in pieces, on pass reports and with marks, the commands of README.md, and the usage lines of the programs.
 # The gate's line `N passed, 0 failed` comes last, and only where all of it passed.
 set -euo pipefail
@@ -35,6 +35,7 @@ tool cargo cargo
 tool rustc rustc
 
 # What takes seconds comes first.
+quietly bash tests/unused.sh
 bash docs/crates.sh | quietly cmp - docs/crates.svg
 bash tests/believed.sh | quietly diff docs/BELIEVED.md -
 grep -qF "$(grep -o '[0-9,]* definitions in [0-9]* files, [0-9,]* lines' docs/BELIEVED.md)" docs/TRUST.md || fail "docs/TRUST.md: the sum of docs/BELIEVED.md"

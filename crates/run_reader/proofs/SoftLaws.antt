@@ -10,7 +10,7 @@ use borrow.Author.Tests.{lt-ltb, eq-eqb}
 use lib.Dec.{eqb}
 use lib.Ieee.{Float, nan, ofBits, binary32}
 use lib.ListN.{length, getD, drop, replicate, length-map, length-replicate}
-use Rattle.common.specs.Choice.{pick}
+use Rattle.common.specs.Choice.{pick, unequal}
 use Rattle.common.specs.Lists.{All}
 use Rattle.convolutional_code.specs.Bits.{Bits, none, more}
 use Rattle.convolutional_code.specs.Code.{memoryAfter}
@@ -25,7 +25,8 @@ use Rattle.soft_decision.specs.declared.BitCosts.{BitCosts}
 use Rattle.soft_decision.specs.declared.Received.{Received}
 use Rattle.soft_decision.specs.declared.Received.the-variants.{At, Lost}
 use Rattle.soft_decision.proofs.Numbers.{costs-nan, costs-one, costs-minus-one}
-use Rattle.run_reader.specs.Cost.{coderAt, bitsDiffer, differing, totalCost, hardCost, softCost}
+use Rattle.inner_code.specs.Encode.{coderAt}
+use Rattle.run_reader.specs.Cost.{differing, totalCost, hardCost, softCost}
 use Rattle.run_reader.specs.Read.{runBits, runLength, below, valid, sound, readNumber, softNumber, BestRead, ReadsHard, ReadsSoft, refused, read}
 use Rattle.run_reader.proofs.Serial.{flat}
 use Rattle.run_reader.proofs.Patterns.{run-whole}
@@ -149,7 +150,7 @@ signalsQ symbols = map (λ s. signal (s % 2)) symbols
 abbrev pub noneLost : List ℕ → List ℕ
 noneLost symbols = map (λ s. 0) symbols
 
-seven : (b v : ℕ) → b < 2 → v < 2 → decidedAs (numberCosts (signal b)) v ≡ 7 * bitsDiffer b v
+seven : (b v : ℕ) → b < 2 → v < 2 → decidedAs (numberCosts (signal b)) v ≡ 7 * unequal b v
 unfolding signal
 seven zero zero hb hv = ap (λ (c : BitCosts). c .zero) costs-one
 seven zero (suc zero) hb hv = ap (λ (c : BitCosts). c .one) costs-one

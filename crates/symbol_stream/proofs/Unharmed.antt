@@ -12,7 +12,8 @@ use Rattle.convolutional_code.specs.Code.{memoryAfter}
 use Rattle.puncturing.specs.Step.{patternLength}
 use Rattle.inner_code.specs.Step.{symbolsOf}
 use Rattle.trellis.specs.Best.{Decoded}
-use Rattle.run_reader.specs.Cost.{coderAt, differing, runCost}
+use Rattle.inner_code.specs.Encode.{coderAt}
+use Rattle.run_reader.specs.Cost.{differing, runCost}
 use Rattle.run_reader.specs.Read.{symbolsPerPattern, runBits, runLength}
 use Rattle.run_reader.proofs.Patterns.{some-symbols, memory-in-range, run-whole}
 use Rattle.run_reader.proofs.Unharmed.{own-best}
