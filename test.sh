@@ -1,6 +1,7 @@
 #!/bin/bash
-# The tests: that nothing is unused, and that the docs are in step; the Rattle gate; then what stands beside the crates: the exported functions against the second coder and
-# decoder of reference/, the programs on inputs in pieces, on pass reports and with marks, the commands of README.md, and the usage lines of the programs.
+# The tests: that nothing is unused, and that the docs are in step; the Rattle gate; then what stands beside the crates: the exported functions
+# against the second coder and decoder of reference/, the programs on inputs in pieces, on pass reports and with marks, the commands of README.md,
+# and the usage lines of the programs.
 # The gate's line `N passed, 0 failed` comes last, and only where all of it passed.
 set -euo pipefail
 cd "$(dirname "$0")"
