@@ -65,6 +65,14 @@ clauses() {
         sub(/\/.*/, "", item)
         return item
     }
+    # clauses_of FILE: a document or a standard alone only where no part of it is named.
+    function clauses_of(file,    list, n, i, said) {
+        n = split(clause[file], list, "; ")
+        for (i = 1; i <= n; i++)
+            if (index(clause[file], list[i] ",") == 0)
+                said = said (said == "" ? "" : "; ") list[i]
+        return said
+    }
     function thousands(n) {
         return n < 1000 ? n : int(n / 1000) sprintf(",%03d", n % 1000)
     }
@@ -74,10 +82,7 @@ clauses() {
         delete all[$2]
         some[$2 ":pub fn " $3] = 1
     }
-    $1 == "clause" && !(($2, $3) in told) {
-        told[$2, $3] = 1
-        clause[$2] = clause[$2] (clause[$2] == "" ? "" : "; ") $3
-    }
+    $1 == "clause" && index("; " clause[$2] ";", "; " $3 ";") == 0 { clause[$2] = clause[$2] (clause[$2] == "" ? "" : "; ") $3 }
     $1 == "item" {
         lines[$2] = $4
         order[++items] = $2
@@ -136,6 +141,6 @@ clauses() {
         for (file in sum) {
             row = file
             sub(/^crates\//, "", row)
-            print "| `" row "` | " clause[file] " | " substr(definitions[file], 3) " | " sum[file] " |" | "LC_ALL=C sort"
+            print "| `" row "` | " clauses_of(file) " | " substr(definitions[file], 3) " | " sum[file] " |" | "LC_ALL=C sort"
         }
     }'
