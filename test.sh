@@ -1,6 +1,7 @@
 #!/bin/bash
-# The tests: the Rattle gate, then what stands beside the crates: the exported functions against the second coder and
-# decoder of reference/, the programs on inputs in pieces, on pass reports and with marks, the commands of README.md, and the usage lines of the programs.
+# The tests: that nothing is unused, and that the docs are in step; the Rattle gate; then what stands beside the crates: the exported functions
+# against the second coder and decoder of reference/, the programs on inputs in pieces, on pass reports and with marks, the commands of README.md,
+# and the usage lines of the programs.
 # The gate's line `N passed, 0 failed` comes last, and only where all of it passed.
 set -euo pipefail
 cd "$(dirname "$0")"
@@ -33,6 +34,12 @@ tool cc gcc
 tool c++ g++
 tool cargo cargo
 tool rustc rustc
+
+# What takes seconds comes first.
+quietly bash tests/unused.sh
+bash docs/crates.sh | quietly cmp - docs/crates.svg
+bash tests/believed.sh | quietly diff docs/BELIEVED.md -
+grep -qF "$(grep -o '[0-9,]* definitions in [0-9]* files, [0-9,]* lines' docs/BELIEVED.md)" docs/TRUST.md || fail "docs/TRUST.md: the sum of docs/BELIEVED.md"
 
 # rt waits for the whole of a batch. With four at a time two processors are seldom left idle by the longest one.
 export RT_JOBS=${RT_JOBS:-4}

@@ -53,14 +53,6 @@ module _ (K : Field) where
   dot-ext [] f g h = refl
   dot-ext (a ∷ p) f g h = ap (λ u. a * u + dot p (λ i. f (suc i))) (h zero (omega arith)) ∙ ap (λ u. a * g zero + u) (dot-ext p (λ i. f (suc i)) (λ i. g (suc i)) (λ i l. h (suc i) (omega arith)))
 
-  dot-mul-step : (a c u s : F) → a * (c * u) + c * s ≡ c * (a * u + s)
-  dot-mul-step a c u s = simp ring
-
-  pub dot-mul : (p : List F) (c : F) (f : ℕ → F) → dot p (λ i. c * f i) ≡ c * dot p f
-  unfolding dot
-  dot-mul [] c f = sym (mul-zero K c)
-  dot-mul (a ∷ p) c f = ap (λ y. a * (c * f zero) + y) (dot-mul p c (λ i. f (suc i))) ∙ dot-mul-step a c (f zero) _
-
   pub dot-zero : (p : List F) (f : ℕ → F) → ((j : ℕ) → j < length p → f j ≡ 𝟘) → dot p f ≡ 𝟘
   unfolding dot
   dot-zero [] f h = refl

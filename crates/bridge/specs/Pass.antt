@@ -1,5 +1,6 @@
 -- A pass through the bridge: a block after another, each with the bytes of the state that the call before left.
 -- Whatever the firmware does with those bytes between two calls, they are what it saved.
+-- Clause: document 02, P14.
 -- Assumes nothing.
 use mathlib.Core.List.{List, [], _∷_, _++_}
 use Prim.Native.Nat.{ℕ, _≤_}

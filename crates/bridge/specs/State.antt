@@ -1,4 +1,5 @@
 -- The state of a receiver as 2,322 bytes. The layout is a table of fields; reading and writing both go by it.
+-- Clause: document 02, P14.
 -- Assumes nothing.
 use mathlib.Core.Path.{_≡_}
 use mathlib.Core.Bool.{true}

@@ -1,4 +1,5 @@
 -- Where the 204 bytes that a block is made of lie among the bytes received.
+-- Clauses: EN 300 421, 4.4.2; document 02, P9.
 -- Assumes nothing.
 use mathlib.Core.Path.{_≡_}
 use mathlib.Core.Bool.{Bool, false}

@@ -1,4 +1,5 @@
 -- One byte more is too many: bursts on one stream, as a table of rows, and what it is for a row to hold.
+-- Clause: document 02, P9.
 -- Assumes nothing.
 use mathlib.Core.Path.{_≡_}
 use mathlib.Core.List.{List, [], _∷_, map}

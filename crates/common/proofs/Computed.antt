@@ -1,13 +1,13 @@
 -- Rules that hold of every number below a bound, or of every entry of a table, each proved by one test that antt computes.
 -- Assumes nothing.
-use mathlib.Core.Path.{_≡_, _∙_, subst, subst₂, sym}
+use mathlib.Core.Path.{_≡_, _∙_, subst, sym}
 use mathlib.Core.Bool.{Bool, true, false}
 use mathlib.Core.List.{List, [], _∷_}
 use mathlib.Core.Logic.{⊎-elim}
-use Prim.Native.Nat.{ℕ, zero, suc, _+_, _*_, _/_, _%_, _<_}
+use Prim.Native.Nat.{ℕ, zero, suc, _+_, _<_}
 use native.Mathlib.Nat.{add-zero, zero-add, add-suc, suc-add, le-of-suc-le-suc, not-suc-le-zero, eq-or-lt-of-le}
 use lib.Dec.{T, eqb, eqb→eq}
-use lib.ListN.{length, getD, replicate, length-replicate}
+use lib.ListN.{length, getD}
 
 abbrev pub both : Bool → Bool → Bool
 both true b = b
@@ -57,11 +57,3 @@ from f (x ∷ xs) i t (suc k) h =
 
 pub at : (f : ℕ → ℕ → Bool) (xs : List ℕ) → T (every f 0 xs) → (k : ℕ) → k < length xs → T (f k (getD xs k 0))
 at f xs t k h = subst (λ (m : ℕ). T (f m (getD xs k 0))) (zero-add k) (from f xs 0 t k h)
-
--- a test that passes at each row and column of a table of n entries
-abbrev pub tested : ℕ → ℕ → (ℕ → ℕ → Bool) → Bool
-tested w n f = every (λ k x. f (k / w) (k % w)) 0 (replicate n 0)
-
-pub everywhere : (w n : ℕ) (f : ℕ → ℕ → Bool) → T (tested w n f) → (i j : ℕ) → (i * w + j) / w ≡ i → (i * w + j) % w ≡ j → i * w + j < n → T (f i j)
-everywhere w n f t i j r q k =
-    subst₂ (λ (a b : ℕ). T (f a b)) r q (at (λ k x. f (k / w) (k % w)) (replicate n 0) t (i * w + j) (rw (length-replicate {A = ℕ} n 0) k))

@@ -1,4 +1,5 @@
 -- Lists of bits, and the bits of bytes.
+-- Clause: document 01, "Inner code".
 -- Assumes nothing.
 use mathlib.Core.List.{List, [], _∷_}
 use Prim.Native.Nat.{ℕ, _/_, _%_, _<_}

@@ -1,4 +1,5 @@
 -- Numbers as bytes, the lowest first, and the counts of a receiver so.
+-- Clauses: document 01, "Receiver"; document 02, P3 and P14.
 -- Assumes nothing.
 use mathlib.Core.List.{List, [], _∷_, _++_}
 use Prim.Native.Nat.{ℕ, zero, suc, _+_, _*_, _/_, _%_}

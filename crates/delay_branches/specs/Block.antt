@@ -1,4 +1,5 @@
 -- A block of 204 bytes goes into the branches, and one comes out.
+-- Clauses: EN 300 421, 4.4.2; document 01, "Delay branches".
 -- Assumes nothing.
 use mathlib.Core.List.{List, [], _++_}
 use Prim.Native.Nat.{ℕ, zero, suc, _+_, _-_, _%_, _/_}

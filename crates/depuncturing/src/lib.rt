@@ -4,7 +4,7 @@ ghost use mathlib.Core.Path.{_≡_};
 ghost use Prim.Native.Nat.{ℕ, _+_, _*_, _%_, _<_, _≤_};
 ghost use lib.ListN.{length, getD};
 ghost use Rattle.puncturing.specs.Step.{patternLength};
-ghost use Rattle.depuncturing.specs.Steps.{kind, width, first, value, stepValue};
+ghost use Rattle.depuncturing.specs.Steps.{width, first, value, stepValue};
 use common::put;
 
 const KINDS: [u8; 35] = [

@@ -1,4 +1,5 @@
 -- What the stream takes of the input: the bytes at its front that are symbols, up to the first that is none.
+-- Clause: document 02, P1.
 -- Assumes nothing.
 use mathlib.Core.List.{List}
 use Prim.Native.Nat.{ℕ, _≤_, _<_}

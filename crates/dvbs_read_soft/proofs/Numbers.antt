@@ -77,9 +77,6 @@ module _ (bytes tail next : List ℕ) (size : length tail ≡ 8) where
   rest-length : length rest ≡ length bytes % 8
   rest-length = length-take-le (length bytes - whole) (drop whole bytes) (omega (arith, length-drop whole bytes)) ∙ omega arith
 
-  pub rest-fits : 0 + length rest ≤ 8
-  rest-fits = omega (arith, rest-length)
-
   module _ (e : next ≡ rest ++ drop (0 + length rest) tail) where
     pub tail-length : length next ≡ 8
     tail-length = ap length e ∙ omega (arith, length-append rest (drop (0 + length rest) tail), length-drop (0 + length rest) tail, rest-length)

@@ -1,4 +1,5 @@
 -- Received points as bytes: two f32 each, I and then Q, the lowest byte first.
+-- Clause: document 02, P8.
 -- Assumes nothing.
 use mathlib.Core.Path.{_≡_}
 use mathlib.Core.List.{List}

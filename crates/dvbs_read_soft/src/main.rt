@@ -2,7 +2,7 @@
 // Reads the received points of standard input at a rate 0 to 4, and writes the bits that were most likely sent, eight to a byte, the top bit first.
 // A point is two f32, I and then Q, the lowest byte first: the complex numbers of GNU Radio's files. One whose numbers are both NaN is a lost symbol.
 ghost use mathlib.Core.Path.{_≡_};
-ghost use Prim.Native.Nat.{ℕ, _+_, _*_, _/_, _%_, _<_, _≤_};
+ghost use Prim.Native.Nat.{ℕ, _+_, _*_, _<_, _≤_};
 ghost use lib.Ieee.{isNan, ofBits, binary32, nanBits};
 ghost use lib.ListN.{length, getD};
 ghost use Rattle.soft_decision.specs.Steps.{costsAlong};

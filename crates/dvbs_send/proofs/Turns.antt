@@ -8,7 +8,7 @@ use native.Mathlib.Omega.{arith}
 use lib.ListN.{length, take, drop, length-take, length-append}
 use Rattle.input_pieces.specs.Read.{ReadsPiece}
 use Rattle.input_pieces.specs.declared.Piece.{Piece}
-use Rattle.sending.specs.Sending.{canSend, fedSymbols, OutputsFit, FeedsAll, FeedsSending}
+use Rattle.sending.specs.Sending.{canSend, fedSymbols, OutputsFit, FeedsSending}
 use Rattle.sending.specs.declared.Sending.{Sending}
 use Rattle.sending.proofs.Pieces.{sending-range, sending-sent}
 use Rattle.sending.proofs.Laws.{feeds-all, fed-range}

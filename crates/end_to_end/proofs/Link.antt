@@ -30,7 +30,7 @@ use Rattle.puncturing.specs.Step.{patternLength}
 use Rattle.puncturing.proofs.Steps.{some-bits}
 use Rattle.puncturing.proofs.Places.{up, length-le}
 use Rattle.inner_code.specs.Step.{symbolsOf}
-use Rattle.run_reader.specs.Cost.{coderAt}
+use Rattle.inner_code.specs.Encode.{coderAt}
 use Rattle.run_reader.specs.Read.{symbolsPerPattern, runBits, runLength}
 use Rattle.run_reader.proofs.Unharmed.{clear-length}
 use Rattle.symbol_stream.proofs.Unharmed.{stream-whole, last-pattern}

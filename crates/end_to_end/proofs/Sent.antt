@@ -17,7 +17,7 @@ use Rattle.puncturing.proofs.Places.{up}
 use Rattle.puncturing.proofs.WellFormed.{well-formed}
 use Rattle.inner_code.specs.Step.{symbolsOf}
 use Rattle.inner_code.proofs.Stream.{symbols-fresh, stream-qpsk}
-use Rattle.run_reader.specs.Cost.{coderAt}
+use Rattle.inner_code.specs.Encode.{coderAt}
 use Rattle.run_reader.specs.Read.{symbolsPerPattern, runLength}
 use Rattle.run_reader.specs.Runs.{Run, Readings}
 use Rattle.run_reader.proofs.Streams.{fits, stream-read, up-to-last}

@@ -1,4 +1,5 @@
 -- The bits that are sent, before the inner code; and the blocks of 204 bytes that a receiver takes.
+-- Clauses: document 01, "Inner code"; document 02, P1.
 -- Assumes nothing.
 use mathlib.Core.List.{List, flatten}
 use Prim.Native.Nat.{ℕ, _*_, _/_}

@@ -1,5 +1,6 @@
 -- A whole link, from packets to packets: sent, read, put together to blocks, received; read run after run, or as a stream. Each step is one by the
 -- promises of its calls. And what an unharmed link brings back.
+-- Clauses: document 01, "What the board carries"; document 02, P1 and P2.
 -- Assumes nothing.
 use mathlib.Core.Path.{_≡_}
 use mathlib.Core.List.{List, _++_, flatten}

@@ -1,4 +1,5 @@
 -- What the exported decoder gives, without marks and with them: the answer's number, the block, and what was changed in two lent bytes.
+-- Clauses: document 01, "Outer code"; document 02, P3 and P11.
 -- Assumes nothing.
 use mathlib.Core.Path.{_≡_}
 use mathlib.Core.Bool.{true, false}

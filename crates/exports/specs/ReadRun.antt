@@ -1,4 +1,5 @@
 -- What the exported readers of a run give: the bits, and the answer, the memory after them and the cost in lent bytes.
+-- Clauses: document 02, P1 and P8.
 -- Assumes nothing.
 use mathlib.Core.Path.{_≡_}
 use mathlib.Core.List.{List, [], _∷_, _++_}

@@ -1,4 +1,5 @@
 -- What the exported run of a fresh receiver gives: the packets, the counts and the answer's number in lent bytes.
+-- Clauses: document 01, "Receiver"; document 02, P11.
 -- Assumes nothing.
 use mathlib.Core.Path.{_≡_}
 use mathlib.Core.List.{List, [], _++_}

@@ -1,4 +1,5 @@
 -- What the exported decoding of one recorded block gives: the answer's number, the output, and what was changed in two lent bytes.
+-- Clause: document 02, P5.
 -- Assumes nothing.
 use mathlib.Core.Path.{_≡_}
 use mathlib.Core.List.{List, []}

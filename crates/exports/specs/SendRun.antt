@@ -1,4 +1,5 @@
 -- What the exported run of a fresh sender gives. Where no byte is lent for the answer's number, nothing is sent and nothing is written.
+-- Clause: document 02, P2.
 -- Assumes nothing.
 use mathlib.Core.List.{List}
 use Prim.Native.Nat.{ℕ}

@@ -1,4 +1,5 @@
 -- Group synchronization over a stream of blocks: what each comes to, and what a sender's blocks are.
+-- Clauses: document 01, "Receiver"; document 02, P4.
 -- Assumes nothing.
 use mathlib.Core.List.{List, [], _∷_}
 use Prim.Native.Nat.{ℕ, zero, suc, _+_, _-_, _%_}

@@ -36,6 +36,7 @@ use Rattle.receiver.proofs.Reached.{sound-range, sound-fresh}
 use Rattle.receiver.proofs.Promised.{promised-received}
 use Rattle.recording.specs.Returned.{sentBytes, Returns}
 use Rattle.idle_programs.proofs.Samples.{sample, sample-packet, samples, samples-packets, samples-length}
+use Rattle.idle_programs.proofs.Sending.{Left}
 
 -- one that refuses everything: a fresh receiver, a block of zeros and room for a packet is no refusal
 pub refusing : (r : Received) (exit : List ℕ) → Receives freshReceiver (replicate 204 0) (replicate 188 0) r exit
@@ -85,12 +86,6 @@ giving-none packets ws h l numbers last k =
     omega (arith, ap length (promised-received packets ws l numbers [] last k .1), length-take-le (length packets - 11) packets (omega arith))
 
 -- ---- programs for a run
-
--- what a program leaves after a run
-pub record Left : Type 0 where
-  pub number : ℕ
-  pub count : ℕ
-  pub output : List ℕ
 
 -- a program: what it leaves for the bytes of a recording and an output
 abbrev pub Program : Type 0

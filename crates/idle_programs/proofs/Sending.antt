@@ -22,7 +22,7 @@ use Rattle.puncturing.proofs.Places.{up}
 use Rattle.inner_code.specs.Stream.{symbols}
 use Rattle.inner_code.specs.Step.{symbolsOf}
 use Rattle.inner_code.proofs.Stream.{symbols-fresh, stream-qpsk}
-use Rattle.run_reader.specs.Cost.{coderAt}
+use Rattle.inner_code.specs.Encode.{coderAt}
 use Rattle.run_reader.proofs.Patterns.{sent-whole}
 use Rattle.run_reader.proofs.Unharmed.{hard-decoded, own-best}
 use Rattle.sender.specs.Standard.{interleavedBlocks, onAir}

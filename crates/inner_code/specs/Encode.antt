@@ -1,11 +1,12 @@
 -- What each call gives: its answer, by its tests in the order of document 01, the coder, and the output.
+-- Clauses: document 01, "Inner code" and "Answer numbers"; document 02, P10 and P12.
 -- Assumes nothing.
-use mathlib.Core.Bool.{Bool, true, false}
+use mathlib.Core.Bool.{Bool}
 use mathlib.Core.List.{List, [], _∷_, _++_}
 use Prim.Native.Nat.{ℕ}
 use lib.Dec.{ltb, eqb}
 use lib.ListN.{length, drop}
-use Rattle.common.specs.Choice.{pick}
+use Rattle.common.specs.Choice.{pick, indicator}
 use Rattle.puncturing.specs.Mode.{Mode, modeOf, blockBitsBy}
 use Rattle.puncturing.specs.Step.{countBy}
 use Rattle.puncturing.specs.declared.Symbol.{Symbol}
@@ -14,9 +15,13 @@ use Rattle.inner_code.specs.Converter.{encodedBits, uncodedNumbers, sequ
 use Rattle.inner_code.specs.Step.{inRangeBy, symbolsBy, coderBy, coderInRange, coderStep, symbolStep}
 use Rattle.inner_code.specs.declared.InnerCoder.{InnerCoder}
 
+-- the coder at the start of a pattern, with the memory of the bits before
+abbrev pub coderAt : ℕ → ℕ → InnerCoder
+coderAt rate memory = record { rate = rate; memory = memory; place = 0; held = 0 }
+
 -- a coder at a rate, with memory, place and held bit 0
 abbrev pub freshCoder : ℕ → InnerCoder
-freshCoder rate = record { rate = rate; memory = 0; place = 0; held = 0 }
+freshCoder rate = coderAt rate 0
 
 -- 6 for a mode that is not sent
 abbrev pub newNumber : ℕ → ℕ
@@ -24,18 +29,14 @@ newNumber rate = pick (modeOf rate .sent) 0 6
 
 -- ---- one bit
 
-abbrev pub bitValue : Bool → ℕ
-bitValue true = 1
-bitValue false = 0
-
 abbrev pub stepNumber : InnerCoder → ℕ
 stepNumber c = pick (coderInRange c) (pick (modeOf (c .rate) .sent) 0 6) 5
 
 abbrev pub stepCoder : InnerCoder → Bool → InnerCoder
-stepCoder c bit = pick (eqb (stepNumber c) 0) (coderStep c (bitValue bit)) c
+stepCoder c bit = pick (eqb (stepNumber c) 0) (coderStep c (indicator bit)) c
 
 abbrev pub stepSymbol : InnerCoder → Bool → Symbol
-stepSymbol c bit = pick (eqb (stepNumber c) 0) (symbolStep c (bitValue bit)) None
+stepSymbol c bit = pick (eqb (stepNumber c) 0) (symbolStep c (indicator bit)) None
 
 -- ---- one block
 

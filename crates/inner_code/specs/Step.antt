@@ -1,4 +1,5 @@
 -- The inner coder as a value: what one bit, and what a list of bits of the encoded branch, does to it, in a mode.
+-- Clause: document 01, "Inner code".
 -- Assumes nothing.
 use mathlib.Core.Bool.{Bool, false}
 use mathlib.Core.List.{List, [], _∷_, _++_}

@@ -1,4 +1,5 @@
 -- The inner code over a whole stream: conversion, convolution, puncturing and the mapping to symbols.
+-- Clauses: EN 300 421, 4.4.3; EN 301 210, 4.6.3.
 -- Assumes nothing.
 use mathlib.Core.List.{List, [], _∷_, _++_, map}
 use Prim.Native.Nat.{ℕ, _+_, _-_, _%_}

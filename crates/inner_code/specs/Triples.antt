@@ -1,4 +1,5 @@
 -- A block at 16QAM 3/4 as the code goes through it: the bytes that are coded, the pairs beside them, and the numbers of the symbols.
+-- Clauses: EN 301 210, 4.6.3; document 02, P10.
 -- Assumes nothing.
 use mathlib.Core.List.{List, [], _∷_, _++_}
 use Prim.Native.Nat.{ℕ, zero, suc, _+_, _*_, _/_, _%_}

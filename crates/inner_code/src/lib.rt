@@ -5,7 +5,8 @@ ghost use mathlib.Core.List.{_++_};
 ghost use lib.ListN.{length, drop};
 ghost use Rattle.answer.specs.Number.{numberOf};
 ghost use Rattle.inner_code.specs.Step.{CoderInRange, coderInRange};
-ghost use Rattle.inner_code.specs.Encode.{freshCoder, newNumber, bitValue, stepNumber, stepCoder, stepSymbol, blockSymbols, blockCoder, symbolCount, innerEncodeNumber, encodeCoder, encodeCount, innerEncodeOutput};
+ghost use Rattle.common.specs.Choice.{indicator};
+ghost use Rattle.inner_code.specs.Encode.{freshCoder, newNumber, stepNumber, stepCoder, stepSymbol, blockSymbols, blockCoder, symbolCount, innerEncodeNumber, encodeCoder, encodeCount, innerEncodeOutput};
 
 mod qam;
 
@@ -191,7 +192,7 @@ impl InnerCoder {
 }
 
 fn bit_value(bit: bool) -> u8
-    ensures { λ r. ⌜ r ≡ bitValue bit ⌝ }
+    ensures { λ r. ⌜ r ≡ indicator bit ⌝ }
 {
     if bit { 1 } else { 0 }
 }

@@ -1,4 +1,5 @@
 -- What one call gives: its answer, by its tests in the order of document 01, the branches and the output.
+-- Clauses: document 01, "Delay branches" and "Answer numbers".
 -- Assumes nothing.
 use mathlib.Core.List.{List, _++_}
 use Prim.Native.Nat.{ℕ}

@@ -1,11 +1,12 @@
 -- One turn of a pass, and a whole pass: what was read is what the stream receiver was fed with.
+-- Clause: document 01, "Receiver".
 -- Assumes nothing.
 use mathlib.Core.Path.{_≡_}
 use mathlib.Core.Bool.{false}
 use mathlib.Core.List.{List}
 use Prim.Native.Nat.{ℕ, min}
 use lib.IntN.{pos}
-use lib.ListN.{length, take, drop}
+use lib.ListN.{length, take}
 use Rattle.input_pieces.specs.Read.{ReadsPiece}
 use Rattle.stream_receiver.specs.Feed.{capacityOf, FeedsReceiver}
 use Rattle.stream_receiver.specs.History.{Reception}

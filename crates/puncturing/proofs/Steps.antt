@@ -1,15 +1,14 @@
 -- The puncturing of one bit.
 -- Assumes nothing.
 use mathlib.Core.Path.{_≡_, refl, _∙_}
-use Prim.Native.Nat.{ℕ, zero, suc, _+_, _*_, _≤_, _<_}
+use Prim.Native.Nat.{ℕ, zero, suc, _*_, _≤_, _<_}
 use native.Mathlib.Omega.{arith}
 use lib.Dec.{eqb}
-use lib.ListN.{length}
 use Rattle.common.specs.Choice.{pick}
-use Rattle.puncturing.specs.Mode.{modeOf, completed}
-use Rattle.puncturing.specs.Step.{patternLength, nextPlace, heldCount, symbolList, punctured, heldAfter, heldBy, heldCountBy}
+use Rattle.puncturing.specs.Mode.{modeOf}
+use Rattle.puncturing.specs.Step.{patternLength, nextPlace, heldCount, heldAfter, heldBy, heldCountBy}
 use Rattle.puncturing.proofs.Places.{up, end, _&_, EverywhereOf, everywhere-of}
-use Rattle.puncturing.proofs.WellFormed.{well-formed, next-by-lt, held-by-le, symbol-count-by}
+use Rattle.puncturing.proofs.WellFormed.{well-formed, next-by-lt, held-by-le}
 
 pub some-bits : (r : ℕ) → r < 5 → 0 < patternLength r
 some-bits r h = well-formed r (up r h) .some-bits
@@ -51,7 +50,3 @@ module _ (r p x y h : ℕ) (hr : r < 6) (hp : p < patternLength r) where
 
   pub held-in-range : y < 2 → heldAfter r p x y h ≤ heldCount r (nextPlace r p)
   held-in-range k = rw held-is (times-le (heldCount r (nextPlace r p)) y (held-le r (nextPlace r p) hr (next-lt r p hp)) k)
-
--- a bit completes one symbol or none
-pub symbol-count : (r p x y h : ℕ) → r < 6 → p < patternLength r → length (symbolList (punctured r p x y h)) ≡ length (completed (modeOf r) (p + 1))
-symbol-count r p x y h hr hp = symbol-count-by (well-formed r hr) p hp x y h

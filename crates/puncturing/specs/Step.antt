@@ -1,4 +1,5 @@
 -- The puncturing of one bit, at a place of a mode's pattern.
+-- Clause: document 01, "Inner code".
 -- Assumes nothing.
 use mathlib.Core.List.{List, [], _∷_, map}
 use Prim.Native.Nat.{ℕ, zero, suc, _+_, _%_}

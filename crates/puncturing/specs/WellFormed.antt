@@ -1,4 +1,5 @@
 -- What a mode must be for one memory, one place in the pattern and one held bit to be all that its coder needs.
+-- Clause: document 02, P10.
 -- Assumes nothing.
 use mathlib.Core.Path.{_≡_}
 use mathlib.Core.List.{List, [], _∷_}

@@ -1,4 +1,5 @@
 -- What one call gives for a packet at a place of its group of eight: 0 to 7, document 01's group place.
+-- Clauses: document 01, "Randomizing" and "Answer numbers".
 -- Assumes nothing.
 use mathlib.Core.List.{List, _∷_, _++_, zipWith}
 use Prim.Native.Nat.{ℕ, _*_}

@@ -1,4 +1,5 @@
 -- What a list of calls comes to by group synchronization alone, and what a fresh receiver makes of a sender's blocks, begun at any of them.
+-- Clauses: document 01, "Receiver"; document 02, P4.
 -- Assumes nothing.
 use mathlib.Core.Path.{_≡_}
 use mathlib.Core.List.{List, [], _∷_, _++_, map}

@@ -1,4 +1,5 @@
 -- Calls of `receive` one after another, each by its promise alone.
+-- Clause: document 01, "Receiver".
 -- Assumes nothing.
 use mathlib.Core.List.{List, [], _∷_, _++_}
 use Prim.Native.Nat.{ℕ, _≤_}

@@ -1,4 +1,5 @@
 -- Calls one after another, and the counts as document 01 defines them, from the history of calls.
+-- Clauses: document 01, "Receiver"; document 02, P3 and P11.
 -- Assumes nothing.
 use mathlib.Core.Path.{_≡_}
 use mathlib.Core.List.{List, [], _∷_, _++_}

@@ -1,6 +1,7 @@
 -- The counts of a receiver: document 01, "Receiver". Of its words, taken counts the blocks received, filling those received before the
 -- deinterleaver is full, delivered the packets given, lost the uncorrectable blocks, waiting the codewords before group synchronization,
 -- outofstep the codewords without the sync byte that is due, changed the bytes corrected, and bits the bits of them.
+-- Clauses: document 02, P3 and P11.
 -- Assumes nothing.
 use mathlib.Core.Bool.{Bool, false}
 use mathlib.Core.Path.{_≡_}

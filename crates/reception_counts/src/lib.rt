@@ -1,7 +1,7 @@
 // The counts of a receiver.
 // Inner: its functions may require what the crates above have tested. docs/ARCHITECTURE.md names the public surface.
 ghost use mathlib.Core.Path.{_≡_};
-ghost use Prim.Native.Nat.{_+_, min};
+ghost use Prim.Native.Nat.{min};
 ghost use Rattle.reception_counts.specs.Counts.{CountsFit, zeroCounts, countsInRange, outcomeNumber, counted};
 use group_sync::Outcome;
 

@@ -1,4 +1,5 @@
 -- What a receiver makes of a recording: the calls on its whole blocks, one after the other, each with its marks.
+-- Clauses: document 01, "Receiver"; document 02, P11.
 -- Assumes nothing.
 use mathlib.Core.Path.{_≡_}
 use mathlib.Core.Bool.{Bool, false}

@@ -1,4 +1,5 @@
 -- Demand 2, receiving, of a run: the packets of a fresh sender come back, all but the last eleven, which are still in the delays.
+-- Clause: document 01, "Delay branches".
 -- Assumes nothing.
 use mathlib.Core.Path.{_≡_}
 use mathlib.Core.List.{List, _++_, map, flatten}

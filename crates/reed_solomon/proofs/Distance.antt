@@ -18,7 +18,8 @@ use Rattle.algebra.proofs.Polynomial.{Zero, equal-of-zero, eval-plus, length-pl
 use Rattle.algebra.proofs.Syndromes.{Term, AllZero, keep, support, weight, syndrome, vandermonde-weight}
 use Rattle.algebra.proofs.Terms.{terms, distinct-terms, word-syndrome}
 use Rattle.galois.proofs.Instance.{bytes, byte, byte-inj, powers-differ}
-use Rattle.reed_solomon.specs.Code.{Codeword, unequal, distance, differ, changes}
+use Rattle.common.specs.Choice.{unequal}
+use Rattle.reed_solomon.specs.Code.{Codeword, distance, differ, changes}
 use Rattle.reed_solomon.specs.Decode.{Accepted}
 use Rattle.reed_solomon.specs.declared.Changed.{Changed}
 use Rattle.byte_lanes.specs.Lanes.{elements, word, alpha}

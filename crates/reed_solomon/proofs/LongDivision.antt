@@ -2,7 +2,7 @@
 -- Assumes nothing.
 use mathlib.Core.Path.{_≡_, refl, sym, ap, ap₂, _∙_}
 use mathlib.Core.List.{List, [], _∷_, _++_, reverse, reverse-append, reverse-reverse}
-use Prim.Native.Nat.{ℕ, zero, suc, _+_, _<_, Fin}
+use Prim.Native.Nat.{ℕ, zero, suc, Fin}
 use Prim.{tt}
 use native.Mathlib.Omega.{arith}
 use lib.Bits.{bitXor}

@@ -10,14 +10,14 @@ use native.Mathlib.Omega.{arith}
 use borrow.Author.Tests.{eq-eqb, ne-eqb}
 use lib.Dec.{eqb}
 use lib.ListN.{length, getD, replicate, length-reverse, length-append}
-use Rattle.common.specs.Choice.{pick}
+use Rattle.common.specs.Choice.{pick, unequal}
 use Rattle.algebra.specs.Field.{ops}
 use Rattle.algebra.specs.Polynomial.{eval, plus}
 use Rattle.algebra.proofs.Ring.{add-eq-zero, mul-zero, zero-mul}
 use Rattle.algebra.proofs.Syndromes.{Term, keep, support, weight, weighted}
 use Rattle.algebra.proofs.Terms.{terms}
 use Rattle.galois.proofs.Instance.{bytes, byte}
-use Rattle.reed_solomon.specs.Code.{Codeword, unequal, distance, differ, changes}
+use Rattle.reed_solomon.specs.Code.{Codeword, distance, differ, changes}
 use Rattle.reed_solomon.specs.Decode.{Decodes}
 use Rattle.reed_solomon.specs.Marks.{noMarks, marked, unmarked, cost, AcceptedMarked, DecodesMarked}
 use Rattle.reed_solomon.specs.declared.Decoded.{Decoded}

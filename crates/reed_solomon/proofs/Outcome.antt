@@ -20,7 +20,8 @@ use Rattle.algebra.proofs.Ring.{add-self, zero-add, mul-zero}
 use Rattle.algebra.proofs.Syndromes.{syndrome}
 use Rattle.galois.specs.Field256.{pow}
 use Rattle.galois.proofs.Instance.{bytes, byte, byte-zero}
-use Rattle.reed_solomon.specs.Code.{Codeword, unequal, unequalBits, distance, differ, differBits, noChange}
+use Rattle.common.specs.Choice.{unequal}
+use Rattle.reed_solomon.specs.Code.{Codeword, unequalBits, distance, differ, differBits, noChange}
 use Rattle.reed_solomon.specs.Marks.{marked, unmarked, cost, AcceptedMarked, RejectedMarked}
 use Rattle.byte_lanes.specs.Lanes.{alpha}
 use Rattle.reed_solomon.specs.Steps.{residueOf, allZero, SyndromesOf, weighed}

@@ -1,12 +1,12 @@
 -- The outer code RS(204,188) of EN 300 421, 4.4.2: the generator polynomial, codewords, and in how many bytes and bits two blocks differ.
 -- Polynomials are lists of coefficients over GF(256), the lowest first.
+-- Clauses: document 01, "Outer code"; document 02, P3.
 -- Assumes nothing.
 use mathlib.Core.Path.{_≡_}
 use mathlib.Core.List.{List, [], _∷_, reverse}
 use Prim.Native.Nat.{ℕ, zero, suc, _+_, _/_, _%_}
-use lib.Dec.{eqb}
 use lib.ListN.{length}
-use Rattle.common.specs.Choice.{pick}
+use Rattle.common.specs.Choice.{unequal}
 use Rattle.common.specs.Lists.{Bytes}
 use Rattle.algebra.specs.Polynomial.{product}
 use Rattle.galois.specs.Field256.{numbers, pow}
@@ -33,10 +33,6 @@ pub record Codeword (block : List ℕ) : Type 0 where
   pub divides : polynomial block ≡ product numbers generator factor
 
 -- ---- how far two blocks are apart
-
--- 0 where two numbers are equal, else 1
-abbrev pub unequal : ℕ → ℕ → ℕ
-unequal x y = pick (eqb x y) 0 1
 
 -- In how many bits two numbers of n bits are unequal, from the lowest bit up. The highest is what n - 1 halvings leave: of a byte, which
 -- has eight bits, the top bit. So unequal numbers have an unequal bit, also where they are no bytes.

@@ -1,4 +1,5 @@
 -- What decoding a block means, as a relation between the bytes that came, the bytes left and the answer. Marks.antt has what it means with marks.
+-- Clauses: document 01, "Outer code"; document 02, P3.
 -- Assumes nothing.
 use mathlib.Core.Path.{_≡_}
 use mathlib.Core.List.{List}

@@ -1,4 +1,5 @@
 -- What decoding a block means where some of its bytes are marked as doubtful: errors and erasures decoding. A mark is 0 or 1, and a marked byte is an erasure.
+-- Clause: document 02, P11.
 -- Assumes nothing.
 use mathlib.Core.Path.{_≡_}
 use mathlib.Core.Bool.{Bool, false}
@@ -6,8 +7,8 @@ use mathlib.Core.List.{List, [], _∷_}
 use Prim.Native.Nat.{ℕ, _+_, _*_, _≤_, _<_, max}
 use lib.Dec.{eqb, ltb}
 use lib.ListN.{length, getD, replicate}
-use Rattle.common.specs.Choice.{pick}
-use Rattle.reed_solomon.specs.Code.{Codeword, unequal, changes}
+use Rattle.common.specs.Choice.{pick, unequal}
+use Rattle.reed_solomon.specs.Code.{Codeword, changes}
 use Rattle.reed_solomon.specs.declared.Changed.{Changed}
 use Rattle.reed_solomon.specs.declared.Decoded.{Decoded}
 use Rattle.reed_solomon.specs.declared.Decoded.the-variants.{Corrected, Uncorrectable, BlockLength, MarkValue}

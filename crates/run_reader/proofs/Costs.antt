@@ -17,7 +17,8 @@ use Rattle.puncturing.specs.Step.{patternLength, nextPlace}
 use Rattle.inner_code.specs.Step.{symbolsOf, coderAfter}
 use Rattle.inner_code.specs.declared.InnerCoder.{InnerCoder}
 use Rattle.depuncturing.specs.Steps.{width, kindCost, kindAt, first, puncturedCosts, pairCost}
-use Rattle.run_reader.specs.Cost.{coderAt, totalCost, runCost, symbolCost, costsOf, Costed}
+use Rattle.inner_code.specs.Encode.{coderAt}
+use Rattle.run_reader.specs.Cost.{totalCost, runCost, symbolCost, costsOf, Costed}
 use Rattle.trellis.proofs.Order.{bits-head}
 use Rattle.convolutional_code.proofs.Bits.{bits-tail}
 use Rattle.puncturing.proofs.Parts.{none-held}

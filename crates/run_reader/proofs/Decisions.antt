@@ -8,21 +8,21 @@ use native.Mathlib.Omega.{arith}
 use lib.Dec.{eqb}
 use lib.ListN.{length, getD, set, take, length-take, length-map}
 use lib.Seq.{getD-take, length-take-le}
-use Rattle.common.specs.Choice.{pick}
+use Rattle.common.specs.Choice.{pick, unequal}
 use Rattle.common.specs.Lists.{All}
 use Rattle.common.proofs.Each.{Updated, updated-none, updated-more}
 use Rattle.common.proofs.Lists.{All-at, All-of}
-use Rattle.run_reader.specs.Cost.{bitsDiffer, differing, Costed}
+use Rattle.run_reader.specs.Cost.{differing, Costed}
 use Rattle.run_reader.specs.Decisions.{component, decisionCost}
 use Rattle.run_reader.proofs.Unharmed.{differing-at}
 
 -- a bit differs from 0 where it is 1, and from 1 where it is 0
-from-zero : (b : ℕ) → b < 2 → b ≡ bitsDiffer b 0
+from-zero : (b : ℕ) → b < 2 → b ≡ unequal b 0
 from-zero zero h = refl
 from-zero (suc zero) h = refl
 from-zero (suc (suc b)) h = absurd (omega arith)
 
-from-one : (b : ℕ) → b < 2 → 1 - b ≡ bitsDiffer b 1
+from-one : (b : ℕ) → b < 2 → 1 - b ≡ unequal b 1
 from-one zero h = refl
 from-one (suc zero) h = refl
 from-one (suc (suc b)) h = absurd (omega arith)
@@ -32,7 +32,7 @@ pub symbol-bits : (ss : List ℕ) (i : ℕ) → All (λ s. s < 4) ss → i < len
 symbol-bits ss i w h = let four : getD ss i 0 < 4 = All-at (λ s. s < 4) ss 0 i w h in (omega arith, omega arith)
 
 -- decision j of symbol i
-decision-at : (ss : List ℕ) (t i j : ℕ) → t ≡ 4 * i + j → j < 4 → decisionCost ss t ≡ bitsDiffer (component (j / 2) (getD ss i 0)) (j % 2)
+decision-at : (ss : List ℕ) (t i j : ℕ) → t ≡ 4 * i + j → j < 4 → decisionCost ss t ≡ unequal (component (j / 2) (getD ss i 0)) (j % 2)
 unfolding decisionCost
 decision-at ss t i j e h =
     let a : t / 4 ≡ i = omega arith in
@@ -89,19 +89,19 @@ module _ (ss l : List ℕ) (w : Written ss l) (long : 4 * length ss ≤ length l
         differing-at ss i s (rw length-map h) ∙ ap₂ (λ (x y : ℕ). x + y) (sym (one (4 * i + s / 2) i (s / 2) refl hi h)) (sym (two (4 * i + 2 + s % 2) i (s % 2) (omega arith) hq h));
   }
     where
-      one : (t i v : ℕ) → t ≡ 4 * i + v → v < 2 → i < length ss → getD taken t 0 ≡ bitsDiffer (getD ss i 0 / 2) v
+      one : (t i v : ℕ) → t ≡ 4 * i + v → v < 2 → i < length ss → getD taken t 0 ≡ unequal (getD ss i 0 / 2) v
       one t i v e h b =
           let d : v / 2 ≡ 0 = omega arith in
           let m : v % 2 ≡ v = omega arith in
           getD-take (4 * length ss) l t 0 (omega arith)
-          ∙ (w t (omega arith) ∙ (decision-at ss t i v e (omega arith) ∙ ap₂ (λ (x y : ℕ). bitsDiffer (component x (getD ss i 0)) y) d m))
+          ∙ (w t (omega arith) ∙ (decision-at ss t i v e (omega arith) ∙ ap₂ (λ (x y : ℕ). unequal (component x (getD ss i 0)) y) d m))
 
-      two : (t i v : ℕ) → t ≡ 4 * i + (2 + v) → v < 2 → i < length ss → getD taken t 0 ≡ bitsDiffer (getD ss i 0 % 2) v
+      two : (t i v : ℕ) → t ≡ 4 * i + (2 + v) → v < 2 → i < length ss → getD taken t 0 ≡ unequal (getD ss i 0 % 2) v
       two t i v e h b =
           let d : (2 + v) / 2 ≡ 1 = omega arith in
           let m : (2 + v) % 2 ≡ v = omega arith in
           getD-take (4 * length ss) l t 0 (omega arith)
-          ∙ (w t (omega arith) ∙ (decision-at ss t i (2 + v) e (omega arith) ∙ ap₂ (λ (x y : ℕ). bitsDiffer (component x (getD ss i 0)) y) d m))
+          ∙ (w t (omega arith) ∙ (decision-at ss t i (2 + v) e (omega arith) ∙ ap₂ (λ (x y : ℕ). unequal (component x (getD ss i 0)) y) d m))
 
   -- every cost is at most 1
   pub written-small : All (λ c. c ≤ 7) taken

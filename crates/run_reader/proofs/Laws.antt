@@ -11,7 +11,7 @@ use borrow.Author.Tests.{lt-ltb, eqb-true, eq-eqb}
 use lib.Dec.{eqb}
 use lib.Ieee.{Float}
 use lib.ListN.{length, drop}
-use Rattle.common.specs.Choice.{pick}
+use Rattle.common.specs.Choice.{pick, unequal}
 use Rattle.common.specs.Lists.{All}
 use Rattle.convolutional_code.specs.Bits.{Bits}
 use Rattle.trellis.proofs.Ends.{SomeDecoded}
@@ -20,7 +20,8 @@ use Rattle.puncturing.specs.Step.{patternLength}
 use Rattle.inner_code.specs.Step.{symbolsOf, coderAfter}
 use Rattle.inner_code.proofs.Coder.{coder-memory}
 use Rattle.soft_decision.specs.Cost.{receivedOf}
-use Rattle.run_reader.specs.Cost.{coderAt, bitsDiffer, differing, totalCost, hardCost, softCost}
+use Rattle.inner_code.specs.Encode.{coderAt}
+use Rattle.run_reader.specs.Cost.{differing, totalCost, hardCost, softCost}
 use Rattle.run_reader.specs.Read.{symbolsPerPattern, runBits, runLength, below, valid, sound, readNumber, softNumber, BestRead, AnswersRun, ReadsHard, refused, read}
 use Rattle.run_reader.proofs.Costs.{sent-small}
 use Rattle.run_reader.proofs.Patterns.{run-symbols, sent-whole}
@@ -144,7 +145,7 @@ pub cost-least : {cost : List ℕ → ℕ} {n memory : ℕ} {output : List ℕ} 
 cost-least o sent w l = omega (arith, o .decoded .costs, o .decoded .best .least sent w l)
 
 -- and at most two for each symbol by hard decisions
-differ-le : (a b : ℕ) → bitsDiffer a b ≤ 1
+differ-le : (a b : ℕ) → unequal a b ≤ 1
 differ-le a b = go (eqb a b)
   where
     go : (t : Bool) → pick {A = ℕ} t 0 1 ≤ 1
@@ -167,10 +168,10 @@ cost-most rate m symbols o =
     )
 
 -- from one list to another is no farther than by way of a third
-differ-triangle : (a b c : ℕ) → bitsDiffer b c ≤ bitsDiffer a b + bitsDiffer a c
+differ-triangle : (a b c : ℕ) → unequal b c ≤ unequal a b + unequal a c
 differ-triangle a b c = go (eqb a b) (eqb a c) refl refl
   where
-    go : (t u : Bool) → eqb a b ≡ t → eqb a c ≡ u → bitsDiffer b c ≤ pick t 0 1 + pick u 0 1
+    go : (t u : Bool) → eqb a b ≡ t → eqb a c ≡ u → unequal b c ≤ pick t 0 1 + pick u 0 1
     go true true e f = let q : b ≡ c = sym (eqb-true a b e) ∙ eqb-true a c f in rw (eq-eqb b c q) (omega arith)
     go true false e f = omega (arith, differ-le b c)
     go false true e f = omega (arith, differ-le b c)

@@ -18,7 +18,7 @@ use Rattle.inner_code.specs.Step.{CoderInRange, symbolsOf, coderAfter}
 use Rattle.inner_code.specs.declared.InnerCoder.{InnerCoder}
 use Rattle.inner_code.proofs.Coder.{coder-rate, coder-memory, coder-place, coder-in-range, length-symbols}
 use Rattle.depuncturing.specs.Steps.{kind, first}
-use Rattle.run_reader.specs.Cost.{coderAt}
+use Rattle.inner_code.specs.Encode.{coderAt}
 use Rattle.run_reader.specs.Read.{symbolsPerPattern, runBits, runLength}
 
 pub at-start : (rate m : ℕ) → rate < 5 → m < 64 → CoderInRange (coderAt rate m)

@@ -10,7 +10,7 @@ use borrow.Author.Tests.{eq-eqb}
 use lib.Dec.{eqb}
 use lib.Ieee.{Float, nan, ofBits, binary32}
 use lib.ListN.{length, getD, drop, replicate, length-map, length-replicate}
-use Rattle.common.specs.Choice.{pick}
+use Rattle.common.specs.Choice.{pick, unequal}
 use Rattle.common.specs.Lists.{All}
 use Rattle.convolutional_code.specs.Bits.{Bits, none, more}
 use Rattle.convolutional_code.specs.Code.{memoryAfter}
@@ -19,6 +19,7 @@ use Rattle.trellis.specs.Best.{ZeroAtLast, Best, Decoded}
 use Rattle.trellis.proofs.Order.{bits-head}
 use Rattle.trellis.proofs.Laws.{scale, unique, decoded-unique}
 use Rattle.inner_code.specs.Step.{symbolsOf}
+use Rattle.inner_code.specs.Encode.{coderAt}
 use Rattle.soft_decision.specs.Cost.{byLevel, numberCosts, symbolCosts, decidedAs, softly, receivedOf}
 use Rattle.soft_decision.specs.declared.Point.{Point}
 use Rattle.soft_decision.specs.declared.Received.{Received}
@@ -26,7 +27,7 @@ use Rattle.soft_decision.specs.declared.Received.the-variants.{At, Lost}
 use Rattle.soft_decision.proofs.Numbers.{costs-nan, costs-one, costs-minus-one}
 use Rattle.run_reader.specs.Clear as clear
 use Rattle.run_reader.specs.Clear.{Clear, AllClear}
-use Rattle.run_reader.specs.Cost.{coderAt, bitsDiffer, differing, totalCost, hardCost, softCost}
+use Rattle.run_reader.specs.Cost.{differing, totalCost, hardCost, softCost}
 use Rattle.run_reader.specs.Read.{runBits, runLength, below, valid, sound, readNumber, softNumber, BestRead, ReadsHard, ReadsSoft, refused, read}
 use Rattle.run_reader.proofs.Serial.{flat}
 use Rattle.run_reader.proofs.Costs.{sent-bits}
@@ -160,7 +161,7 @@ signal-sure zero h = costs-one
 signal-sure (suc zero) h = costs-minus-one
 signal-sure (suc (suc b)) h = absurd (omega arith)
 
-seven : (b v : ℕ) → b < 2 → v < 2 → decidedAs (byLevel (pick (eqb b 0) 7 0)) v ≡ 7 * bitsDiffer b v
+seven : (b v : ℕ) → b < 2 → v < 2 → decidedAs (byLevel (pick (eqb b 0) 7 0)) v ≡ 7 * unequal b v
 seven zero zero hb hv = refl
 seven zero (suc zero) hb hv = refl
 seven (suc zero) zero hb hv = refl

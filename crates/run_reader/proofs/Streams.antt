@@ -17,7 +17,7 @@ use Rattle.puncturing.proofs.Parts.{symbols-in-append, place-after, whole-count
 use Rattle.inner_code.specs.Step.{symbolsOf}
 use Rattle.inner_code.specs.declared.InnerCoder.{InnerCoder}
 use Rattle.inner_code.proofs.Coder.{length-symbols, symbols-append, coder-memory}
-use Rattle.run_reader.specs.Cost.{coderAt}
+use Rattle.inner_code.specs.Encode.{coderAt}
 use Rattle.run_reader.specs.Read.{symbolsPerPattern, runLength, ReadsHard}
 use Rattle.run_reader.specs.Runs as runs
 use Rattle.run_reader.specs.Runs.{Run, Readings}

@@ -9,7 +9,7 @@ use native.Mathlib.Nat.{mod-lt}
 use borrow.Author.Tests.{eqb-true, eq-eqb}
 use lib.Dec.{eqb, ltb, ltb→lt}
 use lib.ListN.{length, getD, take, drop, length-map}
-use Rattle.common.specs.Choice.{pick}
+use Rattle.common.specs.Choice.{pick, unequal}
 use Rattle.common.proofs.Lists.{getD-map-in}
 use Rattle.convolutional_code.specs.Bits.{Bits}
 use Rattle.convolutional_code.specs.Code.{tapsX, tapsY, coded, memoryAfter}
@@ -25,8 +25,9 @@ use Rattle.puncturing.proofs.Places.{tested-at}
 use Rattle.puncturing.proofs.Steps.{some-bits}
 use Rattle.depuncturing.specs.Steps.{kind, kindCost, kindAt, first, puncturedCosts}
 use Rattle.inner_code.specs.Step.{symbolsOf}
+use Rattle.inner_code.specs.Encode.{coderAt}
 use Rattle.run_reader.specs.Clear.{Clear, AllClear, none, more}
-use Rattle.run_reader.specs.Cost.{coderAt, bitsDiffer, differing, totalCost, runCost, hardCost}
+use Rattle.run_reader.specs.Cost.{differing, totalCost, runCost, hardCost}
 use Rattle.run_reader.proofs.Serial.{flat}
 use Rattle.run_reader.specs.Read.{symbolsPerPattern, runLength}
 use Rattle.run_reader.proofs.Patterns.{run-whole, run-symbols, sent-whole}
@@ -36,7 +37,7 @@ use Rattle.run_reader.proofs.Existence.{steps-cost, some-best}
 -- ---- hard costs
 
 abbrev hard : List ℕ → ℕ → ℕ → ℕ
-hard ss j v = bitsDiffer (getD (flat ss) j 0) v
+hard ss j v = unequal (getD (flat ss) j 0) v
 
 flat-i : (ss : List ℕ) (i : ℕ) → getD (flat ss) (2 * i) 0 ≡ getD ss i 0 / 2
 flat-i [] zero = refl
@@ -61,7 +62,7 @@ hard-splits ss = record {
 
 -- ---- each step tells its two bits apart
 
-differ-zero : (a b : ℕ) → bitsDiffer a b ≡ 0 → a ≡ b
+differ-zero : (a b : ℕ) → unequal a b ≡ 0 → a ≡ b
 differ-zero a b h = go (eqb a b) refl h
   where
     go : (t : Bool) → eqb a b ≡ t → pick {A = ℕ} t 0 1 ≡ 0 → a ≡ b
@@ -71,12 +72,12 @@ differ-zero a b h = go (eqb a b) refl h
 parity : (b c p : ℕ) → b < 2 → c < 2 → (b + p) % 2 ≡ (c + p) % 2 → b ≡ c
 parity b c p hb hc e = omega arith
 
-x-apart : (m b c r : ℕ) → b < 2 → c < 2 → bitsDiffer r (coded tapsX m b) ≡ 0 → bitsDiffer r (coded tapsX m c) ≡ 0 → b ≡ c
+x-apart : (m b c r : ℕ) → b < 2 → c < 2 → unequal r (coded tapsX m b) ≡ 0 → unequal r (coded tapsX m c) ≡ 0 → b ≡ c
 x-apart m b c r hb hc p q =
     parity b c (m / 32 % 2 + (m / 16 % 2 + (m / 8 % 2 + (m % 2 + 0)))) hb hc
     (sym (differ-zero r (coded tapsX m b) p) ∙ differ-zero r (coded tapsX m c) q)
 
-y-apart : (m b c r : ℕ) → b < 2 → c < 2 → bitsDiffer r (coded tapsY m b) ≡ 0 → bitsDiffer r (coded tapsY m c) ≡ 0 → b ≡ c
+y-apart : (m b c r : ℕ) → b < 2 → c < 2 → unequal r (coded tapsY m b) ≡ 0 → unequal r (coded tapsY m c) ≡ 0 → b ≡ c
 y-apart m b c r hb hc p q =
     parity b c (m / 16 % 2 + (m / 8 % 2 + (m / 2 % 2 + (m % 2 + 0)))) hb hc
     (sym (differ-zero r (coded tapsY m b) p) ∙ differ-zero r (coded tapsY m c) q)
@@ -101,7 +102,7 @@ apart ss rate h k s b c hb hc p q = kind-apart ss (kindAt rate k) (first rate k)
 
 -- ---- a run, whatever was received
 
-differ-le : (a b : ℕ) → bitsDiffer a b ≤ 7
+differ-le : (a b : ℕ) → unequal a b ≤ 7
 differ-le a b = go (eqb a b)
   where
     go : (t : Bool) → pick {A = ℕ} t 0 1 ≤ 7
@@ -127,7 +128,7 @@ module _ (rate m : ℕ) (hr : rate < 5) (hm : m < 64) (ss : List ℕ) (whole : l
 
 -- ---- an unharmed run
 
-differ-same : (a : ℕ) → bitsDiffer a a ≡ 0
+differ-same : (a : ℕ) → unequal a a ≡ 0
 differ-same a = rw (eq-eqb a a refl)
 
 -- the coding of bits differs from itself nowhere

@@ -14,7 +14,8 @@ use Rattle.puncturing.specs.Step.{patternLength}
 use Rattle.depuncturing.specs.Steps.{puncturedCosts, pairCost, stepValue}
 use Rattle.depuncturing.proofs.Facts.{steps-are, cost-same}
 use Rattle.inner_code.specs.Step.{symbolsOf}
-use Rattle.run_reader.specs.Cost.{coderAt, runCost}
+use Rattle.inner_code.specs.Encode.{coderAt}
+use Rattle.run_reader.specs.Cost.{runCost}
 use Rattle.run_reader.proofs.Costs.{Splits, run-is}
 
 pub read : (costs : List (ℕ → ℕ)) (l steps : List ℕ) (rate m n : ℕ) → Splits costs (pairCost l) 0 → rate < 5 → m < 64 → n % patternLength rate ≡ 0

@@ -1,28 +1,20 @@
 -- What a run of received symbols costs a sequence of bits, by the inner coder's own definition.
+-- Clauses: document 02, P1 and P8.
 -- Assumes nothing.
 use mathlib.Core.Path.{_≡_}
 use mathlib.Core.List.{List, [], _∷_, map}
 use Prim.Native.Nat.{ℕ, _+_, _*_, _/_, _%_, _<_}
-use lib.Dec.{eqb}
 use lib.ListN.{length, getD}
-use Rattle.common.specs.Choice.{pick}
+use Rattle.common.specs.Choice.{unequal}
 use Rattle.common.specs.Lists.{listOf}
+use Rattle.inner_code.specs.Encode.{coderAt}
 use Rattle.inner_code.specs.Step.{symbolsOf}
-use Rattle.inner_code.specs.declared.InnerCoder.{InnerCoder}
 use Rattle.soft_decision.specs.Cost.{softly}
 use Rattle.soft_decision.specs.declared.Received.{Received}
 
--- the coder at the start of a pattern, with the memory of the bits before
-abbrev pub coderAt : ℕ → ℕ → InnerCoder
-coderAt rate memory = record { rate = rate; memory = memory; place = 0; held = 0 }
-
--- 1 where two bits differ
-abbrev pub bitsDiffer : ℕ → ℕ → ℕ
-bitsDiffer a b = pick (eqb a b) 0 1
-
 -- in how many of I and Q a received symbol differs from one that is sent
 abbrev pub differing : ℕ → ℕ → ℕ
-differing received sent = bitsDiffer (received / 2) (sent / 2) + bitsDiffer (received % 2) (sent % 2)
+differing received sent = unequal (received / 2) (sent / 2) + unequal (received % 2) (sent % 2)
 
 -- the sum of what the symbols cost, where each received one says what each sent one would cost; the lists are of one length
 unfoldable pub totalCost : List (ℕ → ℕ) → List ℕ → ℕ

@@ -3,7 +3,7 @@
 use mathlib.Core.List.{List}
 use Prim.Native.Nat.{ℕ, zero, suc, _/_, _%_}
 use lib.ListN.{getD}
-use Rattle.run_reader.specs.Cost.{bitsDiffer}
+use Rattle.common.specs.Choice.{unequal}
 
 -- a symbol's I, or its Q
 abbrev pub component : ℕ → ℕ → ℕ
@@ -11,4 +11,4 @@ component zero s = s / 2
 component (suc i) s = s % 2
 
 unfoldable pub decisionCost : List ℕ → ℕ → ℕ
-decisionCost symbols t = bitsDiffer (component (t / 2 % 2) (getD symbols (t / 4) 0)) (t % 2)
+decisionCost symbols t = unequal (component (t / 2 % 2) (getD symbols (t / 4) 0)) (t % 2)

@@ -1,5 +1,6 @@
 -- What a call of the reader gives: its answer, by its tests in the order of document 02, and where it is 0 the best sequence of bits.
 -- Hard and soft decisions differ in the tests and in what a received symbol costs, and in nothing else.
+-- Clauses: document 02, P1 and P8.
 -- Assumes nothing.
 use mathlib.Core.Path.{_≡_}
 use mathlib.Core.Bool.{Bool, true, false}

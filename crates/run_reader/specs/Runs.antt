@@ -1,4 +1,5 @@
 -- A stream of symbols read run after run: each run with the memory that the one before gave.
+-- Clause: document 02, P1.
 -- Assumes nothing.
 use mathlib.Core.Path.{_≡_}
 use mathlib.Core.List.{List, [], _∷_, _++_}

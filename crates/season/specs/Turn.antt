@@ -1,4 +1,5 @@
 -- One turn of the program, and its whole input: what was read is what the season was fed with.
+-- Clause: document 02, P13.
 -- Assumes nothing.
 use mathlib.Core.Path.{_≡_}
 use mathlib.Core.Bool.{false}

@@ -1,4 +1,5 @@
 -- A season in progress: what it stands for, over all the bytes that came, whatever the pieces.
+-- Clause: document 02, P13.
 -- Assumes nothing.
 use mathlib.Core.Path.{_≡_}
 use mathlib.Core.List.{List, [], _∷_, _++_}

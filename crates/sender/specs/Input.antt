@@ -1,5 +1,6 @@
 -- What is sent for an input of the sending chain: the packet that it is, or a null packet where it is missing or is none.
 -- EN 300 421, 4.4.1: energy dispersal stays active where there is no input, or where it is no transport stream.
+-- Clause: document 02, P2.
 -- Assumes nothing.
 use mathlib.Core.Path.{_≡_}
 use mathlib.Core.Bool.{Bool, true}

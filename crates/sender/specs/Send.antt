@@ -1,4 +1,5 @@
 -- What one call of the sender gives: the answer's number, by its tests in the order of document 01, the symbols, the sender after it and the output.
+-- Clauses: document 02, P2 and P12.
 -- Assumes nothing.
 use mathlib.Core.Path.{_≡_}
 use mathlib.Core.Bool.{Bool, false}
@@ -12,7 +13,7 @@ use Rattle.randomizer.specs.Packet.{randomized}
 use Rattle.delay_branches.specs.Branch as branch
 use Rattle.delay_branches.specs.Block.{fresh, blockOut, branchesAfter}
 use Rattle.delay_branches.specs.declared.Side.the-variants.{Sending}
-use Rattle.puncturing.specs.Mode.{Mode, modeOf}
+use Rattle.puncturing.specs.Mode.{Mode}
 use Rattle.inner_code.specs.Step.{inRangeBy}
 use Rattle.inner_code.specs.Encode.{freshCoder, blockSymbolsBy, blockCoderBy, symbolCountBy}
 use Rattle.sender.specs.Input.{isInput, packetFor, sentNumber}

@@ -1,4 +1,5 @@
 -- Sending in progress: what feeding it with a piece gives. The bytes held and those of the piece are cut into packets of 188 bytes.
+-- Clause: document 02, P2.
 -- Assumes nothing.
 use mathlib.Core.Path.{_≡_}
 use mathlib.Core.Bool.{Bool, true, false}

@@ -9,7 +9,8 @@ use mir.Val.{boolByte}
 use lib.Dec.{T, eqb, eqb-refl}
 use lib.Ieee.{Float, nan, inf, fin, le, ne, isNan, ofBits, binary32, up, down}
 use lib.ListN.{length}
-use Rattle.soft_decision.specs.Level.{thresholds, indicator, atOrBelow, levelOf}
+use Rattle.common.specs.Choice.{indicator}
+use Rattle.soft_decision.specs.Level.{thresholds, atOrBelow, levelOf}
 use Rattle.soft_decision.specs.Cost.{numberCosts, symbolCosts, free, byLevel}
 use Rattle.soft_decision.specs.Steps.{costAt}
 use Rattle.soft_decision.specs.declared.BitCosts.{BitCosts}

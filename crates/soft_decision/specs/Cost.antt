@@ -1,4 +1,5 @@
 -- What a received symbol makes each decision cost.
+-- Clause: document 02, P8.
 -- Assumes nothing.
 use mathlib.Core.Bool.{cond}
 use mathlib.Core.List.{List, [], _∷_}

@@ -4,7 +4,8 @@ ghost use mathlib.Core.Path.{_≡_};
 ghost use Prim.Native.Nat.{ℕ, _+_, _*_, _<_, _≤_};
 ghost use lib.Ieee.{le};
 ghost use lib.ListN.{length, getD};
-ghost use Rattle.soft_decision.specs.Level.{indicator, levelOf};
+ghost use Rattle.common.specs.Choice.{indicator};
+ghost use Rattle.soft_decision.specs.Level.{levelOf};
 ghost use Rattle.soft_decision.specs.Cost.{numberCosts, symbolCosts};
 ghost use Rattle.soft_decision.specs.Steps.{symbolAt, costsAlong, putCosts};
 

@@ -3,7 +3,7 @@
 use mathlib.Core.Path.{_≡_, sym, ap, ap₂, subst, subst₂, _∙_}
 use mathlib.Core.List.{List, [], _++_, append-assoc, append-nil}
 use Prim.Native.Nat.{ℕ, _+_, _-_, _*_, _/_, _%_, _≤_, _<_}
-use native.Mathlib.Nat.{zero-add, mod-le}
+use native.Mathlib.Nat.{mod-le}
 use native.Mathlib.Decide.{ℕ-discrete}
 use native.Mathlib.Omega.{arith}
 use mathlib.Core.Bool.{true}
@@ -11,7 +11,7 @@ use borrow.Author.Tests.{ltb-true}
 use lib.Dec.{ltb}
 use lib.ListN.{length, take, drop, length-append, length-drop, take-append-drop, drop-of-length-le}
 use borrow.Rule.Slice.PartMut.{putMid, midOf}
-use lib.Seq.{take-all, drop-at, length-take-le, drop-append-add}
+use lib.Seq.{take-all, length-take-le, drop-append-add}
 use Rattle.common.proofs.Choice.{both-true}
 use Rattle.common.specs.Lists.{padded}
 use Rattle.common.proofs.Padded.{padded-full}
@@ -124,10 +124,6 @@ module _ (i : StreamReceiver) (size : length (i .pending) ≡ 204) (small : i .h
         ap (λ (j : ℕ). drop j came) k ∙ drop-append-add (heldBytes i) piece end
 
     module _ {m : ℕ} {middle : Receiver} {exit : List ℕ} (f : TakesRecording (i .receiver) (heldBytes i ++ take start piece) [] output m middle exit) where
-      pub first-count : m ≤ 188
-      unfolding first
-      first-count = omega (arith, takes-count f, length-first)
-
       pub first-length : length exit ≡ length output
       unfolding first
       first-length = takes-length f (omega (arith, length-first))

@@ -1,4 +1,5 @@
 -- A reception in progress: what feeding it with a piece does, and what it comes to over all the bytes that came, whatever the pieces.
+-- Clause: document 01, "Receiver".
 -- Assumes nothing.
 use mathlib.Core.Path.{_≡_}
 use mathlib.Core.Bool.{Bool, false}

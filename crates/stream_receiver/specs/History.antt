@@ -1,4 +1,5 @@
 -- Feeding after feeding, and what all the bytes come to, whatever pieces they came in.
+-- Clause: document 01, "Receiver".
 -- Assumes nothing.
 use mathlib.Core.Path.{_≡_}
 use mathlib.Core.List.{List, [], _∷_, _++_, flatten}

@@ -1,4 +1,5 @@
 -- The report of a pass: the numbers of a stream receiver as a report of form 2, and what writing it gives.
+-- Clauses: document 01, "Receiver"; document 02, P7.
 -- Assumes nothing.
 use mathlib.Core.Path.{_≡_}
 use mathlib.Core.List.{List, []}

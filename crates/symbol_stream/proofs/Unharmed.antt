@@ -14,11 +14,12 @@ use Rattle.convolutional_code.specs.Code.{memoryAfter}
 use Rattle.puncturing.specs.Step.{patternLength, symbolsIn}
 use Rattle.inner_code.specs.Step.{symbolsOf}
 use Rattle.inner_code.proofs.Coder.{length-symbols}
+use Rattle.inner_code.specs.Encode.{coderAt}
 use Rattle.trellis.specs.Best.{Decoded}
 use Rattle.soft_decision.specs.Cost.{softly, receivedOf}
 use Rattle.soft_decision.specs.declared.Received.{Received}
 use Rattle.run_reader.specs.Clear.{AllClear}
-use Rattle.run_reader.specs.Cost.{coderAt, differing, runCost, Costed}
+use Rattle.run_reader.specs.Cost.{differing, runCost, Costed}
 use Rattle.run_reader.specs.Read.{symbolsPerPattern, runBits, runLength}
 use Rattle.run_reader.proofs.Patterns.{at-start, some-symbols, memory-in-range, run-whole}
 use Rattle.run_reader.proofs.Costs.{sent-small}

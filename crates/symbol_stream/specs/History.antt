@@ -1,4 +1,5 @@
 -- Feeding after feeding, and what all the symbols come to, whatever pieces they came in.
+-- Clause: document 02, P1.
 -- Assumes nothing.
 use mathlib.Core.Path.{_≡_}
 use mathlib.Core.List.{List, [], _++_, map}

@@ -1,5 +1,6 @@
 -- A stream of received symbols read in runs that overlap: of each longest run all bits are kept but those of its last patterns, a hundred bits or so,
 -- and the next run begins behind the kept ones, with the memory that they leave.
+-- Clause: document 02, P1.
 -- Assumes nothing.
 use mathlib.Core.Path.{_≡_}
 use mathlib.Core.List.{List, [], _++_, map}

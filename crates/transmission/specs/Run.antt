@@ -1,4 +1,5 @@
 -- What a fresh sender gives for a whole list of packets that lie one after the other in a buffer.
+-- Clauses: document 01, "Answer numbers"; document 02, P2 and P12.
 -- Assumes nothing.
 use mathlib.Core.Path.{_≡_}
 use mathlib.Core.Bool.{Bool, true, false}

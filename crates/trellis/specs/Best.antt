@@ -1,4 +1,5 @@
 -- The best bit sequence of a run, by any costs.
+-- Clause: document 02, P1.
 -- Assumes nothing.
 use mathlib.Core.Path.{_≡_}
 use mathlib.Core.Logic.{_≢_}

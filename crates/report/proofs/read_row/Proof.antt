@@ -5,7 +5,7 @@ use mathlib.Core.List.{List}
 use Prim.Native.Nat.{ℕ}
 use native.Mathlib.Omega.{arith}
 use Rattle.report_lines.specs.Reading.{LineIs}
-use Rattle.report.proofs.Table.{table, limits}
+use Rattle.report.proofs.Table.{table}
 use borrow.Author.Needs.{needs}
 use Rattle.report.proofs.read_row.Statement.{statement}
 use Rattle.report.proofs.read_row.Tie as tie

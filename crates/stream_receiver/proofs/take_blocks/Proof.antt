@@ -4,7 +4,7 @@ use mathlib.Core.Path.{_≡_}
 use lib.ListN.{length}
 use mathlib.Core.Path.{refl, sym, _∙_}
 use native.Mathlib.Omega.{arith}
-use Rattle.stream_receiver.proofs.Pieces.{start-within, filler-length, first-length, first-within, rest-fits, count-within, take-pieces}
+use Rattle.stream_receiver.proofs.Pieces.{start-within, filler-length, first-within, rest-fits, count-within, take-pieces}
 use borrow.Author.Needs.{needs}
 use Rattle.stream_receiver.proofs.take_blocks.Statement.{statement}
 use Rattle.stream_receiver.proofs.take_blocks.Tie as tie

@@ -4,7 +4,7 @@ use mathlib.Core.Path.{_≡_, refl, _∙_}
 use Prim.Native.Nat.{_<_, _≤_}
 use native.Mathlib.Omega.{arith}
 use lib.ListN.{length, length-set}
-use Rattle.viterbi_decoder.specs.Lanes.{lane, decision, table}
+use Rattle.viterbi_decoder.specs.Lanes.{lane, table}
 use mathlib.Core.List.{reverse}
 use Rattle.trellis.specs.Metric.{path}
 use Rattle.viterbi_decoder.proofs.Sweeps.{Whole, trace-none, trace-all, trace-lane, decision-lt}

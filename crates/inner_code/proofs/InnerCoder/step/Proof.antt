@@ -10,7 +10,7 @@ use Rattle.puncturing.specs.Mode.{modeOf}
 use Rattle.puncturing.specs.Run.{punctureStep}
 use Rattle.puncturing.proofs.Steps.{held-le}
 use Rattle.inner_code.specs.Step.{coderInRange}
-use Rattle.inner_code.specs.Encode.{bitValue}
+use Rattle.common.specs.Choice.{indicator}
 use Rattle.inner_code.proofs.Coder.{in-range, rate-known}
 use borrow.Author.Needs.{needs}
 use Rattle.inner_code.proofs.InnerCoder.step.Statement.{statement}
@@ -36,7 +36,7 @@ returns-2 c = simp (good (c .before .before), sym (c .before .is-sent .ensures) 
 sent : (c : tie.Else2) → modeOf (c .before .before .before .before .args .self .rate) .sent ≡ true
 sent c = sym (c .before .is-sent .ensures) ∙ not-false _ (c .if2 .left)
 
-bit-small : (b : Bool) → bitValue b < 2
+bit-small : (b : Bool) → indicator b < 2
 bit-small true = omega arith
 bit-small false = omega arith
 

@@ -1,7 +1,6 @@
 -- `stream_receiver::StreamReceiver::new` meets its contract.
 -- Assumes nothing.
 use mathlib.Core.Path.{ap}
-use Prim.Native.Nat.{ℕ}
 use lib.ListN.{replicate}
 use Rattle.receiver.specs.declared.Receiver.{Receiver}
 use Rattle.stream_receiver.specs.declared.StreamReceiver.{StreamReceiver}

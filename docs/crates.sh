@@ -1,0 +1,28 @@
+#!/bin/bash
+# Draws crates.txt: the crates, and which stands on which.
+#   bash docs/crates.sh > docs/crates.svg      from the top of the repository
+# The tests draw it anew and compare: after a change of crates.txt it is drawn again.
+set -euo pipefail
+
+# What README.md builds, with all below it; any other code is of the tests and the benchmark.
+built=$(sed -n 's/&&.*//; s/^    rt \(check\|staticlib\) //p' README.md)
+below=$(for name in $built; do grep "^$name:" crates.txt; done | tr -d ':')
+
+# kind NAME: by what the files of the crate say.
+kind() {
+    if ! grep -q 'fn ' "crates/$1"/src/*.rt; then
+        echo theory
+    elif [[ " ${below//$'\n'/ } " != *" $1 "* ]]; then
+        echo test
+    elif [ -f "crates/$1/src/main.rt" ]; then
+        echo program
+    elif grep -q '^// Inner' "crates/$1/src/lib.rt"; then
+        echo inner
+    else
+        echo public
+    fi
+}
+
+grep -v '^#' crates.txt | while IFS=: read -r name libraries; do
+    echo "$name $(kind "$name") $libraries"
+done | awk -f docs/crates.awk
