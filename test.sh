@@ -1,6 +1,6 @@
 #!/bin/bash
 # The tests: that nothing is unused, and that the docs are in step; the Rattle gate; then what stands beside the crates: the exported functions
-# against the second coder and decoder of reference/, the programs on inputs in pieces, on pass reports and with marks, the commands of README.md,
+# against the second coder and decoder of reference/, the programs on inputs in pieces, on pass reports and with marks, the commands of README.md and docs/PROGRAMS.md,
 # and the usage lines of the programs.
 # The gate's line `N passed, 0 failed` comes last, and only where all of it passed.
 set -euo pipefail
@@ -65,10 +65,10 @@ bash tests/pieces.sh
 bash tests/reports.sh
 bash tests/marks.sh
 
-# The commands of README.md that use what was built, as they stand there.
-sed -n '/^## The programs/,/^## Reading/s/^    //p' README.md > "$work/commands"
-bash -eu -o pipefail "$work/commands" 2>&1 | diff examples/expected.txt - || fail "the commands of README.md"
-echo "the commands of README.md: as expected"
+# The commands of README.md that use what was built, and those of docs/PROGRAMS.md, as they stand there.
+{ sed -n '/^## Try it/,/^## Reading/s/^    //p' README.md; sed -n 's/^    //p' docs/PROGRAMS.md; } > "$work/commands"
+bash -eu -o pipefail "$work/commands" 2>&1 | diff examples/expected.txt - || fail "the commands of README.md and docs/PROGRAMS.md"
+echo "the commands of README.md and docs/PROGRAMS.md: as expected"
 
 # The firmware loop as C++: the same packets and counts as in C, of a stream with bytes behind its last block.
 quietly c++ -std=c++11 -Wall -Wextra -Werror -Iinclude -x c++ examples/bridge_pass.c -x none -Ltarget/staticlib -lbridge -o "$work/bridge_pass"
