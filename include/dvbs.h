@@ -66,21 +66,24 @@ uint8_t dvbs_rs_decode(uint8_t *block, size_t block_len,
  * in e bytes that are not marked, 2 e + f at most 16, is left, if there is one:
  * there is at most one. Marks that turn out wrong cost as much as right ones, and
  * more than sixteen are always 8, also for a block that is clean: mark fewer, or
- * none. The counts are those of bytes and bits that differ, marked or not. With
- * no mark this is dvbs_rs_decode. 3, then 20, then 4, then 8 or 0. */
+ * none. Each mark uses up a check byte: with sixteen a block is always accepted,
+ * and an error in a byte that is not marked goes unseen. The counts are those of
+ * bytes and bits that differ, marked or not. With no mark this is dvbs_rs_decode.
+ * 3, then 20, then 4, then 8 or 0. */
 uint8_t dvbs_rs_decode_marked(uint8_t *block, size_t block_len,
                               const uint8_t *marks, size_t marks_len,
                               uint8_t *count, size_t count_len);
 
 /* What a fresh sender sends for the packets, which lie one after the other;
  * modes 0 to 3 are QPSK 1/2, 2/3, 3/4, 5/6, and 5 is 16QAM 3/4 of EN 301 210;
- * QPSK 7/8, rate 4, is read and no longer sent. Returns how many symbols were written, one byte each: 2 I + Q, and at
- * 16QAM 8 U2 + 4 U1 + 2 C2 + C1; answer[0] is the answer. A packet gives at most
- * 1,632 symbols, and at 16QAM 544. In place of 188 bytes that do not begin with 47 hex a null
- * packet is sent (47 1F FF 10 and 184 bytes FF), and the answer is 15 where at
- * least one was, else 0: a caller that has nothing to send lends 188 zeros.
- * Lengths are tested before anything is sent. Where no byte is lent for the
- * answer: returns 0, writes nothing. */
+ * QPSK 7/8, rate 4, is read and no longer sent. Returns how many symbols were
+ * written, one byte each: 2 I + Q, and at 16QAM 8 U2 + 4 U1 + 2 C2 + C1;
+ * answer[0] is the answer. A packet gives at most 1,632 symbols, and at 16QAM
+ * 544. In place of 188 bytes that do not begin with 47 hex a null packet is sent
+ * (47 1F FF 10 and 184 bytes FF), and the answer is 15 where at least one was,
+ * else 0: a caller that has nothing to send lends 188 zeros. Lengths are tested
+ * before anything is sent. Where no byte is lent for the answer: returns 0,
+ * writes nothing. */
 uint64_t dvbs_send_run(uint8_t mode, const uint8_t *packets, size_t packets_len,
                        uint8_t *output, size_t output_len,
                        uint8_t *answer, size_t answer_len);

@@ -65,11 +65,12 @@ pub fn decided(point: Point) -> u8 {
     2 * u8::from(point.0 < 0.0) + u8::from(point.1 < 0.0)
 }
 
-/// Of every `period` symbols the last `length` are a burst: noise alone.
+/// Of every `period` symbols the last `length` are a burst: noise alone, or an outage, where they are lost.
 #[derive(Clone, Copy)]
 pub struct Bursts {
     pub period: u64,
     pub length: u64,
+    pub lost: bool,
 }
 
 pub struct Channel {
@@ -107,7 +108,10 @@ impl Channel {
         if self.lost > 0.0 && self.uniform() < self.lost {
             return LOST;
         }
-        if self.bursts.map_or(false, |b| at % b.period >= b.period - b.length) {
+        if let Some(burst) = self.bursts.filter(|b| at % b.period >= b.period - b.length) {
+            if burst.lost {
+                return LOST;
+            }
             let power = (1.0 + self.sigma * self.sigma).sqrt();
             return ((power * a) as f32, (power * b) as f32);
         }
@@ -153,7 +157,7 @@ mod tests {
 
     #[test]
     fn losses_and_bursts() {
-        let mut channel = Channel::new(3, 0.0, 0.25, Some(Bursts { period: 10, length: 2 }));
+        let mut channel = Channel::new(3, 0.0, 0.25, Some(Bursts { period: 10, length: 2, lost: false }));
         let points: Vec<Point> = (0..100_000).map(|_| channel.receive(3)).collect();
         let lost = points.iter().filter(|p| p.0.is_nan() && p.1.is_nan()).count();
         assert!((lost as f64 / 100_000.0 - 0.25).abs() < 0.01, "{lost}");
@@ -161,6 +165,15 @@ mod tests {
             assert!(at % 10 >= 8 || point.0.is_nan() || *point == (-1.0, -1.0));
         }
         assert!((0..100_000).any(|at| at % 10 >= 8 && points[at].0 > 0.0));
+    }
+
+    #[test]
+    fn outages() {
+        let mut channel = Channel::new(5, 0.2, 0.0, Some(Bursts { period: 10, length: 3, lost: true }));
+        for at in 0..1000 {
+            let (i, q) = channel.receive(2);
+            assert!(i.is_nan() == (at % 10 >= 7) && q.is_nan() == i.is_nan());
+        }
     }
 
     #[test]

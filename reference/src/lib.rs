@@ -10,6 +10,7 @@ pub mod answer;
 pub mod bridge;
 pub mod channel;
 pub mod exports;
+pub mod erasures;
 pub mod inner_code;
 pub mod inner_decoder;
 pub mod interleaver;

@@ -2,16 +2,16 @@
 //! received for them on standard output, complex floats as GNU Radio's files have
 //! them. `src/channel.rs` says what Eb/N0 means here.
 //!
-//!   channel RATE EBN0 SEED [lost=P] [burst=LENGTH/PERIOD] < symbols > points
+//!   channel RATE EBN0 SEED [lost=P] [burst=LENGTH/PERIOD | outage=LENGTH/PERIOD] < symbols > points
 //!
 //! EBN0 is in dB, and inf is no noise. P is the probability that a symbol is lost: both of its numbers are
-//! NaN. Of every PERIOD symbols the last LENGTH are noise alone.
+//! NaN. Of every PERIOD symbols the last LENGTH are noise alone, or lost in an outage.
 
 use reference::channel::{sigma, to_bytes, Bursts, Channel};
 use std::io::{BufReader, BufWriter, Read, Write};
 
 fn usage() -> ! {
-    eprintln!("usage: channel RATE EBN0 SEED [lost=P] [burst=LENGTH/PERIOD] < symbols > points, RATE 0 to 4, EBN0 in dB or inf");
+    eprintln!("usage: channel RATE EBN0 SEED [lost=P] [burst=LENGTH/PERIOD | outage=LENGTH/PERIOD] < symbols > points, RATE 0 to 4, EBN0 in dB or inf");
     std::process::exit(2)
 }
 
@@ -29,9 +29,9 @@ fn main() -> std::io::Result<()> {
     for word in words {
         match word.split_once('=') {
             Some(("lost", p)) => lost = number(Some(p)),
-            Some(("burst", b)) => {
+            Some((kind @ ("burst" | "outage"), b)) if bursts.is_none() => {
                 let (length, period) = b.split_once('/').unwrap_or_else(|| usage());
-                bursts = Some(Bursts { length: number(Some(length)), period: number(Some(period)) });
+                bursts = Some(Bursts { length: number(Some(length)), period: number(Some(period)), lost: kind == "outage" });
             }
             _ => usage(),
         }
