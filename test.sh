@@ -53,13 +53,21 @@ export CARGO_HOME=$PWD/target/cargo-home CARGO_TARGET_DIR=$PWD/target/cargo
 in_reference=(--release --offline --manifest-path reference/Cargo.toml)
 quietly rt staticlib exports
 quietly rt staticlib bridge
-quietly cargo build "${in_reference[@]}"
 quietly cargo test "${in_reference[@]}"
-EXPORTS_DIR=$PWD/target/staticlib cargo run --quiet "${in_reference[@]}" --bin compare
-EXPORTS_DIR=$PWD/target/staticlib cargo run --quiet "${in_reference[@]}" --bin compare_bridge
-cargo run --quiet "${in_reference[@]}" --bin compare_calls target/bin/send_calls
-cargo run --quiet "${in_reference[@]}" --bin compare_reports target/bin/report_calls
-cargo run --quiet "${in_reference[@]}" --bin compare_seasons target/bin/season target/bin/report_calls
+# The comparisons of the library with the reference, the longest beside the others.
+export EXPORTS_DIR=$PWD/target/staticlib
+quietly cargo build "${in_reference[@]}"
+compared=target/cargo/release
+{
+    "$compared/compare_bridge"
+    "$compared/compare_calls" target/bin/send_calls
+    "$compared/compare_reports" target/bin/report_calls
+    "$compared/compare_seasons" target/bin/season target/bin/report_calls
+} > "$work/others" 2>&1 &
+others=$!
+"$compared/compare"
+wait "$others" || { cat "$work/others"; fail "the comparisons with the reference"; }
+cat "$work/others"
 
 bash tests/pieces.sh
 bash tests/reports.sh
