@@ -140,8 +140,9 @@ pub mod expected {
         if state.len() != STATE_LENGTH {
             return Answer::StateLength.number();
         }
-        let Some((mut receiver, mut positions)) = read(state) else {
-            return Answer::StateRange.number();
+        let (mut receiver, mut positions) = match read(state) {
+            Some(stands_for) => stands_for,
+            None => return Answer::StateRange.number(),
         };
         let before = receiver.counts.taken;
         let answer = receiver.receive_marked(block, marks, output);
@@ -162,8 +163,9 @@ pub mod expected {
         if number > 7 {
             return Answer::NoSuchCount.number();
         }
-        let Some((receiver, _)) = read(state) else {
-            return Answer::StateRange.number();
+        let receiver = match read(state) {
+            Some((receiver, _)) => receiver,
+            None => return Answer::StateRange.number(),
         };
         if output.len() < 8 {
             return Answer::ShortOutput.number();

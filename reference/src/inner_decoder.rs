@@ -90,8 +90,7 @@ fn by_viterbi(rate: u8, memory: u8, received: &[BitCosts], count: usize) -> Run 
         let x = if keep_x { *received.next().expect("X was received") } else { [0, 0] };
         let y = if keep_y { *received.next().expect("Y was received") } else { [0, 0] };
         let mut next: Vec<Option<Path>> = vec![None; 64];
-        for (from, path) in paths.iter().enumerate() {
-            let Some(path) = path else { continue };
+        for (from, path) in paths.iter().enumerate().filter_map(|(from, path)| Some((from, path.as_ref()?))) {
             for bit in 0..2u8 {
                 let mut coder = InnerCoder::after(rate, from as u8);
                 let (sent_x, sent_y) = coder.mother(bit);

@@ -419,10 +419,10 @@ fn picture(errors: &[[Curve; 2]], losses: &[[Curve; 2]], outages: &[[Curve; 2]],
 }
 
 fn main() -> std::io::Result<()> {
-    let Some(path) = std::env::args().nth(1) else {
+    let path = std::env::args().nth(1).unwrap_or_else(|| {
         eprintln!("usage: ber PICTURE > table");
         std::process::exit(2)
-    };
+    });
     let (mut errors, mut losses, mut never_sent) = (Vec::new(), Vec::new(), 0);
     println!("rate  Eb/N0  |      bits    hard BER    soft BER | packets  lost, hard  lost, soft");
     for rate in 0..5u8 {

@@ -38,7 +38,7 @@ mod guarded {
             unsafe {
                 let all = mmap(std::ptr::null_mut(), 3 * PAGE, NONE, PRIVATE_ANONYMOUS, -1, 0);
                 assert_ne!(all as isize, -1, "mmap");
-                let middle = mmap(all.byte_add(PAGE), PAGE, READ_WRITE, PRIVATE_ANONYMOUS | FIXED, -1, 0);
+                let middle = mmap((all as *mut u8).add(PAGE) as *mut _, PAGE, READ_WRITE, PRIVATE_ANONYMOUS | FIXED, -1, 0);
                 assert_ne!(middle as isize, -1, "mmap");
                 Page(middle as *mut u8)
             }
@@ -72,13 +72,13 @@ struct Score {
 
 impl Score {
     fn kind(&mut self, kind: &'static str, cases: u64, mut run: impl FnMut(&mut Score, &mut Xorshift, u64)) {
-        if self.only_kind.as_deref().is_some_and(|only| only != kind) {
+        if self.only_kind.as_deref().map_or(false, |only| only != kind) {
             return;
         }
         (self.kind, self.passed, self.failed) = (kind, 0, 0);
         let name = kind.bytes().fold(0x300_421_u64, |sum, b| sum.wrapping_mul(257) ^ b as u64);
         for case in 0..cases {
-            if self.only_case.is_some_and(|only| only != case) {
+            if self.only_case.map_or(false, |only| only != case) {
                 continue;
             }
             self.case = case;

@@ -11,7 +11,7 @@
 
 use reference::xorshift::Xorshift;
 use std::io::{Read, Write};
-use std::os::fd::{FromRawFd, OwnedFd};
+use std::os::unix::io::{FromRawFd, OwnedFd};
 use std::process::{Command, ExitCode, Output, Stdio};
 
 /// Lengths at which the programs' buffers and their units end.
@@ -95,9 +95,12 @@ fn run(words: &[String], input: &[u8], pieces: Option<&[usize]>) -> Output {
 fn main() -> ExitCode {
     let words: Vec<String> = std::env::args().skip(1).collect();
     let numbers: Vec<usize> = words.iter().take(2).filter_map(|w| w.parse().ok()).collect();
-    let (&[count, longest], [_, _, program @ ..]) = (&numbers[..], &words[..]) else {
-        eprintln!("usage: pieces CUTTINGS LONGEST PROGRAM WORD.. < input > output");
-        return ExitCode::from(2);
+    let (count, longest, program) = match (&numbers[..], &words[..]) {
+        (&[count, longest], [_, _, program @ ..]) => (count, longest, program),
+        _ => {
+            eprintln!("usage: pieces CUTTINGS LONGEST PROGRAM WORD.. < input > output");
+            return ExitCode::from(2);
+        }
     };
     let mut input = Vec::new();
     std::io::stdin().read_to_end(&mut input).expect("an input");
