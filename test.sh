@@ -53,25 +53,22 @@ export CARGO_HOME=$PWD/target/cargo-home CARGO_TARGET_DIR=$PWD/target/cargo
 in_reference=(--release --offline --manifest-path reference/Cargo.toml)
 quietly rt staticlib exports
 quietly rt staticlib bridge
-quietly cargo test "${in_reference[@]}"
-# The comparisons of the library with the reference, the longest beside the others.
+quietly cargo test "${in_reference[@]}" --lib --test programs --test vectors
+# The comparison of the library with the reference is the longest of what is left, and goes on beside the others.
 export EXPORTS_DIR=$PWD/target/staticlib
 quietly cargo build "${in_reference[@]}"
 compared=target/cargo/release
-{
-    "$compared/compare_bridge"
-    "$compared/compare_calls" target/bin/send_calls
-    "$compared/compare_reports" target/bin/report_calls
-    "$compared/compare_seasons" target/bin/season target/bin/report_calls
-} > "$work/others" 2>&1 &
-others=$!
-"$compared/compare"
-wait "$others" || { cat "$work/others"; fail "the comparisons with the reference"; }
-cat "$work/others"
-
+"$compared/compare" > "$work/compared" 2>&1 &
+comparison=$!
+"$compared/compare_bridge"
+"$compared/compare_calls" target/bin/send_calls
+"$compared/compare_reports" target/bin/report_calls
+"$compared/compare_seasons" target/bin/season target/bin/report_calls
 bash tests/pieces.sh
 bash tests/reports.sh
 bash tests/marks.sh
+wait "$comparison" || { cat "$work/compared"; fail "the comparison with the reference"; }
+cat "$work/compared"
 
 # The commands of README.md that use what was built, and those of docs/PROGRAMS.md, as they stand there.
 { sed -n '/^## Try it/,/^## Reading/s/^    //p' README.md; sed -n 's/^    //p' docs/PROGRAMS.md; } > "$work/commands"
