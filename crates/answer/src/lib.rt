@@ -11,7 +11,7 @@ pub enum Answer {
     SyncByte,
     // A block is not 204 bytes.
     BlockLength,
-    // The output lent is shorter than the answer needs.
+    // The output lent, document 01's room, is shorter than what is to be written.
     OutputLength,
     // A number in the state lies outside its range.
     StateRange,

@@ -8,9 +8,9 @@ pub enum Place {
     Known(u8),
 }
 
-// What the outer decoder made of a block.
+// What the outer decoder, which document 01 calls the repair, made of a block.
 pub enum BlockDecoding {
-    // No codeword is within eight bytes.
+    // No codeword is near enough.
     Lost,
     // A codeword, with this first byte.
     Accepted(u8),
@@ -22,7 +22,7 @@ pub enum Outcome {
     Filling,
     // A packet, at this place of its group.
     Delivered(u8),
-    // No codeword is within eight bytes.
+    // No codeword is near enough.
     Lost,
     // A codeword, while no group start was seen.
     Waiting,

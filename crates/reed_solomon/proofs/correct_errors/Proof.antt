@@ -1,4 +1,4 @@
--- `reed_solomon::decoding` meets its contract: each step gives what the theorems of the decoder ask of it.
+-- `reed_solomon::correct_errors` meets its contract: each step gives what the theorems of the decoder ask of it.
 -- Assumes nothing.
 use mathlib.Core.Path.{sym, _∙_, subst}
 use mathlib.Core.List.{List}
