@@ -82,7 +82,7 @@ printf 'packet=0 answer=15\npacket=281 answer=15\nrest=57\n' > told
 for rate in 0 1 2 3 5; do
     "$bin/dvbs_send" $rate < put_in > symbols 2> err
     [ -s symbols ] && [ ! -s err ] || fail "dvbs_send $rate on packets"
-    "$reference/pieces" 60 47940 "$bin/dvbs_send" $rate < mixed > out 2> err || fail "dvbs_send $rate in pieces"
+    "$reference/pieces" 60 12032 "$bin/dvbs_send" $rate < mixed > out 2> err || fail "dvbs_send $rate in pieces"
     cmp out symbols || fail "dvbs_send $rate in pieces: symbols"
     diff told err || fail "dvbs_send $rate in pieces: standard error"
 done

@@ -16,7 +16,7 @@ use Rattle.dvbs_send.specs.Turn.{Turns}
 
 pub turns : (w : Sending) (before buffer symbols answers : List ℕ) {piece : Piece} {number count packets : ℕ} {next : Sending} {left told : List ℕ}
     → length (w .sender .interleaver .branches .cells) ≡ 1122 → length (w .sender .interleaver .branches .positions) ≡ 12 → canSend w ≡ true
-    → length buffer ≡ 47940 → length symbols ≡ 416160 → length answers ≡ 255 → ReadsPiece (length before) before buffer piece
+    → length buffer ≡ 12032 → length symbols ≡ 104448 → length answers ≡ 64 → ReadsPiece (length before) before buffer piece
     → FeedsSending w (take (piece .length) buffer) symbols answers number count packets next left told
     → Turns w before buffer symbols answers (record { piece = piece; count = count; packets = packets; sending = next }) left told
 turns w before buffer symbols answers {piece} {number} {count} {packets} {next} {left} {told} cells positions range b r a e f =

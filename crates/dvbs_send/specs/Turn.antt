@@ -10,12 +10,12 @@ use Rattle.sending.specs.Sending.{canSend, FeedsAll}
 use Rattle.sending.specs.declared.Sending.{Sending}
 use Rattle.dvbs_send.specs.declared.Turn.{Turn}
 
--- Room for the packets that a piece of 47,940 bytes can make whole, which are at most 255.
+-- Room for the packets that a piece of 12,032 bytes can make whole, which are at most 64.
 pub record Buffers (w : Sending) (buffer symbols answers : List ℕ) : Type 0 where
   pub range : canSend w ≡ true
-  pub piece : length buffer ≡ 47940
-  pub output : length symbols ≡ 416160
-  pub numbers : length answers ≡ 255
+  pub piece : length buffer ≡ 12032
+  pub output : length symbols ≡ 104448
+  pub numbers : length answers ≡ 64
 
 -- The buffer before and after the read, and the symbols and the answers before and after the feeding. Where the read failed, no byte is fed.
 pub record Turns (w : Sending) (before buffer symbols answers : List ℕ) (r : Turn) (left told : List ℕ) : Type 0 where

@@ -112,13 +112,13 @@ fn send_all(sending: Sending, buffer: &mut [u8], symbols: &mut [u8], answers: &m
     }
 }
 
-// The buffers are for a piece of 255 packets, for the symbols that they give at most, and for an answer for each.
+// The buffers are for a piece of 64 packets, for the symbols that they give at most, and for an answer for each.
 fn send(sending: Sending)
     requires { ⌜ canSend sending ≡ true ⌝ }
 {
-    let mut buffer = [0u8; 47940];
-    let mut symbols = [0u8; 416160];
-    let mut answers = [0u8; 255];
+    let mut buffer = [0u8; 12032];
+    let mut symbols = [0u8; 104448];
+    let mut answers = [0u8; 64];
     send_all(sending, &mut buffer, &mut symbols, &mut answers);
 }
 

@@ -18,9 +18,9 @@ slice-aggregate-send-all-3 c = search needs
 send-all-requires : tie.Need-send-all-requires
 send-all-requires c κs = record {
   range = c .before .before .before .pre;
-  piece = length-replicate {A = ℕ} 47940 0;
-  output = length-replicate {A = ℕ} 416160 0;
-  numbers = length-replicate {A = ℕ} 255 0;
+  piece = length-replicate {A = ℕ} 12032 0;
+  output = length-replicate {A = ℕ} 104448 0;
+  numbers = length-replicate {A = ℕ} 64 0;
 }
 
 returns : tie.Need-returns

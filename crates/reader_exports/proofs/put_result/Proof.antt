@@ -1,4 +1,4 @@
--- `exports::put_result` meets its contract.
+-- `reader_exports::put_result` meets its contract.
 -- Assumes nothing.
 use mathlib.Core.Path.{_≡_, refl, _∙_}
 use mathlib.Core.List.{List, [], _∷_}
@@ -6,8 +6,8 @@ use Prim.Native.Nat.{ℕ, _≤_}
 use native.Mathlib.Omega.{arith}
 use lib.ListN.{length, set, drop, length-set}
 use borrow.Author.Needs.{needs}
-use Rattle.exports.proofs.put_result.Statement.{statement}
-use Rattle.exports.proofs.put_result.Tie as tie
+use Rattle.reader_exports.proofs.put_result.Statement.{statement}
+use Rattle.reader_exports.proofs.put_result.Tie as tie
 
 slice-write-result : tie.Need-slice-write-result
 slice-write-result c = search needs
