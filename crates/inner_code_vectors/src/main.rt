@@ -127,6 +127,45 @@ fn print_steps(name: &[u8], mode: u8) {
     io::write_all(STDOUT_FILENO, b"\n");
 }
 
+// Which modes there are, and which are sent.
+fn mode_answers(bytes: &[u8]) {
+    answer_new(b"fresh coder at rate 3: ", 3);
+    answer_new(b"fresh coder at rate 4: ", 4);
+    answer_new(b"fresh coder of mode 5: ", 5);
+    answer_new(b"fresh coder of mode 6: ", 6);
+    answer_block(b"coder of mode 6: ", 6, bytes, 204);
+}
+
+// The length of a block.
+fn block_answers(bytes: &[u8]) {
+    answer_block(b"block of 203 bytes: ", 0, bytes, 203);
+    answer_block(b"block of 204 bytes: ", 0, bytes, 204);
+    answer_block(b"block of 205 bytes: ", 0, bytes, 205);
+}
+
+// How many symbols a block gives from a place of the pattern: an output of one less is refused.
+fn output_answers(output: &mut [u8]) {
+    answer_output(b"rate 3, place 0, room of 978: ", 3, 0, output, 978);
+    answer_output(b"rate 3, place 0, room of 979: ", 3, 0, output, 979);
+    answer_output(b"rate 3, place 4, room of 979: ", 3, 4, output, 979);
+    answer_output(b"rate 3, place 4, room of 980: ", 3, 4, output, 980);
+}
+
+// A rate that is not sent: its answer comes before those to an output and a block, and behind that to a coder out of range.
+fn unsent_answers(bytes: &[u8], output: &mut [u8]) {
+    answer_output(b"rate 4, place 0, room of 933: ", 4, 0, output, 933);
+    answer_output(b"rate 4, place 0, no room: ", 4, 0, output, 0);
+    answer_output(b"rate 4, place 7, room of 933: ", 4, 7, output, 933);
+    answer_block(b"rate 4, block of 203 bytes: ", 4, bytes, 203);
+}
+
+// The same at 16QAM, whose pattern has one place.
+fn qam_output_answers(output: &mut [u8]) {
+    answer_output(b"mode 5, place 0, room of 543: ", 5, 0, output, 543);
+    answer_output(b"mode 5, place 0, room of 544: ", 5, 0, output, 544);
+    answer_output(b"mode 5, place 1, room of 544: ", 5, 1, output, 544);
+}
+
 fn main() {
     compare(0, b"symbols_rate0.bin");
     compare(1, b"symbols_rate1.bin");
@@ -134,25 +173,11 @@ fn main() {
     compare(3, b"symbols_rate3.bin");
     let bytes = [0u8; 205];
     let mut output = [0u8; 980];
-    answer_new(b"fresh coder at rate 3: ", 3);
-    answer_new(b"fresh coder at rate 4: ", 4);
-    answer_new(b"fresh coder of mode 5: ", 5);
-    answer_new(b"fresh coder of mode 6: ", 6);
-    answer_block(b"coder of mode 6: ", 6, &bytes, 204);
-    answer_block(b"block of 203 bytes: ", 0, &bytes, 203);
-    answer_block(b"block of 204 bytes: ", 0, &bytes, 204);
-    answer_block(b"block of 205 bytes: ", 0, &bytes, 205);
-    answer_output(b"rate 3, place 0, room of 978: ", 3, 0, &mut output, 978);
-    answer_output(b"rate 3, place 0, room of 979: ", 3, 0, &mut output, 979);
-    answer_output(b"rate 3, place 4, room of 979: ", 3, 4, &mut output, 979);
-    answer_output(b"rate 3, place 4, room of 980: ", 3, 4, &mut output, 980);
-    answer_output(b"rate 4, place 0, room of 933: ", 4, 0, &mut output, 933);
-    answer_output(b"rate 4, place 0, no room: ", 4, 0, &mut output, 0);
-    answer_output(b"rate 4, place 7, room of 933: ", 4, 7, &mut output, 933);
-    answer_block(b"rate 4, block of 203 bytes: ", 4, &bytes, 203);
-    answer_output(b"mode 5, place 0, room of 543: ", 5, 0, &mut output, 543);
-    answer_output(b"mode 5, place 0, room of 544: ", 5, 0, &mut output, 544);
-    answer_output(b"mode 5, place 1, room of 544: ", 5, 1, &mut output, 544);
+    mode_answers(&bytes);
+    block_answers(&bytes);
+    output_answers(&mut output);
+    unsent_answers(&bytes, &mut output);
+    qam_output_answers(&mut output);
     print_steps(b"80 hex bit by bit, rate 2:", 2);
     print_steps(b"80 hex bit by bit, rate 4:", 4);
     print_steps(b"80 hex bit by bit, mode 5:", 5);

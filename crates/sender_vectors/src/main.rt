@@ -136,63 +136,76 @@ fn run_part(name: &[u8], rate: u8, bytes: &[u8], length: usize, output_length: u
     answer_run(name, rate, &bytes[..length], &mut output[..output_length]);
 }
 
+// What a packet must be, with an output that is long enough and with one that is not.
+fn packet_answers(packets: &[u8]) {
+    send_part(b"packet that begins 00: ", 0, packets, 188, 1632);
+    send_part(b"the same, room of 1631: ", 0, packets, 188, 1631);
+    send_part(b"no bytes: ", 0, packets, 0, 1632);
+    send_part(b"no bytes, room of 1631: ", 0, packets, 0, 1631);
+    send_part(b"one byte: ", 0, packets, 1, 1632);
+}
+
+// Which modes are sent.
+fn mode_answers(packets: &[u8]) {
+    answer_new(b"fresh sender at rate 3: ", 3);
+    answer_new(b"fresh sender at rate 4: ", 4);
+    send_part(b"sender of rate 4: ", 4, packets, 188, 1632);
+    send_part(
+        b"sender of rate 4, packet of 187 bytes: ",
+        4,
+        packets,
+        187,
+        1632,
+    );
+    answer_new(b"fresh sender of mode 5: ", 5);
+    answer_new(b"fresh sender of mode 6: ", 6);
+    send_part(b"sender of mode 6: ", 6, packets, 188, 1632);
+}
+
+// The lengths of a packet that is one, and of its output.
+fn length_answers(packets: &[u8]) {
+    send_part(b"mode 5, room of 543: ", 5, packets, 188, 543);
+    send_part(b"mode 5, room of 544: ", 5, packets, 188, 544);
+    send_part(b"packet of 187 bytes: ", 0, packets, 187, 1632);
+    send_part(b"packet of 188 bytes: ", 0, packets, 188, 1632);
+    send_part(b"packet of 189 bytes: ", 0, packets, 189, 1632);
+    send_part(b"rate 0, room of 1631: ", 0, packets, 188, 1631);
+}
+
+// A run of two packets of which the second is none.
+fn run_answers(packets: &[u8]) {
+    run_part(b"run in mode 5, room of 1087: ", 5, packets, 376, 1087);
+    run_part(b"run in mode 5, room of 1088: ", 5, packets, 376, 1088);
+    run_part(b"run in mode 6: ", 6, packets, 376, 3264);
+    run_part(b"run of 375 bytes: ", 0, packets, 375, 3264);
+    run_part(
+        b"run whose second packet begins 00: ",
+        0,
+        packets,
+        376,
+        3264,
+    );
+}
+
+// A run of two packets, and of none.
+fn run_length_answers(packets: &[u8]) {
+    run_part(b"run of two packets, room of 3263: ", 0, packets, 376, 3263);
+    run_part(b"run of two packets, room of 3264: ", 0, packets, 376, 3264);
+    run_part(b"run of no packets, no room: ", 3, packets, 0, 0);
+    run_part(b"run at rate 4 of no packets, no room: ", 4, packets, 0, 0);
+}
+
 fn main() {
     compare(0, b"symbols_rate0.bin");
     compare(1, b"symbols_rate1.bin");
     compare(2, b"symbols_rate2.bin");
     compare(3, b"symbols_rate3.bin");
     let mut packets = [0u8; 376];
-    send_part(b"packet that begins 00: ", 0, &packets, 188, 1632);
-    send_part(b"the same, room of 1631: ", 0, &packets, 188, 1631);
-    send_part(b"no bytes: ", 0, &packets, 0, 1632);
-    send_part(b"no bytes, room of 1631: ", 0, &packets, 0, 1631);
-    send_part(b"one byte: ", 0, &packets, 1, 1632);
+    packet_answers(&packets);
     packets[0] = 0x47;
-    answer_new(b"fresh sender at rate 3: ", 3);
-    answer_new(b"fresh sender at rate 4: ", 4);
-    send_part(b"sender of rate 4: ", 4, &packets, 188, 1632);
-    send_part(
-        b"sender of rate 4, packet of 187 bytes: ",
-        4,
-        &packets,
-        187,
-        1632,
-    );
-    answer_new(b"fresh sender of mode 5: ", 5);
-    answer_new(b"fresh sender of mode 6: ", 6);
-    send_part(b"sender of mode 6: ", 6, &packets, 188, 1632);
-    send_part(b"mode 5, room of 543: ", 5, &packets, 188, 543);
-    send_part(b"mode 5, room of 544: ", 5, &packets, 188, 544);
-    send_part(b"packet of 187 bytes: ", 0, &packets, 187, 1632);
-    send_part(b"packet of 188 bytes: ", 0, &packets, 188, 1632);
-    send_part(b"packet of 189 bytes: ", 0, &packets, 189, 1632);
-    send_part(b"rate 0, room of 1631: ", 0, &packets, 188, 1631);
-    run_part(b"run in mode 5, room of 1087: ", 5, &packets, 376, 1087);
-    run_part(b"run in mode 5, room of 1088: ", 5, &packets, 376, 1088);
-    run_part(b"run in mode 6: ", 6, &packets, 376, 3264);
-    run_part(b"run of 375 bytes: ", 0, &packets, 375, 3264);
-    run_part(
-        b"run whose second packet begins 00: ",
-        0,
-        &packets,
-        376,
-        3264,
-    );
+    mode_answers(&packets);
+    length_answers(&packets);
+    run_answers(&packets);
     packets[188] = 0x47;
-    run_part(
-        b"run of two packets, room of 3263: ",
-        0,
-        &packets,
-        376,
-        3263,
-    );
-    run_part(
-        b"run of two packets, room of 3264: ",
-        0,
-        &packets,
-        376,
-        3264,
-    );
-    run_part(b"run of no packets, no room: ", 3, &packets, 0, 0);
-    run_part(b"run at rate 4 of no packets, no room: ", 4, &packets, 0, 0);
+    run_length_answers(&packets);
 }
