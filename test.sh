@@ -41,6 +41,14 @@ bash docs/crates.sh | quietly cmp - docs/crates.svg
 bash tests/believed.sh | quietly diff docs/BELIEVED.md -
 grep -qF "$(grep -o '[0-9,]* definitions in [0-9]* files, [0-9,]* lines' docs/BELIEVED.md)" docs/TRUST.md || fail "docs/TRUST.md: the sum of docs/BELIEVED.md"
 
+# The prover copies what a crate stands on to a temporary folder, some 300 MB for each crate and each edit. Where memory can hold it, and programs run
+# from there, the disk is spared.
+scratch=$(mktemp -d -p /dev/shm 2> /dev/null) || scratch=$work
+trap 'rm -rf "$work" "$scratch"' EXIT
+if [ "$(df --output=avail -k "$scratch" | tail -n 1)" -ge 8000000 ] && cp /bin/true "$scratch" && "$scratch/true" 2> /dev/null; then
+    chmod 711 "$scratch"
+    export TMPDIR=$scratch
+fi
 # rt waits for the whole of a batch. With four at a time two processors are seldom left idle by the longest one.
 export RT_JOBS=${RT_JOBS:-4}
 # Its last line is held back: where something failed, no line of this script reads as if all had passed.
@@ -52,6 +60,7 @@ last=$(tail -n 1 "$work/gate")
 export CARGO_HOME=$PWD/target/cargo-home CARGO_TARGET_DIR=$PWD/target/cargo
 in_reference=(--release --offline --manifest-path reference/Cargo.toml)
 quietly rt staticlib exports
+quietly rt staticlib reader_exports
 quietly rt staticlib bridge
 quietly cargo test "${in_reference[@]}" --lib --test programs --test vectors
 # The comparison of the library with the reference is the longest of what is left, and goes on beside the others.
