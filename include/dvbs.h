@@ -1,5 +1,7 @@
 /* The C functions of the library: target/staticlib/libexports.a, which
- * `rt staticlib exports` writes. examples/link_from_c.c uses two of them.
+ * `rt staticlib exports` writes. examples/link_from_c.c uses two of them. Those
+ * that read symbols, dvbs_read_run and dvbs_read_soft_run, are in
+ * libreader_exports.a, by `rt staticlib reader_exports`.
  *
  * A buffer is a pointer and its length. The functions test what they are lent,
  * so any length and any bytes may come; what the caller owes is that lengths are

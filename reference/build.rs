@@ -1,5 +1,6 @@
-//! Links the project's static library `libexports.a`, and `libbridge.a` where it
-//! is there, from the folder named by the environment variable EXPORTS_DIR.
+//! Links the project's static library `libexports.a`, and `libreader_exports.a` and
+//! `libbridge.a` where they are there, from the folder named by the environment
+//! variable EXPORTS_DIR.
 //! Without it (or with the feature `self`) nothing is linked, and the tests of the
 //! reference still run.
 
@@ -11,6 +12,10 @@ fn main() {
             println!("cargo:rerun-if-changed={folder}/libexports.a");
             println!("cargo:rustc-link-search=native={folder}");
             println!("cargo:rustc-link-lib=static=exports");
+            println!("cargo:rerun-if-changed={folder}/libreader_exports.a");
+            if std::path::Path::new(&folder).join("libreader_exports.a").exists() {
+                println!("cargo:rustc-link-lib=static=reader_exports");
+            }
             println!("cargo:rustc-cfg=exports_linked");
             println!("cargo:rerun-if-changed={folder}/libbridge.a");
             if std::path::Path::new(&folder).join("libbridge.a").exists() {

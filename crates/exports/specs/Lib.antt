@@ -2,4 +2,3 @@ pub mod Decode
 pub mod SendRun
 pub mod ReceiveRun
 pub mod RecordingBlock
-pub mod ReadRun
