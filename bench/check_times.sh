@@ -29,5 +29,5 @@ for crate in "$@"; do
     check ./usage used rt check "$crate"
     read -r wall _ kilobytes < used
     awk -v crate="$crate" -v wall="$wall" -v kilobytes="$kilobytes" \
-        'BEGIN { printf "| `%s` | %.0f | %.0f |\n", crate, wall, kilobytes / 1000 }'
+        'BEGIN { printf "| `%s` | %.0f | %.0f |\n", crate, wall, kilobytes * 1024 / 1000000 }'
 done

@@ -154,6 +154,16 @@ module _ (s : Receiver) (g : Sound s) where
   unfolding stateBytes
   found = fields-found layout 0 stateLength s [] layout-contiguous refl sized
 
+  -- every count fits its eight bytes
+  limits : All (λ n. n < 18446744073709551616) (numbersOf (s .counts))
+  limits =
+      let r = g .counts in
+      let most = r .most in
+      let middle = r .middle in
+      let bytes = r .bytes in
+      let eightfold = r .eightfold in
+      omega arith & omega arith & omega arith & omega arith & omega arith & omega arith & omega arith & omega arith & tt
+
   again : (n : ℕ) → n < 18446744073709551616 → (f : StateField) → part f (stateBytes s) ≡ toBytes 8 n → numberIn f (stateBytes s) ≡ n
   again n h f e = ap fromBytes e ∙ from-to-eight n h
 
@@ -162,22 +172,18 @@ module _ (s : Receiver) (g : Sound s) where
   read-written =
       let p = found in
       let n = s .counts in
-      let r = g .counts in
-      let most = r .most in
-      let middle = r .middle in
-      let bytes = r .bytes in
-      let eightfold = r .eightfold in
+      let m = limits in
       let place-same : placeOf (numberIn field.place (stateBytes s)) ≡ s .sync .place
       = ap placeOf (ap fromBytes (p .1 .1 .0) ∙ from-one _) ∙ place-again (s .sync .place) (s .sync .missed) (g .sync) in
       let missed-same : numberIn field.missed (stateBytes s) ≡ s .sync .missed = ap fromBytes (p .1 .1 .1 .0) ∙ from-one _ in
-      let taken-same = again (n .taken) (omega arith) field.taken (p .1 .1 .1 .1 .0) in
-      let filling-same = again (n .filling) (omega arith) field.filling (p .1 .1 .1 .1 .1 .0) in
-      let delivered-same = again (n .delivered) (omega arith) field.delivered (p .1 .1 .1 .1 .1 .1 .0) in
-      let lost-same = again (n .lost) (omega arith) field.lost (p .1 .1 .1 .1 .1 .1 .1 .0) in
-      let waiting-same = again (n .waiting) (omega arith) field.waiting (p .1 .1 .1 .1 .1 .1 .1 .1 .0) in
-      let outofstep-same = again (n .outofstep) (omega arith) field.outofstep (p .1 .1 .1 .1 .1 .1 .1 .1 .1 .0) in
-      let changed-same = again (n .changed) (omega arith) field.changed (p .1 .1 .1 .1 .1 .1 .1 .1 .1 .1 .0) in
-      let bits-same = again (n .bits) (omega arith) field.bits (p .1 .1 .1 .1 .1 .1 .1 .1 .1 .1 .1 .0) in
+      let taken-same = again (n .taken) (m .0) field.taken (p .1 .1 .1 .1 .0) in
+      let filling-same = again (n .filling) (m .1 .0) field.filling (p .1 .1 .1 .1 .1 .0) in
+      let delivered-same = again (n .delivered) (m .1 .1 .0) field.delivered (p .1 .1 .1 .1 .1 .1 .0) in
+      let lost-same = again (n .lost) (m .1 .1 .1 .0) field.lost (p .1 .1 .1 .1 .1 .1 .1 .0) in
+      let waiting-same = again (n .waiting) (m .1 .1 .1 .1 .0) field.waiting (p .1 .1 .1 .1 .1 .1 .1 .1 .0) in
+      let outofstep-same = again (n .outofstep) (m .1 .1 .1 .1 .1 .0) field.outofstep (p .1 .1 .1 .1 .1 .1 .1 .1 .1 .0) in
+      let changed-same = again (n .changed) (m .1 .1 .1 .1 .1 .1 .0) field.changed (p .1 .1 .1 .1 .1 .1 .1 .1 .1 .1 .0) in
+      let bits-same = again (n .bits) (m .1 .1 .1 .1 .1 .1 .1 .0) field.bits (p .1 .1 .1 .1 .1 .1 .1 .1 .1 .1 .1 .0) in
       λ i. record {
         deinterleaver = record { branches = record { cells = p .0 i; positions = p .1 .0 i } };
         marks = p .1 .1 .1 .1 .1 .1 .1 .1 .1 .1 .1 .1 .0 i;

@@ -3,18 +3,19 @@
 use mathlib.Core.Path.{_≡_, refl, sym, ap, ap₂, _∙_}
 use mathlib.Core.Bool.{Bool, true, false}
 use mathlib.Core.List.{List, _++_, append-nil}
-use Prim.Native.Nat.{ℕ, _≤_, _<_}
+use Prim.Native.Nat.{ℕ, suc, _≤_, _<_}
 use native.Mathlib.Omega.{arith}
-use borrow.Author.Tests.{eq-eqb, lt-ltb, le-ltb, ltb-true}
+use borrow.Author.Tests.{eq-eqb, ne-eqb, lt-ltb, le-ltb, ltb-true}
 use lib.Dec.{ltb, eqb}
 use lib.ListN.{length, getD, drop, drop-of-length-le}
 use Rattle.common.specs.Choice.{pick}
 use Rattle.common.proofs.Choice.{both-true}
 use Rattle.answer.specs.Number.{numberOf}
 use Rattle.answer.specs.declared.Answer.{Answer}
+use Rattle.answer.specs.declared.Answer.the-variants as answer
 use Rattle.reed_solomon.specs.Code.{differ, differBits, changes, noChange}
 use Rattle.reed_solomon.specs.Decode.{changedBy}
-use Rattle.reed_solomon.specs.Marks.{largest, DecodesMarked}
+use Rattle.reed_solomon.specs.Marks.{largest, areMarks, DecodesMarked}
 use Rattle.reed_solomon.specs.declared.Changed.{Changed}
 use Rattle.reed_solomon.specs.declared.Decoded.{Decoded}
 use Rattle.reed_solomon.specs.declared.Decoded.the-variants.{Corrected, Uncorrectable, BlockLength, MarkValue}
@@ -174,8 +175,29 @@ left-length marks came left MarkValue d n = ap length (d .2) ∙ n
 
 -- ---- a call that is refused
 
-pub refused-call : (s : Receiver) (block marks output : List ℕ) (a : Answer) (exit : List ℕ) → numberOf a ≡ receiveRefusal s block marks output
-    → eqb (receiveRefusal s block marks output) 0 ≡ false → exit ≡ output → ReceivesMarked s block marks output (record { answer = a; receiver = s }) exit
-refused-call s block marks output a exit n e w =
-    let t = total (delayedMarks s marks) (delayedBlock s block) in
-    record { left = t .left; decoded = t .answer; decodes = t .decodes; number = n ∙ simp e; state = simp e; written = w ∙ simp e }
+module _ (s : Receiver) (block marks output : List ℕ) where
+  refused-call : (a : Answer) (n : ℕ) → numberOf a ≡ suc n → receiveRefusal s block marks output ≡ suc n
+      → ReceivesMarked s block marks output (record { answer = a; receiver = s }) output
+  refused-call a n m e =
+      let t = total (delayedMarks s marks) (delayedBlock s block) in
+      let z = ne-eqb (suc n) 0 (λ h. omega arith) in
+      record { left = t .left; decoded = t .answer; decodes = t .decodes; number = m ∙ simp (e, z); state = simp (e, z); written = simp (e, z) }
+
+  pub refused-range : receiverInRange s ≡ false → ReceivesMarked s block marks output (record { answer = answer.StateRange; receiver = s }) output
+  refused-range r = refused-call answer.StateRange 4 refl (simp r)
+
+  module _ (r : receiverInRange s ≡ true) where
+    pub refused-length : eqb (length block) 204 ≡ false → ReceivesMarked s block marks output (record { answer = answer.BlockLength; receiver = s }) output
+    refused-length l = refused-call answer.BlockLength 2 refl (simp (r, l))
+
+    module _ (l : eqb (length block) 204 ≡ true) where
+      pub refused-marks : areMarks marks ≡ false → ReceivesMarked s block marks output (record { answer = answer.MarkValue; receiver = s }) output
+      refused-marks m = refused-call answer.MarkValue 19 refl (simp (r, l, m))
+
+      module _ (m : areMarks marks ≡ true) where
+        pub refused-output : ltb (length output) 188 ≡ true → ReceivesMarked s block marks output (record { answer = answer.OutputLength; receiver = s }) output
+        refused-output o = refused-call answer.OutputLength 3 refl (simp (r, l, m, o))
+
+        pub refused-full : ltb (length output) 188 ≡ false → ltb (s .counts .taken) 4294967295 ≡ false
+            → ReceivesMarked s block marks output (record { answer = answer.CountsFull; receiver = s }) output
+        refused-full o t = refused-call answer.CountsFull 6 refl (simp (r, l, m, o, t))

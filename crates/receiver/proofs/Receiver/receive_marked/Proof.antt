@@ -1,6 +1,6 @@
 -- `receiver::Receiver::receive_marked` meets its contract.
 -- Assumes nothing.
-use mathlib.Core.Path.{_≡_, refl, sym, ap, _∙_}
+use mathlib.Core.Path.{_≡_, sym, ap, _∙_}
 use mathlib.Core.Bool.{true}
 use Prim.Native.Nat.{ℕ, _+_}
 use native.Mathlib.Omega.{arith}
@@ -9,7 +9,7 @@ use lib.ListN.{length, replicate}
 use Rattle.reed_solomon.specs.Marks.{areMarks}
 use Rattle.reed_solomon.proofs.Marks.{marks-of, largest-none, largest-most}
 use Rattle.receiver.specs.Receive.{receiverInRange}
-use Rattle.receiver.proofs.Calls.{parts-range, refused-call, state-range}
+use Rattle.receiver.proofs.Calls.{parts-range, refused-range, refused-length, refused-marks, refused-output, refused-full, state-range}
 use borrow.Author.Needs.{needs}
 use Rattle.receiver.proofs.Receiver.receive_marked.Statement.{statement}
 use Rattle.receiver.proofs.Receiver.receive_marked.Tie as tie
@@ -42,13 +42,12 @@ parts-in-range-requires c κs = search needs
 returns : tie.Need-returns
 returns c =
     let a = c .before .before .before .before .before .before .before .before .before .before .before .before .before .args in
-    let e = sym (range (c .before)) ∙ not-true _ (c .if1 .taken) in
-    refused-call (a .self) (a .block .now) (a .marks .now) (a .output .now) _ _ (simp e) (simp e) refl
+    refused-range (a .self) (a .block .now) (a .marks .now) (a .output .now) (sym (range (c .before)) ∙ not-true _ (c .if1 .taken))
 
 returns-2 : tie.Need-returns-2
 returns-2 c =
     let a = c .before .before .before .before .before .before .before .before .before .before .before .before .before .before .args in
-    refused-call (a .self) (a .block .now) (a .marks .now) (a .output .now) _ _ (simp (good (c .before), ne-eqb _ _ (c .if2 .taken))) (simp (good (c .before), ne-eqb _ _ (c .if2 .taken))) refl
+    refused-length (a .self) (a .block .now) (a .marks .now) (a .output .now) (good (c .before)) (ne-eqb _ _ (c .if2 .taken))
 
 are-marks-requires : tie.Need-are-marks-requires
 are-marks-requires c κs = search needs
@@ -56,21 +55,22 @@ are-marks-requires c κs = search needs
 returns-3 : tie.Need-returns-3
 returns-3 c =
     let a = c .before .before .before .before .before .before .before .before .before .before .before .before .before .before .before .before .args in
-    let e = sym (c .before .are-marks .ensures) ∙ not-true _ (c .if3 .taken) in
-    refused-call (a .self) (a .block .now) (a .marks .now) (a .output .now) _ _ (simp (good (c .before .before .before), eq-eqb _ _ (c .before .before .if2 .left), e)) (simp (good (c .before .before .before), eq-eqb _ _ (c .before .before .if2 .left), e)) refl
+    let l = eq-eqb _ _ (c .before .before .if2 .left) in
+    let m = sym (c .before .are-marks .ensures) ∙ not-true _ (c .if3 .taken) in
+    refused-marks (a .self) (a .block .now) (a .marks .now) (a .output .now) (good (c .before .before .before)) l m
 
 returns-4 : tie.Need-returns-4
 returns-4 c =
     let a = c .before .before .before .before .before .before .before .before .before .before .before .before .before .before .before .before .before .args in
-    refused-call (a .self) (a .block .now) (a .marks .now) (a .output .now) _ _
-    (simp (good (c .before .before .before .before), eq-eqb _ _ (c .before .before .before .if2 .left), marked (c .before), lt-ltb _ _ (c .if4 .taken))) (simp (good (c .before .before .before .before), eq-eqb _ _ (c .before .before .before .if2 .left), marked (c .before), lt-ltb _ _ (c .if4 .taken))) refl
+    let l = eq-eqb _ _ (c .before .before .before .if2 .left) in
+    refused-output (a .self) (a .block .now) (a .marks .now) (a .output .now) (good (c .before .before .before .before)) l (marked (c .before)) (lt-ltb _ _ (c .if4 .taken))
 
 returns-5 : tie.Need-returns-5
 returns-5 c =
     let a = c .before .before .before .before .before .before .before .before .before .before .before .before .before .before .before .before .before .before .args in
-    refused-call (a .self) (a .block .now) (a .marks .now) (a .output .now) _ _
-    (simp (good (c .before .before .before .before .before), eq-eqb _ _ (c .before .before .before .before .if2 .left), marked (c .before .before), le-ltb _ _ (c .before .if4 .left), le-ltb _ _ (c .if5 .taken)))
-    (simp (good (c .before .before .before .before .before), eq-eqb _ _ (c .before .before .before .before .if2 .left), marked (c .before .before), le-ltb _ _ (c .before .if4 .left), le-ltb _ _ (c .if5 .taken))) refl
+    let l = eq-eqb _ _ (c .before .before .before .before .if2 .left) in
+    let o = le-ltb _ _ (c .before .if4 .left) in
+    refused-full (a .self) (a .block .now) (a .marks .now) (a .output .now) (good (c .before .before .before .before .before)) l (marked (c .before .before)) o (le-ltb _ _ (c .if5 .taken))
 
 largest-mark-requires-2 : tie.Need-largest-mark-requires-2
 largest-mark-requires-2 c κs = search needs
