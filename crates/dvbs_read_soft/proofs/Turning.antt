@@ -4,15 +4,14 @@ use mathlib.Core.Path.{_≡_, sym, ap, ap₂, subst, _∙_}
 use mathlib.Core.Bool.{Bool}
 use mathlib.Core.List.{List, _++_, append-nil, append-assoc}
 use Prim.Native.Nat.{ℕ, _+_, _-_, _*_, _/_, _%_, _≤_, _<_}
-use native.Mathlib.Nat.{add-zero}
-use native.Mathlib.Decide.{decLt}
 use native.Mathlib.Omega.{arith}
 use borrow.Rule.Slice.PartMut.{putMid, midOf}
 use lib.Ieee.{ofBits, binary32}
-use lib.ListN.{length, getD, take, drop, length-append, length-drop, drop-of-length-le, List·getD-append}
-use lib.Seq.{length-take-le, take-all, drop-at, drop-append-le, drop-drop, take-append-add, getD-drop, getD-append-add, ext-getD}
+use lib.ListN.{length, getD, take, drop, length-append, length-drop, drop-of-length-le}
+use lib.Seq.{length-take-le, take-all, drop-at, take-append-add}
 use Rattle.common.specs.Lists.{listOf}
-use Rattle.common.proofs.Lists.{length-listOf, getD-listOf}
+use Rattle.bit_packing.specs.Packing.{bitsAfter}
+use Rattle.bit_packing.proofs.Bytes.{eights, eights-pieces, after-pieces, after-count}
 use Rattle.input_pieces.specs.Read.{ReadsPiece}
 use Rattle.input_pieces.specs.declared.Piece.{Piece}
 use Rattle.soft_decision.specs.Cost.{softly}
@@ -21,7 +20,7 @@ use Rattle.soft_decision.specs.declared.Received.the-variants.{Lost}
 use Rattle.symbol_pass.specs.History.{Going, LastBytes, ReceivedSoFar}
 use Rattle.symbol_pass.specs.declared.Last.{Last}
 use Rattle.symbol_pass.proofs.Histories.{going-more, received-none, received-more, whole-pass}
-use Rattle.dvbs_read_soft.specs.Points.{wordAt, point, pointAt, pointsOf}
+use Rattle.dvbs_read_soft.specs.Points.{point, pointAt, pointsOf}
 use Rattle.dvbs_read_soft.specs.Turn.{Held, ReadsBehind, Turns, ReadTurns, begun, turn, WholeRun}
 use Rattle.dvbs_read_soft.specs.declared.Points.{Points}
 use Rattle.dvbs_read_soft.specs.declared.Turn.{Turn}
@@ -87,103 +86,63 @@ turn-going g t = going-more g (t .taken .fed .fed)
 
 -- ---- the points of bytes that come in pieces
 
--- a number, and a point, at whatever place in which list
-word-same : (a b : List ℕ) (i j : ℕ) → ((k : ℕ) → k < 4 → getD a (i + k) 0 ≡ getD b (j + k) 0) → wordAt a i ≡ wordAt b j
-word-same a b i j h =
-    let e0 : getD a i 0 ≡ getD b j 0 = ap (λ (k : ℕ). getD a k 0) (sym (add-zero i)) ∙ h 0 (omega arith) ∙ ap (λ (k : ℕ). getD b k 0) (add-zero j) in
+-- the symbol of eight bytes
+abbrev pointOf : (ℕ → ℕ) → Received
+pointOf byte =
+    point (ofBits binary32 (byte 0 + 256 * byte 1 + 65536 * byte 2 + 16777216 * byte 3)) (ofBits binary32 (byte 4 + 256 * byte 5 + 65536 * byte 6 + 16777216 * byte 7))
+
+point-same : (f g : ℕ → ℕ) → ((j : ℕ) → j < 8 → f j ≡ g j) → pointOf f ≡ pointOf g
+point-same f g h =
+    let e0 = h 0 (omega arith) in
     let e1 = h 1 (omega arith) in
     let e2 = h 2 (omega arith) in
     let e3 = h 3 (omega arith) in
-    rw (e0, e1, e2, e3)
+    let e4 = h 4 (omega arith) in
+    let e5 = h 5 (omega arith) in
+    let e6 = h 6 (omega arith) in
+    let e7 = h 7 (omega arith) in
+    rw (e0, e1, e2, e3, e4, e5, e6, e7)
 
-point-same : (a b : List ℕ) (i j : ℕ) → ((k : ℕ) → k < 8 → getD a (8 * i + k) 0 ≡ getD b (8 * j + k) 0) → pointAt a i ≡ pointAt b j
-point-same a b i j h =
-    ap₂ (λ (x y : ℕ). point (ofBits binary32 x) (ofBits binary32 y)) (word-same a b (8 * i) (8 * j) (λ k l. h k (omega arith)))
-    (word-same a b (8 * i + 4) (8 * j + 4)
-    (λ k l. let x : 8 * i + 4 + k ≡ 8 * i + (4 + k) = omega arith in
-    let y : 8 * j + (4 + k) ≡ 8 * j + 4 + k = omega arith in
-    ap (λ (n : ℕ). getD a n 0) x ∙ h (4 + k) (omega arith) ∙ ap (λ (n : ℕ). getD b n 0) y))
+point-eight : (bytes : List ℕ) (k : ℕ) → pointAt bytes k ≡ pointOf (λ j. getD bytes (8 * k + j) 0)
+point-eight bytes k =
+    let e0 : 8 * k + 0 ≡ 8 * k = omega arith in
+    let e5 : 8 * k + 4 + 1 ≡ 8 * k + 5 = omega arith in
+    let e6 : 8 * k + 4 + 2 ≡ 8 * k + 6 = omega arith in
+    let e7 : 8 * k + 4 + 3 ≡ 8 * k + 7 = omega arith in
+    rw (e0, e5, e6, e7)
 
-points-length : (bytes : List ℕ) → length (pointsOf bytes) ≡ length bytes / 8
-points-length bytes = length-listOf (length bytes / 8) (pointAt bytes)
+points-eights : (bytes : List ℕ) → pointsOf bytes ≡ eights Lost pointOf point-same bytes
+points-eights bytes i = listOf (length bytes / 8) (λ k. point-eight bytes k i)
 
-points-at : (bytes : List ℕ) (i : ℕ) → i < length bytes / 8 → getD (pointsOf bytes) i Lost ≡ pointAt bytes i
-points-at bytes i h = getD-listOf (length bytes / 8) (pointAt bytes) Lost i h
-
-module _ (a b : List ℕ) where
-  abbrev q : ℕ
-  q = length a / 8
-
-  -- what the first piece leaves, and the second
-  abbrev left : List ℕ
-  left = drop (8 * q) a ++ b
-
-  left-length : length left ≡ length a % 8 + length b
-  left-length = omega (arith, length-append (drop (8 * q) a) b, length-drop (8 * q) a)
-
-  left-is : drop (8 * q) (a ++ b) ≡ left
-  left-is = drop-append-le (8 * q) a b (omega arith)
-
-  -- Two pieces: the points of the first, and then those of what it left and the second.
-  points-pieces : pointsOf (a ++ b) ≡ pointsOf a ++ pointsOf left
-  points-pieces =
-      let n = length-append a b in
-      let m = left-length in
-      ext-getD Lost (pointsOf (a ++ b)) (pointsOf a ++ pointsOf left)
-      (omega (arith, points-length (a ++ b), length-append (pointsOf a) (pointsOf left), points-length a, points-length left))
-      (λ i l. at i (omega (arith, points-length (a ++ b))) (decLt i q))
-    where
-      at : (i : ℕ) → i < length (a ++ b) / 8 → Dec (i < q) → getD (pointsOf (a ++ b)) i Lost ≡ getD (pointsOf a ++ pointsOf left) i Lost
-      at i h (yes l) =
-          points-at (a ++ b) i h
-          ∙ point-same (a ++ b) a i i (λ j k. List·getD-append a b 0 (8 * i + j) (omega arith))
-          ∙ sym (points-at a i l)
-          ∙ sym (List·getD-append (pointsOf a) (pointsOf left) Lost i (omega (arith, points-length a)))
-      at i h (no l) =
-          let t : ℕ = i - q in
-          let e : i ≡ length (pointsOf a) + t = omega (arith, points-length a) in
-          let s : t < length left / 8 = omega (arith, left-length, length-append a b) in
-          points-at (a ++ b) i h
-          ∙ point-same (a ++ b) left i t
-          (λ j k. let p : 8 * i + j ≡ 8 * q + (8 * t + j) = omega arith in
-          ap (λ (x : ℕ). getD (a ++ b) x 0) p ∙ sym (getD-drop (8 * q) (a ++ b) (8 * t + j) 0) ∙ ap (λ (x : List ℕ). getD x (8 * t + j) 0) left-is)
-          ∙ sym (points-at left t s)
-          ∙ sym (getD-append-add (pointsOf a) (pointsOf left) t Lost)
-          ∙ ap (λ (x : ℕ). getD (pointsOf a ++ pointsOf left) x Lost) (sym e)
-
-  -- and the bytes behind all the points are those behind the last ones
-  left-pieces : drop (8 * (length left / 8)) left ≡ drop (8 * (length (a ++ b) / 8)) (a ++ b)
-  left-pieces =
-      let n = length-append a b in
-      let m = left-length in
-      let e : 8 * q + 8 * (length left / 8) ≡ 8 * (length (a ++ b) / 8) = omega arith in
-      ap (drop (8 * (length left / 8))) (sym left-is) ∙ drop-drop (8 * (length left / 8)) (8 * q) (a ++ b) ∙ ap (λ (k : ℕ). drop k (a ++ b)) e
-
-  left-count : length left % 8 ≡ length (a ++ b) % 8
-  left-count = omega (arith, length-append a b, left-length)
+-- Two pieces: the points of the first, and then those of what it left and the second.
+points-pieces : (a b : List ℕ) → pointsOf (a ++ b) ≡ pointsOf a ++ pointsOf (bitsAfter a ++ b)
+points-pieces a b =
+    points-eights (a ++ b) ∙ eights-pieces Lost pointOf point-same a b
+    ∙ sym (ap₂ (λ (x y : List Received). x ++ y) (points-eights a) (points-eights (bitsAfter a ++ b)))
 
 -- ---- turns one after the other
 
+-- what is left behind eights of bytes is as of bits
 record SoFar (rate : ℕ) (input bytes : List ℕ) (p : Points) : Type 0 where
   received : ReceivedSoFar softly rate (pointsOf input) bytes (p .reading)
-  held : take (p .held) (p .tail) ≡ drop (8 * (length input / 8)) input
+  held : take (p .held) (p .tail) ≡ bitsAfter input
   count : p .held ≡ length input % 8
 
 so-far : {rate : ℕ} {input bytes : List ℕ} {p : Points} {more : Bool} → ReadTurns rate input bytes p more → SoFar rate input bytes p
-unfolding listOf
+unfolding listOf bitsAfter
 so-far (begun {p} b e) = record { received = received-none softly b; held = ap (λ (k : ℕ). take k (p .tail)) e; count = e }
 so-far {rate} (turn {input} {bytes} {p} before buffer output exit t h w) =
     let s = so-far h in
     let piece : List ℕ = take (t .piece .length) (drop 8 buffer) in
     let k = w .taken in
-    let e : take (p .held) (p .tail) ++ piece ≡ drop (8 * (length input / 8)) input ++ piece = ap (λ (l : List ℕ). l ++ piece) (s .held) in
+    let e : take (p .held) (p .tail) ++ piece ≡ bitsAfter input ++ piece = ap (λ (l : List ℕ). l ++ piece) (s .held) in
     let l = subst (Held (t .points)) e (k .holds) in
     record {
       received =
           subst (λ (x : List Received). ReceivedSoFar softly rate x (bytes ++ take (t .count) exit) (t .points .reading))
           (ap (λ (x : List ℕ). pointsOf input ++ pointsOf x) e ∙ sym (points-pieces input piece)) (received-more softly (s .received) (k .fed));
-      held = l .bytes-are ∙ left-pieces input piece;
-      count = l .count ∙ left-count input piece;
+      held = l .bytes-are ∙ sym (after-pieces input piece);
+      count = l .count ∙ after-count input piece;
     }
 
 -- Whatever pieces the reads brought, what is written to the end is the bytes of the bits of all the whole points.

@@ -12,7 +12,7 @@ use Rattle.symbol_stream.specs.History.{SymbolFeedings, Ended, Took}
 use Rattle.symbol_pass.specs.declared.Reading.{Reading}
 use Rattle.symbol_pass.specs.declared.Last.{Last}
 
--- nothing has come
+-- a reading of which nothing has come
 pub record Begun (rate : ℕ) (r : Reading) : Type 0 where
   pub ready : StreamReady (r .stream)
   pub empty : StreamHolds (r .stream) rate 0 []
@@ -27,7 +27,7 @@ pub record ReadSoFar (rate : ℕ) (costs bytes : List ℕ) (r : Reading) : Type 
   pub packed : Packings bits bytes (r .carry) (r .held)
   pub counted : r .symbols ≡ length costs / 4 % 2 ^ 64
 
--- a reading to which something came
+-- a reading that came of a fresh one by feedings, of whatever costs
 pub record Going (r : Reading) : Type 0 where
   pub rate : ℕ
   pub costs : List ℕ
