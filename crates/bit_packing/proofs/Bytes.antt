@@ -80,11 +80,6 @@ bytes-back bytes g n h =
 
 -- ---- piece by piece
 
--- a byte of a list of bits
-packed-at : (bits : List ℕ) (i : ℕ) → i < length bits / 8 → getD (packedBytes bits) i 0 ≡ byteOf (λ j. getD bits (8 * i + j) 0)
-unfolding packedBytes
-packed-at bits i h = getD-listOf (length bits / 8) (λ i. byteOf (λ j. getD bits (8 * i + j) 0)) 0 i h
-
 after-length : (bits : List ℕ) → length (bitsAfter bits) ≡ length bits % 8
 unfolding bitsAfter
 after-length bits = omega (arith, length-drop (8 * (length bits / 8)) bits)
@@ -113,33 +108,6 @@ module _ (a b : List ℕ) where
   unfolding bitsAfter
   behind = drop-append-le (8 * q) a b (omega arith)
 
-  -- Two pieces: the bytes of the first, and then those of what it left and the second.
-  pub packed-pieces : packedBytes (a ++ b) ≡ packedBytes a ++ packedBytes rest
-  packed-pieces =
-      let n = length-append a b in
-      let m = rest-length in
-      ext-getD 0 (packedBytes (a ++ b)) (packedBytes a ++ packedBytes rest)
-      (omega (arith, length-bytes (a ++ b), length-append (packedBytes a) (packedBytes rest), length-bytes a, length-bytes rest))
-      (λ i l. at i (omega (arith, length-bytes (a ++ b))) (decLt i q))
-    where
-      at : (i : ℕ) → i < length (a ++ b) / 8 → Dec (i < q) → getD (packedBytes (a ++ b)) i 0 ≡ getD (packedBytes a ++ packedBytes rest) i 0
-      at i h (yes l) =
-          packed-at (a ++ b) i h
-          ∙ byte-same (λ j. getD (a ++ b) (8 * i + j) 0) (λ j. getD a (8 * i + j) 0) (λ j k. List·getD-append a b 0 (8 * i + j) (omega arith))
-          ∙ sym (packed-at a i l)
-          ∙ sym (List·getD-append (packedBytes a) (packedBytes rest) 0 i (omega (arith, length-bytes a)))
-      at i h (no l) =
-          let t : ℕ = i - q in
-          let e : i ≡ length (packedBytes a) + t = omega (arith, length-bytes a) in
-          let s : t < length rest / 8 = omega (arith, rest-length, length-append a b) in
-          packed-at (a ++ b) i h
-          ∙ byte-same (λ j. getD (a ++ b) (8 * i + j) 0) (λ j. getD rest (8 * t + j) 0)
-          (λ j k. let p : 8 * i + j ≡ 8 * q + (8 * t + j) = omega arith in
-          ap (λ (x : ℕ). getD (a ++ b) x 0) p ∙ sym (getD-drop (8 * q) (a ++ b) (8 * t + j) 0) ∙ ap (λ (x : List ℕ). getD x (8 * t + j) 0) behind)
-          ∙ sym (packed-at rest t s)
-          ∙ sym (getD-append-add (packedBytes a) (packedBytes rest) t 0)
-          ∙ ap (λ (x : ℕ). getD (packedBytes a ++ packedBytes rest) x 0) (sym e)
-
   pub after-pieces : bitsAfter (a ++ b) ≡ bitsAfter rest
   unfolding bitsAfter
   after-pieces =
@@ -147,3 +115,49 @@ module _ (a b : List ℕ) where
       let m = rest-length in
       let e : 8 * (length (a ++ b) / 8) ≡ 8 * q + 8 * (length rest / 8) = omega arith in
       ap (λ (k : ℕ). drop k (a ++ b)) e ∙ sym (drop-drop (8 * (length rest / 8)) (8 * q) (a ++ b)) ∙ ap (drop (8 * (length rest / 8))) behind
+
+  pub after-count : length rest % 8 ≡ length (a ++ b) % 8
+  after-count = omega (arith, length-append a b, rest-length)
+
+-- What is made of each eight members of a list, and of them alone.
+module _ {A : Type 0} (d : A) (f : (ℕ → ℕ) → A) (same : (g h : ℕ → ℕ) → ((j : ℕ) → j < 8 → g j ≡ h j) → f g ≡ f h) where
+  abbrev pub eights : List ℕ → List A
+  eights l = listOf (length l / 8) (λ i. f (λ j. getD l (8 * i + j) 0))
+
+  eights-length : (l : List ℕ) → length (eights l) ≡ length l / 8
+  eights-length l = length-listOf (length l / 8) (λ i. f (λ j. getD l (8 * i + j) 0))
+
+  eights-at : (l : List ℕ) (i : ℕ) → i < length l / 8 → getD (eights l) i d ≡ f (λ j. getD l (8 * i + j) 0)
+  eights-at l i h = getD-listOf (length l / 8) (λ i. f (λ j. getD l (8 * i + j) 0)) d i h
+
+  -- Two pieces: what is made of the first, and then of what it left and the second.
+  pub eights-pieces : (a b : List ℕ) → eights (a ++ b) ≡ eights a ++ eights (rest a b)
+  eights-pieces a b =
+      let n = length-append a b in
+      let m = rest-length a b in
+      ext-getD d (eights (a ++ b)) (eights a ++ eights (rest a b))
+      (omega (arith, eights-length (a ++ b), length-append (eights a) (eights (rest a b)), eights-length a, eights-length (rest a b)))
+      (λ i l. at i (omega (arith, eights-length (a ++ b))) (decLt i (q a b)))
+    where
+      at : (i : ℕ) → i < length (a ++ b) / 8 → Dec (i < q a b) → getD (eights (a ++ b)) i d ≡ getD (eights a ++ eights (rest a b)) i d
+      at i h (yes l) =
+          eights-at (a ++ b) i h
+          ∙ same (λ j. getD (a ++ b) (8 * i + j) 0) (λ j. getD a (8 * i + j) 0) (λ j k. List·getD-append a b 0 (8 * i + j) (omega arith))
+          ∙ sym (eights-at a i l)
+          ∙ sym (List·getD-append (eights a) (eights (rest a b)) d i (omega (arith, eights-length a)))
+      at i h (no l) =
+          let t : ℕ = i - q a b in
+          let e : i ≡ length (eights a) + t = omega (arith, eights-length a) in
+          let s : t < length (rest a b) / 8 = omega (arith, rest-length a b, length-append a b) in
+          eights-at (a ++ b) i h
+          ∙ same (λ j. getD (a ++ b) (8 * i + j) 0) (λ j. getD (rest a b) (8 * t + j) 0)
+          (λ j k. let p : 8 * i + j ≡ 8 * q a b + (8 * t + j) = omega arith in
+          ap (λ (x : ℕ). getD (a ++ b) x 0) p ∙ sym (getD-drop (8 * q a b) (a ++ b) (8 * t + j) 0) ∙ ap (λ (x : List ℕ). getD x (8 * t + j) 0) (behind a b))
+          ∙ sym (eights-at (rest a b) t s)
+          ∙ sym (getD-append-add (eights a) (eights (rest a b)) t d)
+          ∙ ap (λ (x : ℕ). getD (eights a ++ eights (rest a b)) x d) (sym e)
+
+-- the bytes of bits
+pub packed-pieces : (a b : List ℕ) → packedBytes (a ++ b) ≡ packedBytes a ++ packedBytes (bitsAfter a ++ b)
+unfolding packedBytes
+packed-pieces a b = eights-pieces 0 byteOf byte-same a b

@@ -7,7 +7,7 @@ use Prim.{tt}
 use native.Mathlib.Numerals.{add-one}
 use native.Mathlib.Omega.{arith}
 use lib.ListN.{length, getD, take, drop, set, length-append, length-drop}
-use lib.Seq.{take-suc, take-at, take-all, take-length, length-take-le, drop-append-le, drop-drop, drop-cons, append-snoc, set-at}
+use lib.Seq.{take-suc, take-at, take-all, take-length, length-take-le, drop-at, drop-append-le, drop-drop, drop-cons, append-snoc, set-at}
 use Rattle.convolutional_code.specs.Bits.{bitsOf}
 use Rattle.convolutional_code.proofs.Bits.{length-bits}
 use Rattle.bit_packing.specs.Packing.{packedBytes, bitsAfter, carriedBits, Packs, Packings, none, packing}
@@ -168,6 +168,51 @@ packing-done {carried} {bits} {i = i} g h =
 pub packs-fit : {carried piece output exit : List ℕ} {carry held count : ℕ} → Packs carried piece output carry held count exit → count ≤ length exit
 packs-fit {carried} {piece} {output} {count = count} w =
     omega (arith, ap length (w .written), length-append (packedBytes (carried ++ piece)) (drop count output), length-bytes (carried ++ piece), w .counted)
+
+-- every bit is packed or held
+pub packs-all : {carried piece output exit : List ℕ} {carry held count : ℕ} → Packs carried piece output carry held count exit → 8 * count + held ≡ length (carried ++ piece)
+unfolding bitsAfter
+packs-all {carried} {piece} {carry = carry} {held} w =
+    let all : List ℕ = carried ++ piece in
+    omega (arith, w .counted, w .few, sym (carried-length carry held (omega (arith, w .few))) ∙ ap length (w .carries), length-drop (8 * (length all / 8)) all)
+
+-- ---- two pieces into one output
+
+pub packs-none : (carry held : ℕ) (output : List ℕ) → held < 8 → Packs (carriedBits carry held) [] output carry held 0 output
+packs-none carry held output h = packing-done (packing-start carry held [] output h) (omega arith)
+
+-- the second one behind the bytes of the first
+pub packs-more : {carried piece output exit : List ℕ} {carry held count : ℕ} → Packs carried piece output carry held count exit
+    → (more : List ℕ) {last : List ℕ} {carry′ held′ n : ℕ} → Packs (carriedBits carry held) more (drop count exit) carry′ held′ n last
+    → Packs carried (piece ++ more) output carry′ held′ (count + n) (take count exit ++ last)
+packs-more {carried} {piece} {output} {exit} {carry} {held} {count} w more {last} {n = n} v =
+    let all : List ℕ = carried ++ piece in
+    let e : carried ++ (piece ++ more) ≡ all ++ more = sym (append-assoc carried piece more) in
+    let k : length (packedBytes all) ≡ count = length-bytes all ∙ sym (w .counted) in
+    let c : carriedBits carry held ++ more ≡ bitsAfter all ++ more = ap (λ (x : List ℕ). x ++ more) (w .carries) in
+    let bytes : packedBytes (carried ++ (piece ++ more)) ≡ packedBytes all ++ packedBytes (carriedBits carry held ++ more) =
+    ap packedBytes e ∙ packed-pieces all more ∙ ap (λ (x : List ℕ). packedBytes all ++ packedBytes x) (sym c) in
+    let front : take count exit ≡ packedBytes all = ap (take count) (w .written) ∙ take-at (packedBytes all) (drop count output) count k in
+    let back : drop n (drop count exit) ≡ drop (count + n) output =
+    ap (drop n) (ap (drop count) (w .written) ∙ drop-at (packedBytes all) (drop count output) count k) ∙ drop-drop n count output in
+    record {
+      counted =
+          omega (
+            arith,
+            length-bytes (carried ++ (piece ++ more)),
+            ap length bytes,
+            length-append (packedBytes all) (packedBytes (carriedBits carry held ++ more)),
+            k,
+            length-bytes (carriedBits carry held ++ more),
+            v .counted,
+          );
+      written =
+          ap₂ (λ (x y : List ℕ). x ++ y) front (v .written ∙ ap (λ (x : List ℕ). packedBytes (carriedBits carry held ++ more) ++ x) back)
+          ∙ sym (append-assoc (packedBytes all) (packedBytes (carriedBits carry held ++ more)) (drop (count + n) output))
+          ∙ ap (λ (x : List ℕ). x ++ drop (count + n) output) (sym bytes);
+      few = v .few;
+      carries = v .carries ∙ ap bitsAfter c ∙ sym (after-pieces all more) ∙ ap bitsAfter (sym e);
+    }
 
 -- ---- calls one after the other
 

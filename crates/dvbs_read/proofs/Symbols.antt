@@ -7,11 +7,13 @@ use native.Mathlib.Omega.{arith}
 use lib.ListN.{length, getD, take}
 use lib.Seq.{take-suc, length-take-le}
 use Rattle.common.specs.Lists.{All}
-use Rattle.run_reader.specs.Cost.{differing, Costed}
+use Rattle.run_reader.specs.Cost.{differing}
 use Rattle.run_reader.proofs.Decisions.{Written, written-costed, written-small}
-use Rattle.symbol_stream.specs.History.{Took}
-use Rattle.symbol_stream.specs.declared.SymbolStream.{SymbolStream}
-use Rattle.dvbs_read.specs.Input.{TookInput}
+use Rattle.symbol_pass.specs.History.{FeedsCosts, FeedsReceived}
+use Rattle.symbol_pass.specs.declared.Reading.{Reading}
+use Rattle.dvbs_read.specs.Turn.{SymbolsAtFront}
+
+-- ---- up to the first byte that is none
 
 pub record Front (input : List ℕ) (i : ℕ) : Type 0 where
   pub most : i ≤ length input
@@ -32,26 +34,24 @@ front-more {input} {i} f h l =
       symbols = subst (All (λ x. x < 4)) (sym (ap (λ (k : ℕ). take k input) e ∙ take-suc input i 0 h)) (snoc (take i input) (getD input i 0) (f .symbols) l);
     }
 
+pub front-ends : {input : List ℕ} {i : ℕ} → Front input i → 4 ≤ getD input i 0 → SymbolsAtFront input i
+front-ends f l = record { most = f .most; symbols = f .symbols; ends = λ h. l }
+
+pub front-all : {input : List ℕ} {i : ℕ} → Front input i → length input ≤ i → SymbolsAtFront input i
+front-all f l = record { most = f .most; symbols = f .symbols; ends = λ h. absurd (omega arith) }
+
 -- ---- their costs
 
-module _ (input costs : List ℕ) (n : ℕ) (most : n ≤ length input) (symbols : All (λ x. x < 4) (take n input)) (w : Written (take n input) costs)
-    (long : 4 * length input ≤ length costs) where
-  size : length (take n input) ≡ n
-  size = length-take-le n input most
+module _ (symbols costs : List ℕ) (w : Written symbols costs) (long : 4 * length symbols ≤ length costs) where
+  pub costs-length : length (take (4 * length symbols) costs) ≡ 4 * length symbols
+  costs-length = length-take-le (4 * length symbols) costs long
 
-  enough : 4 * length (take n input) ≤ length costs
-  enough = omega (arith, size)
+  pub costs-small : All (λ c. c ≤ 7) (take (4 * length symbols) costs)
+  costs-small = written-small symbols costs w long
 
-  pub costs-small : All (λ c. c ≤ 7) (take (4 * n) costs)
-  costs-small = subst (λ (k : ℕ). All (λ c. c ≤ 7) (take (4 * k) costs)) size (written-small (take n input) costs w enough)
+  pub costs-fours : length (take (4 * length symbols) costs) % 4 ≡ 0
+  costs-fours = omega (arith, costs-length)
 
-  pub costs-fours : length (take (4 * n) costs) % 4 ≡ 0
-  costs-fours = let e = length-take-le (4 * n) costs (omega arith) in omega (arith, e)
-
-  pub took-input : {s next : SymbolStream} → Took s (take (4 * n) costs) next → TookInput s input next
-  took-input t = record {
-    count = n;
-    most = most;
-    symbols = symbols;
-    took = record { costs = take (4 * n) costs; costed = subst (λ (k : ℕ). Costed differing (take n input) (take (4 * k) costs)) size (written-costed (take n input) costs w enough); took = t };
-  }
+  pub symbols-fed : {r next : Reading} {output exit : List ℕ} {count : ℕ} → FeedsCosts r (take (4 * length symbols) costs) output next count exit
+      → FeedsReceived differing r symbols output next count exit
+  symbols-fed f = record { costs = take (4 * length symbols) costs; costed = written-costed symbols costs w long; fed = f }

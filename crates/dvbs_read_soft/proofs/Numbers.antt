@@ -18,9 +18,10 @@ use Rattle.run_reader.proofs.SoftDecisions.{along-costed}
 use Rattle.soft_decision.specs.Steps.{costsAlong}
 use Rattle.soft_decision.specs.declared.Received.the-variants.{Lost}
 use Rattle.soft_decision.proofs.Runs.{along-small}
-use Rattle.symbol_stream.specs.History.{Took}
-use Rattle.symbol_stream.specs.declared.SymbolStream.{SymbolStream}
-use Rattle.dvbs_read_soft.specs.Points.{pointAt, pointsOf, TookPoints}
+use Rattle.soft_decision.specs.Cost.{softly}
+use Rattle.symbol_pass.specs.History.{FeedsCosts, FeedsReceived}
+use Rattle.symbol_pass.specs.declared.Reading.{Reading}
+use Rattle.dvbs_read_soft.specs.Points.{pointAt, pointsOf}
 
 -- ---- the patterns of NaNs
 
@@ -58,11 +59,12 @@ module _ (bytes costs : List ℕ) (w : (t : ℕ) → t < 4 * (length bytes / 8) 
   pub points-fours : length (take (4 * n) costs) % 4 ≡ 0
   points-fours = let e = length-take-le (4 * n) costs long in omega (arith, e)
 
-  pub took-points : {s next : SymbolStream} → Took s (take (4 * n) costs) next → TookPoints s bytes next
-  took-points t = record {
+  pub points-fed : {r next : Reading} {output exit : List ℕ} {count : ℕ} → FeedsCosts r (take (4 * n) costs) output next count exit
+      → FeedsReceived softly r (pointsOf bytes) output next count exit
+  points-fed f = record {
     costs = take (4 * n) costs;
     costed = along-costed (pointAt bytes) (pointsOf bytes) n (length-listOf n (pointAt bytes)) (λ i h. getD-listOf n (pointAt bytes) Lost i h) costs long w;
-    took = t;
+    fed = f;
   }
 
 -- ---- the bytes that make no whole point

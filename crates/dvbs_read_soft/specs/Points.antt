@@ -1,19 +1,14 @@
 -- Received points as bytes: two f32 each, I and then Q, the lowest byte first.
 -- Clause: document 02, P8.
 -- Assumes nothing.
-use mathlib.Core.Path.{_≡_}
 use mathlib.Core.List.{List}
-use Prim.Native.Nat.{ℕ, _+_, _*_, _/_, _%_}
+use Prim.Native.Nat.{ℕ, _+_, _*_, _/_}
 use lib.Ieee.{Float, isNan, ofBits, binary32}
-use lib.ListN.{length, getD, take, drop}
+use lib.ListN.{length, getD}
 use Rattle.common.specs.Choice.{pick}
 use Rattle.common.specs.Lists.{listOf}
-use Rattle.soft_decision.specs.Cost.{softly}
 use Rattle.soft_decision.specs.declared.Received.{Received}
 use Rattle.soft_decision.specs.declared.Received.the-variants.{At, Lost}
-use Rattle.symbol_stream.specs.History.{TookSymbols}
-use Rattle.symbol_stream.specs.declared.SymbolStream.{SymbolStream}
-use Rattle.dvbs_read_soft.specs.declared.Points.{Points}
 
 -- the number whose lowest byte is at a place
 abbrev pub wordAt : List ℕ → ℕ → ℕ
@@ -33,12 +28,3 @@ pointAt bytes k = point (number bytes (8 * k)) (number bytes (8 * k + 4))
 -- those of the whole points of some bytes
 abbrev pub pointsOf : List ℕ → List Received
 pointsOf bytes = listOf (length bytes / 8) (pointAt bytes)
-
--- the stream has taken them, and the bytes that make no whole point are held
-abbrev pub TookPoints : SymbolStream → List ℕ → SymbolStream → Type 0
-TookPoints s bytes next = TookSymbols softly s (pointsOf bytes) next
-
-pub record Held (p : Points) (bytes : List ℕ) : Type 0 where
-  pub size : length (p .tail) ≡ 8
-  pub count : p .held ≡ length bytes % 8
-  pub bytes-are : take (p .held) (p .tail) ≡ drop (8 * (length bytes / 8)) bytes

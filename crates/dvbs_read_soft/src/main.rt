@@ -1,14 +1,17 @@
 // dvbs_read_soft RATE < points > bytes
 // Reads the received points of standard input at a rate 0 to 4, and writes the bits that were most likely sent, eight to a byte, the top bit first.
 // A point is two f32, I and then Q, the lowest byte first: the complex numbers of GNU Radio's files. One whose numbers are both NaN is a lost symbol.
+// No contract can say what is read or written. What is read stands from byte 8 of a buffer on, and is what is taken: `next_turn`.
 ghost use mathlib.Core.Path.{_≡_};
-ghost use Prim.Native.Nat.{ℕ, _+_, _*_, _<_, _≤_};
+ghost use Prim.Native.Nat.{ℕ, _+_, _*_, _/_, _<_, _≤_};
 ghost use lib.Ieee.{isNan, ofBits, binary32, nanBits};
 ghost use lib.ListN.{length, getD};
 ghost use Rattle.soft_decision.specs.Steps.{costsAlong};
-ghost use Rattle.symbol_pass.specs.Going.{Going};
-ghost use Rattle.dvbs_read_soft.specs.Points.{wordAt, number, point, pointAt, Held, TookPoints};
+ghost use Rattle.symbol_pass.specs.History.{Going};
+ghost use Rattle.dvbs_read_soft.specs.Points.{wordAt, number, point, pointAt};
+ghost use Rattle.dvbs_read_soft.specs.Turn.{TakesPoints, ReadsBehind, Buffers, Turns};
 use common::put;
+use input_pieces::Piece;
 use libc::STDERR_FILENO;
 use libc::STDIN_FILENO;
 use soft_decision::Point;
@@ -16,7 +19,6 @@ use soft_decision::Received;
 use soft_decision::put_costs;
 use symbol_pass::Reading;
 use symbol_pass::feed_costs;
-use symbol_pass::stopped;
 
 // What is carried from one read to the next: the reading, and the bytes of a point that is not whole yet.
 struct Points {
@@ -25,10 +27,18 @@ struct Points {
     held: usize,
 }
 
-// What a read answered, and how many bytes came.
-struct Piece {
-    got: isize,
-    length: usize,
+// What was taken of some bytes: what is carried on, and how many bytes stand in the output.
+struct Taken {
+    points: Points,
+    count: usize,
+}
+
+// The piece that was read, how many bytes stand in the output, what is carried on, and whether to read more.
+struct Turn {
+    piece: Piece,
+    count: usize,
+    points: Points,
+    more: bool,
 }
 
 // The number of four bytes, the lowest first.
@@ -109,78 +119,85 @@ fn point_costs(bytes: &[u8], count: usize, output: &mut [u8])
 }
 
 // Takes the whole points of some bytes, and holds the bytes that are left.
-fn take_points(points: Points, bytes: &[u8], costs: &mut [u8], output: &mut [u8]) -> Points
-    requires { ⌜ (Going (points .reading)) × (length (now bytes) ≤ 2 * length (now costs)) × (1632 ≤ length (now output)) ⌝ }
-    ensures { λ r. ⌜ (Going (r .reading)) × (Held r (now (bytes .entry))) × (TookPoints (points .reading .stream) (now (bytes .entry)) (r .reading .stream)) ⌝ }
+fn take_points(
+    reading: Reading,
+    bytes: &[u8],
+    costs: &mut [u8],
+    bits: &mut [u8],
+    output: &mut [u8],
+) -> Taken
+    requires { ⌜ (Going reading) × (length (now bytes) ≤ 2 * length (now costs)) × (1632 ≤ length (now bits)) × (4 * (length (now bytes) / 8) + 6528 ≤ 16 * length (now output)) ⌝ }
+    ensures { λ r. ⌜ TakesPoints reading (now (bytes .entry)) (now (output .entry)) (r .points) (r .count) (now (output .exit)) ⌝ }
 {
-    let count = bytes.len() / 8;
-    point_costs(bytes, count, costs);
-    let end = 4 * count;
-    let reading = points.reading;
-    let next = feed_costs(reading, &costs[..end], output);
-    let whole = 8 * count;
+    let points = bytes.len() / 8;
+    point_costs(bytes, points, costs);
+    let end = 4 * points;
+    let fed = feed_costs(reading, &costs[..end], bits, output);
+    let next = fed.reading;
+    let count = fed.count;
+    let whole = 8 * points;
     let mut tail = [0u8; 8];
     put(&bytes[whole..], 0, &mut tail);
-    Points {
-        reading: next,
-        tail,
-        held: bytes.len() % 8,
+    Taken {
+        points: Points {
+            reading: next,
+            tail,
+            held: bytes.len() % 8,
+        },
+        count,
     }
 }
 
-// The same points, of which nothing more is read.
-fn ended(points: Points) -> Points
-    requires { ⌜ (Going (points .reading)) × (points .held < 8) × (length (points .tail) ≡ 8) ⌝ }
-    ensures { λ r. ⌜ (Going (r .reading)) × (r .held < 8) × (length (r .tail) ≡ 8) ⌝ }
+// Reads once, from byte 8 of the input on, and lays the bytes that are held right before it.
+fn read_behind(held: &[u8], input: &mut [u8]) -> Piece
+    requires { ⌜ (length (now held) < 8) × (8 ≤ length (now input)) ⌝ }
+    ensures { λ r. ⌜ ReadsBehind (now (held .entry)) (now (input .entry)) (now (input .exit)) r ⌝ }
+{
+    let most = input.len() - 8;
+    let piece = input_pieces::read_piece(STDIN_FILENO, &mut input[8..], most);
+    put(held, 8 - held.len(), input);
+    piece
+}
+
+// Reads once, and takes the whole points of the bytes that were held and those that came.
+fn next_turn(
+    points: Points,
+    input: &mut [u8],
+    costs: &mut [u8],
+    bits: &mut [u8],
+    output: &mut [u8],
+) -> Turn
+    requires { ⌜ Buffers points (now input) (now costs) (now bits) (now output) ⌝ }
+    ensures { λ r. ⌜ Turns points (now (input .entry)) (now (input .exit)) (now (output .entry)) r (now (output .exit)) ⌝ }
 {
     let reading = points.reading;
     let tail = points.tail;
-    Points {
-        reading: stopped(reading),
-        tail,
-        held: points.held,
-    }
-}
-
-// Reads once, from byte 8 of the input on. What the read answered is kept, and how many bytes came.
-fn read_behind(input: &mut [u8]) -> Piece
-    requires { ⌜ 8 ≤ length (now input) ⌝ }
-    ensures { λ r. ⌜ 8 + r .length ≤ length (now (input .entry)) ⌝ }
-{
-    let got = libc::read(STDIN_FILENO, &mut input[8..]);
-    let length = io::count(got, &input[8..]);
-    Piece { got, length }
-}
-
-// Reads once, and takes what came with the bytes that are held, which are laid before byte 8, where the read begins.
-fn read_some(points: Points, input: &mut [u8], costs: &mut [u8], output: &mut [u8]) -> Points
-    requires { ⌜ (Going (points .reading)) × (points .held < 8) × (length (points .tail) ≡ 8) × (8 ≤ length (now input)) × (length (now input) ≤ 2 * length (now costs)) × (1632 ≤ length (now output)) ⌝ }
-    ensures { λ r. ⌜ (Going (r .reading)) × (r .held < 8) × (length (r .tail) ≡ 8) ⌝ }
-{
-    let piece = read_behind(input);
-    if piece.got < 0 {
-        os::fail(b"standard input");
-        return ended(points);
-    }
-    if piece.got == 0 {
-        return ended(points);
-    }
     let held = points.held;
-    let tail = points.tail;
+    let piece = read_behind(&tail[..held], input);
+    let length = piece.length;
     let from = 8 - held;
-    put(&tail[..held], from, input);
-    let end = 8 + piece.length;
-    take_points(points, &input[from..end], costs, output)
+    let end = 8 + length;
+    let taken = take_points(reading, &input[from..end], costs, bits, output);
+    let next = taken.points;
+    let count = taken.count;
+    Turn {
+        piece,
+        count,
+        points: next,
+        more: 0 < length,
+    }
 }
 
-// Reads until the input ends. A proved loop has to end, and nothing says that an input does: the loop counts its turns down, from a number that no
-// run uses up. At the end it is said how many bytes make no whole point.
+// Reads until the input ends, or a read or a write fails. A proved loop has to end, and nothing says that an input does: the loop counts its turns
+// down, from a number that no run uses up. At the end it is said how many bytes make no whole point. The buffers are for a piece of 65,536 bytes behind
+// those that are held, for the costs of its points, for the bits of a run, and for the bytes that the bits of a piece fill at most.
 fn read_all(reading: Reading)
     requires { ⌜ Going reading ⌝ }
 {
     let mut input = [0u8; 65544];
     let mut costs = [0u8; 32772];
-    let mut output = [0u8; 1632];
+    let mut bits = [0u8; 1632];
+    let mut output = [0u8; 2456];
     let tail = [0u8; 8];
     let mut points = Points {
         reading,
@@ -190,14 +207,21 @@ fn read_all(reading: Reading)
     let mut more = true;
     let mut turns = u64::MAX;
     while turns > 0 && more {
-        let next = read_some(points, &mut input, &mut costs, &mut output);
-        more = next.reading.more;
+        let turn = next_turn(points, &mut input, &mut costs, &mut bits, &mut output);
+        let piece = turn.piece;
+        let next = turn.points;
+        let count = turn.count;
+        symbol_pass::report_failed(piece.got);
+        if !symbol_pass::write_bytes(&output, count) {
+            return;
+        }
+        more = turn.more;
         points = next;
         turns -= 1;
     }
     let held = points.held;
     let last = points.reading;
-    if symbol_pass::finish(last, &mut output) {
+    if symbol_pass::finish(last, &mut bits, &mut output) {
         symbol_pass::report(b"bytes=", held as u64, b"\n");
     }
 }

@@ -1,32 +1,36 @@
-// A program's pass over received symbols: their costs are fed to a stream, and the bits that are decided are written as bytes.
+// A program's pass over received symbols: their costs are fed to a stream, and the bits that are decided are packed into bytes.
+// No contract can say what a write writes: `write_bytes` is lent the bytes that `feed_costs` and `last_bytes` promise.
 // Inner: its functions may require what the crates above have tested. docs/ARCHITECTURE.md names the public surface.
 ghost use mathlib.Core.Path.{_≡_};
-ghost use mathlib.Core.List.{_++_};
-ghost use Prim.Native.Nat.{_%_, _<_, _≤_};
+ghost use Prim.Native.Nat.{_+_, _*_, _%_, _<_, _≤_};
 ghost use lib.ListN.{length};
 ghost use Rattle.common.specs.Lists.{All};
-ghost use Rattle.convolutional_code.specs.Bits.{Bits};
-ghost use Rattle.bit_packing.specs.Packing.{bitsAfter, carriedBits};
-ghost use Rattle.symbol_stream.specs.History.{Took};
-ghost use Rattle.symbol_pass.specs.Going.{Going};
+ghost use Rattle.symbol_pass.specs.History.{Begun, Going, FeedsCosts, LastBytes};
 use bit_packing::pack;
 use libc::STDERR_FILENO;
 use libc::STDOUT_FILENO;
 use symbol_stream::SymbolStream;
 
-// Bits that make no whole byte yet, how many, and whether a write has failed.
-pub struct Writer {
-    pub carry: u8,
-    pub bits: usize,
-    pub failed: bool,
-}
-
-// What is carried from one read to the next: the stream, how many symbols it was fed with, the bits that are not written, and whether to read more.
+// What is carried from one read to the next: the stream, how many symbols it was fed with, and the bits that fill no byte yet, which are the last
+// `held` of `carry`.
 pub struct Reading {
     pub stream: SymbolStream,
     pub symbols: u64,
-    pub writer: Writer,
-    pub more: bool,
+    pub carry: u8,
+    pub held: usize,
+}
+
+// The reading after a piece, and how many bytes its bits filled.
+pub struct Fed {
+    pub reading: Reading,
+    pub count: usize,
+}
+
+// How many bytes the last bits filled, how many symbols make no whole pattern, and how many bits no whole byte.
+pub struct Last {
+    pub count: usize,
+    pub rest: usize,
+    pub bits: usize,
 }
 
 // The rate that the program's only argument names, or 5.
@@ -50,97 +54,98 @@ pub fn report(key: &[u8], n: u64, end: &[u8]) {
     io::write_all(STDERR_FILENO, end);
 }
 
+// Says that a read failed, by its answer.
+pub fn report_failed(got: isize) {
+    if got < 0 {
+        os::fail(b"standard input");
+    }
+}
+
+// Writes the first so many bytes to standard output: whether that did not fail. If it did, that is said.
+pub fn write_bytes(bytes: &[u8], count: usize) -> bool
+    requires { ⌜ count ≤ length (now bytes) ⌝ }
+{
+    if io::write_all(STDOUT_FILENO, &bytes[..count]) {
+        return true;
+    }
+    os::fail(b"standard output");
+    false
+}
+
 // A reading of which nothing has come.
 pub fn begin(rate: u8) -> Reading
     requires { ⌜ rate < 5 ⌝ }
-    ensures { λ r. ⌜ Going r ⌝ }
+    ensures { λ r. ⌜ Begun rate r ⌝ }
 {
     let stream = symbol_stream::open(rate);
-    let writer = Writer {
-        carry: 0,
-        bits: 0,
-        failed: false,
-    };
     Reading {
         stream,
         symbols: 0,
-        writer,
-        more: true,
+        carry: 0,
+        held: 0,
     }
 }
 
-// Nothing more is read.
-pub fn stopped(reading: Reading) -> Reading
-    requires { ⌜ Going reading ⌝ }
-    ensures { λ r. ⌜ (Going r) × (r .stream ≡ reading .stream) ⌝ }
-{
-    let mut last = reading;
-    last.more = false;
-    last
-}
-
-fn either(a: bool, b: bool) -> bool {
-    if a { true } else { b }
-}
-
-// Writes bits as bytes. Those that make no whole byte are carried.
-fn write_bits(writer: Writer, bits: &[u8]) -> Writer
-    requires { ⌜ (writer .bits < 8) × (length (now bits) ≤ 1632) × (Bits (now bits)) ⌝ }
-    ensures { λ r. ⌜ (r .bits < 8) × (carriedBits (r .carry) (r .bits) ≡ bitsAfter (carriedBits (writer .carry) (writer .bits) ++ now (bits .entry))) ⌝ }
-{
-    let mut bytes = [0u8; 205];
-    let failed = writer.failed;
-    let packed = pack(writer.carry, writer.bits, bits, &mut bytes);
-    let count = packed.count;
-    let written = io::write_all(STDOUT_FILENO, &bytes[..count]);
-    Writer {
-        carry: packed.carry,
-        bits: packed.held,
-        failed: either(failed, !written),
-    }
-}
-
-// Feeds the costs of symbols to the stream, and writes the bits that are decided.
-pub fn feed_costs(reading: Reading, costs: &[u8], output: &mut [u8]) -> Reading
-    requires { ⌜ (Going reading) × (All (λ c. c ≤ 7) (now costs)) × (length (now costs) % 4 ≡ 0) × (1632 ≤ length (now output)) ⌝ }
-    ensures { λ r. ⌜ (Going r) × (Took (reading .stream) (now (costs .entry)) (r .stream)) ⌝ }
+// Feeds the costs of symbols to the stream. The bytes that the bits fill stand at the front of the output. A run is read into `bits`.
+pub fn feed_costs(reading: Reading, costs: &[u8], bits: &mut [u8], output: &mut [u8]) -> Fed
+    requires { ⌜ (Going reading) × (All (λ c. c ≤ 7) (now costs)) × (length (now costs) % 4 ≡ 0) × (1632 ≤ length (now bits)) × (length (now costs) + 6528 ≤ 16 * length (now output)) ⌝ }
+    ensures { λ r. ⌜ FeedsCosts reading (now (costs .entry)) (now (output .entry)) (r .reading) (r .count) (now (output .exit)) ⌝ }
 {
     let mut stream = reading.stream;
-    let mut writer = reading.writer;
+    let mut carry = reading.carry;
+    let mut held = reading.held;
+    let mut count: usize = 0;
     let mut at: usize = 0;
     while at < costs.len() {
-        let fed = symbol_stream::feed(stream, &costs[at..], output);
+        let fed = symbol_stream::feed(stream, &costs[at..], bits);
         let next = fed.stream;
-        let count = fed.count;
+        let decided = fed.count;
         let taken = fed.taken;
         stream = next;
-        writer = write_bits(writer, &output[..count]);
+        let packed = pack(carry, held, &bits[..decided], &mut output[count..]);
+        carry = packed.carry;
+        held = packed.held;
+        count += packed.count;
         at += taken;
     }
     let symbols = std::num::wrapping_add_u64(reading.symbols, (costs.len() / 4) as u64);
-    let failed = writer.failed;
-    Reading {
-        stream,
-        symbols,
-        writer,
-        more: !failed,
+    Fed {
+        reading: Reading {
+            stream,
+            symbols,
+            carry,
+            held,
+        },
+        count,
     }
 }
 
-// Reads what is left of the stream, and says how many symbols make no whole pattern and how many bits no whole byte: whether nothing failed.
-pub fn finish(reading: Reading, output: &mut [u8]) -> bool
-    requires { ⌜ (Going reading) × (1632 ≤ length (now output)) ⌝ }
+// The bytes that the bits carried and those of the whole patterns that are left fill, at the front of the output.
+fn last_bytes(reading: Reading, bits: &mut [u8], output: &mut [u8]) -> Last
+    requires { ⌜ (Going reading) × (1632 ≤ length (now bits)) × (204 ≤ length (now output)) ⌝ }
+    ensures { λ r. ⌜ LastBytes reading (now (bits .entry)) (now (bits .exit)) (now (output .entry)) r (now (output .exit)) ⌝ }
 {
     let stream = reading.stream;
-    let writer = reading.writer;
-    let closed = symbol_stream::close(stream, output);
-    let count = closed.count;
-    let last = write_bits(writer, &output[..count]);
-    if last.failed {
-        os::fail(b"standard output");
+    let closed = symbol_stream::close(stream, bits);
+    let decided = closed.count;
+    let packed = pack(reading.carry, reading.held, &bits[..decided], output);
+    Last {
+        count: packed.count,
+        rest: closed.rest,
+        bits: packed.held,
+    }
+}
+
+// Writes what is left of the stream, and says how many symbols make no whole pattern and how many bits no whole byte: whether the write did not fail.
+pub fn finish(reading: Reading, bits: &mut [u8], output: &mut [u8]) -> bool
+    requires { ⌜ (Going reading) × (1632 ≤ length (now bits)) × (204 ≤ length (now output)) ⌝ }
+{
+    let last = last_bytes(reading, bits, output);
+    let count = last.count;
+    if !write_bytes(output, count) {
         return false;
     }
-    report(b"rest=", closed.rest as u64, b"\n");
+    report(b"rest=", last.rest as u64, b"\n");
     report(b"bits=", last.bits as u64, b"\n");
     true
 }

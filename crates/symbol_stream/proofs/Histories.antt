@@ -91,7 +91,7 @@ pub record Fed (rate : ℕ) (costs : List ℕ) (s : SymbolStream) : Type 0 where
   pub rate-is : s .rate ≡ rate
   pub fours : length costs % 4 ≡ 0
 
-held-length : (s : SymbolStream) → StreamReady s → length (heldOf s) ≡ s .count
+pub held-length : (s : SymbolStream) → StreamReady s → length (heldOf s) ≡ s .count
 held-length s g = length-take-le (s .count) (s .held) (omega (arith, g .size, g .below, numbers (s .rate) (g .known) .costs-most))
 
 -- whole symbols are taken of a piece
@@ -174,17 +174,15 @@ every-end cost s g left c {output} {exit} {count} {rest} e =
 
 -- ---- one piece after the other
 
-pub took-none : (s : SymbolStream) → Took s [] s
+pub took-none : (s : SymbolStream) → Took s [] [] s
 took-none s = record {
-  out = [];
   after = λ {rate} {before} {bits} f. subst (λ (l : List ℕ). SymbolFeedings rate l (bits ++ []) s) (sym (append-nil before)) (subst (λ (l : List ℕ). SymbolFeedings rate before l s) (sym (append-nil bits)) f);
 }
 
-pub took-more : {s t next : SymbolStream} {costs : List ℕ} → Took s costs t → (piece output exit : List ℕ) (taken count : ℕ) → 1632 ≤ length output → length piece % 4 ≡ 0
-    → FeedsSymbols t piece output next taken count exit → StreamReady next → Took s (costs ++ take taken piece) next
-took-more {next = next} {costs} k piece output exit taken count long e f g = record {
-  out = k .out ++ take count exit;
+pub took-more : {s t next : SymbolStream} {costs out : List ℕ} → Took s costs out t → (piece output exit : List ℕ) (taken count : ℕ) → 1632 ≤ length output → length piece % 4 ≡ 0
+    → FeedsSymbols t piece output next taken count exit → StreamReady next → Took s (costs ++ take taken piece) (out ++ take count exit) next
+took-more {next = next} {costs} {out} k piece output exit taken count long e f g = record {
   after = λ {rate} {before} {bits} h.
-      subst (λ (l : List ℕ). SymbolFeedings rate l (bits ++ (k .out ++ take count exit)) next) (append-assoc before costs (take taken piece))
-      (subst (λ (l : List ℕ). SymbolFeedings rate (before ++ costs ++ take taken piece) l next) (append-assoc bits (k .out) (take count exit)) (feeding piece output exit taken count (k .after h) long e f g));
+      subst (λ (l : List ℕ). SymbolFeedings rate l (bits ++ (out ++ take count exit)) next) (append-assoc before costs (take taken piece))
+      (subst (λ (l : List ℕ). SymbolFeedings rate (before ++ costs ++ take taken piece) l next) (append-assoc bits out (take count exit)) (feeding piece output exit taken count (k .after h) long e f g));
 }

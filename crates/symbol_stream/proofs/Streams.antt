@@ -58,6 +58,7 @@ pub record Numbers (rate : ℕ) : Type 0 where
   pub kept-fewer : keptSymbols rate ≤ fullSymbols rate
   pub kept-some : 0 < keptSymbols rate
   pub bits-fewer : keptBits rate ≤ 1632
+  pub bits-half : 2 * keptBits rate ≤ keptCosts rate
   pub full-most : fullSymbols rate ≤ 1632
   pub full-whole : fullSymbols rate % symbolsPerPattern rate ≡ 0
   pub full-costs : fullCosts rate ≡ 4 * fullSymbols rate
@@ -72,6 +73,7 @@ numbers rate h = record {
   kept-fewer = leb→le _ _ (computed.below-at (λ r. leb (keptSymbols r) (fullSymbols r)) 5 tt rate h);
   kept-some = leb→le _ _ (computed.below-at (λ r. leb 1 (keptSymbols r)) 5 tt rate h);
   bits-fewer = leb→le _ _ (computed.below-at (λ r. leb (keptBits r) 1632) 5 tt rate h);
+  bits-half = leb→le _ _ (computed.below-at (λ r. leb (2 * keptBits r) (keptCosts r)) 5 tt rate h);
   full-most = leb→le _ _ (computed.below-at (λ r. leb (fullSymbols r) 1632) 5 tt rate h);
   full-whole = computed.agree-at (λ r. fullSymbols r % symbolsPerPattern r) (λ r. 0) 5 tt rate h;
   full-costs = refl;

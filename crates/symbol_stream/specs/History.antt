@@ -34,13 +34,6 @@ pub record Ended {R : Type 0} (cost : R → ℕ → ℕ) (rate memory : ℕ) (le
   pub bits :
       BestRead (runCost (map cost (take (symbolsPerPattern rate * whole) left)) rate memory) (runBits rate (length (take (symbolsPerPattern rate * whole) left))) memory output after total count exit
 
--- A stream that has taken costs: whatever had come before them, they came after it, and some bits more are decided.
-pub record Took (s : SymbolStream) (costs : List ℕ) (next : SymbolStream) : Type 0 where
-  pub out : List ℕ
+-- A stream that has taken costs: whatever had come before them, they came after it, and these bits more are decided.
+pub record Took (s : SymbolStream) (costs out : List ℕ) (next : SymbolStream) : Type 0 where
   pub after : {rate : ℕ} {before bits : List ℕ} → SymbolFeedings rate before bits s → SymbolFeedings rate (before ++ costs) (bits ++ out) next
-
--- A stream that has taken received symbols, as their costs.
-pub record TookSymbols {R : Type 0} (cost : R → ℕ → ℕ) (s : SymbolStream) (rs : List R) (next : SymbolStream) : Type 0 where
-  pub costs : List ℕ
-  pub costed : Costed cost rs costs
-  pub took : Took s costs next

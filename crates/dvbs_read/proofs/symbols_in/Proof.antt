@@ -4,7 +4,7 @@ use Prim.Native.Nat.{_-_}
 use native.Mathlib.Omega.{arith}
 use borrow.Author.Needs.{needs}
 use lib.ListN.{length}
-use Rattle.dvbs_read.proofs.Symbols.{Front, front-none, front-more}
+use Rattle.dvbs_read.proofs.Symbols.{Front, front-none, front-more, front-ends, front-all}
 use Rattle.dvbs_read.proofs.symbols_in.Statement.{statement}
 use Rattle.dvbs_read.proofs.symbols_in.Tie as tie
 
@@ -21,7 +21,7 @@ shared-slice-read-if1 : tie.Need-shared-slice-read-if1 Inv-loop μ-loop
 shared-slice-read-if1 c = search needs
 
 returns : tie.Need-returns Inv-loop μ-loop
-returns c = (c .before .before .before .loop .inv .most, c .before .before .before .loop .inv .symbols)
+returns c = front-ends (c .before .before .before .loop .inv) (omega (arith, c .if1 .taken))
 
 add-i : tie.Need-add-i Inv-loop μ-loop
 add-i c = omega arith
@@ -30,10 +30,10 @@ loop-less : tie.Need-loop-less Inv-loop μ-loop
 loop-less c = omega arith
 
 loop-again : tie.Need-loop-again Inv-loop μ-loop
-loop-again c = front-more (c .before .before .before .loop .inv) (c .before .before .loop-test .taken) (c .if1 .left)
+loop-again c = front-more (c .before .before .before .loop .inv) (c .before .before .loop-test .taken) (omega (arith, c .if1 .left))
 
 returns-2 : tie.Need-returns-2 Inv-loop μ-loop
-returns-2 c = (c .before .loop .inv .most, c .before .loop .inv .symbols)
+returns-2 c = front-all (c .before .loop .inv) (c .loop-test .left)
 
 pub symbols-in-spec : {M : Type 1} → statement M
 symbols-in-spec =
