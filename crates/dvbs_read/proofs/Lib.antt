@@ -1,1 +1,1 @@
-pub mod Symbols
+mod Symbols

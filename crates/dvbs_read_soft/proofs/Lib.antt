@@ -1,1 +1,1 @@
-pub mod Numbers
+mod Numbers

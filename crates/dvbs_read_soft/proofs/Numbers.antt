@@ -10,7 +10,7 @@ use lib.Dec.{T, eqb}
 use lib.Ieee.{nan, ofBits, ofFields, binary32, nanBits}
 use lib.ListN.{length, getD, take, drop, length-append, length-drop}
 use lib.Seq.{length-take-le, take-at, take-length}
-use Rattle.common.specs.Lists.{All}
+use Rattle.common.specs.Lists.{All, restOf}
 use Rattle.common.proofs.Choice.{false-true}
 use Rattle.common.proofs.Lists.{length-listOf, getD-listOf}
 use Rattle.run_reader.proofs.Outcome.{not-true}
@@ -81,8 +81,11 @@ module _ (bytes tail next : List ℕ) (size : length tail ≡ 8) where
     pub tail-length : length next ≡ 8
     tail-length = ap length e ∙ omega (arith, length-append rest (drop (0 + length rest) tail), length-drop (0 + length rest) tail, rest-length)
 
-    pub tail-is : take (length bytes % 8) next ≡ drop whole bytes
+    pub tail-is : take (length bytes % 8) next ≡ restOf 8 bytes
+    unfolding restOf
     tail-is =
+        let k : whole ≡ length bytes - length bytes % 8 = omega arith in
         let n : length bytes - whole ≡ length (drop whole bytes) = sym (length-drop whole bytes) in
         ap (take (length bytes % 8)) e
         ∙ (take-at rest (drop (0 + length rest) tail) (length bytes % 8) rest-length ∙ (ap (λ (k : ℕ). take k (drop whole bytes)) n ∙ take-length (drop whole bytes)))
+        ∙ ap (λ (j : ℕ). drop j bytes) k

@@ -5,9 +5,9 @@ use mathlib.Core.Path.{_≡_}
 use mathlib.Core.List.{List}
 use Prim.Native.Nat.{ℕ, _+_, _*_, _/_, _%_}
 use lib.Ieee.{Float, isNan, ofBits, binary32}
-use lib.ListN.{length, getD, take, drop}
+use lib.ListN.{length, getD, take}
 use Rattle.common.specs.Choice.{pick}
-use Rattle.common.specs.Lists.{listOf}
+use Rattle.common.specs.Lists.{listOf, restOf}
 use Rattle.soft_decision.specs.Cost.{softly}
 use Rattle.soft_decision.specs.declared.Received.{Received}
 use Rattle.soft_decision.specs.declared.Received.the-variants.{At, Lost}
@@ -41,4 +41,4 @@ TookPoints s bytes next = TookSymbols softly s (pointsOf bytes) next
 pub record Held (p : Points) (bytes : List ℕ) : Type 0 where
   pub size : length (p .tail) ≡ 8
   pub count : p .held ≡ length bytes % 8
-  pub bytes-are : take (p .held) (p .tail) ≡ drop (8 * (length bytes / 8)) bytes
+  pub bytes-are : take (p .held) (p .tail) ≡ restOf 8 bytes

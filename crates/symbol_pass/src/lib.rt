@@ -4,9 +4,9 @@ ghost use mathlib.Core.Path.{_≡_};
 ghost use mathlib.Core.List.{_++_};
 ghost use Prim.Native.Nat.{_%_, _<_, _≤_};
 ghost use lib.ListN.{length};
-ghost use Rattle.common.specs.Lists.{All};
+ghost use Rattle.common.specs.Lists.{All, restOf};
 ghost use Rattle.convolutional_code.specs.Bits.{Bits};
-ghost use Rattle.bit_packing.specs.Packing.{bitsAfter, carriedBits};
+ghost use Rattle.bit_packing.specs.Packing.{carriedBits};
 ghost use Rattle.symbol_stream.specs.History.{Took};
 ghost use Rattle.symbol_pass.specs.Going.{Going};
 use bit_packing::pack;
@@ -86,7 +86,7 @@ fn either(a: bool, b: bool) -> bool {
 // Writes bits as bytes. Those that make no whole byte are carried.
 fn write_bits(writer: Writer, bits: &[u8]) -> Writer
     requires { ⌜ (writer .bits < 8) × (length (now bits) ≤ 1632) × (Bits (now bits)) ⌝ }
-    ensures { λ r. ⌜ (r .bits < 8) × (carriedBits (r .carry) (r .bits) ≡ bitsAfter (carriedBits (writer .carry) (writer .bits) ++ now (bits .entry))) ⌝ }
+    ensures { λ r. ⌜ (r .bits < 8) × (carriedBits (r .carry) (r .bits) ≡ restOf 8 (carriedBits (writer .carry) (writer .bits) ++ now (bits .entry))) ⌝ }
 {
     let mut bytes = [0u8; 205];
     let failed = writer.failed;

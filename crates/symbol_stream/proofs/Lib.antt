@@ -1,4 +1,4 @@
-pub mod Costs
+mod Costs
 pub mod Streams
 pub mod Histories
 pub mod Unharmed
