@@ -33,7 +33,7 @@ module _ (K : Field) where
   sum-add-step : (s t u v : F) → (s + t) + (u + v) ≡ (s + u) + (t + v)
   sum-add-step s t u v = simp ring
 
-  pub sum-add : (n : ℕ) (f g : ℕ → F) → sum n (λ i. f i + g i) ≡ sum n f + sum n g
+  sum-add : (n : ℕ) (f g : ℕ → F) → sum n (λ i. f i + g i) ≡ sum n f + sum n g
   unfolding sum
   sum-add zero f g = sym (zero-add K 𝟘)
   sum-add (suc n) f g = ap (λ u. u + (f n + g n)) (sum-add n f g) ∙ sum-add-step _ _ _ _
@@ -41,29 +41,29 @@ module _ (K : Field) where
   sum-mul-step : (a s u : F) → a * s + a * u ≡ a * (s + u)
   sum-mul-step a s u = simp ring
 
-  pub sum-mul : (n : ℕ) (a : F) (f : ℕ → F) → sum n (λ i. a * f i) ≡ a * sum n f
+  sum-mul : (n : ℕ) (a : F) (f : ℕ → F) → sum n (λ i. a * f i) ≡ a * sum n f
   unfolding sum
   sum-mul zero a f = sym (mul-zero K a)
   sum-mul (suc n) a f = ap (λ u. u + a * f n) (sum-mul n a f) ∙ sum-mul-step a _ _
 
-  pub sum-zero : (n : ℕ) (f : ℕ → F) → ((i : ℕ) → i < n → f i ≡ 𝟘) → sum n f ≡ 𝟘
+  sum-zero : (n : ℕ) (f : ℕ → F) → ((i : ℕ) → i < n → f i ≡ 𝟘) → sum n f ≡ 𝟘
   unfolding sum
   sum-zero zero f h = refl
   sum-zero (suc n) f h = ap (λ u. u + f n) (sum-zero n f (λ i l. h i (omega arith))) ∙ zero-add K _ ∙ h n (omega arith)
 
   -- from the front
-  pub sum-front : (n : ℕ) (f : ℕ → F) → sum (suc n) f ≡ f zero + sum n (λ i. f (suc i))
+  sum-front : (n : ℕ) (f : ℕ → F) → sum (suc n) f ≡ f zero + sum n (λ i. f (suc i))
   unfolding sum
   sum-front zero f = Field.add·comm K 𝟘 (f zero)
   sum-front (suc n) f = ap (λ u. u + f (suc n)) (sum-front n f) ∙ Field.add·assoc K _ _ _
 
-  pub dot-sum : (q : List F) (f : ℕ → F) → dot K q f ≡ sum (length q) (λ i. getD q i 𝟘 * f i)
+  dot-sum : (q : List F) (f : ℕ → F) → dot K q f ≡ sum (length q) (λ i. getD q i 𝟘 * f i)
   unfolding dot sum
   dot-sum [] f = refl
   dot-sum (a ∷ q) f = ap (λ u. a * f zero + u) (dot-sum q (λ i. f (suc i))) ∙ sym (sum-front (length q) (λ i. getD (a ∷ q) i 𝟘 * f i))
 
   -- one term, two terms
-  pub sum-one : (n k : ℕ) (f : ℕ → F) → k < n → ((i : ℕ) → i < n → (i ≡ k → ⊥) → f i ≡ 𝟘) → sum n f ≡ f k
+  sum-one : (n k : ℕ) (f : ℕ → F) → k < n → ((i : ℕ) → i < n → (i ≡ k → ⊥) → f i ≡ 𝟘) → sum n f ≡ f k
   unfolding sum
   sum-one zero k f l h = absurd (not-suc-le-zero l)
   sum-one (suc n) k f l h = go (ℕ-discrete n k) (λ m. sum-one n k f m (λ i b. h i (omega arith)))
@@ -72,7 +72,7 @@ module _ (K : Field) where
       go (yes e) r = ap (λ u. u + f n) (sum-zero n f (λ i b. h i (omega arith) (λ x. omega arith))) ∙ zero-add K _ ∙ ap f e
       go (no e) r = ap (λ u. sum n f + u) (h n (omega arith) e) ∙ add-zero K _ ∙ r (omega arith)
 
-  pub sum-two : (n j k : ℕ) (f : ℕ → F) → j < k → k < n → ((i : ℕ) → i < n → (i ≡ j → ⊥) → (i ≡ k → ⊥) → f i ≡ 𝟘) → sum n f ≡ f j + f k
+  sum-two : (n j k : ℕ) (f : ℕ → F) → j < k → k < n → ((i : ℕ) → i < n → (i ≡ j → ⊥) → (i ≡ k → ⊥) → f i ≡ 𝟘) → sum n f ≡ f j + f k
   unfolding sum
   sum-two zero j k f b l h = absurd (not-suc-le-zero l)
   sum-two (suc n) j k f b l h = go (ℕ-discrete n k) (λ m. sum-two n j k f b m (λ i b. h i (omega arith)))

@@ -45,7 +45,7 @@ module _ (K : Field) where
   timesLinear-step : (c d a x u : F) → (d + c * a) + x * (a + (x + c) * u) ≡ d + (x + c) * (a + x * u)
   timesLinear-step c d a x u = simp ring
 
-  pub eval-timesLinearFrom : (c d : F) (p : List F) (x : F) → eval (ops K) (timesLinearFrom c d p) x ≡ d + (x + c) * eval (ops K) p x
+  eval-timesLinearFrom : (c d : F) (p : List F) (x : F) → eval (ops K) (timesLinearFrom c d p) x ≡ d + (x + c) * eval (ops K) p x
   unfolding eval timesLinearFrom
   eval-timesLinearFrom c d [] x = timesLinear-nil c d x
   eval-timesLinearFrom c d (a ∷ p) x = ap (λ y. (d + c * a) + x * y) (eval-timesLinearFrom c a p x) ∙ timesLinear-step c d a x (eval (ops K) p x)
@@ -67,7 +67,7 @@ module _ (K : Field) where
   quotient c [] = []
   quotient c (a ∷ p) = horner c p
 
-  pub length-horner : (c : F) (p : List F) → length (horner c p) ≡ length p
+  length-horner : (c : F) (p : List F) → length (horner c p) ≡ length p
   unfolding horner
   length-horner c [] = refl
   length-horner c (a ∷ p) = ap suc (length-horner c p)
@@ -111,7 +111,7 @@ module _ (K : Field) where
   zero-step : (a x u : F) → u ≡ 𝟘 → a + x * u ≡ a
   zero-step a x u h = simp (ring, h)
 
-  pub eval-Zero : (p : List F) (x : F) → Zero p → eval (ops K) p x ≡ 𝟘
+  eval-Zero : (p : List F) (x : F) → Zero p → eval (ops K) p x ≡ 𝟘
   unfolding eval
   eval-Zero [] x h = refl
   eval-Zero (a ∷ p) x h = zero-step a x (eval (ops K) p x) (eval-Zero p x (h .1)) ∙ h .0
@@ -132,7 +132,7 @@ module _ (K : Field) where
       (sym (add-zero K _) ∙ ap (λ y. (x + c) * eval (ops K) (horner c p) x + y) (sym hc) ∙ sym (division c (a ∷ p) x) ∙ hx)
 
   -- (B) fewer coefficients than roots: all zero
-  pub root-bound : (xs : List F) (p : List F) → length p ≤ length xs → Distinct xs → All (λ x. eval (ops K) p x ≡ 𝟘) xs → Zero p
+  root-bound : (xs : List F) (p : List F) → length p ≤ length xs → Distinct xs → All (λ x. eval (ops K) p x ≡ 𝟘) xs → Zero p
   root-bound [] [] l d r = tt
   root-bound [] (a ∷ p) l d r = absurd (not-suc-le-zero l)
   root-bound (x ∷ xs) [] l d r = tt
@@ -234,7 +234,7 @@ module _ (K : Field) where
   pull-factor : (a b c : F) → a * (b * c) ≡ (a * b) * c
   pull-factor a b c = simp ring
 
-  pub eval-fromRoots : (rs ts : List F) (x : F) → eval (ops K) (fromRoots (rs ++ ts)) x ≡ eval (ops K) (fromRoots rs) x * eval (ops K) (fromRoots ts) x
+  eval-fromRoots : (rs ts : List F) (x : F) → eval (ops K) (fromRoots (rs ++ ts)) x ≡ eval (ops K) (fromRoots rs) x * eval (ops K) (fromRoots ts) x
   unfolding fromRoots eval
   eval-fromRoots [] ts x = one-times x (eval (ops K) (fromRoots ts) x)
   eval-fromRoots (r ∷ rs) ts x =

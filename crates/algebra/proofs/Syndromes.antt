@@ -43,7 +43,7 @@ module _ (K : Field) where
   dot-add-step : (a u v s t : F) → a * (u + v) + (s + t) ≡ (a * u + s) + (a * v + t)
   dot-add-step a u v s t = simp ring
 
-  pub dot-add : (p : List F) (f g : ℕ → F) → dot p (λ i. f i + g i) ≡ dot p f + dot p g
+  dot-add : (p : List F) (f g : ℕ → F) → dot p (λ i. f i + g i) ≡ dot p f + dot p g
   unfolding dot
   dot-add [] f g = sym (zero-add K 𝟘)
   dot-add (a ∷ p) f g = ap (λ y. a * (f zero + g zero) + y) (dot-add p (λ i. f (suc i)) (λ i. g (suc i))) ∙ dot-add-step a (f zero) (g zero) _ _
@@ -53,7 +53,7 @@ module _ (K : Field) where
   dot-ext [] f g h = refl
   dot-ext (a ∷ p) f g h = ap (λ u. a * u + dot p (λ i. f (suc i))) (h zero (omega arith)) ∙ ap (λ u. a * g zero + u) (dot-ext p (λ i. f (suc i)) (λ i. g (suc i)) (λ i l. h (suc i) (omega arith)))
 
-  pub dot-zero : (p : List F) (f : ℕ → F) → ((j : ℕ) → j < length p → f j ≡ 𝟘) → dot p f ≡ 𝟘
+  dot-zero : (p : List F) (f : ℕ → F) → ((j : ℕ) → j < length p → f j ≡ 𝟘) → dot p f ≡ 𝟘
   unfolding dot
   dot-zero [] f h = refl
   dot-zero (a ∷ p) f h = zero-step a (f zero) (dot p (λ i. f (suc i))) (h zero (omega arith)) (dot-zero p (λ i. f (suc i)) (λ j l. h (suc j) (omega arith)))
@@ -70,13 +70,13 @@ module _ (K : Field) where
   dot-power-move : (y x u : F) → y * (x * u) ≡ (y * x) * u
   dot-power-move y x u = simp ring
 
-  pub dot-power : (p : List F) (y x : F) → dot p (λ i. y * power (ops K) x i) ≡ y * eval (ops K) p x
+  dot-power : (p : List F) (y x : F) → dot p (λ i. y * power (ops K) x i) ≡ y * eval (ops K) p x
   unfolding dot eval power
   dot-power [] y x = dot-power-nil y
   dot-power (a ∷ p) y x = ap (λ f. a * (y * 𝟙) + dot p f) (fun-ext (λ i. dot-power-move y x (power (ops K) x i))) ∙ ap (λ u. a * (y * 𝟙) + u) (dot-power p (y * x) x) ∙ dot-power-step a y x (eval (ops K) p x)
 
   -- the functional in terms of the syndromes
-  pub dot-syndrome : (p : List F) (E : List Term) → dot p (syndrome E) ≡ paired E p
+  dot-syndrome : (p : List F) (E : List Term) → dot p (syndrome E) ≡ paired E p
   unfolding syndrome paired
   dot-syndrome p [] = dot-zero p (λ i. 𝟘) (λ j l. refl)
   dot-syndrome p (e ∷ E) = dot-add p (λ i. e .1 * power (ops K) (e .0) i) (syndrome E) ∙ ap (λ y. y + dot p (syndrome E)) (dot-power p (e .1) (e .0)) ∙ ap (λ y. e .1 * eval (ops K) p (e .0) + y) (dot-syndrome p E)
@@ -85,7 +85,7 @@ module _ (K : Field) where
   add-zeros : (u v : F) → u ≡ 𝟘 → v ≡ 𝟘 → u + v ≡ 𝟘
   add-zeros u v h k = simp (ring, h, k)
 
-  pub paired-zero : (E : List Term) (p : List F) → All (λ e. e .1 * eval (ops K) p (e .0) ≡ 𝟘) E → paired E p ≡ 𝟘
+  paired-zero : (E : List Term) (p : List F) → All (λ e. e .1 * eval (ops K) p (e .0) ≡ 𝟘) E → paired E p ≡ 𝟘
   unfolding paired
   paired-zero [] p h = refl
   paired-zero (e ∷ E) p h = add-zeros _ _ (h .0) (paired-zero E p (h .1))
@@ -121,7 +121,7 @@ module _ (K : Field) where
       ∙ dot-zero p (syndrome (e ∷ E)) (λ j l. h j (omega (arith, length-fromRoots K (places E), length-places E))))
 
   -- (C) Vandermonde: as many zero syndromes as places, and each value is zero
-  pub vandermonde : (E : List Term) → Distinct (places E) → ((j : ℕ) → j < length E → syndrome E j ≡ 𝟘) → AllZero E
+  vandermonde : (E : List Term) → Distinct (places E) → ((j : ℕ) → j < length E → syndrome E j ≡ 𝟘) → AllZero E
   vandermonde [] d h = tt
   vandermonde (e ∷ E) d h =
       let z : e .1 ≡ 𝟘 = first-zero e E (d .0) h in
@@ -144,7 +144,7 @@ module _ (K : Field) where
   syndrome-keep e (yes z) E j = sym (syndrome-rest e E j z)
   syndrome-keep e (no n) E j = refl
 
-  pub syndrome-support : (E : List Term) (j : ℕ) → syndrome (support E) j ≡ syndrome E j
+  syndrome-support : (E : List Term) (j : ℕ) → syndrome (support E) j ≡ syndrome E j
   unfolding syndrome support
   syndrome-support [] j = refl
   syndrome-support (e ∷ E) j = syndrome-keep e (dec (e .1) 𝟘) (support E) j ∙ ap (λ u. e .1 * power (ops K) (e .0) j + u) (syndrome-support E j)
@@ -188,7 +188,7 @@ module _ (K : Field) where
   weighted q [] = []
   weighted q (e ∷ E) = (e .0, e .1 * eval (ops K) q (e .0)) ∷ weighted q E
 
-  pub places-weighted : (q : List F) (E : List Term) → places (weighted q E) ≡ places E
+  places-weighted : (q : List F) (E : List Term) → places (weighted q E) ≡ places E
   unfolding weighted
   places-weighted q [] = refl
   places-weighted q (e ∷ E) = ap {B = List F} (λ u. e .0 ∷ u) (places-weighted q E)
@@ -221,7 +221,7 @@ module _ (K : Field) where
   shifted-step : (y u v : F) → y * (u * v) ≡ (y * u) * v
   shifted-step y u v = simp ring
 
-  pub syndrome-shifted : (E : List Term) (j i : ℕ) → syndrome E (j +ℕ i) ≡ syndrome (shifted j E) i
+  syndrome-shifted : (E : List Term) (j i : ℕ) → syndrome E (j +ℕ i) ≡ syndrome (shifted j E) i
   unfolding syndrome shifted
   syndrome-shifted [] j i = refl
   syndrome-shifted (e ∷ E) j i = ap (λ u. e .1 * u + syndrome E (j +ℕ i)) (power-add (e .0) j i) ∙ ap (λ u. u + syndrome E (j +ℕ i)) (shifted-step (e .1) _ _) ∙ ap (λ u. (e .1 * power (ops K) (e .0) j) * power (ops K) (e .0) i + u) (syndrome-shifted E j i)
@@ -235,7 +235,7 @@ module _ (K : Field) where
   paired-shifted q (e ∷ E) j = ap (λ u. u + paired (shifted j E) q) (swap-step (e .1) _ _) ∙ ap (λ u. (e .1 * eval (ops K) q (e .0)) * power (ops K) (e .0) j + u) (paired-shifted q E j)
 
   -- Σ_i q_i S_(j + i) = Σ Y q(X) X^j
-  pub dot-shifted : (q : List F) (E : List Term) (j : ℕ) → dot q (λ i. syndrome E (j +ℕ i)) ≡ syndrome (weighted q E) j
+  dot-shifted : (q : List F) (E : List Term) (j : ℕ) → dot q (λ i. syndrome E (j +ℕ i)) ≡ syndrome (weighted q E) j
   dot-shifted q E j = ap (dot q) (fun-ext (λ i. syndrome-shifted E j i)) ∙ dot-syndrome q (shifted j E) ∙ paired-shifted q E j
 
   weighted-none : (q : List F) (E : List Term) → AllZero (weighted q E) → All (λ e. e .1 * eval (ops K) q (e .0) ≡ 𝟘) E
@@ -252,7 +252,7 @@ module _ (K : Field) where
       (λ j l. sym (dot-shifted q E j) ∙ h j l)))
 
   -- all terms of the functional but one vanish
-  pub paired-one : (E : List Term) (d : Term) (l : ℕ) (p : List F) → l < length E
+  paired-one : (E : List Term) (d : Term) (l : ℕ) (p : List F) → l < length E
       → ((i : ℕ) → i < length E → (i ≡ l → ⊥) → (getD E i d) .1 * eval (ops K) p ((getD E i d) .0) ≡ 𝟘)
       → paired E p ≡ (getD E l d) .1 * eval (ops K) p ((getD E l d) .0)
   unfolding paired

@@ -20,12 +20,12 @@ module _ (K : Field) where
   power-mul-step : (x y u v : F) → (x * y) * (u * v) ≡ (x * u) * (y * v)
   power-mul-step x y u v = simp ring
 
-  pub power-mul : (x y : F) (j : ℕ) → power (ops K) (x * y) j ≡ power (ops K) x j * power (ops K) y j
+  power-mul : (x y : F) (j : ℕ) → power (ops K) (x * y) j ≡ power (ops K) x j * power (ops K) y j
   unfolding power
   power-mul x y zero = sym (one-mul K 𝟙)
   power-mul x y (suc j) = ap (λ u. (x * y) * u) (power-mul x y j) ∙ power-mul-step x y _ _
 
-  pub power-one : (j : ℕ) → power (ops K) 𝟙 j ≡ 𝟙
+  power-one : (j : ℕ) → power (ops K) 𝟙 j ≡ 𝟙
   unfolding power
   power-one zero = refl
   power-one (suc j) = ap (λ u. 𝟙 * u) (power-one j) ∙ one-mul K 𝟙
@@ -45,7 +45,7 @@ module _ (K : Field) where
   terms-step b u v w = simp ring
 
   -- the value of a word at a^j is the syndrome j
-  pub syn-terms : (a x : F) (p : List F) (j : ℕ) → syndrome K (terms a x p) j ≡ power (ops K) x j * eval (ops K) p (power (ops K) a j)
+  syn-terms : (a x : F) (p : List F) (j : ℕ) → syndrome K (terms a x p) j ≡ power (ops K) x j * eval (ops K) p (power (ops K) a j)
   unfolding terms syndrome eval
   syn-terms a x [] j = sym (mul-zero K _)
   syn-terms a x (b ∷ p) j = ap (λ u. b * power (ops K) x j + u) (syn-terms a (x * a) p j ∙ ap (λ u. u * eval (ops K) p (power (ops K) a j)) (power-mul x a j)) ∙ terms-step b (power (ops K) x j) (power (ops K) a j) _

@@ -8,10 +8,12 @@ use native.Mathlib.Numerals.{add-one}
 use native.Mathlib.Omega.{arith}
 use lib.ListN.{length, getD, take, drop, set, length-append, length-drop}
 use lib.Seq.{take-suc, take-at, take-all, take-length, length-take-le, drop-at, drop-append-le, drop-drop, drop-cons, append-snoc, set-at}
+use Rattle.common.specs.Lists.{restOf}
+use Rattle.common.proofs.Chunks.{length-rest, rest-few, cut}
 use Rattle.convolutional_code.specs.Bits.{bitsOf}
 use Rattle.convolutional_code.proofs.Bits.{length-bits}
-use Rattle.bit_packing.specs.Packing.{packedBytes, bitsAfter, carriedBits, Packs, Packings, none, packing}
-use Rattle.bit_packing.proofs.Bytes.{length-bytes, bytes-back, packed-few, after-few, packed-pieces, after-pieces}
+use Rattle.bit_packing.specs.Packing.{packedBytes, carriedBits, Packs, Packings, none, packing}
+use Rattle.bit_packing.proofs.Bytes.{length-bytes, bytes-back, packed-few, packed-pieces}
 
 -- ---- the bits that are carried
 
@@ -67,8 +69,8 @@ carried-whole carry h =
     ∙ ap (λ (k : ℕ). take (k / 8) (carry ∷ [])) n
 
 -- and behind it nothing is left
-none-left : (carry : ℕ) → bitsAfter (carriedBits carry 8) ≡ carriedBits carry 0
-unfolding carriedBits bitsAfter bitsOf
+none-left : (carry : ℕ) → restOf 8 (carriedBits carry 8) ≡ carriedBits carry 0
+unfolding carriedBits restOf bitsOf
 none-left carry = refl
 
 -- ---- one bit a turn
@@ -79,7 +81,7 @@ pub record Packing (carried bits output₀ output : List ℕ) (byte n k i : ℕ)
   pub few : n < 8
   pub counted : 8 * k + n ≡ length carried + i
   pub written : output ≡ packedBytes (carried ++ take i bits) ++ drop k output₀
-  pub carries : carriedBits byte n ≡ bitsAfter (carried ++ take i bits)
+  pub carries : carriedBits byte n ≡ restOf 8 (carried ++ take i bits)
 
 pub packing-start : (carry held : ℕ) (bits output : List ℕ) → held < 8 → Packing (carriedBits carry held) bits output output carry held 0 0
 packing-start carry held bits output h =
@@ -91,7 +93,7 @@ packing-start carry held bits output h =
       few = h;
       counted = omega arith;
       written = rw (e, packed-few c (omega arith));
-      carries = rw (e, after-few c (omega arith));
+      carries = rw (e, rest-few 8 (omega arith) c (omega arith));
     }
 
 module _ {carried bits output₀ output : List ℕ} {byte n k i : ℕ} (g : Packing carried bits output₀ output byte n k i) (here : i < length bits) (bit : getD bits i 0 < 2) where
@@ -107,14 +109,14 @@ module _ {carried bits output₀ output : List ℕ} {byte n k i : ℕ} (g : Pack
   one-more : carried ++ take (i + 1) bits ≡ all ++ b ∷ []
   one-more = ap (λ (j : ℕ). carried ++ take j bits) (add-one i) ∙ ap (λ (x : List ℕ). carried ++ x) (take-suc bits i 0 here) ∙ sym (append-assoc carried (take i bits) (b ∷ []))
 
-  held-more : bitsAfter all ++ b ∷ [] ≡ carriedBits next (n + 1)
+  held-more : restOf 8 all ++ b ∷ [] ≡ carriedBits next (n + 1)
   held-more = ap (λ (x : List ℕ). x ++ b ∷ []) (sym (g .carries)) ∙ sym (carried-more byte n b (g .few) bit)
 
   bytes-more : packedBytes (carried ++ take (i + 1) bits) ≡ packedBytes all ++ packedBytes (carriedBits next (n + 1))
   bytes-more = ap packedBytes one-more ∙ packed-pieces all (b ∷ []) ∙ ap (λ (x : List ℕ). packedBytes all ++ packedBytes x) held-more
 
-  rest-more : bitsAfter (carried ++ take (i + 1) bits) ≡ bitsAfter (carriedBits next (n + 1))
-  rest-more = ap bitsAfter one-more ∙ after-pieces all (b ∷ []) ∙ ap bitsAfter held-more
+  rest-more : restOf 8 (carried ++ take (i + 1) bits) ≡ restOf 8 (carriedBits next (n + 1))
+  rest-more = ap (restOf 8) one-more ∙ cut 8 (omega arith) all (b ∷ []) .rest-is ∙ ap (restOf 8) held-more
 
   -- a bit that fills no byte
   pub packing-held : n + 1 < 8 → Packing carried bits output₀ output next (n + 1) k (i + 1)
@@ -125,7 +127,7 @@ module _ {carried bits output₀ output : List ℕ} {byte n k i : ℕ} (g : Pack
         few = h;
         counted = omega (arith, g .counted);
         written = g .written ∙ ap (λ (x : List ℕ). x ++ drop k output₀) (sym (bytes-more ∙ ap (λ (x : List ℕ). packedBytes all ++ x) (packed-few (carriedBits next (n + 1)) (omega arith)) ∙ append-nil (packedBytes all)));
-        carries = sym (rest-more ∙ after-few (carriedBits next (n + 1)) (omega arith));
+        carries = sym (rest-more ∙ rest-few 8 (omega arith) (carriedBits next (n + 1)) (omega arith));
       }
 
   all-length : length all ≡ 8 * k + n
@@ -145,7 +147,7 @@ module _ {carried bits output₀ output : List ℕ} {byte n k i : ℕ} (g : Pack
         ∙ set-at (packedBytes all) (getD output₀ k 0) (drop (suc k) output₀) next k bytes-length
         ∙ sym (append-snoc (packedBytes all) next (drop (suc k) output₀))
         ∙ ap₂ (λ (x : List ℕ) (j : ℕ). x ++ drop j output₀) (sym (bytes-more ∙ ap (λ (x : List ℕ). packedBytes all ++ x) (ap (λ (j : ℕ). packedBytes (carriedBits next j)) h ∙ carried-whole next small))) (sym (add-one k));
-    carries = sym (rest-more ∙ ap (λ (j : ℕ). bitsAfter (carriedBits next j)) h ∙ none-left next);
+    carries = sym (rest-more ∙ ap (λ (j : ℕ). restOf 8 (carriedBits next j)) h ∙ none-left next);
   }
 
 -- by whatever names the arms of the loop join
@@ -171,10 +173,9 @@ packs-fit {carried} {piece} {output} {count = count} w =
 
 -- every bit is packed or held
 pub packs-all : {carried piece output exit : List ℕ} {carry held count : ℕ} → Packs carried piece output carry held count exit → 8 * count + held ≡ length (carried ++ piece)
-unfolding bitsAfter
 packs-all {carried} {piece} {carry = carry} {held} w =
     let all : List ℕ = carried ++ piece in
-    omega (arith, w .counted, w .few, sym (carried-length carry held (omega (arith, w .few))) ∙ ap length (w .carries), length-drop (8 * (length all / 8)) all)
+    omega (arith, w .counted, w .few, sym (carried-length carry held (omega (arith, w .few))) ∙ ap length (w .carries), length-rest 8 all)
 
 -- ---- two pieces into one output
 
@@ -189,7 +190,7 @@ packs-more {carried} {piece} {output} {exit} {carry} {held} {count} w more {last
     let all : List ℕ = carried ++ piece in
     let e : carried ++ (piece ++ more) ≡ all ++ more = sym (append-assoc carried piece more) in
     let k : length (packedBytes all) ≡ count = length-bytes all ∙ sym (w .counted) in
-    let c : carriedBits carry held ++ more ≡ bitsAfter all ++ more = ap (λ (x : List ℕ). x ++ more) (w .carries) in
+    let c : carriedBits carry held ++ more ≡ restOf 8 all ++ more = ap (λ (x : List ℕ). x ++ more) (w .carries) in
     let bytes : packedBytes (carried ++ (piece ++ more)) ≡ packedBytes all ++ packedBytes (carriedBits carry held ++ more) =
     ap packedBytes e ∙ packed-pieces all more ∙ ap (λ (x : List ℕ). packedBytes all ++ packedBytes x) (sym c) in
     let front : take count exit ≡ packedBytes all = ap (take count) (w .written) ∙ take-at (packedBytes all) (drop count output) count k in
@@ -211,22 +212,22 @@ packs-more {carried} {piece} {output} {exit} {carry} {held} {count} w more {last
           ∙ sym (append-assoc (packedBytes all) (packedBytes (carriedBits carry held ++ more)) (drop (count + n) output))
           ∙ ap (λ (x : List ℕ). x ++ drop (count + n) output) (sym bytes);
       few = v .few;
-      carries = v .carries ∙ ap bitsAfter c ∙ sym (after-pieces all more) ∙ ap bitsAfter (sym e);
+      carries = v .carries ∙ ap (restOf 8) c ∙ sym (cut 8 (omega arith) all more .rest-is) ∙ ap (restOf 8) (sym e);
     }
 
 -- ---- calls one after the other
 
 -- Whatever pieces the bits came in, the bytes are those of all of them, and the bits after the last whole byte are carried.
-pub every-packing : {bits bytes : List ℕ} {carry held : ℕ} → Packings bits bytes carry held → (bytes ≡ packedBytes bits) × (carriedBits carry held ≡ bitsAfter bits)
+pub every-packing : {bits bytes : List ℕ} {carry held : ℕ} → Packings bits bytes carry held → (bytes ≡ packedBytes bits) × (carriedBits carry held ≡ restOf 8 bits)
 unfolding carriedBits
-every-packing none = (sym (packed-few [] (omega arith)), sym (after-few [] (omega arith)))
+every-packing none = (sym (packed-few [] (omega arith)), sym (rest-few 8 (omega arith) [] (omega arith)))
 every-packing (packing {bits} {bytes} {before} {held} {count = count} piece output exit p w) =
     let g = every-packing p in
-    let rest : List ℕ = bitsAfter bits ++ piece in
+    let rest : List ℕ = restOf 8 bits ++ piece in
     let e : carriedBits before held ++ piece ≡ rest = ap (λ (x : List ℕ). x ++ piece) (g .1) in
     let n : length (packedBytes (carriedBits before held ++ piece)) ≡ count = length-bytes (carriedBits before held ++ piece) ∙ sym (w .counted) in
     let front : take count exit ≡ packedBytes rest = ap (take count) (w .written) ∙ take-at (packedBytes (carriedBits before held ++ piece)) (drop count output) count n ∙ ap packedBytes e in
-    (ap₂ (λ (x y : List ℕ). x ++ y) (g .0) front ∙ sym (packed-pieces bits piece), w .carries ∙ ap bitsAfter e ∙ sym (after-pieces bits piece))
+    (ap₂ (λ (x y : List ℕ). x ++ y) (g .0) front ∙ sym (packed-pieces bits piece), w .carries ∙ ap (restOf 8) e ∙ sym (cut 8 (omega arith) bits piece .rest-is))
 
 -- so any two ways of cutting them give the same bytes
 pub any-pieces : {bits bytes bytes′ : List ℕ} {carry carry′ held held′ : ℕ} → Packings bits bytes carry held → Packings bits bytes′ carry′ held′ → bytes ≡ bytes′

@@ -2,24 +2,20 @@
 -- Clauses: document 01, "Inner code".
 -- Assumes nothing.
 use mathlib.Core.Path.{_≡_}
-use mathlib.Core.List.{List, [], _∷_, _++_}
+use mathlib.Core.List.{List, [], _∷_, _++_, map}
 use Prim.Native.Nat.{ℕ, _+_, _-_, _*_, _/_, _<_}
 use lib.ListN.{length, getD, take, drop}
-use Rattle.common.specs.Lists.{listOf}
+use Rattle.common.specs.Lists.{chunksOf, restOf}
 use Rattle.convolutional_code.specs.Bits.{bitsOf}
 
 -- eight bits as a byte, the first of them on top
-abbrev pub byteOf : (ℕ → ℕ) → ℕ
-byteOf bit = 128 * bit 0 + 64 * bit 1 + 32 * bit 2 + 16 * bit 3 + 8 * bit 4 + 4 * bit 5 + 2 * bit 6 + bit 7
+abbrev pub byteOf : List ℕ → ℕ
+byteOf bits =
+    128 * getD bits 0 0 + 64 * getD bits 1 0 + 32 * getD bits 2 0 + 16 * getD bits 3 0 + 8 * getD bits 4 0 + 4 * getD bits 5 0 + 2 * getD bits 6 0 + getD bits 7 0
 
 -- the bytes of a list of bits; bits at its end that fill no byte are in none
 unfoldable pub packedBytes : List ℕ → List ℕ
-unfolding listOf
-packedBytes bits = listOf (length bits / 8) (λ i. byteOf (λ j. getD bits (8 * i + j) 0))
-
--- the bits after the last whole byte
-unfoldable pub bitsAfter : List ℕ → List ℕ
-bitsAfter bits = drop (8 * (length bits / 8)) bits
+packedBytes bits = map byteOf (chunksOf 8 bits)
 
 -- ---- in pieces
 
@@ -34,7 +30,7 @@ pub record Packs (carried piece output : List ℕ) (carry held count : ℕ) (exi
   pub counted : count ≡ length (carried ++ piece) / 8
   pub written : exit ≡ packedBytes (carried ++ piece) ++ drop count output
   pub few : held < 8
-  pub carries : carriedBits carry held ≡ bitsAfter (carried ++ piece)
+  pub carries : carriedBits carry held ≡ restOf 8 (carried ++ piece)
 
 -- Calls one after the other, the first with nothing carried: the bits that came, and the bytes that were packed, one piece after the other.
 pub data Packings : List ℕ → List ℕ → ℕ → ℕ → Type 0 where

@@ -1,6 +1,6 @@
 pub mod Fields
-pub mod Copies
+mod Copies
 pub mod States
-pub mod Takes
+mod Takes
 pub mod Passes
 pub mod Laws

@@ -1,20 +1,19 @@
 -- A pass through the bridge is the receiver's own: the same answers, the same packets, and bytes that stand for the same receiver.
 -- Assumes nothing.
 use mathlib.Core.Path.{_≡_, sym, subst}
-use mathlib.Core.List.{List, [], _∷_, _++_, map}
+use mathlib.Core.List.{List, [], _∷_, _++_}
 use Prim.Native.Nat.{ℕ, _-_, _≤_}
 use lib.Dec.{eqb}
 use lib.ListN.{length, take, replicate}
 use Rattle.common.specs.Choice.{pick}
 use Rattle.common.specs.Lists.{All}
-use Rattle.reed_solomon.specs.Encode.{encoded}
-use Rattle.randomizer.specs.Stream.{Packet, randomizedStream}
-use Rattle.interleaver.specs.Stream.{interleaved}
+use Rattle.randomizer.specs.Stream.{Packet}
 use Rattle.receiver.specs.Receive.{freshReceiver, Receives}
 use Rattle.receiver.specs.Kept as kept
 use Rattle.receiver.specs.Kept.{Kept}
 use Rattle.receiver.specs.declared.Receiver.{Receiver}
 use Rattle.receiver.proofs.Promised.{promised-received}
+use Rattle.sent_blocks.specs.Blocks.{interleavedBlocks}
 use Rattle.bridge.specs.State.{stateBytes, StandsFor}
 use Rattle.bridge.specs.Calls.{wrong-length, no-state, as-receiver}
 use Rattle.bridge.specs.Pass.{BridgePass, none, call}
@@ -44,7 +43,7 @@ pass-kept s h (call {blocks = blocks} {numbers = numbers} {packets = packets} bl
 
 -- demand 2, receiving, through the bridge: begun with a fresh state, the blocks of a fresh sender give its packets back, eleven blocks late
 pub pass-received : (packets : List (List ℕ)) → All Packet packets → length packets ≤ 4294967295 → (numbers : List ℕ) (given : List (List ℕ)) (last : List ℕ)
-    → BridgePass (stateBytes freshReceiver) (interleaved (map encoded (randomizedStream packets))) numbers given last
+    → BridgePass (stateBytes freshReceiver) (interleavedBlocks packets) numbers given last
     → (numbers ≡ take (length packets) (replicate 11 9 ++ replicate (length packets) 0)) × (given ≡ take (length packets - 11) packets)
 pass-received packets ws l numbers given last p =
     let w = pass-kept freshReceiver stands-fresh p in

@@ -3,7 +3,7 @@
 -- Assumes nothing.
 use mathlib.Core.Path.{_≡_, refl, sym, ap, ap₂, _∙_}
 use mathlib.Core.Bool.{true}
-use mathlib.Core.List.{List, [], _∷_, _++_, append-assoc, append-nil}
+use mathlib.Core.List.{List, [], _∷_, _++_, append-assoc, append-nil, flatten}
 use Prim.Native.Nat.{ℕ, zero, suc, _+_, _*_, _≤_, _<_}
 use Prim.{tt}
 use native.Mathlib.Decide.{ℕ-discrete}
@@ -64,7 +64,7 @@ module _ (bytes : List ℕ) (n : length bytes ≡ stateLength) where
     part-entries f = entries-take (λ x. x < 256) (omega arith) (f .size) (drop (f .offset) bytes) (entries-drop (λ x. x < 256) (f .offset) bytes e)
 
     -- the number of a field, in as many bytes as it has
-    pub number-bytes : (f : StateField) → f .offset + f .size ≤ stateLength → toBytes (f .size) (numberIn f bytes) ≡ part f bytes
+    number-bytes : (f : StateField) → f .offset + f .size ≤ stateLength → toBytes (f .size) (numberIn f bytes) ≡ part f bytes
     number-bytes f h = to-from (f .size) (part f bytes) (part-entries f) (part-length f h)
 
     byte-of : (f : StateField) → f .size ≡ 1 → f .offset + f .size ≤ stateLength → numberIn f bytes ∷ [] ≡ part f bytes
@@ -120,7 +120,7 @@ one-receiver bytes s t h k = sym (h .read) ∙ k .read
 -- its fields as they are put
 pub fields-put : (s : Receiver) (place : ℕ) (counts bytes : List ℕ) → place ≡ placeByte (s .sync .place) → counts ≡ countBytes (s .counts) ++ []
     → bytes ≡ s .deinterleaver .branches .cells ++ s .deinterleaver .branches .positions ++ (place ∷ s .sync .missed ∷ []) ++ counts ++ s .marks → bytes ≡ stateBytes s
-unfolding stateBytes countBytes
+unfolding stateBytes countBytes flatten toBytes
 fields-put s place counts bytes p c e =
     let b = s .deinterleaver .branches in
     let sync : List ℕ = placeByte (s .sync .place) ∷ s .sync .missed ∷ [] in

@@ -11,7 +11,7 @@ use Rattle.common.specs.Choice.{pick}
 use Rattle.group_sync.specs.declared.Place.{Place}
 use Rattle.group_sync.specs.declared.Place.the-variants.{NotKnown, Known}
 use Rattle.reception_counts.specs.declared.Counts.{Counts}
-use Rattle.count_bytes.specs.Bytes.{toBytes, fromBytes}
+use Rattle.count_bytes.specs.Bytes.{toBytes, fromBytes, countsAt}
 use Rattle.receiver.specs.Receive.{receiverInRange}
 use Rattle.receiver.specs.declared.Receiver.{Receiver}
 
@@ -105,25 +105,13 @@ part f bytes = take (f .size) (drop (f .offset) bytes)
 abbrev pub numberIn : StateField → List ℕ → ℕ
 numberIn f bytes = fromBytes (part f bytes)
 
-abbrev pub countsIn : List ℕ → Counts
-countsIn bytes = record {
-  taken = numberIn taken bytes;
-  filling = numberIn filling bytes;
-  delivered = numberIn delivered bytes;
-  lost = numberIn lost bytes;
-  waiting = numberIn waiting bytes;
-  outofstep = numberIn outofstep bytes;
-  changed = numberIn changed bytes;
-  bits = numberIn bits bytes;
-}
-
--- the receiver that is read, in range or not
+-- The receiver that is read, in range or not. The counts are side by side, in the order of the table.
 unfoldable pub stateOf : List ℕ → Receiver
 stateOf bytes = record {
   deinterleaver = record { branches = record { cells = part cells bytes; positions = part positions bytes } };
   marks = part marks bytes;
   sync = record { place = placeOf (numberIn place bytes); missed = numberIn missed bytes };
-  counts = countsIn bytes;
+  counts = countsAt bytes (taken .offset);
 }
 
 -- the fields of a receiver, one after the other

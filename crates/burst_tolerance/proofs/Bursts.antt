@@ -3,22 +3,21 @@
 -- Assumes nothing.
 use mathlib.Core.Path.{_≡_, refl, sym, ap, ap₂, _∙_, subst}
 use mathlib.Core.Bool.{Bool, true, false}
-use mathlib.Core.List.{List, [], _∷_, _++_, map, flatten}
+use mathlib.Core.List.{List, [], _∷_, _++_, flatten}
 use Prim.Native.Nat.{ℕ, zero, suc, _+_, _-_, _*_, _≤_, _<_}
 use native.Mathlib.Nat.{not-suc-le-zero}
 use native.Mathlib.Omega.{arith}
 use borrow.Author.Tests.{eq-eqb}
 use lib.Dec.{eqb}
-use lib.ListN.{length, getD, take, drop, replicate, length-drop}
-use lib.Seq.{getD-drop, getD-take, length-take-le}
+use lib.ListN.{length, getD, take, drop, replicate, length-drop, drop-of-length-le}
+use lib.Seq.{getD-drop, getD-take, length-take-le, drop-append-add}
 use Rattle.common.specs.Choice.{pick}
 use Rattle.common.specs.Lists.{All, Length, listOf}
 use Rattle.common.proofs.Lists.{length-listOf}
 use Rattle.reed_solomon.specs.Code.{distance, differ}
-use Rattle.reed_solomon.specs.Encode.{encoded}
 use Rattle.reed_solomon.proofs.Distance.{differ-append}
 use Rattle.reed_solomon.proofs.Laws.{within-eight}
-use Rattle.randomizer.specs.Stream.{Packet, randomizedStream}
+use Rattle.randomizer.specs.Stream.{Packet}
 use Rattle.delay_branches.specs.Block.{fresh}
 use Rattle.delay_branches.specs.declared.Side.the-variants.{Receiving}
 use Rattle.delay_branches.specs.declared.Branches.{Branches}
@@ -37,16 +36,18 @@ use Rattle.receiver.proofs.Reached.{sound-fresh}
 use Rattle.receiver.proofs.Histories.{history-counts}
 use Rattle.receiver.proofs.Outcomes.{Unrefused, plain-marked, next-unrefused, branches-after, unmarked-after}
 use Rattle.receiver.proofs.Decoding.{plain-decodes}
-use Rattle.receiver.proofs.Reception.{blocks-count, came-gathered, coded-size, coded-gathered, coded-nears, near-received}
+use Rattle.receiver.proofs.Reception.{blocks-count, came-gathered, coded-gathered, coded-nears, near-received}
 use Rattle.receiver.proofs.Promised.{kept-calls}
+use Rattle.sent_blocks.specs.Blocks.{codedBlocks, interleavedBlocks, sentBytes}
+use Rattle.sent_blocks.proofs.Lengths.{coded-count, interleaved-whole}
 use Rattle.burst_tolerance.specs.Places.{span, howMany}
-use Rattle.burst_tolerance.specs.Burst.{sentBytesFrom, receivedBytes, Burst, Bursts, wrongIn, wrongBytes, Tolerated, Promised}
+use Rattle.burst_tolerance.specs.Burst.{receivedBytes, Burst, Bursts, wrongIn, wrongBytes, Tolerated, Promised}
 use Rattle.burst_tolerance.proofs.Places.{count-burst, spread}
 
 -- ---- wrong bytes in a block
 
 -- two lists by their places
-pub differ-listOf : (f g : ℕ → ℕ) (n : ℕ) → differ (listOf n f) (listOf n g) ≡ howMany (λ i. pick (eqb (f i) (g i)) false true) n
+differ-listOf : (f g : ℕ → ℕ) (n : ℕ) → differ (listOf n f) (listOf n g) ≡ howMany (λ i. pick (eqb (f i) (g i)) false true) n
 unfolding differ distance listOf
 differ-listOf f g zero = refl
 differ-listOf f g (suc n) =
@@ -159,20 +160,28 @@ left-near (c ∷ cs) s u z pl (suc i) h =
 
 -- ---- the stream
 
+-- the bytes from a block on
+bytes-from : (blocks : List (List ℕ)) → All (Length 204) blocks → (m : ℕ) → flatten (drop m blocks) ≡ drop (204 * m) (flatten blocks)
+unfolding flatten
+bytes-from blocks g zero = refl
+bytes-from [] g (suc m) = sym (drop-of-length-le {A = ℕ} [] {i = 204 * suc m} (omega arith))
+bytes-from (b ∷ bs) g (suc m) =
+    let e : length b + 204 * m ≡ 204 * suc m = omega (arith, g .0) in
+    bytes-from bs (g .1) m ∙ sym (drop-append-add b (flatten bs) (204 * m)) ∙ ap (λ (k : ℕ). drop k (b ++ flatten bs)) e
+
 module _ (packets : List (List ℕ)) (ws : All Packet packets) (m : ℕ) (cs : List Call) (h : m + length cs ≤ length packets)
     (l : length cs ≤ 4294967295) (bs : All (Length 204) (lentBlocks cs)) (pl : All Plain cs) (rs : All OutputFits cs) (ds : DecodedCalls freshReceiver cs) where
-  abbrev coded : List (List ℕ)
-  coded = map encoded (randomizedStream packets)
-
   calls : Unrefused freshReceiver cs
   unfolding freshReceiver
   calls = record { sound = sound-fresh; most = omega arith; sizes = bs; marked = plain-marked cs pl; outputs = rs; decodes = ds }
 
   -- the block that call i + 12 corrects, and the one sent
   wrong-is : (i : ℕ) → i + 11 < length cs
-      → differ (getD (drop 11 (run Receiving fresh (lentBlocks cs))) i []) (getD (drop m coded) i [])
-      ≡ wrongIn (sentBytesFrom packets m) (receivedBytes cs) i
-  wrong-is i k = ap₂ differ (came-gathered cs bs i k) (coded-gathered packets ws m i (omega arith))
+      → differ (getD (drop 11 (run Receiving fresh (lentBlocks cs))) i []) (getD (drop m (codedBlocks packets)) i [])
+      ≡ wrongIn (drop (204 * m) (sentBytes packets)) (receivedBytes cs) i
+  wrong-is i k =
+      ap₂ differ (came-gathered cs bs i k)
+      (coded-gathered packets ws m i (omega arith) ∙ ap (λ (x : List ℕ). gathered x i) (bytes-from (interleavedBlocks packets) (interleaved-whole packets) m))
 
   many : length (run Receiving fresh (lentBlocks cs)) ≡ length cs
   many = length-run Receiving fresh (lentBlocks cs) ∙ blocks-count cs
@@ -182,25 +191,25 @@ module _ (packets : List (List ℕ)) (ws : All Packet packets) (m : ℕ) (cs : L
     abbrev late : List ℕ
     late = replicate (beforeGroup m) 10 ++ replicate (length cs) 0
 
-    late-changed : changedIn (take (length cs - 11) late) (drop 11 (run Receiving fresh (lentBlocks cs))) (take (length cs - 11) (drop m coded))
-        ≡ wrongBytes (sentBytesFrom packets m) (receivedBytes cs) 0 (length cs - 11)
+    late-changed : changedIn (take (length cs - 11) late) (drop 11 (run Receiving fresh (lentBlocks cs))) (take (length cs - 11) (drop m (codedBlocks packets)))
+        ≡ wrongBytes (drop (204 * m) (sentBytes packets)) (receivedBytes cs) 0 (length cs - 11)
     late-changed =
-        changed-accepted (sentBytesFrom packets m) (receivedBytes cs) (beforeGroup m) (length cs - 11) (length cs) 0
-        (drop 11 (run Receiving fresh (lentBlocks cs))) (take (length cs - 11) (drop m coded)) (omega arith)
+        changed-accepted (drop (204 * m) (sentBytes packets)) (receivedBytes cs) (beforeGroup m) (length cs - 11) (length cs) 0
+        (drop 11 (run Receiving fresh (lentBlocks cs))) (take (length cs - 11) (drop m (codedBlocks packets))) (omega arith)
         (omega (arith, length-drop 11 (run Receiving fresh (lentBlocks cs)), many)) sent-many one
       where
-        sent-many : length cs - 11 ≤ length (take (length cs - 11) (drop m coded))
-        sent-many = omega (arith, length-take-le (length cs - 11) (drop m coded) (omega (arith, length-drop m coded, coded-size packets ws)))
+        sent-many : length cs - 11 ≤ length (take (length cs - 11) (drop m (codedBlocks packets)))
+        sent-many = omega (arith, length-take-le (length cs - 11) (drop m (codedBlocks packets)) (omega (arith, length-drop m (codedBlocks packets), coded-count packets)))
 
         one : (i : ℕ) → i < length cs - 11
-            → differ (getD (drop 11 (run Receiving fresh (lentBlocks cs))) i []) (getD (take (length cs - 11) (drop m coded)) i [])
-            ≡ wrongIn (sentBytesFrom packets m) (receivedBytes cs) (0 + i)
+            → differ (getD (drop 11 (run Receiving fresh (lentBlocks cs))) i []) (getD (take (length cs - 11) (drop m (codedBlocks packets))) i [])
+            ≡ wrongIn (drop (204 * m) (sentBytes packets)) (receivedBytes cs) (0 + i)
         one i k =
             let e : i ≡ 0 + i = omega arith in
-            ap (differ (getD (drop 11 (run Receiving fresh (lentBlocks cs))) i [])) (getD-take (length cs - 11) (drop m coded) i [] k)
-            ∙ wrong-is i (omega arith) ∙ ap (wrongIn (sentBytesFrom packets m) (receivedBytes cs)) e
+            ap (differ (getD (drop 11 (run Receiving fresh (lentBlocks cs))) i [])) (getD-take (length cs - 11) (drop m (codedBlocks packets)) i [] k)
+            ∙ wrong-is i (omega arith) ∙ ap (wrongIn (drop (204 * m) (sentBytes packets)) (receivedBytes cs)) e
 
-    counted : afterCalls freshReceiver cs .counts .changed ≡ wrongBytes (sentBytesFrom packets m) (receivedBytes cs) 0 (length cs - 11)
+    counted : afterCalls freshReceiver cs .counts .changed ≡ wrongBytes (drop (204 * m) (sentBytes packets)) (receivedBytes cs) 0 (length cs - 11)
     unfolding freshReceiver
     counted =
         ap (λ (n : Counts). n .changed) (history-counts cs)
@@ -211,34 +220,34 @@ module _ (packets : List (List ℕ)) (ws : All Packet packets) (m : ℕ) (cs : L
         ∙ late-changed
 
   -- what a burst may do
-  pub burst-received : Bursts (sentBytesFrom packets m) (receivedBytes cs) → Tolerated m packets cs
+  pub burst-received : Bursts (drop (204 * m) (sentBytes packets)) (receivedBytes cs) → Tolerated m packets cs
   burst-received b = record { begun = begun; changed = counted begun }
     where
-      each : (i : ℕ) → i + 11 < length cs → differ (getD (drop 11 (run Receiving fresh (lentBlocks cs))) i []) (getD (drop m coded) i []) ≤ 8
+      each : (i : ℕ) → i + 11 < length cs → differ (getD (drop 11 (run Receiving fresh (lentBlocks cs))) i []) (getD (drop m (codedBlocks packets)) i []) ≤ 8
       each i k =
           rw (wrong-is i k)
-          (burst-wrong (sentBytesFrom packets m) (receivedBytes cs) i
+          (burst-wrong (drop (204 * m) (sentBytes packets)) (receivedBytes cs) i
           (b (204 * i) span (omega arith) (omega (arith, length-flatten 204 (lentBlocks cs) bs, blocks-count cs))))
 
       begun : BegunAt m packets cs
       begun = near-received packets ws m cs calls pl (coded-nears packets ws m cs h each)
 
   -- a block with more wrong bytes is not corrected to what was sent
-  pub never-corrected : (p : ℕ) → p + 11 < length cs → 8 < wrongIn (sentBytesFrom packets m) (receivedBytes cs) p
-      → getD (lefts cs) (p + 11) [] ≡ getD (drop m coded) p [] → ⊥
+  pub never-corrected : (p : ℕ) → p + 11 < length cs → 8 < wrongIn (drop (204 * m) (sentBytes packets)) (receivedBytes cs) p
+      → getD (lefts cs) (p + 11) [] ≡ getD (drop m (codedBlocks packets)) p [] → ⊥
   unfolding freshReceiver
   never-corrected p k w e =
       let i : 11 + p ≡ p + 11 = omega arith in
       let a : getD (drop 11 (run Receiving fresh (lentBlocks cs))) p [] ≡ getD (run Receiving fresh (lentBlocks cs)) (p + 11) [] =
       getD-drop 11 (run Receiving fresh (lentBlocks cs)) p [] ∙ ap (λ (j : ℕ). getD (run Receiving fresh (lentBlocks cs)) j []) i in
-      let d : differ (getD (run Receiving fresh (lentBlocks cs)) (p + 11) []) (getD (lefts cs) (p + 11) []) ≡ wrongIn (sentBytesFrom packets m) (receivedBytes cs) p =
+      let d : differ (getD (run Receiving fresh (lentBlocks cs)) (p + 11) []) (getD (lefts cs) (p + 11) []) ≡ wrongIn (drop (204 * m) (sentBytes packets)) (receivedBytes cs) p =
       ap₂ differ (sym a) e ∙ wrong-is p k in
       omega (arith, left-near cs freshReceiver calls refl pl (p + 11) k, d, w)
 
 -- ---- of the promise of `receive`
 
 pub burst-promised : (packets : List (List ℕ)) → All Packet packets → (m : ℕ) (blocks : List (List ℕ)) → m + length blocks ≤ length packets
-    → length blocks ≤ 4294967295 → All (Length 204) blocks → Bursts (sentBytesFrom packets m) (flatten blocks)
+    → length blocks ≤ 4294967295 → All (Length 204) blocks → Bursts (drop (204 * m) (sentBytes packets)) (flatten blocks)
     → (numbers : List ℕ) (given : List (List ℕ)) (last : Receiver) → Kept freshReceiver blocks numbers given last
     → Promised m packets blocks numbers given last
 burst-promised packets ws m blocks h l bs b numbers given last k =
@@ -246,7 +255,7 @@ burst-promised packets ws m blocks h l bs b numbers given last k =
     let n : length (c .calls) ≡ length blocks = sym (blocks-count (c .calls)) ∙ ap length (c .lent) in
     let t =
     burst-received packets ws m (c .calls) (omega arith) (omega arith) (subst (All (Length 204)) (sym (c .lent)) bs) (c .plain) (c .output-fits) (c .decodes)
-    (subst (λ (x : List (List ℕ)). Bursts (sentBytesFrom packets m) (flatten x)) (sym (c .lent)) b) in
+    (subst (λ (x : List (List ℕ)). Bursts (drop (204 * m) (sentBytes packets)) (flatten x)) (sym (c .lent)) b) in
     record {
       answered =
           sym (c .answered) ∙ t .begun .answered
@@ -254,5 +263,5 @@ burst-promised packets ws m blocks h l bs b numbers given last k =
       gave = sym (c .given) ∙ t .begun .given ∙ ap (λ (i : ℕ). take (i - 11 - beforeGroup m) (drop (m + beforeGroup m) packets)) n;
       changed =
           ap (λ (r : Receiver). r .counts .changed) (sym (c .state)) ∙ t .changed
-          ∙ ap₂ (λ (x : List (List ℕ)) (i : ℕ). wrongBytes (sentBytesFrom packets m) (flatten x) 0 (i - 11)) (c .lent) n;
+          ∙ ap₂ (λ (x : List (List ℕ)) (i : ℕ). wrongBytes (drop (204 * m) (sentBytes packets)) (flatten x) 0 (i - 11)) (c .lent) n;
     }

@@ -1,24 +1,19 @@
 -- What a burst may do: document 02, P9. Which received bytes are wrong, how close together they are to lie, and what is promised then.
+-- The bytes that a fresh sender sends from its block m on are those after the first 204 m.
 -- Assumes nothing.
 use mathlib.Core.Path.{_≡_}
-use mathlib.Core.List.{List, _++_, map, flatten}
-use Prim.Native.Nat.{ℕ, zero, suc, _+_, _-_, _≤_, _<_}
+use mathlib.Core.List.{List, _++_, flatten}
+use Prim.Native.Nat.{ℕ, zero, suc, _+_, _-_, _≤_, _<_, _*_}
 use lib.ListN.{length, getD, take, drop, replicate}
 use Rattle.reed_solomon.specs.Code.{differ}
-use Rattle.reed_solomon.specs.Encode.{encoded}
-use Rattle.randomizer.specs.Stream.{randomizedStream}
-use Rattle.interleaver.specs.Stream.{interleaved}
 use Rattle.interleaver.specs.Gathered.{gathered}
 use Rattle.group_sync.specs.Stream.{beforeGroup}
 use Rattle.receiver.specs.Receive.{freshReceiver}
 use Rattle.receiver.specs.Run.{Call, afterCalls, lentBlocks}
 use Rattle.receiver.specs.Begun.{BegunAt}
 use Rattle.receiver.specs.declared.Receiver.{Receiver}
+use Rattle.sent_blocks.specs.Blocks.{sentBytes}
 use Rattle.burst_tolerance.specs.Places.{burstLength, span}
-
--- the bytes that a fresh sender sends from its block m on, interleaved
-abbrev pub sentBytesFrom : List (List ℕ) → ℕ → List ℕ
-sentBytesFrom packets m = flatten (drop m (interleaved (map encoded (randomizedStream packets))))
 
 -- the bytes that a list of calls is lent
 abbrev pub receivedBytes : List Call → List ℕ
@@ -54,11 +49,11 @@ wrongBytes sent received p (suc n) = wrongIn sent received p + wrongBytes sent r
 -- start of a group on. So it accepts every block after the eleven, and changed is the number of wrong bytes in them.
 pub record Tolerated (m : ℕ) (packets : List (List ℕ)) (cs : List Call) : Type 0 where
   pub begun : BegunAt m packets cs
-  pub changed : afterCalls freshReceiver cs .counts .changed ≡ wrongBytes (sentBytesFrom packets m) (receivedBytes cs) 0 (length cs - 11)
+  pub changed : afterCalls freshReceiver cs .counts .changed ≡ wrongBytes (drop (204 * m) (sentBytes packets)) (receivedBytes cs) 0 (length cs - 11)
 
 -- The same of calls of `receive`, each by its promise alone: these blocks, the numbers of the answers, the packets given, and the receiver
 -- that the last call handed back.
 pub record Promised (m : ℕ) (packets blocks : List (List ℕ)) (numbers : List ℕ) (given : List (List ℕ)) (last : Receiver) : Type 0 where
   pub answered : numbers ≡ take (length blocks) (replicate 11 9 ++ replicate (beforeGroup m) 10 ++ replicate (length blocks) 0)
   pub gave : given ≡ take (length blocks - 11 - beforeGroup m) (drop (m + beforeGroup m) packets)
-  pub changed : last .counts .changed ≡ wrongBytes (sentBytesFrom packets m) (flatten blocks) 0 (length blocks - 11)
+  pub changed : last .counts .changed ≡ wrongBytes (drop (204 * m) (sentBytes packets)) (flatten blocks) 0 (length blocks - 11)

@@ -2,19 +2,18 @@
 -- Clause: document 02, P9.
 -- Assumes nothing.
 use mathlib.Core.Path.{_≡_}
-use mathlib.Core.List.{List, [], _∷_, map}
+use mathlib.Core.List.{List, [], _∷_}
 use Prim.Native.Nat.{ℕ, _+_}
 use lib.Dec.{eqb}
 use lib.ListN.{length, getD, replicate}
 use Rattle.common.specs.Choice.{pick}
 use Rattle.common.specs.Lists.{All, Length, listOf}
-use Rattle.reed_solomon.specs.Encode.{encoded}
-use Rattle.randomizer.specs.Stream.{randomizedStream}
 use Rattle.receiver.specs.Receive.{freshReceiver}
 use Rattle.receiver.specs.Run.{Call, DecodedCalls, lentBlocks, Plain, OutputFits}
 use Rattle.receiver.specs.Begun.{lefts}
+use Rattle.sent_blocks.specs.Blocks.{codedBlocks, sentBytes}
 use Rattle.burst_tolerance.specs.Places.{inside}
-use Rattle.burst_tolerance.specs.Burst.{sentBytesFrom, receivedBytes, wrongIn}
+use Rattle.burst_tolerance.specs.Burst.{receivedBytes, wrongIn}
 
 -- forty packets of 47 hex and 187 zeros
 abbrev pub packets : List (List ℕ)
@@ -35,10 +34,10 @@ pub data Case : Type 0 where
   not-corrected : (start many block : ℕ) → Case
 
 abbrev pub Holds : Case → Type 0
-Holds (puts start many block wrong) = wrongIn (sentBytesFrom packets 0) (harmed start many (sentBytesFrom packets 0)) block ≡ wrong
+Holds (puts start many block wrong) = wrongIn (sentBytes packets) (harmed start many (sentBytes packets)) block ≡ wrong
 Holds (not-corrected start many block) =
-    (cs : List Call) → All (Length 204) (lentBlocks cs) → receivedBytes cs ≡ harmed start many (sentBytesFrom packets 0) → All Plain cs → All OutputFits cs
-    → DecodedCalls freshReceiver cs → getD (lefts cs) (block + 11) [] ≡ getD (map encoded (randomizedStream packets)) block [] → ⊥
+    (cs : List Call) → All (Length 204) (lentBlocks cs) → receivedBytes cs ≡ harmed start many (sentBytes packets) → All Plain cs → All OutputFits cs
+    → DecodedCalls freshReceiver cs → getD (lefts cs) (block + 11) [] ≡ getD (codedBlocks packets) block [] → ⊥
 
 abbrev pub cases : List Case
 cases =

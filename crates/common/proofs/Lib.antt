@@ -5,5 +5,7 @@ pub mod Entries
 pub mod Written
 pub mod Outputs
 pub mod Padded
+pub mod Largest
+pub mod Chunks
 pub mod Each
 pub mod Xor

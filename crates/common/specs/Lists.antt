@@ -1,8 +1,8 @@
--- Lists of bytes, and lists of them: the packets or the blocks of a stream.
+-- Lists of numbers, and lists of them: the packets or the blocks of a stream.
 -- Assumes nothing.
 use mathlib.Core.Path.{_≡_}
 use mathlib.Core.List.{List, [], _∷_, _++_}
-use Prim.Native.Nat.{ℕ, zero, suc, _+_, _-_, _<_}
+use Prim.Native.Nat.{ℕ, zero, suc, _+_, _-_, _/_, _%_, _<_, max}
 use lib.ListN.{length, getD, take, drop, replicate}
 
 -- what holds of each member of a list
@@ -38,3 +38,28 @@ placed output at s = take at output ++ s ++ drop (at + length s) output
 -- bytes at the front of an array of so many, and zeros after them
 abbrev pub padded : ℕ → List ℕ → List ℕ
 padded size bytes = bytes ++ replicate (size - length bytes) 0
+
+-- the largest of a list, and 0 of none
+unfoldable pub largest : List ℕ → ℕ
+largest [] = 0
+largest (x ∷ l) = max x (largest l)
+
+-- the sum over the members of a list of a number of each
+abbrev pub total : {A : Type 0} → (A → ℕ) → List A → ℕ
+total f [] = 0
+total f (x ∷ xs) = f x + total f xs
+
+-- ---- a list cut into chunks of one length
+
+-- the first n of them
+unfoldable pub chunks : ℕ → ℕ → List ℕ → List (List ℕ)
+chunks size zero l = []
+chunks size (suc n) l = take size l ∷ chunks size n (drop size l)
+
+-- all that are whole, and what is after the last of them
+unfoldable pub chunksOf : ℕ → List ℕ → List (List ℕ)
+unfolding chunks
+chunksOf size l = chunks size (length l / size) l
+
+unfoldable pub restOf : ℕ → List ℕ → List ℕ
+restOf size l = drop (length l - length l % size) l

@@ -1,9 +1,10 @@
-// What several crates use and belongs to none of them: lemmas, and the copying of bytes.
+// What several crates use and belongs to none of them: lemmas, the copying of bytes, and the largest of them.
 // Inner: its functions may require what the crates above have tested. docs/ARCHITECTURE.md names the public surface.
 ghost use mathlib.Core.Path.{_≡_};
 ghost use mathlib.Core.List.{_++_};
-ghost use Prim.Native.Nat.{_+_, _≤_};
+ghost use Prim.Native.Nat.{_+_, _≤_, max};
 ghost use lib.ListN.{length, take, drop};
+ghost use Rattle.common.specs.Lists.{largest};
 
 // Writes a list into the output, from a place on.
 pub fn put(list: &[u8], at: usize, output: &mut [u8])
@@ -15,4 +16,27 @@ pub fn put(list: &[u8], at: usize, output: &mut [u8])
         output[at + i] = list[i];
         i += 1;
     }
+}
+
+// The larger of two bytes.
+fn larger(a: u8, b: u8) -> u8
+    ensures { λ r. ⌜ r ≡ max a b ⌝ }
+{
+    if a < b {
+        return b;
+    }
+    a
+}
+
+// The largest of some bytes, and 0 of none. It takes no branch on a value.
+pub fn largest_of(bytes: &[u8]) -> u8
+    ensures { λ r. ⌜ r ≡ largest (now (bytes .entry)) ⌝ }
+{
+    let mut most: u8 = 0;
+    let mut i: usize = 0;
+    while i < bytes.len() {
+        most = larger(most, bytes[i]);
+        i += 1;
+    }
+    most
 }

@@ -5,8 +5,9 @@ use mathlib.Core.List.{List, [], _∷_, _++_}
 use Prim.Native.Nat.{ℕ, zero, suc, _*_, _/_, _%_, _<_}
 use native.Mathlib.Omega.{arith}
 use lib.ListN.{length, getD}
+use Rattle.common.specs.Lists.{total}
 use Rattle.convolutional_code.specs.Bits.{bitsOf, Bits, none, more}
-use Rattle.convolutional_code.specs.Code.{tapSum, recent, nextMemory, motherOf}
+use Rattle.convolutional_code.specs.Code.{recent, nextMemory, motherOf}
 use Rattle.convolutional_code.specs.Sweep.{oldest}
 
 pub bits-at : {l : List ℕ} → Bits l → (k : ℕ) → getD l k 0 < 2
@@ -39,7 +40,7 @@ bits-oldest m =
 pub bits-mother : (taps : List ℕ) (memory : ℕ) (l : List ℕ) → Bits (motherOf taps memory l)
 unfolding motherOf
 bits-mother taps m [] = none
-bits-mother taps m (b ∷ bs) = more (digit (tapSum taps (b ∷ recent m))) (bits-mother taps (nextMemory m b) bs)
+bits-mother taps m (b ∷ bs) = more (digit (total (λ t. getD (b ∷ recent m) t 0) taps)) (bits-mother taps (nextMemory m b) bs)
 
 pub length-mother : (taps : List ℕ) (memory : ℕ) (l : List ℕ) → length (motherOf taps memory l) ≡ length l
 unfolding motherOf

@@ -1,3 +1,3 @@
 pub mod Bits
-pub mod Unpacked
-pub mod Sweep
+mod Unpacked
+mod Sweep

@@ -89,7 +89,7 @@ summed : (m q1 q2 q3 q4 q5 d0 d1 d2 d3 d4 d5 : ℕ) → m ≡ 2 * q1 + d0 → q1
     → q5 ≡ d5 → d0 + 2 * d1 + 4 * d2 + 8 * d3 + 16 * d4 + 32 * d5 ≡ m
 summed m q1 q2 q3 q4 q5 d0 d1 d2 d3 d4 d5 a b c d e f = omega arith
 
-pub memory-mother : (memory : ℕ) (bits : List ℕ) → memory < 64 → Bits bits → memoryAt (oldest memory ++ bits) (length bits) ≡ memoryAfter memory bits
+memory-mother : (memory : ℕ) (bits : List ℕ) → memory < 64 → Bits bits → memoryAt (oldest memory ++ bits) (length bits) ≡ memoryAfter memory bits
 unfolding memoryAfter
 memory-mother m [] h t =
     let v = digits-halved m in

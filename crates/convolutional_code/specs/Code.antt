@@ -3,6 +3,7 @@
 use mathlib.Core.List.{List, [], _∷_, _++_}
 use Prim.Native.Nat.{ℕ, _+_, _*_, _/_, _%_}
 use lib.ListN.{getD}
+use Rattle.common.specs.Lists.{total}
 
 -- The generators of EN 300 421, 4.4.3: G1 is 171 octal, 1 111 001, and G2 is 133 octal, 1 011 011. Each is given as its taps, by how many bits
 -- before the newest one they are: document 01 has X from the bit and those 1, 2, 3 and 6 before it, Y from the bit and those 2, 3, 5 and 6 before it.
@@ -12,14 +13,9 @@ tapsX = 0 ∷ 1 ∷ 2 ∷ 3 ∷ 6 ∷ []
 abbrev pub tapsY : List ℕ
 tapsY = 0 ∷ 2 ∷ 3 ∷ 5 ∷ 6 ∷ []
 
--- the sum of the bits at the taps; past is every bit so far, the newest first, and 0 before the first one
-abbrev pub tapSum : List ℕ → List ℕ → ℕ
-tapSum [] past = 0
-tapSum (t ∷ ts) past = getD past t 0 + tapSum ts past
-
--- the coded bit of the newest bit: the xor of the bits at the taps
+-- the coded bit of the newest bit: the xor of the bits at the taps; past is every bit so far, the newest first, and 0 before the first one
 abbrev pub convolved : List ℕ → List ℕ → ℕ
-convolved taps past = tapSum taps past % 2
+convolved taps past = total (λ t. getD past t 0) taps % 2
 
 -- ---- with a memory
 

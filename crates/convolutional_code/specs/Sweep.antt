@@ -3,6 +3,7 @@
 use mathlib.Core.List.{List, [], _∷_}
 use Prim.Native.Nat.{ℕ, zero, suc, _+_, _*_, _/_, _%_}
 use lib.ListN.{getD}
+use Rattle.common.specs.Lists.{total}
 
 -- the bits of the memory, the oldest first
 abbrev pub oldest : ℕ → List ℕ
@@ -16,8 +17,7 @@ abbrev pub offsetsY : List ℕ
 offsetsY = 6 ∷ 4 ∷ 3 ∷ 1 ∷ 0 ∷ []
 
 abbrev pub totalAt : List ℕ → List ℕ → ℕ → ℕ
-totalAt [] h n = 0
-totalAt (o ∷ os) h n = getD h (n + o) 0 + totalAt os h n
+totalAt os h n = total (λ o. getD h (n + o) 0) os
 
 -- X, or Y, of k bits of a list, the first of which follows six bits that begin at n
 unfoldable pub sweep : List ℕ → List ℕ → ℕ → ℕ → List ℕ

@@ -1,12 +1,12 @@
 -- Numbers as bytes, and back.
 -- Assumes nothing.
 use mathlib.Core.Path.{_≡_, refl, sym, ap, ap₂, _∙_}
-use mathlib.Core.List.{List, [], _∷_, _++_, append-assoc, append-nil}
+use mathlib.Core.List.{List, [], _∷_, _++_, append-assoc, append-nil, map, flatten}
 use Prim.Native.Nat.{ℕ, zero, suc, _+_, _*_, _/_, _%_, _≤_, _<_}
 use native.Mathlib.Omega.{arith}
 use lib.ListN.{length, getD, length-append}
 use Rattle.common.specs.Lists.{ByteEntries}
-use Rattle.count_bytes.specs.Bytes.{byteAt, toBytes, fromBytes, eightEach}
+use Rattle.count_bytes.specs.Bytes.{byteAt, toBytes, fromBytes}
 
 low-byte : (b m : ℕ) → b < 256 → (b + 256 * m) % 256 ≡ b
 low-byte b m h = omega arith
@@ -74,14 +74,14 @@ byte-to zero n k h = absurd (omega arith)
 byte-to (suc size) n zero h = refl
 byte-to (suc size) n (suc k) h = byte-to size (n / 256) k (omega arith)
 
-pub each-length : (ns : List ℕ) → length (eightEach ns) ≡ 8 * length ns
-unfolding eightEach
+pub each-length : (ns : List ℕ) → length (flatten (map (toBytes 8) ns)) ≡ 8 * length ns
+unfolding flatten
 each-length [] = refl
 each-length (n ∷ ns) =
-    length-append (toBytes 8 n) (eightEach ns)
+    length-append (toBytes 8 n) (flatten (map (toBytes 8) ns))
     ∙ let h = length-to 8 n in let k = each-length ns in omega arith
 
-pub each-snoc : (ns : List ℕ) (n : ℕ) → eightEach ns ++ toBytes 8 n ≡ eightEach (ns ++ n ∷ [])
-unfolding eightEach
+pub each-snoc : (ns : List ℕ) (n : ℕ) → flatten (map (toBytes 8) ns) ++ toBytes 8 n ≡ flatten (map (toBytes 8) (ns ++ n ∷ []))
+unfolding flatten
 each-snoc [] n = sym (append-nil (toBytes 8 n))
-each-snoc (m ∷ ns) n = append-assoc (toBytes 8 m) (eightEach ns) (toBytes 8 n) ∙ ap (λ (l : List ℕ). toBytes 8 m ++ l) (each-snoc ns n)
+each-snoc (m ∷ ns) n = append-assoc (toBytes 8 m) (flatten (map (toBytes 8) ns)) (toBytes 8 n) ∙ ap (λ (l : List ℕ). toBytes 8 m ++ l) (each-snoc ns n)

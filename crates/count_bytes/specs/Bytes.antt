@@ -1,7 +1,7 @@
 -- Numbers as bytes, the lowest first, and the counts of a receiver so.
 -- Clauses: document 01, "Receiver"; document 02, P3 and P14.
 -- Assumes nothing.
-use mathlib.Core.List.{List, [], _∷_, _++_}
+use mathlib.Core.List.{List, [], _∷_, map, flatten}
 use Prim.Native.Nat.{ℕ, zero, suc, _+_, _*_, _/_, _%_}
 use lib.ListN.{take, drop}
 use Rattle.reception_counts.specs.declared.Counts.{Counts}
@@ -25,15 +25,9 @@ fromBytes (b ∷ bs) = b + 256 * fromBytes bs
 abbrev pub numbersOf : Counts → List ℕ
 numbersOf c = c .taken ∷ c .filling ∷ c .delivered ∷ c .lost ∷ c .waiting ∷ c .outofstep ∷ c .changed ∷ c .bits ∷ []
 
--- numbers in eight bytes each
-unfoldable pub eightEach : List ℕ → List ℕ
-unfolding toBytes
-eightEach [] = []
-eightEach (n ∷ ns) = toBytes 8 n ++ eightEach ns
-
+-- each of them in eight bytes
 unfoldable pub countBytes : Counts → List ℕ
-unfolding eightEach
-countBytes c = eightEach (numbersOf c)
+countBytes c = flatten (map (toBytes 8) (numbersOf c))
 
 -- the counts that are read, from a place on
 abbrev pub countsAt : List ℕ → ℕ → Counts

@@ -37,7 +37,7 @@ pub length-out : (side : Side) (s : Branches) (block : List ℕ) → length (blo
 unfolding blockOut
 length-out side s block = length-listOf 204 (λ n. getD (leaving side s block (n % 12)) (n / 12) 0)
 
-pub out-at : (side : Side) (s : Branches) (block : List ℕ) (n : ℕ) → n < 204
+out-at : (side : Side) (s : Branches) (block : List ℕ) (n : ℕ) → n < 204
     → getD (blockOut side s block) n 0 ≡ getD (leaving side s block (n % 12)) (n / 12) 0
 unfolding blockOut
 out-at side s block n h = getD-listOf 204 (λ i. getD (leaving side s block (i % 12)) (i / 12) 0) 0 n h

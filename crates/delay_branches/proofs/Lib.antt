@@ -1,7 +1,7 @@
 pub mod Columns
-pub mod Rings
-pub mod Positions
-pub mod Cells
-pub mod Filling
+mod Rings
+mod Positions
+mod Cells
+mod Filling
 pub mod Blocks
-pub mod Passing
+mod Passing

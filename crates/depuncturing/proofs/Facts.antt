@@ -38,7 +38,7 @@ two l j zero h = refl
 two l j (suc zero) h = refl
 two l j (suc (suc v)) h = absurd (omega arith)
 
-pub kind-is : (l : List ℕ) (q j m b : ℕ)
+kind-is : (l : List ℕ) (q j m b : ℕ)
     → stepCost (value l q j 0) (value l q j 1) (value l q j 2) (value l q j 3) m b ≡ kindCost (pairCost l) q j (coded tapsX m b) (coded tapsY m b)
 unfolding stepCost
 kind-is l zero j m b = omega (arith, none (coded tapsX m b), none (coded tapsY m b))
@@ -88,7 +88,7 @@ width-three q e = ap width e
 
 -- ---- the places of a run
 
-pub kind-lt : (rate place : ℕ) → rate < 5 → place < patternLength rate → (0 < kind rate place) × (kind rate place ≤ 3)
+kind-lt : (rate place : ℕ) → rate < 5 → place < patternLength rate → (0 < kind rate place) × (kind rate place ≤ 3)
 unfolding kind modeOf flatten
 kind-lt rate place h l = (
   ltb→lt 0 (kind rate place) (tested-at (λ r p. ltb 0 (kind r p)) tt rate place h l),
@@ -106,7 +106,7 @@ unfolding first
 first-le-add rate k zero = rw add-zero (omega arith)
 first-le-add rate k (suc d) = rw add-suc (omega (arith, first-le-add rate k d))
 
-pub first-le : (rate k n : ℕ) → k < n → first rate k + width (kindAt rate k) ≤ first rate n
+first-le : (rate k n : ℕ) → k < n → first rate k + width (kindAt rate k) ≤ first rate n
 unfolding first
 first-le rate k n h =
     let e : n ≡ suc k + (n - suc k) = omega arith in
@@ -123,7 +123,7 @@ unfolding first
 half-first zero = refl
 half-first (suc n) = let e : width (kindAt 0 n) ≡ 2 = ap width (half-kind n) in omega (arith, half-first n)
 
-pub half-value : (l : List ℕ) (t : ℕ) → getD l t 0 ≡ stepValue l 0 t
+half-value : (l : List ℕ) (t : ℕ) → getD l t 0 ≡ stepValue l 0 t
 unfolding stepValue
 half-value l t =
     let e : t ≡ 2 * first 0 (t / 4) + t % 4 = omega (arith, half-first (t / 4)) in

@@ -45,12 +45,12 @@ const KINDS: [u8; 35] = [
     2,
 ];
 
-pub struct Four {
-    pub x0: u8,
-    pub x1: u8,
-    pub y0: u8,
-    pub y1: u8,
-    pub next: usize,
+struct Four {
+    x0: u8,
+    x1: u8,
+    y0: u8,
+    y1: u8,
+    next: usize,
 }
 
 // The four costs of a step of kind q, whose first coded bit is j, and the coded bit after it.

@@ -90,8 +90,8 @@ so-far {rate} (turn {bytes = bytes} before buffer output exit t h w) =
     }
 
 -- Whatever pieces the reads brought, what is written to the end is the bytes of the bits of all the symbols, up to the first byte that is none.
-pub every-run : {rate : ℕ} {input bytes : List ℕ} {r : Reading} {more : Bool} → ReadTurns rate input bytes r more → {room bits output exit : List ℕ} {last : Last}
-    → LastBytes r room bits output last exit → WholeRun rate input (bytes ++ take (last .count) exit) (r .symbols) (last .rest) (last .bits)
+pub every-run : {rate : ℕ} {input bytes : List ℕ} {r : Reading} {more : Bool} → ReadTurns rate input bytes r more → {lent bits output exit : List ℕ} {last : Last}
+    → LastBytes r lent bits output last exit → WholeRun rate input (bytes ++ take (last .count) exit) (r .symbols) (last .rest) (last .bits)
 every-run {rate} {bytes = bytes} h {exit = exit} {last} l =
     let s = so-far h in
     record {

@@ -2,17 +2,18 @@
 -- Assumes nothing.
 use mathlib.Core.Bool.{Bool, true, false, not, _&&_}
 use mathlib.Core.Path.{_≡_, refl, sym, _∙_, ap}
-use mathlib.Core.List.{List, _++_}
+use mathlib.Core.List.{List, [], _++_}
 use Prim.Native.Nat.{ℕ, zero, suc, _+_, _-_, _*_, _/_, _%_, _≤_, _<_}
 use native.Mathlib.Omega.{arith}
 use borrow.Author.Tests.{eqb-true, eq-eqb}
 use lib.Dec.{T, eqb}
 use lib.Ieee.{nan, ofBits, ofFields, binary32, nanBits}
-use lib.ListN.{length, getD, take, drop, length-append, length-drop}
-use lib.Seq.{length-take-le, take-at, take-length}
-use Rattle.common.specs.Lists.{All}
+use lib.ListN.{length, getD, take, drop, length-append, length-drop, length-map}
+use lib.Seq.{getD-take, getD-drop, length-take-le, take-at, take-length, drop-drop}
+use Rattle.common.specs.Lists.{All, chunks, chunksOf, restOf}
 use Rattle.common.proofs.Choice.{false-true}
-use Rattle.common.proofs.Lists.{length-listOf, getD-listOf}
+use Rattle.common.proofs.Lists.{getD-map-in}
+use Rattle.common.proofs.Chunks.{length-chunks}
 use Rattle.run_reader.proofs.Outcome.{not-true}
 use Rattle.run_reader.proofs.SoftDecisions.{along-costed}
 use Rattle.soft_decision.specs.Steps.{costsAlong}
@@ -21,7 +22,7 @@ use Rattle.soft_decision.proofs.Runs.{along-small}
 use Rattle.soft_decision.specs.Cost.{softly}
 use Rattle.symbol_pass.specs.History.{FeedsCosts, FeedsReceived}
 use Rattle.symbol_pass.specs.declared.Reading.{Reading}
-use Rattle.dvbs_read_soft.specs.Points.{pointAt, pointsOf}
+use Rattle.dvbs_read_soft.specs.Points.{pointOf, pointAt, pointsOf}
 
 -- ---- the patterns of NaNs
 
@@ -47,7 +48,49 @@ pub no-nan : (t : Bool) → t ≡ false → T (not t)
 no-nan true e = false-true (sym e)
 no-nan false e = tt
 
--- ---- the costs of the whole points of some bytes
+-- ---- the whole points of some bytes, by their places
+
+chunk-at : (n k : ℕ) (l : List ℕ) → k < n → getD (chunks 8 n l) k [] ≡ take 8 (drop (8 * k) l)
+unfolding chunks
+chunk-at zero k l h = absurd (omega arith)
+chunk-at (suc n) zero l h = refl
+chunk-at (suc n) (suc k) l h =
+    let e : 8 + 8 * k ≡ 8 * suc k = omega arith in
+    chunk-at n k (drop 8 l) (omega arith) ∙ ap (take 8) (drop-drop (8 * k) 8 l ∙ ap (λ (j : ℕ). drop j l) e)
+
+chunk-point : (bytes : List ℕ) (k : ℕ) → pointOf (take 8 (drop (8 * k) bytes)) ≡ pointAt bytes k
+chunk-point bytes k =
+    let at : (j : ℕ) → j < 8 → getD (take 8 (drop (8 * k) bytes)) j 0 ≡ getD bytes (8 * k + j) 0
+    = λ j h. getD-take 8 (drop (8 * k) bytes) j 0 h ∙ getD-drop (8 * k) bytes j 0 in
+    let e0 : 8 * k + 0 ≡ 8 * k = omega arith in
+    let e5 : 8 * k + 4 + 1 ≡ 8 * k + 5 = omega arith in
+    let e6 : 8 * k + 4 + 2 ≡ 8 * k + 6 = omega arith in
+    let e7 : 8 * k + 4 + 3 ≡ 8 * k + 7 = omega arith in
+    rw (
+      at 0 (omega arith),
+      at 1 (omega arith),
+      at 2 (omega arith),
+      at 3 (omega arith),
+      at 4 (omega arith),
+      at 5 (omega arith),
+      at 6 (omega arith),
+      at 7 (omega arith),
+      e0,
+      e5,
+      e6,
+      e7,
+    )
+
+points-length : (bytes : List ℕ) → length (pointsOf bytes) ≡ length bytes / 8
+points-length bytes = length-map (chunksOf 8 bytes) pointOf ∙ length-chunks 8 bytes
+
+points-at : (bytes : List ℕ) (i : ℕ) → i < length bytes / 8 → getD (pointsOf bytes) i Lost ≡ pointAt bytes i
+unfolding chunksOf
+points-at bytes i h =
+    getD-map-in pointOf (chunksOf 8 bytes) [] Lost i (omega (arith, length-chunks 8 bytes))
+    ∙ ap pointOf (chunk-at (length bytes / 8) i bytes h) ∙ chunk-point bytes i
+
+-- ---- their costs
 
 module _ (bytes costs : List ℕ) (w : (t : ℕ) → t < 4 * (length bytes / 8) → getD costs t 0 ≡ costsAlong (pointAt bytes) t) (long : 4 * (length bytes / 8) ≤ length costs) where
   abbrev n : ℕ
@@ -63,7 +106,7 @@ module _ (bytes costs : List ℕ) (w : (t : ℕ) → t < 4 * (length bytes / 8) 
       → FeedsReceived softly r (pointsOf bytes) output next count exit
   points-fed f = record {
     costs = take (4 * n) costs;
-    costed = along-costed (pointAt bytes) (pointsOf bytes) n (length-listOf n (pointAt bytes)) (λ i h. getD-listOf n (pointAt bytes) Lost i h) costs long w;
+    costed = along-costed (pointAt bytes) (pointsOf bytes) n (points-length bytes) (points-at bytes) costs long w;
     fed = f;
   }
 
@@ -83,8 +126,11 @@ module _ (bytes tail next : List ℕ) (size : length tail ≡ 8) where
     pub tail-length : length next ≡ 8
     tail-length = ap length e ∙ omega (arith, length-append rest (drop (0 + length rest) tail), length-drop (0 + length rest) tail, rest-length)
 
-    pub tail-is : take (length bytes % 8) next ≡ drop whole bytes
+    pub tail-is : take (length bytes % 8) next ≡ restOf 8 bytes
+    unfolding restOf
     tail-is =
+        let k : whole ≡ length bytes - length bytes % 8 = omega arith in
         let n : length bytes - whole ≡ length (drop whole bytes) = sym (length-drop whole bytes) in
         ap (take (length bytes % 8)) e
         ∙ (take-at rest (drop (0 + length rest) tail) (length bytes % 8) rest-length ∙ (ap (λ (k : ℕ). take k (drop whole bytes)) n ∙ take-length (drop whole bytes)))
+        ∙ ap (λ (j : ℕ). drop j bytes) k

@@ -1,26 +1,23 @@
 -- Turns one after the other: what the program writes is the bytes of the bits of all the whole points.
 -- Assumes nothing.
-use mathlib.Core.Path.{_≡_, sym, ap, ap₂, subst, _∙_}
+use mathlib.Core.Path.{_≡_, sym, ap, subst, _∙_}
 use mathlib.Core.Bool.{Bool}
-use mathlib.Core.List.{List, _++_, append-nil, append-assoc}
-use Prim.Native.Nat.{ℕ, _+_, _-_, _*_, _/_, _%_, _≤_, _<_}
+use mathlib.Core.List.{List, _++_, map, append-nil, append-assoc, map-append}
+use Prim.Native.Nat.{ℕ, _+_, _-_, _%_, _≤_, _<_}
 use native.Mathlib.Omega.{arith}
 use borrow.Rule.Slice.PartMut.{putMid, midOf}
-use lib.Ieee.{ofBits, binary32}
-use lib.ListN.{length, getD, take, drop, length-append, length-drop, drop-of-length-le}
+use lib.ListN.{length, take, drop, length-append, length-drop, drop-of-length-le}
 use lib.Seq.{length-take-le, take-all, drop-at, take-append-add}
-use Rattle.common.specs.Lists.{listOf}
-use Rattle.bit_packing.specs.Packing.{bitsAfter}
-use Rattle.bit_packing.proofs.Bytes.{eights, eights-pieces, after-pieces, after-count}
+use Rattle.common.specs.Lists.{chunks, chunksOf, restOf}
+use Rattle.common.proofs.Chunks.{length-rest, cut}
 use Rattle.input_pieces.specs.Read.{ReadsPiece}
 use Rattle.input_pieces.specs.declared.Piece.{Piece}
 use Rattle.soft_decision.specs.Cost.{softly}
 use Rattle.soft_decision.specs.declared.Received.{Received}
-use Rattle.soft_decision.specs.declared.Received.the-variants.{Lost}
 use Rattle.symbol_pass.specs.History.{Going, LastBytes, ReceivedSoFar}
 use Rattle.symbol_pass.specs.declared.Last.{Last}
 use Rattle.symbol_pass.proofs.Histories.{going-more, received-none, received-more, whole-pass}
-use Rattle.dvbs_read_soft.specs.Points.{point, pointAt, pointsOf}
+use Rattle.dvbs_read_soft.specs.Points.{pointOf, pointsOf}
 use Rattle.dvbs_read_soft.specs.Turn.{Held, ReadsBehind, Turns, ReadTurns, begun, turn, WholeRun}
 use Rattle.dvbs_read_soft.specs.declared.Points.{Points}
 use Rattle.dvbs_read_soft.specs.declared.Turn.{Turn}
@@ -86,66 +83,35 @@ turn-going g t = going-more g (t .taken .fed .fed)
 
 -- ---- the points of bytes that come in pieces
 
--- the symbol of eight bytes
-abbrev pointOf : (ℕ → ℕ) → Received
-pointOf byte =
-    point (ofBits binary32 (byte 0 + 256 * byte 1 + 65536 * byte 2 + 16777216 * byte 3)) (ofBits binary32 (byte 4 + 256 * byte 5 + 65536 * byte 6 + 16777216 * byte 7))
-
-point-same : (f g : ℕ → ℕ) → ((j : ℕ) → j < 8 → f j ≡ g j) → pointOf f ≡ pointOf g
-point-same f g h =
-    let e0 = h 0 (omega arith) in
-    let e1 = h 1 (omega arith) in
-    let e2 = h 2 (omega arith) in
-    let e3 = h 3 (omega arith) in
-    let e4 = h 4 (omega arith) in
-    let e5 = h 5 (omega arith) in
-    let e6 = h 6 (omega arith) in
-    let e7 = h 7 (omega arith) in
-    rw (e0, e1, e2, e3, e4, e5, e6, e7)
-
-point-eight : (bytes : List ℕ) (k : ℕ) → pointAt bytes k ≡ pointOf (λ j. getD bytes (8 * k + j) 0)
-point-eight bytes k =
-    let e0 : 8 * k + 0 ≡ 8 * k = omega arith in
-    let e5 : 8 * k + 4 + 1 ≡ 8 * k + 5 = omega arith in
-    let e6 : 8 * k + 4 + 2 ≡ 8 * k + 6 = omega arith in
-    let e7 : 8 * k + 4 + 3 ≡ 8 * k + 7 = omega arith in
-    rw (e0, e5, e6, e7)
-
-points-eights : (bytes : List ℕ) → pointsOf bytes ≡ eights Lost pointOf point-same bytes
-points-eights bytes i = listOf (length bytes / 8) (λ k. point-eight bytes k i)
-
 -- Two pieces: the points of the first, and then those of what it left and the second.
-points-pieces : (a b : List ℕ) → pointsOf (a ++ b) ≡ pointsOf a ++ pointsOf (bitsAfter a ++ b)
-points-pieces a b =
-    points-eights (a ++ b) ∙ eights-pieces Lost pointOf point-same a b
-    ∙ sym (ap₂ (λ (x y : List Received). x ++ y) (points-eights a) (points-eights (bitsAfter a ++ b)))
+points-pieces : (a b : List ℕ) → pointsOf (a ++ b) ≡ pointsOf a ++ pointsOf (restOf 8 a ++ b)
+points-pieces a b = ap (map pointOf) (cut 8 (omega arith) a b .chunks-are) ∙ map-append pointOf (chunksOf 8 a) (chunksOf 8 (restOf 8 a ++ b))
 
 -- ---- turns one after the other
 
--- what is left behind eights of bytes is as of bits
 record SoFar (rate : ℕ) (input bytes : List ℕ) (p : Points) : Type 0 where
   received : ReceivedSoFar softly rate (pointsOf input) bytes (p .reading)
-  held : take (p .held) (p .tail) ≡ bitsAfter input
+  held : take (p .held) (p .tail) ≡ restOf 8 input
   count : p .held ≡ length input % 8
 
 so-far : {rate : ℕ} {input bytes : List ℕ} {p : Points} {more : Bool} → ReadTurns rate input bytes p more → SoFar rate input bytes p
-unfolding listOf bitsAfter
+unfolding chunksOf chunks restOf
 so-far (begun {p} b e) = record { received = received-none softly b; held = ap (λ (k : ℕ). take k (p .tail)) e; count = e }
 so-far {rate} (turn {input} {bytes} {p} before buffer output exit t h w) =
     let s = so-far h in
     let piece : List ℕ = take (t .piece .length) (drop 8 buffer) in
     let k = w .taken in
-    let e : take (p .held) (p .tail) ++ piece ≡ bitsAfter input ++ piece = ap (λ (l : List ℕ). l ++ piece) (s .held) in
+    let e : take (p .held) (p .tail) ++ piece ≡ restOf 8 input ++ piece = ap (λ (l : List ℕ). l ++ piece) (s .held) in
     let l = subst (Held (t .points)) e (k .holds) in
     record {
       received =
           subst (λ (x : List Received). ReceivedSoFar softly rate x (bytes ++ take (t .count) exit) (t .points .reading))
           (ap (λ (x : List ℕ). pointsOf input ++ pointsOf x) e ∙ sym (points-pieces input piece)) (received-more softly (s .received) (k .fed));
-      held = l .bytes-are ∙ sym (after-pieces input piece);
-      count = l .count ∙ after-count input piece;
+      held = l .bytes-are ∙ sym (cut 8 (omega arith) input piece .rest-is);
+      count = omega (arith, l .count, length-append (restOf 8 input) piece, length-rest 8 input, length-append input piece);
     }
 
 -- Whatever pieces the reads brought, what is written to the end is the bytes of the bits of all the whole points.
-pub every-run : {rate : ℕ} {input bytes : List ℕ} {p : Points} {more : Bool} → ReadTurns rate input bytes p more → {room bits output exit : List ℕ} {last : Last}
-    → LastBytes (p .reading) room bits output last exit → WholeRun rate input (bytes ++ take (last .count) exit) (last .rest) (last .bits) (p .held)
+pub every-run : {rate : ℕ} {input bytes : List ℕ} {p : Points} {more : Bool} → ReadTurns rate input bytes p more → {lent bits output exit : List ℕ} {last : Last}
+    → LastBytes (p .reading) lent bits output last exit → WholeRun rate input (bytes ++ take (last .count) exit) (last .rest) (last .bits) (p .held)
 every-run h l = let s = so-far h in record { pass = whole-pass softly (s .received) l; left-is = s .count }

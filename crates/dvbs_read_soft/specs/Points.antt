@@ -1,12 +1,12 @@
 -- Received points as bytes: two f32 each, I and then Q, the lowest byte first.
 -- Clause: document 02, P8.
 -- Assumes nothing.
-use mathlib.Core.List.{List}
-use Prim.Native.Nat.{ℕ, _+_, _*_, _/_}
+use mathlib.Core.List.{List, map}
+use Prim.Native.Nat.{ℕ, _+_, _*_}
 use lib.Ieee.{Float, isNan, ofBits, binary32}
-use lib.ListN.{length, getD}
+use lib.ListN.{getD}
 use Rattle.common.specs.Choice.{pick}
-use Rattle.common.specs.Lists.{listOf}
+use Rattle.common.specs.Lists.{chunksOf}
 use Rattle.soft_decision.specs.declared.Received.{Received}
 use Rattle.soft_decision.specs.declared.Received.the-variants.{At, Lost}
 
@@ -22,9 +22,13 @@ number bytes at = ofBits binary32 (wordAt bytes at)
 abbrev pub point : Float → Float → Received
 point i q = pick (isNan i) (pick (isNan q) Lost (At (record { i = i; q = q }))) (At (record { i = i; q = q }))
 
+-- that of eight bytes, and those of the whole points of some bytes
+abbrev pub pointOf : List ℕ → Received
+pointOf bytes = point (number bytes 0) (number bytes 4)
+
+abbrev pub pointsOf : List ℕ → List Received
+pointsOf bytes = map pointOf (chunksOf 8 bytes)
+
+-- a point by its place
 abbrev pub pointAt : List ℕ → ℕ → Received
 pointAt bytes k = point (number bytes (8 * k)) (number bytes (8 * k + 4))
-
--- those of the whole points of some bytes
-abbrev pub pointsOf : List ℕ → List Received
-pointsOf bytes = listOf (length bytes / 8) (pointAt bytes)

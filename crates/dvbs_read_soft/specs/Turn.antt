@@ -5,9 +5,10 @@
 use mathlib.Core.Path.{_≡_}
 use mathlib.Core.Bool.{Bool, true}
 use mathlib.Core.List.{List, [], _++_}
-use Prim.Native.Nat.{ℕ, _+_, _-_, _*_, _/_, _%_, _≤_, _<_}
+use Prim.Native.Nat.{ℕ, _+_, _-_, _%_, _≤_, _<_}
 use lib.Dec.{ltb}
 use lib.ListN.{length, take, drop}
+use Rattle.common.specs.Lists.{restOf}
 use Rattle.input_pieces.specs.Read.{ReadsPiece}
 use Rattle.input_pieces.specs.declared.Piece.{Piece}
 use Rattle.soft_decision.specs.Cost.{softly}
@@ -21,7 +22,7 @@ use Rattle.dvbs_read_soft.specs.declared.Turn.{Turn}
 pub record Held (p : Points) (bytes : List ℕ) : Type 0 where
   pub size : length (p .tail) ≡ 8
   pub count : p .held ≡ length bytes % 8
-  pub bytes-are : take (p .held) (p .tail) ≡ drop (8 * (length bytes / 8)) bytes
+  pub bytes-are : take (p .held) (p .tail) ≡ restOf 8 bytes
 
 -- What is taken of some bytes: their whole points, and the bytes that are left are held.
 pub record TakesPoints (r : Reading) (bytes output : List ℕ) (next : Points) (count : ℕ) (exit : List ℕ) : Type 0 where

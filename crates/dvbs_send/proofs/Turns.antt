@@ -10,8 +10,7 @@ use Rattle.input_pieces.specs.Read.{ReadsPiece}
 use Rattle.input_pieces.specs.declared.Piece.{Piece}
 use Rattle.sending.specs.Sending.{canSend, fedSymbols, OutputsFit, FeedsSending}
 use Rattle.sending.specs.declared.Sending.{Sending}
-use Rattle.sending.proofs.Pieces.{sending-range, sending-sent}
-use Rattle.sending.proofs.Laws.{feeds-all, fed-range}
+use Rattle.sending.proofs.Laws.{feeds-all, fed-range, sending-range, sending-sent}
 use Rattle.dvbs_send.specs.Turn.{Turns}
 
 pub turns : (w : Sending) (before buffer symbols answers : List ℕ) {piece : Piece} {number count packets : ℕ} {next : Sending} {left told : List ℕ}

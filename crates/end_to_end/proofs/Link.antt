@@ -9,18 +9,18 @@ use native.Mathlib.Nat.{div-add-mod, mod-lt}
 use native.Mathlib.Omega.{arith}
 use lib.ListN.{length, take, replicate, length-map, length-append}
 use lib.Seq.{length-take-le}
-use Rattle.common.specs.Lists.{All, Bytes, Length, ByteEntries}
+use Rattle.common.specs.Lists.{All, Bytes, ByteEntries, chunksOf}
 use Rattle.common.proofs.Lists.{All-map}
 use Rattle.common.proofs.Entries.{bytes-of, bytes-entries}
+use Rattle.common.proofs.Chunks.{chunks-back}
 use Rattle.reed_solomon.specs.Encode.{encoded}
 use Rattle.reed_solomon.proofs.LongDivision.{encoded-bytes}
 use Rattle.randomizer.specs.Packet.{randomized}
-use Rattle.randomizer.specs.Stream.{Packet, randomizedFrom, randomizedStream}
+use Rattle.randomizer.specs.Stream.{Packet, randomizedFrom}
 use Rattle.randomizer.proofs.Whole.{packet-lengths, randomized-stream}
 use Rattle.delay_branches.specs.declared.Side.the-variants.{Sending}
-use Rattle.interleaver.proofs.Blocks.{length-flatten}
-use Rattle.interleaver.proofs.Streams.{length-delayed, delayed-lengths, delayed-bytes}
-use Rattle.convolutional_code.specs.Bits.{Bits}
+use Rattle.interleaver.proofs.Streams.{delayed-bytes}
+use Rattle.convolutional_code.specs.Bits.{bitsOf}
 use Rattle.convolutional_code.proofs.Bits.{length-bits, bits-bits}
 use Rattle.bit_packing.specs.Packing.{packedBytes}
 use Rattle.bit_packing.proofs.Bytes.{bytes-back}
@@ -34,23 +34,19 @@ use Rattle.inner_code.specs.Encode.{coderAt}
 use Rattle.run_reader.specs.Read.{symbolsPerPattern, runBits, runLength}
 use Rattle.run_reader.proofs.Unharmed.{clear-length}
 use Rattle.symbol_stream.proofs.Unharmed.{stream-whole, last-pattern}
-use Rattle.sender.specs.Standard.{interleavedBlocks}
 use Rattle.sender.specs.Input.{Input, packetFor, packetsFor}
 use Rattle.sender.proofs.Inputs.{packets-sent}
 use Rattle.receiver.specs.Receive.{freshReceiver}
 use Rattle.receiver.specs.Kept.{Kept}
 use Rattle.receiver.specs.declared.Receiver.{Receiver}
 use Rattle.receiver.proofs.Decoding.{sent-length, sent-bytes}
-use Rattle.receiver.proofs.Reception.{blocks-count, coded-size, begun-anywhere}
+use Rattle.receiver.proofs.Reception.{blocks-count, begun-anywhere}
 use Rattle.receiver.proofs.Promised.{kept-calls}
-use Rattle.end_to_end.specs.Blocks.{sentBits, blocksIn}
+use Rattle.sent_blocks.specs.Blocks.{codedBlocks, interleavedBlocks, sentBytes}
+use Rattle.sender.proofs.Counts.{block-bits}
+use Rattle.sent_blocks.proofs.Lengths.{interleaved-count, interleaved-whole}
 use Rattle.end_to_end.specs.Link.{Link, StreamLink, blocksInBits, BroughtBack, Arrived, StreamArrived}
-use Rattle.end_to_end.proofs.Blocks.{blocks-back}
 use Rattle.end_to_end.proofs.Sent.{sent-coded, sent-front, front-within, front-last}
-
-sent-binary : (packets : List (List ℕ)) → Bits (sentBits packets)
-unfolding sentBits
-sent-binary packets = bits-bits (flatten (interleavedBlocks packets))
 
 -- ---- the interleaved blocks are of bytes
 
@@ -76,35 +72,18 @@ module _ (packets : List (List ℕ)) (ws : All Packet packets) where
   sent = interleavedBlocks packets
 
   interleaved-bytes : Bytes (flatten sent)
-  unfolding interleavedBlocks
   interleaved-bytes =
       flat-bytes sent
       (All-map ByteEntries Bytes bytes-of sent
-      (delayed-bytes Sending (map encoded (randomizedStream packets))
+      (delayed-bytes Sending (codedBlocks packets)
       (subst (λ (x : List (List ℕ)). All ByteEntries (map encoded x)) (randomized-stream packets (packet-lengths packets ws)) (coded-bytes 0 packets ws))))
 
-  interleaved-sizes : All (Length 204) sent
-  unfolding interleavedBlocks
-  interleaved-sizes = delayed-lengths Sending (map encoded (randomizedStream packets))
-
-  interleaved-count : length sent ≡ length packets
-  unfolding interleavedBlocks
-  interleaved-count = length-delayed Sending (map encoded (randomizedStream packets)) ∙ coded-size packets ws
-
-  byte-count : length (flatten sent) ≡ 204 * length packets
-  byte-count = length-flatten 204 sent interleaved-sizes ∙ ap (λ (n : ℕ). 204 * n) interleaved-count
-
-  bit-count : length (sentBits packets) ≡ 1632 * length packets
-  unfolding sentBits
-  bit-count = omega (arith, length-bits (flatten sent), byte-count)
-
   -- the first n bits that are sent make the blocks that are whole in them
-  front-blocks : (n : ℕ) → n ≤ length (sentBits packets) → blocksIn (packedBytes (take n (sentBits packets))) ≡ take (blocksInBits n) sent
-  unfolding sentBits
+  front-blocks : (n : ℕ) → n ≤ length (bitsOf (sentBytes packets)) → chunksOf 204 (packedBytes (take n (bitsOf (sentBytes packets)))) ≡ take (blocksInBits n) sent
   front-blocks n h =
       let e : n / 8 / 204 ≡ n / 1632 = omega arith in
-      ap blocksIn (bytes-back (flatten sent) interleaved-bytes n h)
-      ∙ blocks-back sent interleaved-sizes (n / 8) (omega (arith, length-bits (flatten sent)))
+      ap (chunksOf 204) (bytes-back (flatten sent) interleaved-bytes n h)
+      ∙ chunks-back 204 (omega arith) sent (interleaved-whole packets) (n / 8) (omega (arith, length-bits (flatten sent)))
       ∙ ap (λ (k : ℕ). take k sent) e
 
 -- ---- the theorem
@@ -117,23 +96,22 @@ module _ (inputs : List (List ℕ)) (g : All Input inputs) (bs : All Bytes input
   ws : All Packet packets
   ws = packets-sent inputs g bs
 
-  sent-length-is : length (sentBits packets) ≡ 1632 * length inputs
-  sent-length-is = bit-count packets ws ∙ ap (λ (k : ℕ). 1632 * k) (length-map inputs packetFor)
+  sent-length-is : length (bitsOf (sentBytes packets)) ≡ 1632 * length inputs
+  sent-length-is = block-bits packets ∙ ap (λ (k : ℕ). 1632 * k) (length-map inputs packetFor)
 
-  brought-back : (bits : List ℕ) (far : ℕ) → bits ≡ take far (sentBits packets) → far ≤ length (sentBits packets) → {numbers : List ℕ} {given : List (List ℕ)} {receiver : Receiver}
-      → Kept freshReceiver (blocksIn (packedBytes bits)) numbers given receiver → BroughtBack inputs (length bits) (blocksIn (packedBytes bits)) numbers given
-  unfolding interleavedBlocks
+  brought-back : (bits : List ℕ) (far : ℕ) → bits ≡ take far (bitsOf (sentBytes packets)) → far ≤ length (bitsOf (sentBytes packets)) → {numbers : List ℕ} {given : List (List ℕ)} {receiver : Receiver}
+      → Kept freshReceiver (chunksOf 204 (packedBytes bits)) numbers given receiver → BroughtBack inputs (length bits) (chunksOf 204 (packedBytes bits)) numbers given
   brought-back bits far front within received =
       let count : length packets ≡ length inputs = length-map inputs packetFor in
-      let read : length bits ≡ far = ap length front ∙ length-take-le far (sentBits packets) within in
+      let read : length bits ≡ far = ap length front ∙ length-take-le far (bitsOf (sentBytes packets)) within in
       let n = blocksInBits (length bits) in
-      let blocks : blocksIn (packedBytes bits) ≡ take n (interleavedBlocks packets) =
-      ap (λ (x : List ℕ). blocksIn (packedBytes x)) front ∙ front-blocks packets ws far within
+      let blocks : chunksOf 204 (packedBytes bits) ≡ take n (interleavedBlocks packets) =
+      ap (λ (x : List ℕ). chunksOf 204 (packedBytes x)) front ∙ front-blocks packets ws far within
       ∙ ap (λ (k : ℕ). take (blocksInBits k) (interleavedBlocks packets)) (sym read) in
-      let few : n ≤ length packets = omega (arith, read, within, bit-count packets ws) in
+      let few : n ≤ length packets = omega (arith, read, within, block-bits packets) in
       let m = kept-calls received in
       let calls : length (m .calls) ≡ n =
-      sym (blocks-count (m .calls)) ∙ ap length (m .lent ∙ blocks) ∙ length-take-le n (interleavedBlocks packets) (omega (arith, interleaved-count packets ws)) in
+      sym (blocks-count (m .calls)) ∙ ap length (m .lent ∙ blocks) ∙ length-take-le n (interleavedBlocks packets) (omega (arith, interleaved-count packets)) in
       let r = begun-anywhere packets ws 0 (m .calls) (omega arith) (omega arith)
       (m .lent ∙ blocks ∙ ap (λ (k : ℕ). take k (interleavedBlocks packets)) (sym calls)) (m .plain) (m .output-fits) (m .decodes) in
       let e : length (m .calls) - 11 - 0 ≡ n - 11 = omega arith in
@@ -155,7 +133,7 @@ module _ (inputs : List (List ℕ)) (g : All Input inputs) (bs : All Bytes input
           no-cost = front .1;
           back = brought-back (l .bits) far (front .0) within (l .received);
           to-the-last = λ short.
-              ap length (front .0) ∙ length-take-le far (sentBits packets) within
+              ap length (front .0) ∙ length-take-le far (bitsOf (sentBytes packets)) within
               ∙ front-last rate hr q g (l .sent) (l .runs) (l .whole) (l .unread) (l .cut) short
               ∙ ap (λ (k : ℕ). patternLength rate * (k / patternLength rate)) sent-length-is;
         }
@@ -164,20 +142,20 @@ module _ (inputs : List (List ℕ)) (g : All Input inputs) (bs : All Bytes input
     pub stream-arrived : {R : Type 0} (cost : R → ℕ → ℕ) (l : StreamLink cost rate inputs) → StreamArrived cost rate inputs l
     stream-arrived cost l =
         let coded = sent-coded rate hr q g (l .sent) in
-        let w = stream-whole cost rate (sentBits packets) (sent-binary packets) (l .points) (l .came) (l .unread) (l .clear) (l .cut ∙ coded) (l .fed) (l .costed) (l .closed) in
+        let w = stream-whole cost rate (bitsOf (sentBytes packets)) (bits-bits (sentBytes packets)) (l .points) (l .came) (l .unread) (l .clear) (l .cut ∙ coded) (l .fed) (l .costed) (l .closed) in
         let bits : List ℕ = l .decided ++ take (l .count) (l .exit) in
         let n : length (l .points) ≡ length (l .came) = clear-length (l .clear) in
         let p : packedBytes bits ≡ l .bytes = sym (every-packing (l .packed) .0) in
         record {
           back =
-              subst (λ (x : List ℕ). BroughtBack inputs (length bits) (blocksIn x) (l .numbers) (l .given)) p
+              subst (λ (x : List ℕ). BroughtBack inputs (length bits) (chunksOf 204 x) (l .numbers) (l .given)) p
               (brought-back bits (runBits rate (length (l .points))) (w .given) (w .within)
-              (subst (λ (x : List ℕ). Kept freshReceiver (blocksIn x) (l .numbers) (l .given) (l .receiver)) (sym p) (l .received)));
+              (subst (λ (x : List ℕ). Kept freshReceiver (chunksOf 204 x) (l .numbers) (l .given) (l .receiver)) (sym p) (l .received)));
           behind = w .behind ∙ ap (λ (k : ℕ). k % symbolsPerPattern rate) n;
           to-the-last = λ all-came.
-              let all : length (l .came) ≡ length (symbolsOf (coderAt rate 0) (sentBits packets)) = omega (arith, length-append (l .came) (l .unread), ap length (l .cut ∙ coded)) in
-              ap length (w .given) ∙ length-take-le (runBits rate (length (l .points))) (sentBits packets) (w .within)
-              ∙ ap (runBits rate) (n ∙ all) ∙ last-pattern rate hr (sentBits packets) (sent-binary packets)
+              let all : length (l .came) ≡ length (symbolsOf (coderAt rate 0) (bitsOf (sentBytes packets))) = omega (arith, length-append (l .came) (l .unread), ap length (l .cut ∙ coded)) in
+              ap length (w .given) ∙ length-take-le (runBits rate (length (l .points))) (bitsOf (sentBytes packets)) (w .within)
+              ∙ ap (runBits rate) (n ∙ all) ∙ last-pattern rate hr (bitsOf (sentBytes packets)) (bits-bits (sentBytes packets))
               ∙ ap (λ (k : ℕ). patternLength rate * (k / patternLength rate)) sent-length-is;
         }
 

@@ -21,13 +21,13 @@ use Rattle.inner_code.specs.Encode.{coderAt}
 use Rattle.run_reader.specs.Read.{symbolsPerPattern, runLength}
 use Rattle.run_reader.specs.Runs.{Run, Readings}
 use Rattle.run_reader.proofs.Streams.{fits, stream-read, up-to-last}
-use Rattle.sender.specs.Standard.{interleavedBlocks, onAir}
+use Rattle.sender.specs.Standard.{onAir}
 use Rattle.sender.specs.Input.{Input, packetsFor}
 use Rattle.sender.specs.Send.{freshSender}
 use Rattle.sender.specs.Calls.{SendCalls}
 use Rattle.sender.specs.declared.Sender.{Sender}
 use Rattle.sender.proofs.History.{sent-on-air}
-use Rattle.end_to_end.specs.Blocks.{sentBits}
+use Rattle.sent_blocks.specs.Blocks.{sentBytes}
 
 -- runs of whole patterns, one after the other, are whole patterns
 runs-whole : (rate : ℕ) (rs : List (List ℕ)) → All (Run rate) rs → length (flatten rs) % symbolsPerPattern rate ≡ 0
@@ -41,10 +41,10 @@ runs-whole rate (r ∷ rs) g =
 
 -- the symbols of a fresh sender that was given any inputs are the coding of the bits of the blocks, with null packets put in
 pub sent-coded : (rate : ℕ) → rate < 5 → modeOf rate .sent ≡ true → {inputs : List (List ℕ)} {symbols : List ℕ} {last : Sender} → All Input inputs
-    → SendCalls modeOf (freshSender rate) inputs symbols last → symbols ≡ symbolsOf (coderAt rate 0) (sentBits (packetsFor inputs))
-unfolding onAir sentBits
+    → SendCalls modeOf (freshSender rate) inputs symbols last → symbols ≡ symbolsOf (coderAt rate 0) (bitsOf (sentBytes (packetsFor inputs)))
+unfolding onAir
 sent-coded rate hr q {inputs} g c =
-    let bytes : List ℕ = flatten (interleavedBlocks (packetsFor inputs)) in
+    let bytes : List ℕ = sentBytes (packetsFor inputs) in
     sent-on-air (modeOf rate) (well-formed rate (up rate hr)) q modeOf rate refl g c .0 ∙ (stream-qpsk rate hr bytes ∙ sym (symbols-fresh rate hr (bits-bits bytes)))
 
 -- ---- the theorem, of such a sender
@@ -52,32 +52,28 @@ sent-coded rate hr q {inputs} g c =
 module _ (rate : ℕ) (hr : rate < 5) (q : modeOf rate .sent ≡ true) {inputs : List (List ℕ)} {symbols : List ℕ} {last : Sender} (g : All Input inputs)
     (c : SendCalls modeOf (freshSender rate) inputs symbols last) (rs : List (List ℕ)) (runs : All (Run rate) rs) (rest : List ℕ) (e : flatten rs ++ rest ≡ symbols) where
   abbrev bytes : List ℕ
-  bytes = flatten (interleavedBlocks (packetsFor inputs))
+  bytes = sentBytes (packetsFor inputs)
 
   coded : flatten rs ++ rest ≡ symbolsOf (coderAt rate 0) (bitsOf bytes)
-  unfolding sentBits
   coded = e ∙ sent-coded rate hr q g c
 
   -- the bits of the interleaved blocks, as far as the runs go
   pub sent-front : {out : List ℕ} {cost memory : ℕ} → Readings rate 0 rs out cost memory
-      → (out ≡ take (runLength rate (flatten rs)) (sentBits (packetsFor inputs))) × (cost ≡ 0)
-  unfolding sentBits
+      → (out ≡ take (runLength rate (flatten rs)) (bitsOf (sentBytes (packetsFor inputs)))) × (cost ≡ 0)
   sent-front readings =
       let r = stream-read rate hr 0 (omega arith) (bitsOf bytes) (bits-bits bytes) rs runs rest coded readings in
       (r .0, r .1)
 
   -- how far that is: within those bits; and where less than a pattern is left, to their last whole pattern
-  pub front-within : runLength rate (flatten rs) ≤ length (sentBits (packetsFor inputs))
-  unfolding sentBits
+  pub front-within : runLength rate (flatten rs) ≤ length (bitsOf (sentBytes (packetsFor inputs)))
   front-within = fits rate hr 0 (omega arith) (bitsOf bytes) (bits-bits bytes) (flatten rs) rest (runs-whole rate rs runs) coded
 
   pub front-last : length rest < symbolsPerPattern rate
-      → runLength rate (flatten rs) ≡ patternLength rate * (length (sentBits (packetsFor inputs)) / patternLength rate)
-  unfolding sentBits
+      → runLength rate (flatten rs) ≡ patternLength rate * (length (bitsOf (sentBytes (packetsFor inputs))) / patternLength rate)
   front-last few = up-to-last rate hr 0 (omega arith) (bitsOf bytes) (bits-bits bytes) (flatten rs) rest (runs-whole rate rs runs) few coded
 
   pub sent-read : length rest < symbolsPerPattern rate → {out : List ℕ} {cost memory : ℕ} → Readings rate 0 rs out cost memory
-      → (out ≡ take (patternLength rate * (length (sentBits (packetsFor inputs)) / patternLength rate)) (sentBits (packetsFor inputs))) × (cost ≡ 0)
+      → (out ≡ take (patternLength rate * (length (bitsOf (sentBytes (packetsFor inputs))) / patternLength rate)) (bitsOf (sentBytes (packetsFor inputs)))) × (cost ≡ 0)
   sent-read few readings =
       let r = sent-front readings in
-      (r .0 ∙ ap (λ (n : ℕ). take n (sentBits (packetsFor inputs))) (front-last few), r .1)
+      (r .0 ∙ ap (λ (n : ℕ). take n (bitsOf (sentBytes (packetsFor inputs)))) (front-last few), r .1)

@@ -6,7 +6,7 @@ use mathlib.Core.Path.{_≡_}
 use mathlib.Core.List.{List, _++_, flatten}
 use Prim.Native.Nat.{ℕ, _-_, _*_, _/_, _%_, _≤_, _<_}
 use lib.ListN.{length, take, replicate}
-use Rattle.common.specs.Lists.{All}
+use Rattle.common.specs.Lists.{All, chunksOf}
 use Rattle.bit_packing.specs.Packing.{packedBytes, Packings}
 use Rattle.puncturing.specs.Mode.{modeOf}
 use Rattle.puncturing.specs.Step.{patternLength}
@@ -17,7 +17,6 @@ use Rattle.run_reader.specs.Runs.{Run, Readings}
 use Rattle.symbol_stream.specs.Stream.{Closes}
 use Rattle.symbol_stream.specs.History.{SymbolFeedings}
 use Rattle.symbol_stream.specs.declared.SymbolStream.{SymbolStream}
-use Rattle.sender.specs.Standard.{interleavedBlocks}
 use Rattle.sender.specs.Input.{packetsFor}
 use Rattle.sender.specs.Send.{freshSender}
 use Rattle.sender.specs.Calls.{SendCalls}
@@ -25,7 +24,7 @@ use Rattle.sender.specs.declared.Sender.{Sender}
 use Rattle.receiver.specs.Receive.{freshReceiver}
 use Rattle.receiver.specs.Kept.{Kept}
 use Rattle.receiver.specs.declared.Receiver.{Receiver}
-use Rattle.end_to_end.specs.Blocks.{blocksIn}
+use Rattle.sent_blocks.specs.Blocks.{interleavedBlocks}
 
 pub record Link (rate : ℕ) (inputs : List (List ℕ)) : Type 0 where
   -- a fresh sender is given the inputs, call after call, and these are its symbols
@@ -46,7 +45,7 @@ pub record Link (rate : ℕ) (inputs : List (List ℕ)) : Type 0 where
   pub numbers : List ℕ
   pub given : List (List ℕ)
   pub receiver : Receiver
-  pub received : Kept freshReceiver (blocksIn (packedBytes bits)) numbers given receiver
+  pub received : Kept freshReceiver (chunksOf 204 (packedBytes bits)) numbers given receiver
 
 -- The same where the symbols are read as a stream, as the programs do. `cost r` says what a received symbol, of whatever kind, makes each sent one cost.
 pub record StreamLink {R : Type 0} (cost : R → ℕ → ℕ) (rate : ℕ) (inputs : List (List ℕ)) : Type 0 where
@@ -80,7 +79,7 @@ pub record StreamLink {R : Type 0} (cost : R → ℕ → ℕ) (rate : ℕ) (inpu
   pub numbers : List ℕ
   pub given : List (List ℕ)
   pub receiver : Receiver
-  pub received : Kept freshReceiver (blocksIn bytes) numbers given receiver
+  pub received : Kept freshReceiver (chunksOf 204 bytes) numbers given receiver
 
 -- the whole blocks in so many bits
 abbrev pub blocksInBits : ℕ → ℕ
@@ -101,12 +100,12 @@ ToTheLast rate inputs bits = bits ≡ patternLength rate * (1632 * length inputs
 -- Read run after run. Where less than a pattern is left unread, the blocks are those up to the last whole pattern.
 pub record Arrived (rate : ℕ) (inputs : List (List ℕ)) (l : Link rate inputs) : Type 0 where
   pub no-cost : l .cost ≡ 0
-  pub back : BroughtBack inputs (length (l .bits)) (blocksIn (packedBytes (l .bits))) (l .numbers) (l .given)
+  pub back : BroughtBack inputs (length (l .bits)) (chunksOf 204 (packedBytes (l .bits))) (l .numbers) (l .given)
   pub to-the-last : length (l .unread) < symbolsPerPattern rate → ToTheLast rate inputs (length (l .bits))
 
 -- Read as a stream. The symbols behind the last whole pattern that came are told as the rest; where all of them came, the blocks are those up to the last
 -- whole pattern.
 pub record StreamArrived {R : Type 0} (cost : R → ℕ → ℕ) (rate : ℕ) (inputs : List (List ℕ)) (l : StreamLink cost rate inputs) : Type 0 where
-  pub back : BroughtBack inputs (length (l .decided ++ take (l .count) (l .exit))) (blocksIn (l .bytes)) (l .numbers) (l .given)
+  pub back : BroughtBack inputs (length (l .decided ++ take (l .count) (l .exit))) (chunksOf 204 (l .bytes)) (l .numbers) (l .given)
   pub behind : l .rest ≡ length (l .came) % symbolsPerPattern rate
   pub to-the-last : length (l .unread) ≡ 0 → ToTheLast rate inputs (length (l .decided ++ take (l .count) (l .exit)))

@@ -66,7 +66,7 @@ weighted-nil [] zero h = refl
 weighted-nil (e ∷ es) zero h = absurd (omega arith)
 weighted-nil es (suc j) h = refl
 
-pub weighted-syndrome : (xs es : List ℕ) (j : ℕ) → length xs ≡ length es → byte (sumOf (weightedBy xs es j)) ≡ syndrome bytes (termsOf xs es) j
+weighted-syndrome : (xs es : List ℕ) (j : ℕ) → length xs ≡ length es → byte (sumOf (weightedBy xs es j)) ≡ syndrome bytes (termsOf xs es) j
 unfolding sumOf termsOf syndrome
 weighted-syndrome [] es j h = ap (λ (l : List ℕ). byte (sumOf l)) (weighted-nil es j (sym h)) ∙ byte-zero
 weighted-syndrome (x ∷ xs) [] j h = absurd (omega arith)
@@ -117,7 +117,7 @@ pub record Correcting (start block degrees values : List ℕ) (count changed l :
   pub rest : correctedBy block (drop l (take count degrees)) (drop l (take count values)) ≡ correctedBy start (take count degrees) (take count values)
   pub total : changed + changedIn (drop l (take count values)) ≡ changedIn (take count values)
 
-pub changed-le : (l : List ℕ) → changedIn l ≤ length l
+changed-le : (l : List ℕ) → changedIn l ≤ length l
 unfolding changedIn
 changed-le [] = omega arith
 changed-le (e ∷ l) = go (eqb e 0) (changed-le l)

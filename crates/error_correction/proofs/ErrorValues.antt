@@ -227,7 +227,7 @@ module _ (p s : List ℕ) (y n : ℕ) (nine : length p ≡ suc n) where
   past : drop (n + 1) p ≡ []
   past = let e : n + 1 ≡ length p = omega arith in ap (λ (k : ℕ). drop k p) e ∙ drop-length p
 
-  pub summed-none : Summed p s y 0 0 0 n
+  summed-none : Summed p s y 0 0 0 n
   unfolding dot eval
   summed-none =
       record {

@@ -1,3 +1,3 @@
 pub mod RootSearch
-pub mod ErrorTerms
-pub mod ErrorValues
+mod ErrorTerms
+mod ErrorValues

@@ -1,2 +1,2 @@
-pub mod KeyEquations
-pub mod ModifiedSyndromes
+mod KeyEquations
+mod ModifiedSyndromes

@@ -17,14 +17,14 @@ bit-lt a = mod-lt a (lit< tt)
 
 -- ---- times x
 
-pub timesX-lt : (a : ℕ) → a < 256 → timesX a < 256
+timesX-lt : (a : ℕ) → a < 256 → timesX a < 256
 unfolding timesX
 timesX-lt a h = ltb→lt (timesX a) 256 (below-at (λ k. ltb (timesX k) 256) 256 tt a h)
 
 top-bit : (a b : ℕ) → bitXor a b / 128 % 2 ≡ bitXor (a / 128 % 2) (b / 128 % 2)
 top-bit a b = ap (λ (x : ℕ). x % 2) (xor-shr a b 7) ∙ xor-low (a / 128) (b / 128)
 
-pub timesX-linear : Linear timesX
+timesX-linear : Linear timesX
 unfolding timesX
 timesX-linear a b =
     ap₂ bitXor (xor-double a b) (ap (λ (x : ℕ). x * 0x11D) (top-bit a b) ∙ bits-times (a / 128 % 2) (b / 128 % 2) 0x11D (bit-lt (a / 128)) (bit-lt (b / 128)))
@@ -35,7 +35,7 @@ timesX-linear a b =
 pub bit-times-lt : (x a : ℕ) → a < 256 → x % 2 * a < 256
 bit-times-lt x a h = by-bit (λ (k : ℕ). k * a < 256) (rw (zero-mul a) (lit< tt)) (rw (one-mul a) h) (x % 2) (bit-lt x)
 
-pub rounds-lt : (n a b : ℕ) → a < 256 → rounds n a b < 256
+rounds-lt : (n a b : ℕ) → a < 256 → rounds n a b < 256
 unfolding rounds
 rounds-lt zero a b h = lit< tt
 rounds-lt (suc n) a b h =
@@ -43,7 +43,7 @@ rounds-lt (suc n) a b h =
     (bit-times-lt b a h)
 
 -- linear in the first factor
-pub rounds-left : (n b : ℕ) → Linear (λ a. rounds n a b)
+rounds-left : (n b : ℕ) → Linear (λ a. rounds n a b)
 unfolding rounds
 rounds-left zero b a c = refl
 rounds-left (suc n) b a c =
@@ -51,7 +51,7 @@ rounds-left (suc n) b a c =
     ∙ xor-swap (timesX (rounds n a (b / 2))) (timesX (rounds n c (b / 2))) (b % 2 * a) (b % 2 * c)
 
 -- and in the second
-pub rounds-right : (n a : ℕ) → Linear (rounds n a)
+rounds-right : (n a : ℕ) → Linear (rounds n a)
 unfolding rounds
 rounds-right zero a b c = refl
 rounds-right (suc n) a b c =

@@ -1,4 +1,4 @@
-pub mod Linear
+mod Linear
 pub mod Laws
 pub mod Powers
 pub mod Tables

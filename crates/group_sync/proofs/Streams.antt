@@ -58,7 +58,7 @@ after-step : (s : GroupSync) (r : BlockDecoding) (rs : List BlockDecoding) (g : 
 after-step s r rs g os e o = ap (λ (x : GroupStep). x .outcome ∷ outcomes (x .sync) rs) e ∙ ap (λ (x : List Outcome). g .outcome ∷ x) o
 
 -- in step: each is given, k of those m that are to come
-pub all-given : (n missed k m : ℕ) → k ≤ m → outcomes (knownSync (n % 8) missed) (sentFrom n k) ≡ take k (deliveredFrom n m)
+all-given : (n missed k m : ℕ) → k ≤ m → outcomes (knownSync (n % 8) missed) (sentFrom n k) ≡ take k (deliveredFrom n m)
 all-given n missed zero m h = refl
 all-given n missed (suc k) zero h = absurd (not-suc-le-zero h)
 all-given n missed (suc k) (suc m) h =

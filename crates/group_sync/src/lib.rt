@@ -31,7 +31,7 @@ pub enum Outcome {
 }
 
 // What the first byte of a packet says of its place.
-pub enum FirstByte {
+enum FirstByte {
     // B8: the sync byte of the first packet of a group, inverted.
     InvertedSync,
     // 47: the sync byte of the other seven.

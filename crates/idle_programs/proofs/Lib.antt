@@ -1,4 +1,4 @@
 pub mod Decoding
-pub mod Samples
+mod Samples
 pub mod Sending
 pub mod Receiving

@@ -2,7 +2,7 @@
 -- Runs are refuted on the blocks of more than k packets, whatever k is.
 -- Assumes nothing.
 use mathlib.Core.Path.{_≡_, refl, sym, ap, ap₂, _∙_}
-use mathlib.Core.List.{List, [], _∷_, _++_, append-assoc, map, flatten}
+use mathlib.Core.List.{List, [], _∷_, _++_, append-assoc, flatten}
 use Prim.Native.Nat.{ℕ, zero, suc, _+_, _-_, _*_, _≤_, _<_}
 use Prim.{tt}
 use native.Mathlib.Omega.{arith}
@@ -19,10 +19,8 @@ use Rattle.reed_solomon.specs.declared.Decoded.the-variants.{Corrected}
 use Rattle.reed_solomon.specs.Marks.{noMarks, cost}
 use Rattle.reed_solomon.proofs.Laws.{Same, decodes-near-marked}
 use Rattle.reed_solomon.proofs.Marks.{are-marks-none, marks-of}
-use Rattle.reed_solomon.specs.Encode.{encoded}
-use Rattle.randomizer.specs.Stream.{Packet, randomizedStream}
+use Rattle.randomizer.specs.Stream.{Packet}
 use Rattle.randomizer.proofs.Whole.{packet-lengths}
-use Rattle.interleaver.specs.Stream.{interleaved}
 use Rattle.interleaver.proofs.Blocks.{length-flatten, flatten-join}
 use Rattle.delay_branches.specs.declared.Side.the-variants.{Receiving}
 use Rattle.delay_branches.proofs.Blocks.{length-out}
@@ -34,7 +32,8 @@ use Rattle.receiver.proofs.Calls.{state-range, ready-number, ready-state, chang
 use Rattle.receiver.proofs.MarkDelays.{leave-marks}
 use Rattle.receiver.proofs.Reached.{sound-range, sound-fresh}
 use Rattle.receiver.proofs.Promised.{promised-received}
-use Rattle.recording.specs.Returned.{sentBytes, Returns}
+use Rattle.recording.specs.Returned.{Returns}
+use Rattle.sent_blocks.specs.Blocks.{interleavedBlocks, sentBytes}
 use Rattle.idle_programs.proofs.Samples.{sample, sample-packet, samples, samples-packets, samples-length}
 use Rattle.idle_programs.proofs.Sending.{Left}
 
@@ -81,7 +80,7 @@ invented-changes s block marks output r exit p y h c w l n =
 
 -- A receiver that never gives a packet, whatever its answers are (8, 9 or 10 for all, say): of twelve packets that were sent the first is given.
 pub giving-none : (packets : List (List ℕ)) → All Packet packets → 11 < length packets → length packets ≤ 4294967295 → (numbers : List ℕ) (last : Receiver)
-    → Kept freshReceiver (interleaved (map encoded (randomizedStream packets))) numbers [] last → ⊥
+    → Kept freshReceiver (interleavedBlocks packets) numbers [] last → ⊥
 giving-none packets ws h l numbers last k =
     omega (arith, ap length (promised-received packets ws l numbers [] last k .1), length-take-le (length packets - 11) packets (omega arith))
 

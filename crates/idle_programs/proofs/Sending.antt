@@ -2,15 +2,15 @@
 -- packets decide. Each would leave the same for two lists of packets that differ in the last one, and the symbols tell those apart.
 -- The lists have more than k packets, whatever k is, and make whole puncturing patterns.
 -- Assumes nothing.
-use mathlib.Core.Path.{_≡_, refl, ap, ap₂, sym, _∙_}
+use mathlib.Core.Path.{_≡_, refl, ap, sym, _∙_}
 use mathlib.Core.Bool.{true}
-use mathlib.Core.List.{List, [], _∷_, _++_, append-nil, flatten}
+use mathlib.Core.List.{List, _++_, append-nil, flatten}
 use Prim.Native.Nat.{ℕ, zero, suc, _+_, _-_, _*_, _%_, _≤_, _<_}
 use native.Mathlib.Omega.{arith}
 use borrow.Author.Tests.{eq-eqb, le-ltb}
-use lib.ListN.{length, take, replicate, length-append, length-replicate, drop-of-length-le}
-use lib.Seq.{take-at, drop-at}
-use Rattle.common.specs.Lists.{All, Length}
+use lib.ListN.{length, take, replicate, length-replicate, drop-of-length-le}
+use Rattle.common.specs.Lists.{All, chunksOf}
+use Rattle.common.proofs.Chunks.{chunks-joined}
 use Rattle.randomizer.specs.Stream.{Packet}
 use Rattle.randomizer.proofs.Whole.{packet-lengths}
 use Rattle.interleaver.proofs.Blocks.{length-flatten}
@@ -25,13 +25,13 @@ use Rattle.inner_code.proofs.Stream.{symbols-fresh, stream-qpsk}
 use Rattle.inner_code.specs.Encode.{coderAt}
 use Rattle.run_reader.proofs.Patterns.{sent-whole}
 use Rattle.run_reader.proofs.Unharmed.{hard-decoded, own-best}
-use Rattle.sender.specs.Standard.{interleavedBlocks, onAir}
+use Rattle.sender.specs.Standard.{onAir}
 use Rattle.sender.specs.Input.{packetsFor}
 use Rattle.sender.proofs.Inputs.{packets-kept}
 use Rattle.sender.proofs.Counts.{block-bits, length-on-air}
 use Rattle.sender.proofs.Distinct.{same-bits}
-use Rattle.transmission.specs.Run.{packetsOf, runSymbols, runRefusal, SendsRun}
-use Rattle.transmission.proofs.Buffers.{packets-none, packets-more}
+use Rattle.transmission.specs.Run.{runSymbols, runRefusal, SendsRun}
+use Rattle.sent_blocks.specs.Blocks.{sentBytes}
 use Rattle.idle_programs.proofs.Samples.{samples, samples-packets, samples-length, samples-front, last-byte}
 
 -- what a program leaves after a run
@@ -47,16 +47,6 @@ Program = ℕ → List ℕ → List ℕ → Left
 -- it keeps the promise of `send_run`
 abbrev pub Keeps : Program → Type 0
 Keeps f = (rate : ℕ) (bytes output : List ℕ) → SendsRun rate bytes output (f rate bytes output .number) (f rate bytes output .count) (f rate bytes output .output)
-
--- ---- the packets of a list, one after the other
-
-packets-flatten : (ps : List (List ℕ)) → All (Length 188) ps → packetsOf (flatten ps) ≡ ps
-unfolding flatten
-packets-flatten [] g = packets-none [] refl
-packets-flatten (p ∷ ps) g =
-    packets-more (p ++ flatten ps) (omega (arith, length-append p (flatten ps), g .0))
-    ∙ ap₂ (λ (a : List ℕ) (b : List (List ℕ)). a ∷ b) (take-at p (flatten ps) 188 (g .0))
-    (ap packetsOf (drop-at p (flatten ps) 188 (g .0)) ∙ packets-flatten ps (g .1))
 
 -- ---- the symbols of whole patterns decide the bits
 
@@ -91,7 +81,7 @@ module _ (f : Program) (keeps : Keeps f) (rate : ℕ) (h : rate < 5) (q : modeOf
   kept ps g =
       let l = packet-lengths ps g in
       let output = outputFor rate (length ps) in
-      let e : packetsFor (packetsOf (flatten ps)) ≡ ps = ap packetsFor (packets-flatten ps l) ∙ packets-kept ps g in
+      let e : packetsFor (chunksOf 188 (flatten ps)) ≡ ps = ap packetsFor (chunks-joined 188 (omega arith) ps l) ∙ packets-kept ps g in
       let n : length (runSymbols rate (flatten ps)) ≡ symbolsIn rate 0 (blockBits rate * length ps) = ap (λ (x : List (List ℕ)). length (onAir (modeOf rate) x)) e ∙ length-on-air rate (up rate h) ps in
       let k : length output ≡ symbolsIn rate 0 (blockBits rate * length ps) = length-replicate {A = ℕ} (symbolsIn rate 0 (blockBits rate * length ps)) 0 in
       let w : length (flatten ps) % 188 ≡ 0 = (let m = length-flatten 188 ps l in omega arith) in
@@ -115,7 +105,7 @@ module _ (f : Program) (keeps : Keeps f) (rate : ℕ) (h : rate < 5) (q : modeOf
 
     -- the bytes of the interleaved blocks, and that their bits make whole patterns
     sent : ℕ → List ℕ
-    sent v = flatten (interleavedBlocks (samples before v))
+    sent v = sentBytes (samples before v)
 
     whole : (v : ℕ) → length (bitsOf (sent v)) % patternLength rate ≡ 0
     unfolding sent

@@ -59,7 +59,7 @@ module _ {m : Mode} (w : WellFormed m) where
   pub fresh-in-range-by : (r : ℕ) → InRangeBy m (freshCoder r)
   fresh-in-range-by r = record { memory = omega arith; place = w .some-bits; held = omega arith }
 
-  pub step-in-range-by : (c : InnerCoder) (b : ℕ) → InRangeBy m c → b < 2 → InRangeBy m (stepBy m c b)
+  step-in-range-by : (c : InnerCoder) (b : ℕ) → InRangeBy m c → b < 2 → InRangeBy m (stepBy m c b)
   step-in-range-by c b g h = record {
     memory = omega (arith, g .memory);
     place = next-by-lt m (w .some-bits) (c .place);
@@ -75,7 +75,7 @@ module _ {m : Mode} (w : WellFormed m) where
 
   -- ---- how many symbols
 
-  pub length-symbols-by : (c : InnerCoder) {bits : List ℕ} → InRangeBy m c → Bits bits → length (symbolsBy m c bits) ≡ countBy m (c .place) (length bits)
+  length-symbols-by : (c : InnerCoder) {bits : List ℕ} → InRangeBy m c → Bits bits → length (symbolsBy m c bits) ≡ countBy m (c .place) (length bits)
   unfolding symbolsBy countBy
   length-symbols-by c g none = refl
   length-symbols-by c g (more {b} {l} h t) =
@@ -167,7 +167,7 @@ length-block c block g h = length-block-by (formed c g) c block g h
 
 -- ---- one list after another
 
-pub symbols-append-by : (m : Mode) (a b : List ℕ) (c : InnerCoder) → symbolsBy m c (a ++ b) ≡ symbolsBy m c a ++ symbolsBy m (coderBy m c a) b
+symbols-append-by : (m : Mode) (a b : List ℕ) (c : InnerCoder) → symbolsBy m c (a ++ b) ≡ symbolsBy m c a ++ symbolsBy m (coderBy m c a) b
 unfolding symbolsBy coderBy
 symbols-append-by m [] b c = refl
 symbols-append-by m (x ∷ a) b c =

@@ -3,16 +3,17 @@
 use mathlib.Core.Path.{_≡_, refl, ap, ap₂, sym, _∙_}
 use mathlib.Core.Bool.{Bool}
 use mathlib.Core.List.{List, [], _∷_, _++_, map, flatten, append-assoc}
-use Prim.Native.Nat.{ℕ, zero, suc, _+_, _*_, _/_, _%_, _≤_, _<_}
-use native.Mathlib.Nat.{zero-add, suc-add, add-comm, zero-mul, suc-mul, mul-zero, zero-div, div-one, mul-add-div-right, mul-div-cancel}
+use Prim.Native.Nat.{ℕ, suc, _+_, _*_, _/_, _%_, _<_}
+use native.Mathlib.Nat.{add-comm, zero-mul, suc-mul, mul-zero, zero-div, div-one, mul-mod-left}
 use native.Mathlib.Omega.{arith}
-use lib.ListN.{length, getD, take, drop, length-append, length-drop, length-map}
-use lib.Seq.{take-append-le, drop-append-le}
+use lib.ListN.{length, getD, length-append, length-map}
+use Rattle.common.specs.Lists.{chunks, chunksOf}
+use Rattle.common.proofs.Chunks.{length-chunks, chunks-append}
 use Rattle.convolutional_code.specs.Bits.{bitsOf, Bits, none, more}
 use Rattle.convolutional_code.proofs.Bits.{bits-at, bits-append}
 use Rattle.puncturing.specs.Mode.{CodedBit, InputBit, A, B, D, Column, Mode, qpsk, modeOf, blockBitsBy}
 use Rattle.puncturing.proofs.Places.{end, _&_, Below, below}
-use Rattle.inner_code.specs.Converter.{bitAt, inputBit, groups, groupsOf, encodedGroup, encodedBits, besideSymbol, uncodedGroup, uncodedNumbers, sequenced}
+use Rattle.inner_code.specs.Converter.{bitAt, inputBit, encodedGroup, encodedBits, besideSymbol, uncodedGroup, uncodedNumbers, sequenced}
 
 -- ---- bits
 
@@ -26,7 +27,7 @@ bit-small b i =
     (more (digit (b / 16)) (more (digit (b / 32)) (more (digit (b / 64)) (more (digit (b / 128)) none))))))))
     i
 
-pub input-small : (g : List ℕ) (b : InputBit) → inputBit g b < 2
+input-small : (g : List ℕ) (b : InputBit) → inputBit g b < 2
 input-small g (A i) = bit-small (getD g 0 0) i
 input-small g (B i) = bit-small (getD g 1 0) i
 input-small g (D i) = bit-small (getD g 2 0) i
@@ -43,14 +44,9 @@ bits-groups m (g ∷ gs) = bits-append (bits-columns g (m .columns)) (bits-group
 -- the encoded branch has bits alone
 pub encoded-bits : (m : Mode) (bytes : List ℕ) → Bits (encodedBits m bytes)
 unfolding encodedBits
-encoded-bits m bytes = bits-groups m (groupsOf m bytes)
+encoded-bits m bytes = bits-groups m (chunksOf (m .group) bytes)
 
 -- ---- how many
-
-length-groups : (size n : ℕ) (bytes : List ℕ) → length (groups size n bytes) ≡ n
-unfolding groups
-length-groups size zero bytes = refl
-length-groups size (suc n) bytes = ap suc (length-groups size n (drop size bytes))
 
 -- lists of one length, one after another
 length-each : {A : Type 0} (f : A → List ℕ) (k : ℕ) → ((x : A) → length (f x) ≡ k) → (xs : List A) → length (flatten (map f xs)) ≡ length xs * k
@@ -65,8 +61,8 @@ length-each f k e (x ∷ xs) =
 pub length-encoded : (m : Mode) (bytes : List ℕ) → length (encodedBits m bytes) ≡ length bytes / m .group * length (m .columns)
 unfolding encodedBits
 length-encoded m bytes =
-    length-each (encodedGroup m) (length (m .columns)) (λ g. length-map (m .columns) (λ (c : Column). inputBit g (c .e))) (groupsOf m bytes)
-    ∙ ap (λ (n : ℕ). n * length (m .columns)) (length-groups (m .group) (length bytes / m .group) bytes)
+    length-each (encodedGroup m) (length (m .columns)) (λ g. length-map (m .columns) (λ (c : Column). inputBit g (c .e))) (chunksOf (m .group) bytes)
+    ∙ ap (λ (n : ℕ). n * length (m .columns)) (length-chunks (m .group) bytes)
 
 pub length-uncoded : (m : Mode) (bytes : List ℕ)
     → length (uncodedNumbers m bytes) ≡ length bytes / m .group * (length (m .columns) * length (m .uncoded))
@@ -74,8 +70,8 @@ unfolding uncodedNumbers
 length-uncoded m bytes =
     length-each (uncodedGroup m) (length (m .columns) * length (m .uncoded))
     (λ g. length-each (λ (c : Column). map (besideSymbol g c) (m .uncoded)) (length (m .uncoded)) (λ c. length-map (m .uncoded) (besideSymbol g c)) (m .columns))
-    (groupsOf m bytes)
-    ∙ ap (λ (n : ℕ). n * (length (m .columns) * length (m .uncoded))) (length-groups (m .group) (length bytes / m .group) bytes)
+    (chunksOf (m .group) bytes)
+    ∙ ap (λ (n : ℕ). n * (length (m .columns) * length (m .uncoded))) (length-chunks (m .group) bytes)
 
 -- of a block
 pub length-block-encoded : (m : Mode) (block : List ℕ) → length block ≡ 204 → length (encodedBits m block) ≡ blockBitsBy m
@@ -96,19 +92,6 @@ uncoded-none m e bytes =
 
 -- ---- one list after another
 
-groups-append : (size k n : ℕ) (a b : List ℕ) → length a ≡ k * size → groups size (k + n) (a ++ b) ≡ groups size k a ++ groups size n b
-unfolding groups
-groups-append size zero n a b e =
-    let z : a ≡ [] = empty a (e ∙ zero-mul size) in
-    ap₂ (λ (j : ℕ) (l : List ℕ). groups size j (l ++ b)) (zero-add n) z
-groups-append size (suc k) n a b e =
-    let s : length a ≡ k * size + size = e ∙ suc-mul k size in
-    let h : size ≤ length a = omega arith in
-    let d : length (drop size a) ≡ k * size = length-drop size a ∙ omega arith in
-    ap (λ (j : ℕ). groups size j (a ++ b)) (suc-add k n)
-    ∙ ap₂ (λ (g l : List ℕ). g ∷ groups size (k + n) l) (take-append-le size a b h) (drop-append-le size a b h)
-    ∙ ap (λ (t : List (List ℕ)). take size a ∷ t) (groups-append size k n (drop size a) b d)
-
 flatten-append : (f : List ℕ → List ℕ) (gs hs : List (List ℕ)) → flatten (map f (gs ++ hs)) ≡ flatten (map f gs) ++ flatten (map f hs)
 unfolding flatten
 flatten-append f [] hs = refl
@@ -116,32 +99,24 @@ flatten-append f (g ∷ gs) hs =
     ap (λ (l : List ℕ). f g ++ l) (flatten-append f gs hs) ∙ sym (append-assoc (f g) (flatten (map f gs)) (flatten (map f hs)))
 
 module _ (m : Mode) (k : ℕ) (a b : List ℕ) (some : 0 < m .group) (e : length a ≡ k * m .group) where
-  groups-split : groupsOf m (a ++ b) ≡ groupsOf m a ++ groupsOf m b
-  groups-split =
-      let g = m .group in
-      let n : length (a ++ b) / g ≡ k + length b / g
-      = ap (λ (j : ℕ). j / g) (length-append a b ∙ ap (λ (j : ℕ). j + length b) e) ∙ mul-add-div-right some k (length b)
-      in
-      let o : k ≡ length a / g = sym (ap (λ (j : ℕ). j / g) e ∙ mul-div-cancel k some) in
-      ap (λ (j : ℕ). groups g j (a ++ b)) n
-      ∙ groups-append g k (length b / g) a b e
-      ∙ ap (λ (j : ℕ). groups g j a ++ groupsOf m b) o
+  groups-split : chunksOf (m .group) (a ++ b) ≡ chunksOf (m .group) a ++ chunksOf (m .group) b
+  groups-split = chunks-append (m .group) some a b (ap (λ (n : ℕ). n % m .group) e ∙ mul-mod-left k (m .group))
 
   pub encoded-append : encodedBits m (a ++ b) ≡ encodedBits m a ++ encodedBits m b
   unfolding encodedBits
-  encoded-append = ap (λ (gs : List (List ℕ)). flatten (map (encodedGroup m) gs)) groups-split ∙ flatten-append (encodedGroup m) (groupsOf m a) (groupsOf m b)
+  encoded-append = ap (λ (gs : List (List ℕ)). flatten (map (encodedGroup m) gs)) groups-split ∙ flatten-append (encodedGroup m) (chunksOf (m .group) a) (chunksOf (m .group) b)
 
   pub uncoded-append : uncodedNumbers m (a ++ b) ≡ uncodedNumbers m a ++ uncodedNumbers m b
   unfolding uncodedNumbers
-  uncoded-append = ap (λ (gs : List (List ℕ)). flatten (map (uncodedGroup m) gs)) groups-split ∙ flatten-append (uncodedGroup m) (groupsOf m a) (groupsOf m b)
+  uncoded-append = ap (λ (gs : List (List ℕ)). flatten (map (uncodedGroup m) gs)) groups-split ∙ flatten-append (uncodedGroup m) (chunksOf (m .group) a) (chunksOf (m .group) b)
 
 pub encoded-empty : (m : Mode) → encodedBits m [] ≡ []
-unfolding encodedBits groups flatten
-encoded-empty m = ap (λ (n : ℕ). flatten (map (encodedGroup m) (groups (m .group) n []))) (zero-div (m .group))
+unfolding encodedBits chunksOf chunks flatten
+encoded-empty m = ap (λ (n : ℕ). flatten (map (encodedGroup m) (chunks (m .group) n []))) (zero-div (m .group))
 
 pub uncoded-empty : (m : Mode) → uncodedNumbers m [] ≡ []
-unfolding uncodedNumbers groups flatten
-uncoded-empty m = ap (λ (n : ℕ). flatten (map (uncodedGroup m) (groups (m .group) n []))) (zero-div (m .group))
+unfolding uncodedNumbers chunksOf chunks flatten
+uncoded-empty m = ap (λ (n : ℕ). flatten (map (uncodedGroup m) (chunks (m .group) n []))) (zero-div (m .group))
 
 -- the symbols of two lists, with the bits beside them
 pub sequenced-append : (us vs cs ds : List ℕ) → length us ≡ length cs → sequenced (us ++ vs) (cs ++ ds) ≡ sequenced us cs ++ sequenced vs ds
@@ -159,14 +134,14 @@ length-sequenced (u ∷ us) (c ∷ cs) e = ap suc (length-sequenced us cs (omega
 
 -- ---- the QPSK rates
 
-every-bit : (bytes : List ℕ) (t : Bool) (b : ℕ) (s : List (List CodedBit)) → flatten (map (encodedGroup (qpsk t b s)) (groups 1 (length bytes) bytes)) ≡ bitsOf bytes
-unfolding flatten groups bitsOf
+every-bit : (bytes : List ℕ) (t : Bool) (b : ℕ) (s : List (List CodedBit)) → flatten (map (encodedGroup (qpsk t b s)) (chunks 1 (length bytes) bytes)) ≡ bitsOf bytes
+unfolding flatten chunks bitsOf
 every-bit [] t b s = refl
 every-bit (x ∷ bytes) t b s = ap (λ (l : List ℕ). encodedGroup (qpsk t b s) (x ∷ []) ++ l) (every-bit bytes t b s)
 
 encoded-plain : (t : Bool) (b : ℕ) (s : List (List CodedBit)) (bytes : List ℕ) → encodedBits (qpsk t b s) bytes ≡ bitsOf bytes
-unfolding encodedBits
-encoded-plain t b s bytes = ap (λ (n : ℕ). flatten (map (encodedGroup (qpsk t b s)) (groups 1 n bytes))) (div-one (length bytes)) ∙ every-bit bytes t b s
+unfolding encodedBits chunksOf
+encoded-plain t b s bytes = ap (λ (n : ℕ). flatten (map (encodedGroup (qpsk t b s)) (chunks 1 n bytes))) (div-one (length bytes)) ∙ every-bit bytes t b s
 
 abbrev EveryBit : ℕ → Type 0
 EveryBit r = (bytes : List ℕ) → encodedBits (modeOf r) bytes ≡ bitsOf bytes

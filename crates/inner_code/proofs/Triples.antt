@@ -9,13 +9,14 @@ use native.Mathlib.Omega.{arith}
 use borrow.Rule.Slice.PartMut.{putMid, midOf, postOf, same-len-mid}
 use lib.ListN.{length, getD, take, drop, length-append, List·getD-append}
 use lib.Seq.{take-at, take-all, length-take-le, getD-take, getD-drop, getD-append-add, ext-getD}
+use Rattle.common.specs.Lists.{chunks, chunksOf}
 use Rattle.convolutional_code.specs.Bits.{bitsOf}
 use Rattle.convolutional_code.specs.Code.{tapsX, tapsY, nextMemory, coded, motherOf, memoryAfter, blockMother}
 use Rattle.convolutional_code.proofs.Bits.{bits-bits, length-bits, length-mother}
 use Rattle.puncturing.specs.Mode.{modeOf}
 use Rattle.puncturing.specs.Step.{patternLength, heldCount, puncturedBy, heldBy, heldCountBy}
 use Rattle.puncturing.proofs.WellFormed.{well-formed}
-use Rattle.inner_code.specs.Converter.{groups, encodedGroup, encodedBits, uncodedGroup, uncodedNumbers, sequenced}
+use Rattle.inner_code.specs.Converter.{encodedGroup, encodedBits, uncodedGroup, uncodedNumbers, sequenced}
 use Rattle.inner_code.specs.Step.{CoderInRange, symbolsOf, coderAfter, symbolsBy, coderBy}
 use Rattle.inner_code.specs.Encode.{blockSymbols, blockCoder}
 use Rattle.inner_code.specs.Triples.{firsts, groupPairs, pairs, numbered, codedBits}
@@ -26,8 +27,8 @@ use Rattle.inner_code.proofs.Stream.{symbols-fresh-by, symbols-fresh, s
 
 -- ---- the two branches
 
-encoded-groups : (n : ℕ) (bytes : List ℕ) → flatten (map (encodedGroup (modeOf 5)) (groups 3 n bytes)) ≡ bitsOf (firsts n bytes)
-unfolding flatten groups firsts bitsOf modeOf
+encoded-groups : (n : ℕ) (bytes : List ℕ) → flatten (map (encodedGroup (modeOf 5)) (chunks 3 n bytes)) ≡ bitsOf (firsts n bytes)
+unfolding flatten chunks firsts bitsOf modeOf
 encoded-groups zero bytes = refl
 encoded-groups (suc n) bytes =
     let e : getD (take 3 bytes) 0 0 ≡ getD bytes 0 0 = getD-take 3 bytes 0 0 (omega arith) in
@@ -52,21 +53,21 @@ as-pairs : (b d : ℕ)
     ≡ groupPairs b d
 as-pairs b d = λ i. pair-64 b i ∷ pair-16 b i ∷ pair-4 b i ∷ pair-1 b i ∷ pair-64 d i ∷ pair-16 d i ∷ pair-4 d i ∷ pair-1 d i ∷ []
 
-uncoded-groups : (n : ℕ) (bytes : List ℕ) → flatten (map (uncodedGroup (modeOf 5)) (groups 3 n bytes)) ≡ pairs n bytes
-unfolding flatten groups pairs modeOf
+uncoded-groups : (n : ℕ) (bytes : List ℕ) → flatten (map (uncodedGroup (modeOf 5)) (chunks 3 n bytes)) ≡ pairs n bytes
+unfolding flatten chunks pairs modeOf
 uncoded-groups zero bytes = refl
 uncoded-groups (suc n) bytes =
     let b : getD (take 3 bytes) 1 0 ≡ getD bytes 1 0 = getD-take 3 bytes 1 0 (omega arith) in
     let d : getD (take 3 bytes) 2 0 ≡ getD bytes 2 0 = getD-take 3 bytes 2 0 (omega arith) in
-    ap (λ (l : List ℕ). l ++ flatten (map (uncodedGroup (modeOf 5)) (groups 3 n (drop 3 bytes)))) (as-pairs (getD (take 3 bytes) 1 0) (getD (take 3 bytes) 2 0))
+    ap (λ (l : List ℕ). l ++ flatten (map (uncodedGroup (modeOf 5)) (chunks 3 n (drop 3 bytes)))) (as-pairs (getD (take 3 bytes) 1 0) (getD (take 3 bytes) 2 0))
     ∙ (λ i. groupPairs (b i) (d i) ++ uncoded-groups n (drop 3 bytes) i)
 
 encoded-all : (bytes : List ℕ) → encodedBits (modeOf 5) bytes ≡ bitsOf (firsts (length bytes / 3) bytes)
-unfolding encodedBits modeOf
+unfolding encodedBits chunksOf modeOf
 encoded-all bytes = encoded-groups (length bytes / 3) bytes
 
 uncoded-all : (bytes : List ℕ) → uncodedNumbers (modeOf 5) bytes ≡ pairs (length bytes / 3) bytes
-unfolding uncodedNumbers modeOf
+unfolding uncodedNumbers chunksOf modeOf
 uncoded-all bytes = uncoded-groups (length bytes / 3) bytes
 
 module _ (block : List ℕ) (h : length block ≡ 204) where
@@ -90,7 +91,7 @@ nothing : (n : ℕ) → n ≤ heldCount 5 0 → n ≡ 0
 unfolding heldCountBy modeOf
 nothing n h = omega arith
 
-pub is-qam : (c : InnerCoder) → CoderInRange c → c .rate ≡ 5 → c ≡ qam (c .memory)
+is-qam : (c : InnerCoder) → CoderInRange c → c .rate ≡ 5 → c ≡ qam (c .memory)
 is-qam c g e =
     let p : c .place < patternLength 5 = rw (← e) (g .place) in
     let q : c .place ≡ 0 = first (c .place) p in
@@ -161,13 +162,13 @@ firsts-at (suc n) bytes (suc i) h =
     let e : 3 + 3 * i ≡ 3 * suc i = omega arith in
     firsts-at n (drop 3 bytes) i (le-of-suc-le-suc h) ∙ getD-drop 3 bytes (3 * i) 0 ∙ ap (λ (k : ℕ). getD bytes k 0) e
 
-pub length-pairs : (n : ℕ) (bytes : List ℕ) → length (pairs n bytes) ≡ 8 * n
+length-pairs : (n : ℕ) (bytes : List ℕ) → length (pairs n bytes) ≡ 8 * n
 unfolding pairs
 length-pairs zero bytes = refl
 length-pairs (suc n) bytes = let e = length-pairs n (drop 3 bytes) in omega arith
 
 -- one group more
-pub pairs-suc : (n : ℕ) (bytes : List ℕ) → pairs (suc n) bytes ≡ pairs n bytes ++ groupPairs (getD bytes (3 * n + 1) 0) (getD bytes (3 * n + 2) 0)
+pairs-suc : (n : ℕ) (bytes : List ℕ) → pairs (suc n) bytes ≡ pairs n bytes ++ groupPairs (getD bytes (3 * n + 1) 0) (getD bytes (3 * n + 2) 0)
 unfolding pairs
 pairs-suc zero bytes = refl
 pairs-suc (suc n) bytes =

@@ -1,8 +1,9 @@
 -- EN 301 210, 4.6.3: the parallel-to-parallel conversion of table 3, and the symbol sequencer of table 4.
 -- Assumes nothing.
 use mathlib.Core.List.{List, [], _∷_, map, flatten}
-use Prim.Native.Nat.{ℕ, zero, suc, _+_, _-_, _*_, _/_, _%_}
-use lib.ListN.{length, getD, take, drop}
+use Prim.Native.Nat.{ℕ, _+_, _-_, _*_, _/_, _%_}
+use lib.ListN.{getD}
+use Rattle.common.specs.Lists.{chunksOf}
 use Rattle.puncturing.specs.Mode.{InputBit, A, B, D, Column, Mode, binary}
 
 -- the bit of a byte with an index: 7 is the top bit
@@ -15,21 +16,12 @@ inputBit g (A i) = bitAt (getD g 0 0) i
 inputBit g (B i) = bitAt (getD g 1 0) i
 inputBit g (D i) = bitAt (getD g 2 0) i
 
--- n groups of a list of bytes
-unfoldable pub groups : ℕ → ℕ → List ℕ → List (List ℕ)
-groups size zero bytes = []
-groups size (suc n) bytes = take size bytes ∷ groups size n (drop size bytes)
-
--- the groups of a list of bytes that a mode takes together
-abbrev pub groupsOf : Mode → List ℕ → List (List ℕ)
-groupsOf m bytes = groups (m .group) (length bytes / m .group) bytes
-
--- the encoded branch: the bits E of each group, column by column
+-- the encoded branch: the bits E of each group of bytes that the mode takes together, column by column
 abbrev pub encodedGroup : Mode → List ℕ → List ℕ
 encodedGroup m g = map (λ (c : Column). inputBit g (c .e)) (m .columns)
 
 unfoldable pub encodedBits : Mode → List ℕ → List ℕ
-encodedBits m bytes = flatten (map (encodedGroup m) (groupsOf m bytes))
+encodedBits m bytes = flatten (map (encodedGroup m) (chunksOf (m .group) bytes))
 
 -- the other branch: the bits U of each symbol, as a number; NE k is the k-th of its column
 abbrev pub besideSymbol : List ℕ → Column → List ℕ → ℕ
@@ -39,7 +31,7 @@ abbrev pub uncodedGroup : Mode → List ℕ → List ℕ
 uncodedGroup m g = flatten (map (λ (c : Column). map (besideSymbol g c) (m .uncoded)) (m .columns))
 
 unfoldable pub uncodedNumbers : Mode → List ℕ → List ℕ
-uncodedNumbers m bytes = flatten (map (uncodedGroup m) (groupsOf m bytes))
+uncodedNumbers m bytes = flatten (map (uncodedGroup m) (chunksOf (m .group) bytes))
 
 -- the symbol sequencer: the numbers of U beside those of C, which has two bits. A mode without U sends C alone.
 unfoldable pub sequenced : List ℕ → List ℕ → List ℕ

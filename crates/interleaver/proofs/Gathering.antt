@@ -45,7 +45,7 @@ gathered-front bytes more p h = gathered-same (bytes ++ more) bytes p p (λ n l.
 -- ---- the block that the receiving side gives
 
 module _ (blocks : List (List ℕ)) (g : All (Length 204) blocks) (p : ℕ) (h : p + 11 < length blocks) where
-  pub delayed-gathered : getD (delayed Receiving blocks) (p + 11) [] ≡ gathered (flatten blocks) p
+  delayed-gathered : getD (delayed Receiving blocks) (p + 11) [] ≡ gathered (flatten blocks) p
   unfolding earlier
   delayed-gathered =
       gathers (flatten blocks) p (getD (delayed Receiving blocks) (p + 11) [])

@@ -15,8 +15,12 @@ use Rattle.delay_branches.specs.Branch.{delayOf}
 use Rattle.delay_branches.specs.Block.{fresh}
 use Rattle.delay_branches.specs.declared.Side.{Side}
 use Rattle.delay_branches.specs.declared.Side.the-variants.{Sending, Receiving}
-use Rattle.interleaver.specs.Stream.{earlier, delayedByte, delayed, run, interleaved, deinterleaved, zeroBlock, elevenLate}
+use Rattle.interleaver.specs.Stream.{earlier, delayedByte, delayed, run, interleaved, deinterleaved, elevenLate}
 use Rattle.interleaver.proofs.Whole.{run-delayed}
+
+-- a block of zeros
+abbrev zeros : List ℕ
+zeros = replicate 204 0
 
 module _ (side : Side) (blocks : List (List ℕ)) where
   pub length-delayed : length (delayed side blocks) ≡ length blocks
@@ -61,7 +65,7 @@ module _ (blocks : List (List ℕ)) where
   sent = interleaved blocks
 
   late : List (List ℕ)
-  late = replicate 11 zeroBlock ++ blocks
+  late = replicate 11 zeros ++ blocks
 
   -- a byte through both sides
   through : (b n : ℕ) → b < length blocks → n < 204 → getD (getD (deinterleaved sent) b []) n 0 ≡ earlier blocks 11 b n
@@ -82,16 +86,16 @@ module _ (blocks : List (List ℕ)) where
           (delayed-at Sending blocks c n (omega arith) l
           ∙ rw (le-ltb c (n % 12) (omega arith)) (ap (λ (i : ℕ). getD (getD blocks i []) n 0) e))
 
-  late-early : (b : ℕ) → b < 11 → getD late b [] ≡ zeroBlock
+  late-early : (b : ℕ) → b < 11 → getD late b [] ≡ zeros
   unfolding late
   late-early b u =
-      List·getD-append (replicate 11 zeroBlock) blocks [] b (rw (length-replicate 11 zeroBlock) u) ∙ getD-replicate 11 b zeroBlock [] u
+      List·getD-append (replicate 11 zeros) blocks [] b (rw (length-replicate 11 zeros) u) ∙ getD-replicate 11 b zeros [] u
 
   late-rest : (b : ℕ) → 11 ≤ b → getD late b [] ≡ getD blocks (b - 11) []
   unfolding late
   late-rest b u =
       let e : 11 + (b - 11) ≡ b = omega arith in
-      ap (λ (i : ℕ). getD late i []) (sym e) ∙ getD-append-add (replicate 11 zeroBlock) blocks (b - 11) []
+      ap (λ (i : ℕ). getD late i []) (sym e) ∙ getD-append-add (replicate 11 zeros) blocks (b - 11) []
 
   late-at : (b n : ℕ) → n < 204 → getD (getD late b []) n 0 ≡ earlier blocks 11 b n
   unfolding earlier
@@ -109,7 +113,7 @@ module _ (blocks : List (List ℕ)) where
       by (no u) = ap length (late-rest b (omega arith)) ∙ All-at (Length 204) blocks [] (b - 11) g (omega arith)
 
   -- deinterleaving the interleaved stream gives it back, eleven blocks late
-  pub both-sides : All (Length 204) blocks → deinterleaved (interleaved blocks) ≡ elevenLate blocks
+  both-sides : All (Length 204) blocks → deinterleaved (interleaved blocks) ≡ elevenLate blocks
   unfolding sent late elevenLate
   both-sides g =
       ext-getD [] (deinterleaved sent) (take (length blocks) late) (lengths ∙ sym cut)
@@ -119,7 +123,7 @@ module _ (blocks : List (List ℕ)) where
       lengths = length-delayed Receiving sent ∙ length-delayed Sending blocks
 
       cut : length (take (length blocks) late) ≡ length blocks
-      cut = length-take-le (length blocks) late (let e = length-append (replicate 11 zeroBlock) blocks in omega arith)
+      cut = length-take-le (length blocks) late (let e = length-append (replicate 11 zeros) blocks in omega arith)
 
       size : (b : ℕ) → b < length blocks → length (getD (deinterleaved sent) b []) ≡ 204
       size b h = All-at (Length 204) (deinterleaved sent) [] b (delayed-lengths Receiving sent) (rw lengths h)

@@ -50,7 +50,7 @@ columns-at j (block ∷ blocks) (suc b) k h l =
     ∙ columns-at j blocks b k h (omega arith)
 
 -- the law of the queues over any number of blocks
-pub queue-laws : (side : Side) (s : Branches) (blocks : List (List ℕ)) → Good side s → (j : ℕ) → j < 12
+queue-laws : (side : Side) (s : Branches) (blocks : List (List ℕ)) → Good side s → (j : ℕ) → j < 12
     → queue side s j ++ columns j blocks ≡ columns j (run side s blocks) ++ queue side (runAfter side s blocks) j
 unfolding run runAfter
 queue-laws side s [] g j h = append-nil (queue side s j)

@@ -33,13 +33,9 @@ interleaved = delayed Sending
 abbrev pub deinterleaved : List (List ℕ) → List (List ℕ)
 deinterleaved = delayed Receiving
 
--- a block of zeros
-abbrev pub zeroBlock : List ℕ
-zeroBlock = replicate 204 0
-
 -- what both sides make of a stream: eleven blocks of zeros, and then the blocks in order, all but the last eleven
 unfoldable pub elevenLate : List (List ℕ) → List (List ℕ)
-elevenLate blocks = take (length blocks) (replicate 11 zeroBlock ++ blocks)
+elevenLate blocks = take (length blocks) (replicate 11 (replicate 204 0) ++ blocks)
 
 -- call after call
 unfoldable pub run : Side → Branches → List (List ℕ) → List (List ℕ)

@@ -2,29 +2,25 @@
 -- Assumes nothing.
 use mathlib.Core.Path.{_≡_, ap, ap₂, sym, _∙_}
 use mathlib.Core.List.{List, [], _∷_, _++_, append-assoc}
-use Prim.Native.Nat.{ℕ, suc, _+_, _-_, _/_, _≤_, _<_}
+use Prim.Native.Nat.{ℕ, _+_, _-_, _≤_, _<_}
 use native.Mathlib.Omega.{arith}
 use borrow.Rule.Slice.PartMut.{putMid, midOf}
 use lib.ListN.{length, take, drop, take-append-drop, length-drop}
 use lib.Seq.{take-at, drop-at, drop-drop, drop-append-le}
-use Rattle.kernels.specs.Blocks.{firstBlocks, wholeBlocks}
+use Rattle.common.specs.Lists.{chunksOf}
+use Rattle.common.proofs.Chunks.{chunks-few, chunks-more}
 
 -- the whole blocks from at on
 abbrev pub blocksFrom : List ℕ → ℕ → List (List ℕ)
-blocksFrom bytes at = wholeBlocks (drop at bytes)
+blocksFrom bytes at = chunksOf 204 (drop at bytes)
 
 pub blocks-end : (bytes : List ℕ) (at : ℕ) → length bytes - at < 204 → blocksFrom bytes at ≡ []
-unfolding firstBlocks
-blocks-end bytes at h =
-    let e : length (drop at bytes) / 204 ≡ 0 = omega (arith, length-drop at bytes) in
-    ap (λ (n : ℕ). firstBlocks n (drop at bytes)) e
+blocks-end bytes at h = chunks-few 204 (omega arith) (drop at bytes) (omega (arith, length-drop at bytes))
 
 pub blocks-more : (bytes : List ℕ) (at : ℕ) → 204 ≤ length bytes - at → blocksFrom bytes at ≡ take 204 (drop at bytes) ∷ blocksFrom bytes (at + 204)
-unfolding firstBlocks
 blocks-more bytes at h =
-    let e : length (drop at bytes) / 204 ≡ suc (length (drop (at + 204) bytes) / 204) = omega (arith, length-drop at bytes, length-drop (at + 204) bytes) in
-    ap (λ (n : ℕ). firstBlocks n (drop at bytes)) e
-    ∙ ap (λ (l : List ℕ). take 204 (drop at bytes) ∷ firstBlocks (length (drop (at + 204) bytes) / 204) l) (drop-drop 204 at bytes)
+    chunks-more 204 (omega arith) (drop at bytes) (omega (arith, length-drop at bytes))
+    ∙ ap (λ (l : List ℕ). take 204 (drop at bytes) ∷ chunksOf 204 l) (drop-drop 204 at bytes)
 
 -- a list written to the front of a part of the output, which begins behind what stands there
 module _ (front output₀ output : List ℕ) (n : ℕ) (c : length front ≡ n) (w : output ≡ front ++ drop n output₀) where

@@ -3,8 +3,7 @@
 use mathlib.Core.Path.{_≡_, refl, ap, ap₂, sym, subst, _∙_}
 use mathlib.Core.Bool.{true}
 use mathlib.Core.List.{List, [], _∷_, _++_, append-assoc, append-nil}
-use Prim.Native.Nat.{ℕ, zero, suc, _+_, _-_, _*_, _/_, _≤_, _<_}
-use native.Mathlib.Nat.{suc-mul, div-mul-le-self}
+use Prim.Native.Nat.{ℕ, _+_, _-_, _*_, _≤_, _<_}
 use lib.Dec.{leb, leb→le}
 use native.Mathlib.Omega.{arith}
 use borrow.Author.Tests.{eq-eqb, le-ltb}
@@ -13,8 +12,9 @@ use lib.ListN.{length, take, drop, length-append, length-drop}
 use lib.Seq.{length-take-le}
 use Rattle.puncturing.specs.Step.{symbolList}
 use Rattle.inner_code.specs.Step.{CoderInRange, symbolsBy, symbolStep, coderStep, symbolsOf}
-use Rattle.common.specs.Lists.{All, Length}
+use Rattle.common.specs.Lists.{chunksOf}
 use Rattle.common.proofs.Computed as computed
+use Rattle.common.proofs.Chunks.{chunks-whole}
 use Rattle.puncturing.specs.Mode.{modeOf, blockBits, blockBitsBy}
 use Rattle.inner_code.specs.Converter.{encodedBits}
 use Rattle.inner_code.specs.Encode.{freshCoder, blockSymbolsBy, blockCoderBy, callsBy, blockSymbols, blockCoder, encodeCoder, encodeCount, innerEncodeOutput}
@@ -26,7 +26,6 @@ use Rattle.puncturing.proofs.WellFormed.{well-formed}
 use Rattle.inner_code.proofs.Converter.{encoded-bits, length-block-encoded}
 use Rattle.inner_code.proofs.Coder.{range-test, rate-known, formed, fresh-in-range, coder-in-range, coder-rate, length-symbols, length-coded}
 use Rattle.inner_code.proofs.Stream.{calls-stream}
-use Rattle.kernels.specs.Blocks.{firstBlocks, wholeBlocks}
 use Rattle.kernels.specs.Code.{codedSymbols}
 use Rattle.kernels.proofs.Blocks.{blocksFrom, blocks-end, blocks-more, put-next}
 
@@ -53,14 +52,6 @@ block-few c g block n =
     let bits = encodedBits m block in
     let e : length (blockSymbols c block) ≡ length (symbolsOf c bits) = length-coded (formed c g) c g block ∙ sym (length-symbols c g (encoded-bits m block)) in
     omega (arith, symbols-few c bits, length-block-encoded m block n, bits-few (c .rate) (rate-known c g))
-
--- the blocks are whole
-blocks-whole : (n : ℕ) (bytes : List ℕ) → n * 204 ≤ length bytes → All (Length 204) (firstBlocks n bytes)
-unfolding firstBlocks
-blocks-whole zero bytes h = tt
-blocks-whole (suc n) bytes h =
-    let k : n * 204 + 204 ≤ length bytes = rw (← suc-mul n 204) h in
-    (length-take-le 204 bytes (omega arith), blocks-whole n (drop 204 bytes) (omega (arith, length-drop 204 bytes)))
 
 -- ---- a call on a coder in range, with a block and room enough, is answered
 
@@ -96,8 +87,8 @@ coding-start rate bytes output c q e = let h = sent-known rate q in record {
   counted = refl;
   written = refl;
   symbols =
-      ap (λ (x : InnerCoder). callsBy (modeOf rate) x (wholeBlocks bytes)) e
-      ∙ calls-stream (modeOf rate) (well-formed rate h) rate (wholeBlocks bytes) (blocks-whole (length bytes / 204) bytes (div-mul-le-self (length bytes) 204));
+      ap (λ (x : InnerCoder). callsBy (modeOf rate) x (chunksOf 204 bytes)) e
+      ∙ calls-stream (modeOf rate) (well-formed rate h) rate (chunksOf 204 bytes) (chunks-whole 204 bytes);
 }
 
 module _ {rate : ℕ} {bytes output₀ output : List ℕ} {c : InnerCoder} {at count : ℕ} (fits : 8 * length bytes ≤ length output₀) (p : Coding rate bytes output₀ output c at count) where

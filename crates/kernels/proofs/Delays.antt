@@ -7,6 +7,7 @@ use native.Mathlib.Omega.{arith}
 use borrow.Rule.Slice.PartMut.{putMid, midOf}
 use lib.ListN.{length, take, drop, length-append, length-drop}
 use lib.Seq.{length-take-le}
+use Rattle.common.specs.Lists.{chunksOf}
 use Rattle.delay_branches.specs.Block.{fresh, blockOut, branchesAfter}
 use Rattle.interleaver.specs.Call.{passBranches, passOutput}
 use Rattle.interleaver.specs.Stream.{run}
@@ -15,7 +16,6 @@ use Rattle.delay_branches.specs.declared.Branches.{Branches}
 use Rattle.delay_branches.proofs.Blocks.{Good, length-out, good-after}
 use Rattle.interleaver.proofs.Answered.{pass-done}
 use Rattle.interleaver.proofs.Whole.{good-fresh, run-delayed}
-use Rattle.kernels.specs.Blocks.{wholeBlocks}
 use Rattle.kernels.specs.Delay.{delayedBytes}
 use Rattle.kernels.proofs.Blocks.{blocksFrom, blocks-end, blocks-more, put-next}
 
@@ -38,7 +38,7 @@ passing-start side bytes output s e = record {
   front = [];
   counted = refl;
   written = refl;
-  leaving = ap (λ (x : Branches). flatten (run side x (wholeBlocks bytes))) e ∙ ap flatten (run-delayed side (wholeBlocks bytes));
+  leaving = ap (λ (x : Branches). flatten (run side x (chunksOf 204 bytes))) e ∙ ap flatten (run-delayed side (chunksOf 204 bytes));
 }
 
 module _ {side : Side} {bytes output₀ output : List ℕ} {s : Branches} {at : ℕ} (fits : length bytes ≤ length output₀) (p : Passing side bytes output₀ output s at) where

@@ -1,4 +1,4 @@
-pub mod Blocks
-pub mod Factors
-pub mod Delays
-pub mod Codes
+mod Blocks
+mod Factors
+mod Delays
+mod Codes

@@ -6,13 +6,13 @@ use Prim.Native.Nat.{ℕ, _/_}
 use lib.Dec.{ltb}
 use lib.ListN.{length, drop}
 use Rattle.common.specs.Choice.{pick}
+use Rattle.common.specs.Lists.{chunksOf}
 use Rattle.puncturing.specs.Mode.{modeOf}
 use Rattle.inner_code.specs.Stream.{streamSymbols}
-use Rattle.kernels.specs.Blocks.{wholeBlocks}
 
 -- their symbols
 unfoldable pub codedSymbols : ℕ → List ℕ → List ℕ
-codedSymbols rate bytes = streamSymbols (modeOf rate) (flatten (wholeBlocks bytes))
+codedSymbols rate bytes = streamSymbols (modeOf rate) (flatten (chunksOf 204 bytes))
 
 -- a mode that is not sent, or less room than a symbol for each bit
 abbrev pub refused : ℕ → List ℕ → List ℕ → Bool

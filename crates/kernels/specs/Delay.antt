@@ -5,13 +5,13 @@ use Prim.Native.Nat.{ℕ, _*_, _/_}
 use lib.Dec.{ltb}
 use lib.ListN.{length, drop}
 use Rattle.common.specs.Choice.{pick}
+use Rattle.common.specs.Lists.{chunksOf}
 use Rattle.interleaver.specs.Stream.{delayed}
 use Rattle.delay_branches.specs.declared.Side.{Side}
-use Rattle.kernels.specs.Blocks.{wholeBlocks}
 
 -- the blocks that leave, one after the other
 unfoldable pub delayedBytes : Side → List ℕ → List ℕ
-delayedBytes side bytes = flatten (delayed side (wholeBlocks bytes))
+delayedBytes side bytes = flatten (delayed side (chunksOf 204 bytes))
 
 -- they stand in the output, unless it is shorter than the buffer
 abbrev pub delayOutput : Side → List ℕ → List ℕ → List ℕ

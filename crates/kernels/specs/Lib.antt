@@ -1,4 +1,3 @@
-pub mod Blocks
 pub mod Scale
 pub mod Delay
 pub mod Code

@@ -2,7 +2,7 @@ pub mod Places
 pub mod BlockCounts
 pub mod WellFormed
 pub mod Steps
-pub mod Run
-pub mod Patterns
-pub mod Rates
+mod Run
+mod Patterns
+mod Rates
 pub mod Parts

@@ -20,7 +20,7 @@ use Rattle.puncturing.proofs.Rates.{table}
 
 -- ---- one run after another
 
-pub sent-append : (r p h : ℕ) (l : List ℕ) (n j k : ℕ)
+sent-append : (r p h : ℕ) (l : List ℕ) (n j k : ℕ)
     → puncturedSymbols r p h l n (j + k) ≡ puncturedSymbols r p h l n j ++ puncturedSymbols r (patternPlaceAfter r p j) (heldBehind r p h l n j) l (n + j) k
 unfolding puncturedSymbols patternPlaceAfter heldBehind
 sent-append r p h l n zero k = ap₂ (λ (m i : ℕ). puncturedSymbols r p h l m i) (sym (add-zero n)) (zero-add k)
@@ -36,12 +36,12 @@ sent-append r p h l n (suc j) k =
     (λ (m : ℕ). symbolList (punctured r p x y h) ++ puncturedSymbols r p′ h′ l (suc n) j ++ puncturedSymbols r (patternPlaceAfter r p′ j) (heldBehind r p′ h′ l (suc n) j) l m k)
     (suc-add n j ∙ sym (add-suc n j))
 
-pub place-append : (r p j k : ℕ) → patternPlaceAfter r p (j + k) ≡ patternPlaceAfter r (patternPlaceAfter r p j) k
+place-append : (r p j k : ℕ) → patternPlaceAfter r p (j + k) ≡ patternPlaceAfter r (patternPlaceAfter r p j) k
 unfolding patternPlaceAfter
 place-append r p zero k = ap (patternPlaceAfter r p) (zero-add k)
 place-append r p (suc j) k = ap (patternPlaceAfter r p) (suc-add j k) ∙ place-append r (nextPlace r p) j k
 
-pub held-append : (r p h : ℕ) (l : List ℕ) (n j k : ℕ)
+held-append : (r p h : ℕ) (l : List ℕ) (n j k : ℕ)
     → heldBehind r p h l n (j + k) ≡ heldBehind r (patternPlaceAfter r p j) (heldBehind r p h l n j) l (n + j) k
 unfolding patternPlaceAfter heldBehind
 held-append r p h l n zero k = ap₂ (λ (m i : ℕ). heldBehind r p h l m i) (sym (add-zero n)) (zero-add k)
@@ -52,7 +52,7 @@ held-append r p h l n (suc j) k =
     ∙ held-append r p′ h′ l (suc n) j k
     ∙ ap (λ (m : ℕ). heldBehind r (patternPlaceAfter r p′ j) (heldBehind r p′ h′ l (suc n) j) l m k) (suc-add n j ∙ sym (add-suc n j))
 
-pub held-behind : (r p h : ℕ) (l : List ℕ) (n k : ℕ) → r < 5 → p < patternLength r → h ≤ heldCount r p → Bits l
+held-behind : (r p h : ℕ) (l : List ℕ) (n k : ℕ) → r < 5 → p < patternLength r → h ≤ heldCount r p → Bits l
     → heldBehind r p h l n k ≤ heldCount r (patternPlaceAfter r p k)
 unfolding patternPlaceAfter heldBehind
 held-behind r p h l n zero hr hp hh t = hh
@@ -173,7 +173,7 @@ module _ (r : ℕ) (l : List ℕ) (hr : r < 5) (bits : Bits l) where
       swap : (a b : ℕ) → a + b ≡ b + a
       swap a b = omega arith
 
-  pub patterns-place : (t : ℕ) → patternPlaceAfter r 0 (t * patternLength r) ≡ 0
+  patterns-place : (t : ℕ) → patternPlaceAfter r 0 (t * patternLength r) ≡ 0
   unfolding patternPlaceAfter
   patterns-place zero = ap (patternPlaceAfter r 0) (zero-mul (patternLength r))
   patterns-place (suc t) =
@@ -185,10 +185,10 @@ module _ (r : ℕ) (l : List ℕ) (hr : r < 5) (bits : Bits l) where
   starts : 0 < patternLength r
   starts = some-bits r hr
 
-  pub patterns-held : (n t : ℕ) → heldBehind r 0 0 l n (t * patternLength r) ≡ 0
+  patterns-held : (n t : ℕ) → heldBehind r 0 0 l n (t * patternLength r) ≡ 0
   patterns-held n t = held-start r 0 0 l n (t * patternLength r) hr starts (omega arith) bits (patterns-place t)
 
-  pub patterns-sent : (n t : ℕ) → patternsSymbols (iBits r) (qBits r) l (patternLength r) n t ≡ puncturedSymbols r 0 0 l n (t * patternLength r)
+  patterns-sent : (n t : ℕ) → patternsSymbols (iBits r) (qBits r) l (patternLength r) n t ≡ puncturedSymbols r 0 0 l n (t * patternLength r)
   unfolding patternsSymbols puncturedSymbols
   patterns-sent n zero = ap (puncturedSymbols r 0 0 l n) (sym (zero-mul (patternLength r)))
   patterns-sent n (suc t) =

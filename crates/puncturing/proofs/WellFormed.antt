@@ -110,7 +110,7 @@ beside-of m t = by (eqb (length (m .uncoded)) 0) refl t
         paired (eqb→eq _ _ (both-left (eqb (m .bits) 1) _ u)) (eqb→eq _ _ (both-left (eqb (length (m .uncoded)) (length (completed m 1))) _ v))
         (every-all (λ s. eqb (length s) 2) (λ s. length s ≡ 2) (λ s w. eqb→eq _ _ w) (m .symbols) (both-right (eqb (length (m .uncoded)) (length (completed m 1))) _ v))
 
-pub well-formed-by : (m : Mode) → T (wellFormed m) → WellFormed m
+well-formed-by : (m : Mode) → T (wellFormed m) → WellFormed m
 well-formed-by m t0 =
     let t1 = both-right (ltb 0 (m .group)) _ t0 in
     let t2 = both-right (eqb (204 % m .group) 0) _ t1 in

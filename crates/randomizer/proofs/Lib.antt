@@ -1,4 +1,4 @@
 pub mod Xors
-pub mod Run
+mod Run
 pub mod Laws
 pub mod Whole

@@ -8,11 +8,11 @@ use native.Mathlib.Omega.{arith}
 use lib.Bits.{bitXor}
 use lib.ListN.{length, getD, take, drop}
 use lib.Seq.{drop-cons, take-at, drop-at}
-use Rattle.common.specs.Lists.{All, Length}
+use Rattle.common.specs.Lists.{All, Length, chunks}
 use Rattle.common.proofs.Lists.{All-map}
 use Rattle.randomizer.specs.Prbs.{masks}
 use Rattle.randomizer.specs.Packet.{randomized}
-use Rattle.randomizer.specs.Stream.{Packet, maskAt, dispersed, inPackets, randomizedStream, randomizedFrom}
+use Rattle.randomizer.specs.Stream.{Packet, maskAt, dispersed, randomizedStream, randomizedFrom}
 use Rattle.randomizer.proofs.Laws.{length-masks, length-randomized}
 
 pub packet-lengths : (packets : List (List ℕ)) → All Packet packets → All (Length 188) packets
@@ -40,8 +40,8 @@ packet-is : (n : ℕ) (p : List ℕ) → length p ≡ 188 → dispersed (188 * n
 unfolding randomized
 packet-is n p e = within p (188 * n) (188 * (n % 8)) (omega arith) (omega arith)
 
-from : (n : ℕ) (ps : List (List ℕ)) → All (Length 188) ps → inPackets (length ps) (dispersed (188 * n) (flatten ps)) ≡ randomizedFrom n ps
-unfolding inPackets flatten randomizedFrom
+from : (n : ℕ) (ps : List (List ℕ)) → All (Length 188) ps → chunks 188 (length ps) (dispersed (188 * n) (flatten ps)) ≡ randomizedFrom n ps
+unfolding chunks flatten randomizedFrom
 from n [] g = refl
 from n (p ∷ ps) g = go (from (n + 1) ps (g .1))
   where
@@ -57,11 +57,11 @@ from n (p ∷ ps) g = go (from (n + 1) ps (g .1))
         dispersed-append p (flatten ps) (188 * n)
         ∙ ap₂ (λ (l : List ℕ) (m : ℕ). l ++ dispersed m (flatten ps)) (packet-is n p (g .0)) k
 
-    go : inPackets (length ps) (dispersed (188 * (n + 1)) (flatten ps)) ≡ randomizedFrom (n + 1) ps
-        → inPackets (suc (length ps)) (dispersed (188 * n) (p ++ flatten ps)) ≡ first ∷ randomizedFrom (n + 1) ps
+    go : chunks 188 (length ps) (dispersed (188 * (n + 1)) (flatten ps)) ≡ randomizedFrom (n + 1) ps
+        → chunks 188 (suc (length ps)) (dispersed (188 * n) (p ++ flatten ps)) ≡ first ∷ randomizedFrom (n + 1) ps
     go r =
-        ap (λ (l : List ℕ). take 188 l ∷ inPackets (length ps) (drop 188 l)) split
-        ∙ ap₂ (λ (a b : List ℕ). a ∷ inPackets (length ps) b) (take-at first _ 188 size) (drop-at first _ 188 size)
+        ap (λ (l : List ℕ). take 188 l ∷ chunks 188 (length ps) (drop 188 l)) split
+        ∙ ap₂ (λ (a b : List ℕ). a ∷ chunks 188 (length ps) b) (take-at first _ 188 size) (drop-at first _ 188 size)
         ∙ ap (λ (l : List (List ℕ)). first ∷ l) r
 
 pub randomized-stream : (packets : List (List ℕ)) → All (Length 188) packets → randomizedFrom 0 packets ≡ randomizedStream packets

@@ -2,10 +2,10 @@
 -- Assumes nothing.
 use mathlib.Core.Path.{_≡_}
 use mathlib.Core.List.{List, [], _∷_, flatten}
-use Prim.Native.Nat.{ℕ, zero, suc, _+_, _%_}
+use Prim.Native.Nat.{ℕ, _+_, _%_}
 use lib.Bits.{bitXor}
-use lib.ListN.{length, getD, take, drop}
-use Rattle.common.specs.Lists.{Length, Bytes}
+use lib.ListN.{length, getD}
+use Rattle.common.specs.Lists.{Length, Bytes, chunks}
 use Rattle.randomizer.specs.Prbs.{masks}
 use Rattle.randomizer.specs.Packet.{randomized}
 
@@ -27,15 +27,10 @@ unfolding maskAt
 dispersed n [] = []
 dispersed n (b ∷ bs) = bitXor b (maskAt n) ∷ dispersed (n + 1) bs
 
--- the first n packets of 188 bytes
-unfoldable pub inPackets : ℕ → List ℕ → List (List ℕ)
-inPackets zero bs = []
-inPackets (suc n) bs = take 188 bs ∷ inPackets n (drop 188 bs)
-
 -- the transport packets as they are sent to the outer coder, from the start of a group
 unfoldable pub randomizedStream : List (List ℕ) → List (List ℕ)
-unfolding dispersed inPackets flatten
-randomizedStream packets = inPackets (length packets) (dispersed 0 (flatten packets))
+unfolding dispersed chunks flatten
+randomizedStream packets = chunks 188 (length packets) (dispersed 0 (flatten packets))
 
 -- call after call, the first packet being packet n of the stream: the places go 0, 1, .. 7, 0, ..
 unfoldable pub randomizedFrom : ℕ → List (List ℕ) → List (List ℕ)

@@ -9,13 +9,14 @@ use borrow.Author.Tests.{eq-eqb, ne-eqb, lt-ltb, le-ltb, ltb-true}
 use lib.Dec.{ltb, eqb}
 use lib.ListN.{length, getD, drop, drop-of-length-le}
 use Rattle.common.specs.Choice.{pick}
+use Rattle.common.specs.Lists.{largest}
 use Rattle.common.proofs.Choice.{both-true}
 use Rattle.answer.specs.Number.{numberOf}
 use Rattle.answer.specs.declared.Answer.{Answer}
 use Rattle.answer.specs.declared.Answer.the-variants as answer
 use Rattle.reed_solomon.specs.Code.{differ, differBits, changes, noChange}
 use Rattle.reed_solomon.specs.Decode.{changedBy}
-use Rattle.reed_solomon.specs.Marks.{largest, areMarks, DecodesMarked}
+use Rattle.reed_solomon.specs.Marks.{areMarks, DecodesMarked}
 use Rattle.reed_solomon.specs.declared.Changed.{Changed}
 use Rattle.reed_solomon.specs.declared.Decoded.{Decoded}
 use Rattle.reed_solomon.specs.declared.Decoded.the-variants.{Corrected, Uncorrectable, BlockLength, MarkValue}
@@ -65,7 +66,7 @@ parts-range s most r e f =
     f ∙ ap (λ (k : ℕ). pick (branch.positionsWithin Receiving (s .deinterleaver .branches .positions) 12) (pick (ltb k 2) (pick (syncInRange (s .sync)) (countsInRange (s .counts)) false) false) false) e
 
 -- an accepted block is in the sums over the accepted blocks
-pub accepted-whole : (s : GroupSync) (first n : ℕ) → syncInRange s ≡ true → ofAccepted (groupStep s (decoding.Accepted first) .outcome) n ≡ n
+accepted-whole : (s : GroupSync) (first n : ℕ) → syncInRange s ≡ true → ofAccepted (groupStep s (decoding.Accepted first) .outcome) n ≡ n
 accepted-whole s first n h = accepted-outcome (λ o. ofAccepted o n ≡ n) s first (λ p l. refl) refl refl h
 
 -- a state by its parts

@@ -9,6 +9,7 @@ use native.Mathlib.Omega.{arith}
 use borrow.Author.Tests.{ne-eqb, lt-ltb, le-ltb}
 use lib.Dec.{eqb}
 use Rattle.common.specs.Choice.{pick}
+use Rattle.common.specs.Lists.{total}
 use Rattle.reed_solomon.specs.Code.{differ, differBits, changes}
 use Rattle.reed_solomon.specs.declared.Changed.{Changed}
 use Rattle.group_sync.specs.declared.Outcome.{Outcome}
@@ -16,7 +17,7 @@ use Rattle.group_sync.specs.declared.Outcome.the-variants.{Filling, Delivered, 
 use Rattle.reception_counts.specs.Counts.{one, outcomeNumber, counted}
 use Rattle.reception_counts.specs.declared.Counts.{Counts}
 use Rattle.receiver.specs.Receive.{freshReceiver, delayedBlock, ofAccepted, stepOf, stateAfter, receiveRefusal, Ready}
-use Rattle.receiver.specs.Run.{Call, answerOf, afterCall, afterCalls, Event, history, answered, takenBy, takenIn, acceptedBy, overAccepted, countsOf}
+use Rattle.receiver.specs.Run.{Call, answerOf, afterCall, afterCalls, Event, history, answered, takenBy, acceptedBy, overAccepted, countsOf}
 use Rattle.receiver.specs.declared.Receiver.{Receiver}
 use Rattle.receiver.proofs.Calls.{ready-number, ready-state}
 use Rattle.receiver.proofs.Reached.{Refused, ready-or-refused, refused-state}
@@ -105,7 +106,7 @@ taken-event n o came left =
       bits = n .bits + acceptedBy (outcomeNumber o) * differBits came left;
     }) (sym (taken-outcome o))
 
-pub call-counts : (s : Receiver) (c : Call) → afterCall s c .counts ≡ with-event (s .counts) (eventOf s c)
+call-counts : (s : Receiver) (c : Call) → afterCall s c .counts ≡ with-event (s .counts) (eventOf s c)
 unfolding stateAfter
 call-counts s c = by (ready-or-refused s (c .block) (c .marks) (c .output))
   where
@@ -130,7 +131,7 @@ call-counts s c = by (ready-or-refused s (c .block) (c .marks) (c .output))
 -- the counts with the events of a history more
 abbrev pub with-history : Counts → List Event → Counts
 with-history n es = record {
-  taken = n .taken + takenIn es;
+  taken = n .taken + total (λ e. takenBy (e .number)) es;
   filling = n .filling + answered 9 es;
   delivered = n .delivered + answered 0 es;
   lost = n .lost + answered 8 es;
@@ -146,7 +147,7 @@ event-history n e es = simp add-assoc
 none-history : (n : Counts) → n ≡ with-history n []
 none-history n = simp add-zero
 
-pub calls-counts : (s : Receiver) (cs : List Call) → afterCalls s cs .counts ≡ with-history (s .counts) (history s cs)
+calls-counts : (s : Receiver) (cs : List Call) → afterCalls s cs .counts ≡ with-history (s .counts) (history s cs)
 calls-counts s [] = none-history (s .counts)
 calls-counts s (c ∷ cs) =
     calls-counts (afterCall s c) cs

@@ -6,12 +6,12 @@ use Prim.Native.Nat.{ℕ, _≤_, _<_}
 use native.Mathlib.Omega.{arith}
 use lib.ListN.{length, replicate, length-replicate}
 use lib.Seq.{ext-getD}
-use Rattle.common.specs.Lists.{Entries}
+use Rattle.common.specs.Lists.{Entries, largest}
+use Rattle.common.proofs.Largest.{largest-least, largest-most}
 use Rattle.byte_lanes.proofs.Powers.{zeros-at}
 use Rattle.reed_solomon.specs.Decode.{Decodes}
-use Rattle.reed_solomon.specs.Marks.{Marks, largest, noMarks, DecodesMarked}
+use Rattle.reed_solomon.specs.Marks.{Marks, noMarks, DecodesMarked}
 use Rattle.reed_solomon.specs.declared.Decoded.{Decoded}
-use Rattle.reed_solomon.proofs.Marks.{largest-least, largest-most}
 use Rattle.reed_solomon.proofs.MarkedDistance.{without-marks}
 use Rattle.delay_branches.specs.Branch.{laid}
 use Rattle.delay_branches.specs.Block.{blockOut, branchesAfter}

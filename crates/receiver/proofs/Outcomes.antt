@@ -53,10 +53,10 @@ plain-marked cs pl = All-map Plain (λ c. areMarks (c .marks) ≡ true) (λ c e.
 
 -- the first of them
 module _ (s : Receiver) (c : Call) (cs : List Call) (u : Unrefused s (c ∷ cs)) where
-  pub first-ready : Ready s (c .block) (c .marks) (c .output)
+  first-ready : Ready s (c .block) (c .marks) (c .output)
   first-ready = record { range = sound-range s (u .sound); size = u .sizes .0; marked = u .marked .0; enough = u .outputs .0; more = let m = u .most in omega arith }
 
-  pub state-is : afterCall s c ≡ stateAfter s (c .block) (c .marks) (c .left) (c .decoded)
+  state-is : afterCall s c ≡ stateAfter s (c .block) (c .marks) (c .left) (c .decoded)
   state-is = ready-state s (c .block) (c .marks) (c .output) first-ready (c .left) (c .decoded)
 
   pub branches-after : afterCall s c .deinterleaver .branches ≡ block.branchesAfter Receiving (s .deinterleaver .branches) (c .block)

@@ -1,17 +1,16 @@
 -- From the promise of `receive` to histories of calls: calls that keep it are calls of a history, so demand 2 holds of them.
 -- Assumes nothing.
 use mathlib.Core.Path.{_≡_, refl, sym, ap, ap₂, subst, _∙_}
-use mathlib.Core.List.{List, [], _∷_, _++_, map}
+use mathlib.Core.List.{List, [], _∷_, _++_}
 use Prim.Native.Nat.{ℕ, _-_, _≤_}
 use Prim.{tt}
 use lib.Dec.{eqb}
 use lib.ListN.{length, take, replicate}
 use Rattle.common.specs.Choice.{pick}
 use Rattle.common.specs.Lists.{All}
-use Rattle.reed_solomon.specs.Encode.{encoded}
 use Rattle.reed_solomon.specs.Marks.{noMarks}
-use Rattle.randomizer.specs.Stream.{Packet, randomizedStream}
-use Rattle.interleaver.specs.Stream.{interleaved}
+use Rattle.randomizer.specs.Stream.{Packet}
+use Rattle.sent_blocks.specs.Blocks.{interleavedBlocks}
 use Rattle.receiver.specs.Receive.{freshReceiver}
 use Rattle.receiver.specs.Run.{Call, afterCalls, DecodedCalls, packetsGiven, lentBlocks, answers, Plain, OutputFits}
 use Rattle.receiver.specs.Kept.{Kept, none, call}
@@ -52,7 +51,7 @@ kept-calls {s} (call block output exit r h p k) =
 
 -- demand 2, receiving, of the promise of `receive`
 pub promised-received : (packets : List (List ℕ)) → All Packet packets → length packets ≤ 4294967295 → (numbers : List ℕ) (given : List (List ℕ)) (last : Receiver)
-    → Kept freshReceiver (interleaved (map encoded (randomizedStream packets))) numbers given last
+    → Kept freshReceiver (interleavedBlocks packets) numbers given last
     → (numbers ≡ take (length packets) (replicate 11 9 ++ replicate (length packets) 0)) × (given ≡ take (length packets - 11) packets)
 promised-received packets ws l numbers given last k =
     let m = kept-calls k in

@@ -11,9 +11,11 @@ use borrow.Author.Tests.{eq-eqb, ne-eqb, lt-ltb, le-ltb}
 use lib.Dec.{eqb}
 use lib.ListN.{length, getD, length-replicate}
 use Rattle.common.specs.Choice.{pick}
+use Rattle.common.specs.Lists.{largest}
+use Rattle.common.proofs.Largest.{largest-zeros}
 use Rattle.reed_solomon.specs.Code.{differ, differBits}
-use Rattle.reed_solomon.specs.Marks.{largest, areMarks, DecodesMarked}
-use Rattle.reed_solomon.proofs.Marks.{largest-zeros, marks-of}
+use Rattle.reed_solomon.specs.Marks.{areMarks, DecodesMarked}
+use Rattle.reed_solomon.proofs.Marks.{marks-of}
 use Rattle.reed_solomon.specs.declared.Decoded.{Decoded}
 use Rattle.reed_solomon.specs.declared.Decoded.the-variants.{Corrected, Uncorrectable, BlockLength, MarkValue}
 use Rattle.reed_solomon.proofs.Laws.{few-changes}
@@ -95,7 +97,7 @@ refused-state s block marks output left decoded f = unpicked (receiveRefusal s b
 -- ---- a block taken keeps a state sound
 
 -- the marks lie in the delays as the bytes do
-pub sound-marks : (s : Receiver) → Sound s → Good Receiving (marksIn s)
+sound-marks : (s : Receiver) → Sound s → Good Receiving (marksIn s)
 sound-marks s g = record { cells = g .marks; positions = g .branches .positions; range = g .branches .range }
 
 module _ (s : Receiver) (block marks left : List ℕ) (decoded : Decoded) (g : Sound s) (m : areMarks marks ≡ true) (l : s .counts .taken < 4294967295)
@@ -119,7 +121,7 @@ module _ (s : Receiver) (block marks left : List ℕ) (decoded : Decoded) (g : S
   counts-after h BlockLength d = lost-range (s .counts) (g .counts) h l
   counts-after h MarkValue d = lost-range (s .counts) (g .counts) h l
 
-  pub sound-after : Sound (stateAfter s block marks left decoded)
+  sound-after : Sound (stateAfter s block marks left decoded)
   unfolding stateAfter
   sound-after = by (decLt (s .counts .taken) 11)
     where

@@ -7,7 +7,7 @@ use Prim.Native.Nat.{ℕ, zero, suc, _+_, _-_, _%_, _≤_, _<_}
 use Prim.{tt}
 use native.Mathlib.Nat.{not-suc-le-zero}
 use native.Mathlib.Omega.{arith}
-use lib.ListN.{length, getD, take, drop, replicate, take-append-drop, length-drop}
+use lib.ListN.{length, getD, take, drop, replicate, take-append-drop, length-drop, length-map}
 use lib.Seq.{take-nil, take-all, getD-drop, drop-drop}
 use Rattle.common.specs.Lists.{All, Length}
 use Rattle.common.proofs.Lists.{All-at}
@@ -16,14 +16,13 @@ use Rattle.reed_solomon.specs.Encode.{encoded}
 use Rattle.reed_solomon.proofs.Distance.{differ-none}
 use Rattle.reed_solomon.proofs.LongDivision.{encoded-length}
 use Rattle.randomizer.specs.Packet.{randomized}
-use Rattle.randomizer.specs.Stream.{Packet, randomizedFrom, randomizedStream}
+use Rattle.randomizer.specs.Stream.{Packet, randomizedFrom}
 use Rattle.randomizer.proofs.Whole.{packet-lengths, randomized-stream}
 use Rattle.delay_branches.specs.Block.{fresh}
-use Rattle.delay_branches.specs.declared.Side.the-variants.{Sending, Receiving}
-use Rattle.interleaver.specs.Stream.{run, interleaved}
+use Rattle.delay_branches.specs.declared.Side.the-variants.{Receiving}
+use Rattle.interleaver.specs.Stream.{run}
 use Rattle.interleaver.specs.Gathered.{gathered}
 use Rattle.interleaver.proofs.Whole.{length-run}
-use Rattle.interleaver.proofs.Streams.{length-delayed, delayed-lengths}
 use Rattle.interleaver.proofs.Blocks.{length-flatten, flatten-join, All-take, All-drop}
 use Rattle.interleaver.proofs.Gathering.{gathered-front, run-gathered, sent-gathered}
 use Rattle.group_sync.specs.Group.{freshSync, knownSync}
@@ -37,6 +36,8 @@ use Rattle.group_sync.specs.declared.GroupSync.{GroupSync}
 use Rattle.group_sync.proofs.Streams as streams
 use Rattle.group_sync.proofs.AsBefore as before
 use Rattle.reception_counts.specs.Counts.{outcomeNumber}
+use Rattle.sent_blocks.specs.Blocks.{codedBlocks, interleavedBlocks}
+use Rattle.sent_blocks.proofs.Lengths.{coded-count, interleaved-count, interleaved-whole}
 use Rattle.receiver.specs.Receive.{freshReceiver}
 use Rattle.receiver.specs.Run.{Call, DecodedCalls, packetsGiven, lentBlocks, answers, Plain, OutputFits}
 use Rattle.receiver.specs.Begun.{lefts, decodings, deliveredPackets, ComeTo, filledFirst, BegunAt}
@@ -48,7 +49,7 @@ use Rattle.receiver.proofs.Decoding.{sent-length, sent-bytes, coded-bac
 -- ---- as before
 
 -- where every block after the first eleven is lost or in order, the calls come to what they came to by the rule before document 02, P4
-pub in-order-as-before : (m : ℕ) (cs : List Call) → Unrefused freshReceiver cs → before.InOrder m (decodings (drop 11 cs))
+in-order-as-before : (m : ℕ) (cs : List Call) → Unrefused freshReceiver cs → before.InOrder m (decodings (drop 11 cs))
     → ComeTo freshReceiver cs (filledFirst 11 cs (before.outcomesBefore NotKnown (decodings (drop 11 cs))))
 unfolding freshReceiver
 in-order-as-before m cs u o =
@@ -125,14 +126,8 @@ coded-lengths n [] ws = tt
 coded-lengths n (p ∷ ps) ws =
     (encoded-length (randomized (n % 8) p) (sent-length n p (ws .0)) (sent-bytes n p (ws .0)), coded-lengths (n + 1) ps (ws .1))
 
-coded-count : (n : ℕ) (ps : List (List ℕ)) → length (map encoded (randomizedFrom n ps)) ≡ length ps
-unfolding randomizedFrom
-coded-count n [] = refl
-coded-count n (p ∷ ps) = ap suc (coded-count (n + 1) ps)
-
 pub blocks-count : (cs : List Call) → length (lentBlocks cs) ≡ length cs
-blocks-count [] = refl
-blocks-count (c ∷ cs) = ap suc (blocks-count cs)
+blocks-count cs = length-map cs (λ c. c .block)
 
 -- ---- the blocks that are corrected
 
@@ -152,35 +147,29 @@ module _ (cs : List Call) where
 
 module _ (packets : List (List ℕ)) (ws : All Packet packets) where
   -- the coded packets, as the standard gives them and call after call
-  abbrev coded : List (List ℕ)
-  coded = map encoded (randomizedStream packets)
-
-  stream : coded ≡ map encoded (randomizedFrom 0 packets)
+  stream : codedBlocks packets ≡ map encoded (randomizedFrom 0 packets)
   stream = ap (map encoded) (sym (randomized-stream packets (packet-lengths packets ws)))
 
-  pub coded-size : length coded ≡ length packets
-  coded-size = ap length stream ∙ coded-count 0 packets
-
-  coded-blocks : All (Length 204) coded
+  coded-blocks : All (Length 204) (codedBlocks packets)
   coded-blocks = subst (All (Length 204)) (sym stream) (coded-lengths 0 packets ws)
 
   -- the block that was sent is gathered from the bytes sent
-  pub coded-gathered : (m i : ℕ) → m + (i + 11) < length packets → getD (drop m coded) i [] ≡ gathered (flatten (drop m (interleaved coded))) i
+  pub coded-gathered : (m i : ℕ) → m + (i + 11) < length packets → getD (drop m (codedBlocks packets)) i [] ≡ gathered (flatten (drop m (interleavedBlocks packets))) i
   coded-gathered m i h =
-      getD-drop m coded i []
-      ∙ sent-gathered coded m i (omega (arith, coded-size)) (All-at (Length 204) coded [] (m + i) coded-blocks (omega (arith, coded-size)))
+      getD-drop m (codedBlocks packets) i []
+      ∙ sent-gathered (codedBlocks packets) m i (omega (arith, coded-count packets)) (All-at (Length 204) (codedBlocks packets) [] (m + i) coded-blocks (omega (arith, coded-count packets)))
 
   pub coded-nears : (m : ℕ) (cs : List Call) → m + length cs ≤ length packets
-      → ((i : ℕ) → i + 11 < length cs → differ (getD (drop 11 (run Receiving fresh (lentBlocks cs))) i []) (getD (drop m coded) i []) ≤ 8)
-      → Nears (drop 11 (run Receiving fresh (lentBlocks cs))) (drop m coded)
+      → ((i : ℕ) → i + 11 < length cs → differ (getD (drop 11 (run Receiving fresh (lentBlocks cs))) i []) (getD (drop m (codedBlocks packets)) i []) ≤ 8)
+      → Nears (drop 11 (run Receiving fresh (lentBlocks cs))) (drop m (codedBlocks packets))
   coded-nears m cs h f =
-      nears-of (drop 11 (run Receiving fresh (lentBlocks cs))) (drop m coded) (omega (arith, came-count cs, length-drop m coded, coded-size))
+      nears-of (drop 11 (run Receiving fresh (lentBlocks cs))) (drop m (codedBlocks packets)) (omega (arith, came-count cs, length-drop m (codedBlocks packets), coded-count packets))
       (λ i k. f i (omega (arith, came-count cs)))
 
   -- ---- at most eight bytes of each block wrong
 
-  module _ (m : ℕ) (cs : List Call) (u : Unrefused freshReceiver cs) (pl : All Plain cs) (q : Nears (drop 11 (run Receiving fresh (lentBlocks cs))) (drop m coded)) where
-    dropped : drop m coded ≡ map encoded (randomizedFrom m (drop m packets))
+  module _ (m : ℕ) (cs : List Call) (u : Unrefused freshReceiver cs) (pl : All Plain cs) (q : Nears (drop 11 (run Receiving fresh (lentBlocks cs))) (drop m (codedBlocks packets))) where
+    dropped : drop m (codedBlocks packets) ≡ map encoded (randomizedFrom m (drop m packets))
     dropped =
         let e : 0 + m ≡ m = omega arith in
         ap (drop m) stream ∙ coded-drop m 0 packets ∙ ap (λ (i : ℕ). map encoded (randomizedFrom i (drop m packets))) e
@@ -194,7 +183,7 @@ module _ (packets : List (List ℕ)) (ws : All Packet packets) where
     fewer : length (drop 11 cs) ≡ length cs - 11
     fewer = length-drop 11 cs
 
-    pub near-accepted : decodings (drop 11 cs) ≡ sentFrom m (length cs - 11)
+    near-accepted : decodings (drop 11 cs) ≡ sentFrom m (length cs - 11)
     near-accepted = late .accepted ∙ ap (sentFrom m) fewer
 
     near-lefts : lefts (drop 11 cs) ≡ take (length cs - 11) (map encoded (randomizedFrom m (drop m packets)))
@@ -221,15 +210,15 @@ module _ (packets : List (List ℕ)) (ws : All Packet packets) where
   -- ---- no byte wrong
 
   module _ (m : ℕ) (cs : List Call) (h : m + length cs ≤ length packets) (l : length cs ≤ 4294967295)
-      (b : lentBlocks cs ≡ take (length cs) (drop m (interleaved coded))) (pl : All Plain cs) (rs : All OutputFits cs) (ds : DecodedCalls freshReceiver cs) where
+      (b : lentBlocks cs ≡ take (length cs) (drop m (interleavedBlocks packets))) (pl : All Plain cs) (rs : All OutputFits cs) (ds : DecodedCalls freshReceiver cs) where
     air : List (List ℕ)
-    air = drop m (interleaved coded)
+    air = drop m (interleavedBlocks packets)
 
     sizes : All (Length 204) (lentBlocks cs)
     unfolding air
     sizes =
         subst (All (Length 204)) (sym b)
-        (All-take (Length 204) (length cs) air (All-drop (Length 204) m (interleaved coded) (delayed-lengths Sending coded)))
+        (All-take (Length 204) (length cs) air (All-drop (Length 204) m (interleavedBlocks packets) (interleaved-whole packets)))
 
     unharmed-calls : Unrefused freshReceiver cs
     unfolding freshReceiver
@@ -243,7 +232,7 @@ module _ (packets : List (List ℕ)) (ws : All Packet packets) where
         ∙ ap (λ (x : List (List ℕ)). flatten x ++ flatten (drop (length cs) air)) (sym b)
 
     -- the block that call i + 12 corrects is the one that was sent
-    each : (i : ℕ) → i + 11 < length cs → getD (drop 11 (run Receiving fresh (lentBlocks cs))) i [] ≡ getD (drop m coded) i []
+    each : (i : ℕ) → i + 11 < length cs → getD (drop 11 (run Receiving fresh (lentBlocks cs))) i [] ≡ getD (drop m (codedBlocks packets)) i []
     unfolding air
     each i k =
         came-gathered cs sizes i k
@@ -251,8 +240,8 @@ module _ (packets : List (List ℕ)) (ws : All Packet packets) where
         ∙ ap (λ (x : List ℕ). gathered x i) (sym front)
         ∙ sym (coded-gathered m i (omega arith))
 
-    nears : Nears (drop 11 (run Receiving fresh (lentBlocks cs))) (drop m coded)
-    nears = coded-nears m cs h (λ i k. rw (each i k) (omega (arith, differ-none (getD (drop m coded) i []))))
+    nears : Nears (drop 11 (run Receiving fresh (lentBlocks cs))) (drop m (codedBlocks packets))
+    nears = coded-nears m cs h (λ i k. rw (each i k) (omega (arith, differ-none (getD (drop m (codedBlocks packets)) i []))))
 
     -- the theorem
     pub begun-anywhere : BegunAt m packets cs
@@ -266,12 +255,12 @@ module _ (packets : List (List ℕ)) (ws : All Packet packets) where
 
 -- demand 2, receiving: the case of block 0
 pub stream-received : (packets : List (List ℕ)) → All Packet packets → length packets ≤ 4294967295
-    → (cs : List Call) → lentBlocks cs ≡ interleaved (map encoded (randomizedStream packets)) → All Plain cs → All OutputFits cs → DecodedCalls freshReceiver cs
+    → (cs : List Call) → lentBlocks cs ≡ interleavedBlocks packets → All Plain cs → All OutputFits cs → DecodedCalls freshReceiver cs
     → (answers freshReceiver cs ≡ take (length packets) (replicate 11 9 ++ replicate (length packets) 0))
     × (packetsGiven freshReceiver cs ≡ take (length packets - 11) packets)
 stream-received packets ws l cs b pl rs ds =
-    let sent = interleaved (map encoded (randomizedStream packets)) in
-    let k : length sent ≡ length packets = length-delayed Sending (map encoded (randomizedStream packets)) ∙ coded-size packets ws in
+    let sent = interleavedBlocks packets in
+    let k : length sent ≡ length packets = interleaved-count packets in
     let n : length cs ≡ length packets = sym (blocks-count cs) ∙ ap length b ∙ k in
     let e : length cs - 11 - 0 ≡ length packets - 11 = omega arith in
     let r = begun-anywhere packets ws 0 cs (omega arith) (omega arith) (b ∙ sym (take-all (length cs) sent (omega arith))) pl rs ds in (

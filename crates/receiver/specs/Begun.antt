@@ -5,14 +5,13 @@ use mathlib.Core.Path.{_≡_}
 use mathlib.Core.List.{List, [], _∷_, _++_, map}
 use Prim.Native.Nat.{ℕ, _+_, _-_}
 use lib.ListN.{length, getD, take, drop, replicate}
-use Rattle.reed_solomon.specs.Encode.{encoded}
 use Rattle.randomizer.specs.Packet.{derandomized}
-use Rattle.randomizer.specs.Stream.{randomizedStream}
 use Rattle.group_sync.specs.Stream.{beforeGroup}
 use Rattle.group_sync.specs.declared.BlockDecoding.{BlockDecoding}
 use Rattle.group_sync.specs.declared.Outcome.{Outcome}
 use Rattle.group_sync.specs.declared.Outcome.the-variants.{Filling, Delivered, Lost, Waiting, OutOfStep}
 use Rattle.reception_counts.specs.Counts.{outcomeNumber}
+use Rattle.sent_blocks.specs.Blocks.{codedBlocks}
 use Rattle.receiver.specs.Receive.{freshReceiver, decodingOf}
 use Rattle.receiver.specs.Run.{Call, packetsGiven, answers}
 use Rattle.receiver.specs.declared.Receiver.{Receiver}
@@ -52,4 +51,4 @@ filledFirst k cs os = take (length cs) (replicate k Filling) ++ os
 pub record BegunAt (m : ℕ) (packets : List (List ℕ)) (cs : List Call) : Type 0 where
   pub answered : answers freshReceiver cs ≡ take (length cs) (replicate 11 9 ++ replicate (beforeGroup m) 10 ++ replicate (length cs) 0)
   pub given : packetsGiven freshReceiver cs ≡ take (length cs - 11 - beforeGroup m) (drop (m + beforeGroup m) packets)
-  pub corrected : lefts (drop 11 cs) ≡ take (length cs - 11) (drop m (map encoded (randomizedStream packets)))
+  pub corrected : lefts (drop 11 cs) ≡ take (length cs - 11) (drop m (codedBlocks packets))

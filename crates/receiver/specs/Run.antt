@@ -2,12 +2,13 @@
 -- Clauses: document 01, "Receiver"; document 02, P3 and P11.
 -- Assumes nothing.
 use mathlib.Core.Path.{_≡_}
-use mathlib.Core.List.{List, [], _∷_, _++_}
+use mathlib.Core.List.{List, [], _∷_, _++_, map}
 use Prim.Native.Nat.{ℕ, _+_, _*_, _≤_}
 use Prim.{Unit}
 use lib.Dec.{ltb, eqb}
 use lib.ListN.{length, take}
 use Rattle.common.specs.Choice.{pick}
+use Rattle.common.specs.Lists.{total}
 use Rattle.reed_solomon.specs.Code.{changes}
 use Rattle.reed_solomon.specs.Marks.{noMarks, DecodesMarked}
 use Rattle.reed_solomon.specs.declared.Changed.{Changed}
@@ -61,18 +62,13 @@ packetsGiven s (c ∷ cs) = pick (eqb (answerOf s c) 0) (take 188 (outputOf s c)
 
 -- ---- the counts of a history
 
--- how many calls were answered with the number k
-abbrev pub answered : ℕ → List Event → ℕ
-answered k [] = 0
-answered k (e ∷ es) = one k (e .number) + answered k es
-
 -- 1 for a block that was taken, answers 0 and 8 to 11, and 0 for a call that was refused
 abbrev pub takenBy : ℕ → ℕ
 takenBy number = pick (eqb number 0) 1 (pick (ltb number 8) 0 (pick (ltb number 12) 1 0))
 
-abbrev pub takenIn : List Event → ℕ
-takenIn [] = 0
-takenIn (e ∷ es) = takenBy (e .number) + takenIn es
+-- how many calls were answered with the number k
+abbrev pub answered : ℕ → List Event → ℕ
+answered k = total (λ e. one k (e .number))
 
 -- 1 for an accepted block: answers 0, 10 and 11
 abbrev pub acceptedBy : ℕ → ℕ
@@ -80,12 +76,11 @@ acceptedBy number = one 0 number + one 10 number + one 11 number
 
 -- the sum over all accepted blocks of a number of their changes
 abbrev pub overAccepted : (Changed → ℕ) → List Event → ℕ
-overAccepted f [] = 0
-overAccepted f (e ∷ es) = acceptedBy (e .number) * f (e .changed) + overAccepted f es
+overAccepted f = total (λ e. acceptedBy (e .number) * f (e .changed))
 
 abbrev pub countsOf : List Event → Counts
 countsOf es = record {
-  taken = takenIn es;
+  taken = total (λ e. takenBy (e .number)) es;
   filling = answered 9 es;
   delivered = answered 0 es;
   lost = answered 8 es;
@@ -99,8 +94,7 @@ countsOf es = record {
 
 -- the blocks lent
 abbrev pub lentBlocks : List Call → List (List ℕ)
-lentBlocks [] = []
-lentBlocks (c ∷ cs) = c .block ∷ lentBlocks cs
+lentBlocks cs = map (λ c. c .block) cs
 
 -- the numbers of the answers
 abbrev pub answers : Receiver → List Call → List ℕ

@@ -218,7 +218,7 @@ impl Receiver {
         let marks = self.marks;
         let sync = self.sync;
         let counts = self.counts;
-        parts_in_range(positions, reed_solomon::largest_mark(&marks), sync, counts)
+        parts_in_range(positions, common::largest_of(&marks), sync, counts)
     }
 
     // Takes a block of 204 interleaved bytes with a mark, 0 or 1, for each, and writes the packet that it completes.
@@ -232,7 +232,7 @@ impl Receiver {
         let sync = self.sync;
         let counts = self.counts;
         let taken = counts.taken;
-        let most = reed_solomon::largest_mark(&held);
+        let most = common::largest_of(&held);
         if !parts_in_range(positions, most, sync, counts) {
             return Received {
                 answer: Answer::StateRange,
@@ -263,7 +263,7 @@ impl Receiver {
                 receiver: self,
             };
         }
-        let none = most + reed_solomon::largest_mark(marks) == 0;
+        let none = most + common::largest_of(marks) == 0;
         take_block(self, block, marks, none, output)
     }
 

@@ -93,7 +93,7 @@ module _ (p : ℕ) (before : List Call) (u : Unrefused freshReceiver before) (pl
       ∙ append-assoc (flatten (lentBlocks before)) came rest
 
   -- the block that the call corrects
-  pub call-gathered : delayedBlock (afterCalls freshReceiver before) came ≡ gathered recorded p
+  call-gathered : delayedBlock (afterCalls freshReceiver before) came ≡ gathered recorded p
   unfolding freshReceiver whole
   call-gathered =
       let m : length (lentBlocks before) ≡ p + 11 = blocks-count before ∙ n in

@@ -2,16 +2,17 @@
 -- Assumes nothing.
 use mathlib.Core.Path.{_≡_, refl, sym, ap, ap₂, subst, subst₂, _∙_}
 use mathlib.Core.Bool.{true}
-use mathlib.Core.List.{List, [], _∷_, _++_, append-assoc, flatten}
+use mathlib.Core.List.{List, [], _∷_, _++_}
 use mathlib.Core.Logic.{_⊎_, inl, inr}
 use Prim.Native.Nat.{ℕ, zero, suc, _+_, _/_, _≤_, _<_}
 use native.Mathlib.Omega.{arith}
 use borrow.Author.Tests.{ne-eqb, le-ltb}
 use lib.Dec.{eqb}
-use lib.ListN.{length, take, drop, replicate, length-append, length-drop, length-replicate}
-use lib.Seq.{take-at, drop-at}
+use lib.ListN.{length, take, drop, replicate, length-drop, length-replicate, getD}
+use lib.Seq.{take-at}
 use Rattle.common.specs.Choice.{pick}
 use Rattle.common.specs.Lists.{All, Length}
+use Rattle.common.proofs.Chunks.{chunks-whole}
 use Rattle.reed_solomon.specs.Marks.{areMarks, DecodesMarked}
 use Rattle.reed_solomon.specs.declared.Decoded.{Decoded}
 use Rattle.reed_solomon.proofs.Laws.{unique-marked, total}
@@ -26,13 +27,11 @@ use Rattle.receiver.specs.Receive.{delayedBlock, delayedMarks, stepOf, stateAft
 use Rattle.receiver.specs.Run.{Call, DecodedCalls, answerOf, afterCall, outputOf, afterCalls, OutputFits, lentBlocks, packetsGiven}
 use Rattle.receiver.specs.declared.Receiver.{Receiver}
 use Rattle.receiver.proofs.Calls.{ready-number, ready-state, ready-output, left-length}
-use Rattle.interleaver.proofs.Blocks.{length-flatten}
 use Rattle.receiver.proofs.Outcomes.{plain-marked, packet-length}
-use Rattle.receiver.proofs.Reception.{blocks-count}
 use Rattle.receiver.proofs.Reached.{Sound, sound-range, sound-call, Refused, ready-or-refused}
 use Rattle.recording.specs.Recording.{blockMarks, MarkedBy, Recording}
-use Rattle.recording.proofs.Recordings.{none-marked, givenBy, step-place, recorded-more}
-use Rattle.recording.proofs.Joins.{recording-few}
+use Rattle.recording.proofs.Recordings.{none-marked, givenBy, step-place, recorded-more, recording-few}
+use Rattle.recording.proofs.Joins.{calls-count}
 
 -- ---- a call on the same block, with room for a packet
 
@@ -106,47 +105,23 @@ record SameCalls (s : Receiver) (xs ys : List Call) : Type 0 where
   pub given : packetsGiven s xs ≡ packetsGiven s ys
   pub state : afterCalls s xs ≡ afterCalls s ys
 
--- what is asked of the calls of a recording
-record Cut (s : Receiver) (bytes marks : List ℕ) (cs : List Call) (rest : List ℕ) : Type 0 where
-  pub whole : bytes ≡ flatten (lentBlocks cs) ++ rest
-  pub sizes : All (Length 204) (lentBlocks cs)
-  pub short : length rest < 204
+-- what is asked of calls, beside their blocks
+record Asked (s : Receiver) (marks : List ℕ) (cs : List Call) : Type 0 where
   pub marked : MarkedBy marks cs
   pub decodes : DecodedCalls s cs
   pub output-fits : All OutputFits cs
 
-cut-more : (s : Receiver) (bytes marks : List ℕ) (c : Call) (cs : List Call) (rest : List ℕ) → Cut s bytes marks (c ∷ cs) rest → Cut (afterCall s c) (drop 204 bytes) (drop 204 marks) cs rest
-unfolding flatten
-cut-more s bytes marks c cs rest k = record {
-  whole =
-      ap (drop 204) (k .whole ∙ append-assoc (c .block) (flatten (lentBlocks cs)) rest)
-      ∙ drop-at (c .block) (flatten (lentBlocks cs) ++ rest) 204 (k .sizes .0);
-  sizes = k .sizes .1;
-  short = k .short;
-  marked = k .marked .1;
-  decodes = k .decodes .1;
-  output-fits = k .output-fits .1;
-}
+asked-more : (s : Receiver) (marks : List ℕ) (c : Call) (cs : List Call) → Asked s marks (c ∷ cs) → Asked (afterCall s c) (drop 204 marks) cs
+asked-more s marks c cs k = record { marked = k .marked .1; decodes = k .decodes .1; output-fits = k .output-fits .1 }
 
-cut-block : (s : Receiver) (bytes marks : List ℕ) (c : Call) (cs : List Call) (rest : List ℕ) → Cut s bytes marks (c ∷ cs) rest → take 204 bytes ≡ c .block
-unfolding flatten
-cut-block s bytes marks c cs rest k =
-    ap (take 204) (k .whole ∙ append-assoc (c .block) (flatten (lentBlocks cs)) rest)
-    ∙ take-at (c .block) (flatten (lentBlocks cs) ++ rest) 204 (k .sizes .0)
-
-cut-length : (s : Receiver) (bytes marks : List ℕ) (cs : List Call) (rest : List ℕ) → Cut s bytes marks cs rest → length cs ≡ length bytes / 204
-cut-length s bytes marks cs rest k =
-    let w = flatten (lentBlocks cs) in
-    omega (arith, length-flatten 204 (lentBlocks cs) (k .sizes), blocks-count cs, ap length (k .whole), length-append w rest, k .short)
-
-cuts-same : (s : Receiver) (bytes marks : List ℕ) (xs ys : List Call) (r t : List ℕ) → Cut s bytes marks xs r → Cut s bytes marks ys t → SameCalls s xs ys
-cuts-same s bytes marks [] [] r t p q = record { given = refl; state = refl }
-cuts-same s bytes marks [] (d ∷ ys) r t p q = absurd (let a = cut-length s bytes marks [] r p in let b = cut-length s bytes marks (d ∷ ys) t q in omega arith)
-cuts-same s bytes marks (c ∷ xs) [] r t p q = absurd (let a = cut-length s bytes marks (c ∷ xs) r p in let b = cut-length s bytes marks [] t q in omega arith)
-cuts-same s bytes marks (c ∷ xs) (d ∷ ys) r t p q =
-    let e = call-alike s c d (sym (cut-block s bytes marks c xs r p) ∙ cut-block s bytes marks d ys t q) (p .marked .0 ∙ sym (q .marked .0)) (p .output-fits .0) (q .output-fits .0) (p .decodes .0) (q .decodes .0) in
-    let k : Cut (afterCall s c) (drop 204 bytes) (drop 204 marks) ys t = subst (λ (m : Receiver). Cut m (drop 204 bytes) (drop 204 marks) ys t) (sym (e .state)) (cut-more s bytes marks d ys t q) in
-    let f = cuts-same (afterCall s c) (drop 204 bytes) (drop 204 marks) xs ys r t (cut-more s bytes marks c xs r p) k in
+calls-same : (s : Receiver) (marks : List ℕ) (xs ys : List Call) → lentBlocks xs ≡ lentBlocks ys → Asked s marks xs → Asked s marks ys → SameCalls s xs ys
+calls-same s marks [] [] b p q = record { given = refl; state = refl }
+calls-same s marks [] (d ∷ ys) b p q = absurd (omega (arith, ap length b))
+calls-same s marks (c ∷ xs) [] b p q = absurd (omega (arith, ap length b))
+calls-same s marks (c ∷ xs) (d ∷ ys) b p q =
+    let e = call-alike s c d (ap (λ (l : List (List ℕ)). getD l 0 []) b) (p .marked .0 ∙ sym (q .marked .0)) (p .output-fits .0) (q .output-fits .0) (p .decodes .0) (q .decodes .0) in
+    let k : Asked (afterCall s c) (drop 204 marks) ys = subst (λ (m : Receiver). Asked m (drop 204 marks) ys) (sym (e .state)) (asked-more s marks d ys q) in
+    let f = calls-same (afterCall s c) (drop 204 marks) xs ys (ap (drop 1) b) (asked-more s marks c xs p) k in
     record {
       given =
           ap₂ (λ (x y : List (List ℕ)). x ++ y) (e .given) (f .given)
@@ -154,9 +129,8 @@ cuts-same s bytes marks (c ∷ xs) (d ∷ ys) r t p q =
       state = f .state ∙ ap (λ (m : Receiver). afterCalls m ys) (e .state);
     }
 
-module _ {s : Receiver} {bytes marks : List ℕ} {packets : List (List ℕ)} {last : Receiver} (r : Recording s bytes marks packets last) where
-  cut-of : Cut s bytes marks (r .calls) (r .rest)
-  cut-of = record { whole = r .whole; sizes = r .sizes; short = r .short; marked = r .marked; decodes = r .decodes; output-fits = r .output-fits }
+asked-of : {s : Receiver} {bytes marks : List ℕ} {packets : List (List ℕ)} {last : Receiver} (r : Recording s bytes marks packets last) → Asked s marks (r .calls)
+asked-of r = record { marked = r .marked; decodes = r .decodes; output-fits = r .output-fits }
 
 pub record SameRecording (packets packets′ : List (List ℕ)) (last last′ : Receiver) : Type 0 where
   pub given : packets ≡ packets′
@@ -164,7 +138,7 @@ pub record SameRecording (packets packets′ : List (List ℕ)) (last last′ : 
 
 pub recording-unique : {s : Receiver} {bytes marks : List ℕ} {p q : List (List ℕ)} {m n : Receiver} → Recording s bytes marks p m → Recording s bytes marks q n → SameRecording p q m n
 recording-unique {s} {bytes} {marks} a b =
-    let e = cuts-same s bytes marks (a .calls) (b .calls) (a .rest) (b .rest) (cut-of a) (cut-of b) in
+    let e = calls-same s marks (a .calls) (b .calls) (a .blocks ∙ sym (b .blocks)) (asked-of a) (asked-of b) in
     record { given = a .given ∙ e .given ∙ sym (b .given); state = a .state ∙ e .state ∙ sym (b .state) }
 
 -- ---- each whole block is taken
@@ -182,8 +156,9 @@ taken-calls s (c ∷ cs) g d n m o h =
 pub recording-taken : {s : Receiver} {bytes : List ℕ} {packets : List (List ℕ)} {last : Receiver} → Sound s → Recording s bytes [] packets last
     → s .counts .taken + length bytes / 204 ≤ 4294967295 → Sound last × (last .counts .taken ≡ s .counts .taken + length bytes / 204)
 recording-taken {s} {bytes} {packets} {last} g r h =
-    let l = cut-length s bytes [] (r .calls) (r .rest) (cut-of r) in
-    let t = taken-calls s (r .calls) g (r .decodes) (r .sizes) (plain-marked (r .calls) (none-marked (r .calls) (r .marked))) (r .output-fits) (omega arith) in
+    let l = calls-count r in
+    let sizes : All (Length 204) (lentBlocks (r .calls)) = subst (All (Length 204)) (sym (r .blocks)) (chunks-whole 204 bytes) in
+    let t = taken-calls s (r .calls) g (r .decodes) sizes (plain-marked (r .calls) (none-marked (r .calls) (r .marked))) (r .output-fits) (omega arith) in
     (subst Sound (sym (r .state)) (t .0), ap (λ (m : Receiver). m .counts .taken) (r .state) ∙ t .1 ∙ ap (λ (k : ℕ). s .counts .taken + k) l)
 
 -- ---- total

@@ -2,31 +2,28 @@
 -- Assumes nothing.
 use mathlib.Core.Path.{_≡_, refl, sym, ap, ap₂, subst, _∙_}
 use mathlib.Core.Bool.{Bool, true, false}
-use mathlib.Core.List.{List, [], _∷_, _++_, append-assoc, flatten}
-use Prim.Native.Nat.{ℕ, _+_, _-_, _*_, _/_, _%_, _≤_, _<_}
-use Prim.{tt}
+use mathlib.Core.List.{List, [], _∷_, _++_, append-assoc, flatten, map-append}
+use Prim.Native.Nat.{ℕ, _+_, _*_, _/_, _≤_, _<_}
 use native.Mathlib.Nat.{min-le-left}
 use native.Mathlib.Omega.{arith}
 use lib.Dec.{eqb}
 use lib.ListN.{length, take, drop, length-append, length-drop, length-take}
 use lib.Seq.{take-at, drop-at, drop-drop}
 use Rattle.common.specs.Choice.{pick}
-use Rattle.common.specs.Lists.{All, Length}
-use Rattle.interleaver.proofs.Blocks.{flatten-join, length-flatten}
-use Rattle.receiver.specs.Run.{Call, DecodedCalls, answerOf, outputOf, afterCall, afterCalls, OutputFits, lentBlocks, packetsGiven}
+use Rattle.common.specs.Lists.{All, restOf}
+use Rattle.common.proofs.Chunks.{length-chunks, cut}
+use Rattle.interleaver.proofs.Blocks.{flatten-join}
+use Rattle.receiver.specs.Run.{Call, DecodedCalls, answerOf, outputOf, afterCall, afterCalls, OutputFits, packetsGiven}
 use Rattle.receiver.specs.declared.Receiver.{Receiver}
 use Rattle.receiver.proofs.Reception.{blocks-count}
-use Rattle.recording.specs.Recording.{restOf, MarkedBy, Recording, TakesRecording}
+use Rattle.recording.specs.Recording.{MarkedBy, Recording, TakesRecording}
+use Rattle.recording.proofs.Recordings.{recording-few}
 
 -- ---- calls after calls
 
 all-join : {A : Type 0} (P : A → Type 0) (a b : List A) → All P a → All P b → All P (a ++ b)
 all-join P [] b p q = q
 all-join P (x ∷ a) b p q = (p .0, all-join P a b (p .1) q)
-
-blocks-join : (a b : List Call) → lentBlocks (a ++ b) ≡ lentBlocks a ++ lentBlocks b
-blocks-join [] b = refl
-blocks-join (c ∷ a) b = ap (λ (l : List (List ℕ)). c .block ∷ l) (blocks-join a b)
 
 after-join : (s : Receiver) (a b : List Call) → afterCalls s (a ++ b) ≡ afterCalls (afterCalls s a) b
 after-join s [] b = refl
@@ -46,22 +43,9 @@ given-join s (c ∷ a) b =
     let g = pick (eqb (answerOf s c) 0) (take 188 (outputOf s c) ∷ []) [] in
     ap (λ (l : List (List ℕ)). g ++ l) (given-join (afterCall s c) a b) ∙ sym (append-assoc g (packetsGiven (afterCall s c) a) (packetsGiven (afterCalls (afterCall s c) a) b))
 
--- ---- the rest
-
-pub rest-at : (whole rest : List ℕ) (n : ℕ) → length whole ≡ 204 * n → length rest < 204 → restOf (whole ++ rest) ≡ rest
-rest-at whole rest n e h =
-    let l = length-append whole rest in
-    drop-at whole rest (length (whole ++ rest) - length (whole ++ rest) % 204) (omega arith)
-
-module _ {s : Receiver} {bytes marks : List ℕ} {packets : List (List ℕ)} {last : Receiver} (r : Recording s bytes marks packets last) where
-  pub recording-rest : r .rest ≡ restOf bytes
-  recording-rest =
-      let w = flatten (lentBlocks (r .calls)) in
-      sym (ap restOf (r .whole) ∙ rest-at w (r .rest) (length (lentBlocks (r .calls))) (length-flatten 204 (lentBlocks (r .calls)) (r .sizes)) (r .short))
-
 -- ---- the join
 
-module _ {s middle last : Receiver} {a : List ℕ} (b : List ℕ) {p q : List (List ℕ)} (f : Recording s a [] p middle) (g : Recording middle (restOf a ++ b) [] q last) where
+module _ {s middle last : Receiver} {a : List ℕ} (b : List ℕ) {p q : List (List ℕ)} (f : Recording s a [] p middle) (g : Recording middle (restOf 204 a ++ b) [] q last) where
   pub recording-join : Recording s (a ++ b) [] (p ++ q) last
   recording-join =
       let x = f .calls in
@@ -69,14 +53,9 @@ module _ {s middle last : Receiver} {a : List ℕ} (b : List ℕ) {p q : List (L
       let t : DecodedCalls (afterCalls s x) y = subst (λ (m : Receiver). DecodedCalls m y) (f .state) (g .decodes) in
       record {
         calls = x ++ y;
-        rest = g .rest;
-        whole =
-            ap (λ (l : List ℕ). l ++ b) (f .whole) ∙ append-assoc (flatten (lentBlocks x)) (f .rest) b
-            ∙ ap (λ (l : List ℕ). flatten (lentBlocks x) ++ l) (ap (λ (l : List ℕ). l ++ b) (recording-rest f) ∙ g .whole)
-            ∙ sym (append-assoc (flatten (lentBlocks x)) (flatten (lentBlocks y)) (g .rest))
-            ∙ ap (λ (l : List ℕ). l ++ g .rest) (sym (flatten-join (lentBlocks x) (lentBlocks y)) ∙ ap flatten (sym (blocks-join x y)));
-        sizes = subst (All (Length 204)) (sym (blocks-join x y)) (all-join (Length 204) (lentBlocks x) (lentBlocks y) (f .sizes) (g .sizes));
-        short = g .short;
+        blocks =
+            map-append (λ (c : Call). c .block) x y ∙ ap₂ (λ (u v : List (List ℕ)). u ++ v) (f .blocks) (g .blocks)
+            ∙ sym (cut 204 (omega arith) a b .chunks-are);
         marked = marked-join x y (f .marked) (g .marked);
         decodes = calls-join s x y (f .decodes) t;
         output-fits = all-join OutputFits x y (f .output-fits) (g .output-fits);
@@ -86,28 +65,13 @@ module _ {s middle last : Receiver} {a : List ℕ} (b : List ℕ) {p q : List (L
       }
 
 -- fewer bytes than a block
-pub recording-few : (s : Receiver) (bytes marks : List ℕ) → length bytes < 204 → Recording s bytes marks [] s
-unfolding flatten
-recording-few s bytes marks h = record {
-  calls = [];
-  rest = bytes;
-  whole = refl;
-  sizes = tt;
-  short = h;
-  marked = tt;
-  decodes = tt;
-  output-fits = tt;
-  given = refl;
-  state = refl;
-}
-
 pub takes-few : (s : Receiver) (bytes marks output : List ℕ) → length bytes < 204 → TakesRecording s bytes marks output 0 s output
 unfolding flatten
 takes-few s bytes marks output h = record { packets = []; recording = recording-few s bytes marks h; counted = refl; written = refl }
 
 -- the output after two: the second is lent what the packets of the first leave of it
 module _ {s middle last : Receiver} {a : List ℕ} (b : List ℕ) {output exit exit′ : List ℕ} {m n : ℕ} where
-  pub takes-join : TakesRecording s a [] output m middle exit → TakesRecording middle (restOf a ++ b) [] (drop m exit) n last exit′
+  pub takes-join : TakesRecording s a [] output m middle exit → TakesRecording middle (restOf 204 a ++ b) [] (drop m exit) n last exit′
       → TakesRecording s (a ++ b) [] output (m + n) last (take m exit ++ exit′)
   takes-join f g =
       let x = flatten (f .packets) in
@@ -143,16 +107,16 @@ given-few s (c ∷ cs) =
     one true = let l = length-append (take 188 (outputOf s c)) [] in omega (arith, l, length-take-most 188 (outputOf s c))
     one false = omega arith
 
--- at most a packet for each whole block
+-- a call for each whole block
+pub calls-count : {s last : Receiver} {bytes marks : List ℕ} {packets : List (List ℕ)} (r : Recording s bytes marks packets last) → length (r .calls) ≡ length bytes / 204
+calls-count {bytes = bytes} r = sym (blocks-count (r .calls)) ∙ ap length (r .blocks) ∙ length-chunks 204 bytes
+
+-- at most a packet for each of them
 pub takes-count : {s last : Receiver} {bytes marks output exit : List ℕ} {count : ℕ} → TakesRecording s bytes marks output count last exit → count ≤ 188 * (length bytes / 204)
-takes-count {s} {last} {bytes} t =
+takes-count {s} t =
     let r = t .recording in
-    let w = flatten (lentBlocks (r .calls)) in
-    let a = length-flatten 204 (lentBlocks (r .calls)) (r .sizes) in
-    let b = blocks-count (r .calls) in
-    let l = ap length (r .whole) ∙ length-append w (r .rest) in
     let g : length (flatten (t .packets)) ≤ 188 * length (r .calls) = subst (λ (p : List (List ℕ)). length (flatten p) ≤ 188 * length (r .calls)) (sym (r .given)) (given-few s (r .calls)) in
-    omega (arith, t .counted, r .short, a, b, l, g)
+    omega (arith, t .counted, calls-count r, g)
 
 pub takes-length : {s last : Receiver} {bytes marks output exit : List ℕ} {count : ℕ} → TakesRecording s bytes marks output count last exit → 188 * (length bytes / 204) ≤ length output
     → length exit ≡ length output

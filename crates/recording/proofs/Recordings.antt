@@ -11,10 +11,11 @@ use native.Mathlib.Omega.{arith}
 use borrow.Author.Tests.{ne-eqb, lt-ltb, le-ltb}
 use borrow.Rule.Slice.PartMut.{putMid, midOf}
 use lib.Dec.{eqb}
-use lib.ListN.{length, getD, take, drop, length-append, length-drop, take-append-drop, drop-of-length-le}
-use lib.Seq.{take-all, take-at, take-append-le, drop-at, drop-drop, length-take-le}
+use lib.ListN.{length, getD, take, drop, length-append, length-drop, drop-of-length-le}
+use lib.Seq.{take-all, take-at, take-append-le, drop-at, drop-drop}
 use Rattle.common.specs.Choice.{pick}
 use Rattle.common.specs.Lists.{All}
+use Rattle.common.proofs.Chunks.{chunks-few, chunks-more}
 use Rattle.answer.specs.Number.{numberOf}
 use Rattle.reed_solomon.specs.Marks.{noMarks, DecodesMarked}
 use Rattle.randomizer.specs.Packet.{derandomized}
@@ -27,7 +28,7 @@ use Rattle.group_sync.specs.declared.Outcome.the-variants.{Filling, Delivered, 
 use Rattle.group_sync.proofs.Synchronization.{outcome-place}
 use Rattle.reception_counts.specs.Counts.{outcomeNumber}
 use Rattle.receiver.specs.Receive.{delayedBlock, delayedMarks, decodingOf, stepOf, outputAfter, receiveRefusal, Ready, ReceivesMarked}
-use Rattle.receiver.specs.Run.{Call, answerOf, afterCall, outputOf, Plain, OutputFits, lentBlocks}
+use Rattle.receiver.specs.Run.{Call, answerOf, afterCall, outputOf, Plain, OutputFits}
 use Rattle.receiver.specs.declared.Receiver.{Receiver}
 use Rattle.receiver.specs.declared.Received.{Received}
 use Rattle.receiver.proofs.Calls.{state-range, ready-number, ready-output, left-length}
@@ -109,18 +110,25 @@ module _ (s : Receiver) (c : Call) (d : DecodesMarked (delayedMarks s (c .marks)
   unfolding flatten
   recorded-more bytes marks packets last e m h o r = record {
     calls = c ∷ r .calls;
-    rest = r .rest;
-    whole =
-        sym (take-append-drop 204 bytes) ∙ ap₂ (λ (a b : List ℕ). a ++ b) (sym e) (r .whole)
-        ∙ sym (append-assoc (c .block) (flatten (lentBlocks (r .calls))) (r .rest));
-    sizes = (ap length e ∙ length-take-le 204 bytes h, r .sizes);
-    short = r .short;
+    blocks = ap₂ (λ (a : List ℕ) (l : List (List ℕ)). a ∷ l) e (r .blocks) ∙ sym (chunks-more 204 (omega arith) bytes h);
     marked = (m, r .marked);
     decodes = (d, r .decodes);
     output-fits = (o, r .output-fits);
     given = ap (λ (x : List (List ℕ)). givenBy (answerOf s c) (outputOf s c) ++ x) (r .given);
     state = r .state;
   }
+
+-- fewer bytes than a block
+pub recording-few : (s : Receiver) (bytes marks : List ℕ) → length bytes < 204 → Recording s bytes marks [] s
+recording-few s bytes marks h = record {
+  calls = [];
+  blocks = sym (chunks-few 204 (omega arith) bytes h);
+  marked = tt;
+  decodes = tt;
+  output-fits = tt;
+  given = refl;
+  state = refl;
+}
 
 few-given : (number : ℕ) → givenBytes number ≤ 188
 few-given number = by (eqb number 0) refl
@@ -156,18 +164,7 @@ module _ {first : Receiver} {bytes marks output₀ output : List ℕ} {s : Recei
   unfolding flatten
   progress-end h =
       let d = length-drop at bytes in
-      let r : Recording s (drop at bytes) (drop at marks) [] s = record {
-        calls = [];
-        rest = drop at bytes;
-        whole = refl;
-        sizes = tt;
-        short = omega arith;
-        marked = tt;
-        decodes = tt;
-        output-fits = tt;
-        given = refl;
-        state = refl;
-      } in
+      let r = recording-few s (drop at bytes) (drop at marks) (omega arith) in
       record {
         packets = p .front;
         recording = subst (λ (x : List (List ℕ)). Recording first bytes marks x s) (append-nil (p .front)) (p .further [] s r);

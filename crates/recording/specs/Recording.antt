@@ -4,20 +4,16 @@
 use mathlib.Core.Path.{_≡_}
 use mathlib.Core.Bool.{Bool, false}
 use mathlib.Core.List.{List, [], _∷_, _++_, flatten}
-use Prim.Native.Nat.{ℕ, _-_, _*_, _/_, _%_, _<_}
+use Prim.Native.Nat.{ℕ, _-_, _*_, _/_, _<_}
 use Prim.{Unit}
 use lib.Dec.{ltb, eqb}
 use lib.ListN.{length, take, drop}
 use Rattle.common.specs.Choice.{pick}
-use Rattle.common.specs.Lists.{All, Length}
-use Rattle.reed_solomon.specs.Marks.{largest, noMarks}
+use Rattle.common.specs.Lists.{All, largest, chunksOf}
+use Rattle.reed_solomon.specs.Marks.{noMarks}
 use Rattle.receiver.specs.Receive.{receiverInRange}
 use Rattle.receiver.specs.Run.{Call, DecodedCalls, OutputFits, lentBlocks, packetsGiven, afterCalls}
 use Rattle.receiver.specs.declared.Receiver.{Receiver}
-
--- the bytes after the last whole block
-abbrev pub restOf : List ℕ → List ℕ
-restOf bytes = drop (length bytes - length bytes % 204) bytes
 
 -- the marks of the first block: 0 where none come
 abbrev pub blockMarks : List ℕ → List ℕ
@@ -32,10 +28,7 @@ MarkedBy marks (c ∷ cs) = (c .marks ≡ blockMarks marks) × MarkedBy (drop 20
 -- There is one call for each block, in their order, with its marks and with room for a packet. These are the packets given and the state after the calls.
 pub record Recording (s : Receiver) (bytes marks : List ℕ) (packets : List (List ℕ)) (last : Receiver) : Type 0 where
   pub calls : List Call
-  pub rest : List ℕ
-  pub whole : bytes ≡ flatten (lentBlocks calls) ++ rest
-  pub sizes : All (Length 204) (lentBlocks calls)
-  pub short : length rest < 204
+  pub blocks : lentBlocks calls ≡ chunksOf 204 bytes
   pub marked : MarkedBy marks calls
   pub decodes : DecodedCalls s calls
   pub output-fits : All OutputFits calls

@@ -2,17 +2,12 @@
 -- Clause: document 01, "Delay branches".
 -- Assumes nothing.
 use mathlib.Core.Path.{_≡_}
-use mathlib.Core.List.{List, _++_, map, flatten}
+use mathlib.Core.List.{List, _++_, flatten}
 use Prim.Native.Nat.{ℕ, _-_, _*_, _≤_}
 use lib.ListN.{length, take, drop}
 use Rattle.common.specs.Lists.{All}
-use Rattle.reed_solomon.specs.Encode.{encoded}
-use Rattle.randomizer.specs.Stream.{Packet, randomizedStream}
-use Rattle.interleaver.specs.Stream.{interleaved}
-
--- the interleaved blocks of a fresh sender, one after the other
-abbrev pub sentBytes : List (List ℕ) → List ℕ
-sentBytes packets = flatten (interleaved (map encoded (randomizedStream packets)))
+use Rattle.randomizer.specs.Stream.{Packet}
+use Rattle.sent_blocks.specs.Blocks.{sentBytes}
 
 -- What a run leaves, where the bytes are those of a sender and there is room for its packets.
 pub record Returns (bytes output : List ℕ) (number count : ℕ) (exit : List ℕ) : Type 0 where

@@ -157,7 +157,7 @@ pub fn are_marks_for(bytes: &[u8], marks: &[u8]) -> bool
     if marks.len() != bytes.len() {
         return false;
     }
-    reed_solomon::largest_mark(marks) < 2
+    common::largest_of(marks) < 2
 }
 
 // The whole blocks of a recording, with a mark for each byte.

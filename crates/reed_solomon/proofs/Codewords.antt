@@ -79,7 +79,7 @@ length-generator = refl
 length-multiple : (a b : Fin 256) (p m : List (Fin 256)) → length (a ∷ p) ≡ 17 → length (b ∷ m) ≡ 188 → length (product (ops bytes) (a ∷ p) (b ∷ m)) ≡ 204
 length-multiple a b p m h k = length-product bytes a b p m ∙ omega arith
 
-pub length-codeword : (g m : List (Fin 256)) → length g ≡ 17 → length m ≡ 188 → length (product (ops bytes) g m) ≡ 204
+length-codeword : (g m : List (Fin 256)) → length g ≡ 17 → length m ≡ 188 → length (product (ops bytes) g m) ≡ 204
 length-codeword [] m h k = absurd (omega arith)
 length-codeword (a ∷ g) [] h k = absurd (omega arith)
 length-codeword (a ∷ g) (b ∷ m) h k = length-multiple a b g m h k

@@ -43,7 +43,7 @@ module _ (u q : List ℕ) where
   pub roots-each : (P : ℕ → Type 0) → ((i : ℕ) → i < 204 → getD (valuesOf u q) i 0 ≡ 0 → P i) → All P (rootsOf u q)
   roots-each P h = zeros-all P 0 (valuesOf u q) (λ i b z. subst P (sym (zero-add i)) (h i (omega (arith, length-values u q)) z))
 
-  pub roots-member : (P : ℕ → Type 0) → All P (rootsOf u q) → (i : ℕ) → i < 204 → getD (valuesOf u q) i 0 ≡ 0 → P i
+  roots-member : (P : ℕ → Type 0) → All P (rootsOf u q) → (i : ℕ) → i < 204 → getD (valuesOf u q) i 0 ≡ 0 → P i
   roots-member P h i b z = subst P (zero-add i) (zeros-has P 0 (valuesOf u q) h i (omega (arith, length-values u q)) z)
 
   pub roots-range : All (λ d. d < 204) (rootsOf u q)

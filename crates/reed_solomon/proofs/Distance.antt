@@ -75,7 +75,7 @@ unequal-sym x y = go (ℕ-discrete x y)
     go (yes e) = unequal-same x y e ∙ sym (unequal-same y x (sym e))
     go (no n) = unequal-other x y n ∙ sym (unequal-other y x (λ e. n (sym e)))
 
-pub differ-sym : (a b : List ℕ) → differ a b ≡ differ b a
+differ-sym : (a b : List ℕ) → differ a b ≡ differ b a
 unfolding differ distance
 differ-sym [] [] = refl
 differ-sym [] (y ∷ b) = refl
@@ -109,7 +109,7 @@ differ-one : (x y : ℕ) → differ (x ∷ []) (y ∷ []) ≡ unequal x y
 unfolding differ distance
 differ-one x y = omega arith
 
-pub differ-reverse : (a b : List ℕ) → length a ≡ length b → differ (reverse a) (reverse b) ≡ differ a b
+differ-reverse : (a b : List ℕ) → length a ≡ length b → differ (reverse a) (reverse b) ≡ differ a b
 unfolding differ distance
 differ-reverse [] [] h = refl
 differ-reverse [] (y ∷ b) h = absurd (omega arith)
@@ -127,7 +127,7 @@ unfolding keep
 keep-count p q x E hp hq (yes e) = omega (arith, unequal-same p q (byte-inj p q hp hq (eq-of-add bytes (byte p) (byte q) e)))
 keep-count p q x E hp hq (no n) = omega (arith, unequal-other p q (λ e. n (add-eq-zero bytes (byte p) (byte q) (ap byte e))))
 
-pub weight-differ : (x : Fin 256) (a b : List ℕ) → length a ≡ length b → Bytes a → Bytes b
+weight-differ : (x : Fin 256) (a b : List ℕ) → length a ≡ length b → Bytes a → Bytes b
     → weight bytes (terms bytes (byte 2) x (plus (ops bytes) (elements a) (elements b))) ≡ differ a b
 unfolding differ distance plus terms support
 weight-differ x [] [] h ha hb = refl
@@ -158,7 +158,7 @@ module _ (a b : List ℕ) (na : length a ≡ 204) (nb : length b ≡ 204) (ha : 
   pub errors-distinct : Rattle.algebra.proofs.Lists.Distinct (Rattle.algebra.proofs.Syndromes.places bytes errors)
   errors-distinct = distinct-terms bytes (byte 2) difference (λ i j l m. powers-differ i j l (omega (arith, difference-length)))
 
-  pub errors-weight : weight bytes errors ≡ differ a b
+  errors-weight : weight bytes errors ≡ differ a b
   errors-weight =
       weight-differ (bytes .𝟙) (reverse a) (reverse b) (omega (arith, length-reverse a, length-reverse b)) (bytes-reverse a ha) (bytes-reverse b hb)
       ∙ differ-reverse a b (na ∙ sym nb)
@@ -166,7 +166,7 @@ module _ (a b : List ℕ) (na : length a ≡ 204) (nb : length b ≡ 204) (ha : 
   pub errors-syndrome : (j : ℕ) → syndrome bytes errors j ≡ bytes .add (eval (ops bytes) (word a) (alpha j)) (eval (ops bytes) (word b) (alpha j))
   errors-syndrome j = sym (word-syndrome bytes (byte 2) difference j) ∙ eval-plus bytes (word a) (word b) (alpha j)
 
-  pub equal-words : word a ≡ word b → a ≡ b
+  equal-words : word a ≡ word b → a ≡ b
   equal-words e =
       sym (reverse-reverse a) ∙ ap reverse (elements-inj (reverse a) (reverse b) (bytes-reverse a ha) (bytes-reverse b hb) e) ∙ reverse-reverse b
 

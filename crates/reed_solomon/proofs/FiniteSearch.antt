@@ -16,7 +16,7 @@ pub record Below (P : ℕ → Type 0) (n : ℕ) : Type 0 where
   pub small : number < n
   pub holds : P number
 
-pub below-search : (P : ℕ → Type 0) → ((k : ℕ) → Dec (P k)) → (n : ℕ) → Dec (Below P n)
+below-search : (P : ℕ → Type 0) → ((k : ℕ) → Dec (P k)) → (n : ℕ) → Dec (Below P n)
 below-search P d zero = no (λ b. not-suc-le-zero (b .small))
 below-search P d (suc n) = go (d n) (below-search P d n)
   where

@@ -4,13 +4,13 @@ pub mod BitDistance
 pub mod Marks
 pub mod MarkedDistance
 pub mod LongDivision
-pub mod SparseMultiple
-pub mod SparseDivision
-pub mod DivisionInPlace
-pub mod Residue
-pub mod Zeros
-pub mod Completeness
-pub mod Soundness
-pub mod Outcome
-pub mod FiniteSearch
+mod SparseMultiple
+mod SparseDivision
+mod DivisionInPlace
+mod Residue
+mod Zeros
+mod Completeness
+mod Soundness
+mod Outcome
+mod FiniteSearch
 pub mod Laws

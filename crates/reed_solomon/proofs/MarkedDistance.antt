@@ -51,7 +51,7 @@ unequal-between m x y z = go (ℕ-discrete m 0) (ℕ-discrete y x) (ℕ-discrete
     go (yes e) (no p) q = omega (arith, unequal-le x z, apart-clear m y x e, unequal-other y x p)
     go (yes e) (yes p) (no q) = omega (arith, unequal-le x z, apart-clear m y z e, unequal-other y z q)
 
-pub differ-between : (ms a b c : List ℕ) → length ms ≡ length b → length a ≡ length b → length b ≡ length c
+differ-between : (ms a b c : List ℕ) → length ms ≡ length b → length a ≡ length b → length b ≡ length c
     → differ a c ≤ unmarked ms b a + unmarked ms b c + marked ms
 unfolding differ distance unmarked marked
 differ-between [] [] b c h k l = omega arith
@@ -100,7 +100,7 @@ unfolding marked
 marked-none zero = refl
 marked-none (suc n) = omega (arith, marked-none n)
 
-pub unmarked-none : (n : ℕ) (a b : List ℕ) → length a ≤ n → unmarked (replicate n 0) a b ≡ differ a b
+unmarked-none : (n : ℕ) (a b : List ℕ) → length a ≤ n → unmarked (replicate n 0) a b ≡ differ a b
 unfolding unmarked differ distance
 unmarked-none zero [] b h = refl
 unmarked-none zero (x ∷ a) b h = absurd (omega arith)

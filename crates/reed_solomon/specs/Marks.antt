@@ -4,10 +4,11 @@
 use mathlib.Core.Path.{_≡_}
 use mathlib.Core.Bool.{Bool, false}
 use mathlib.Core.List.{List, [], _∷_}
-use Prim.Native.Nat.{ℕ, _+_, _*_, _≤_, _<_, max}
+use Prim.Native.Nat.{ℕ, _+_, _*_, _≤_, _<_}
 use lib.Dec.{eqb, ltb}
 use lib.ListN.{length, getD, replicate}
 use Rattle.common.specs.Choice.{pick, unequal}
+use Rattle.common.specs.Lists.{largest}
 use Rattle.reed_solomon.specs.Code.{Codeword, changes}
 use Rattle.reed_solomon.specs.declared.Changed.{Changed}
 use Rattle.reed_solomon.specs.declared.Decoded.{Decoded}
@@ -17,11 +18,6 @@ use Rattle.reed_solomon.specs.declared.Decoded.the-variants.{Corrected, 
 pub record Marks (marks : List ℕ) : Type 0 where
   pub size : length marks ≡ 204
   pub bits : (i : ℕ) → i < 204 → getD marks i 0 ≤ 1
-
--- the largest of a list, and 0 of none
-unfoldable pub largest : List ℕ → ℕ
-largest [] = 0
-largest (x ∷ l) = max x (largest l)
 
 -- whether there is a mark, 0 or 1, for each byte of a block
 abbrev pub areMarks : List ℕ → Bool

@@ -1,11 +1,11 @@
 // The outer code: Reed-Solomon RS(204,188), EN 300 421, 4.4.2.
 ghost use mathlib.Core.Path.{_≡_};
 ghost use Rattle.answer.specs.Number.{numberOf};
-ghost use Prim.Native.Nat.{_≤_, max};
+ghost use Prim.Native.Nat.{_≤_};
 ghost use lib.ListN.{length};
 ghost use Rattle.reed_solomon.specs.Encode.{encodeNumber, encodeOutput};
 ghost use Rattle.reed_solomon.specs.Decode.{Decodes, changedBy};
-ghost use Rattle.reed_solomon.specs.Marks.{Marks, largest, areMarks, marked, DecodesMarked};
+ghost use Rattle.reed_solomon.specs.Marks.{Marks, areMarks, marked, DecodesMarked};
 ghost use Rattle.reed_solomon.specs.Steps.{residueOf};
 use answer::Answer;
 
@@ -129,29 +129,6 @@ pub fn decode(block: &mut [u8]) -> Decoded
     correct_errors(block, residue, &none, 0)
 }
 
-// The larger of two bytes.
-fn larger(a: u8, b: u8) -> u8
-    ensures { λ r. ⌜ r ≡ max a b ⌝ }
-{
-    if a < b {
-        return b;
-    }
-    a
-}
-
-// The largest of some marks: 0 where no byte is marked, and above 1 where one of them is no mark.
-pub fn largest_mark(marks: &[u8]) -> u8
-    ensures { λ r. ⌜ r ≡ largest (now (marks .entry)) ⌝ }
-{
-    let mut most: u8 = 0;
-    let mut i: usize = 0;
-    while i < marks.len() {
-        most = larger(most, marks[i]);
-        i += 1;
-    }
-    most
-}
-
 // Whether there is a mark, 0 or 1, for each byte of a block.
 pub fn are_marks(marks: &[u8]) -> bool
     ensures { λ r. ⌜ r ≡ areMarks (now (marks .entry)) ⌝ }
@@ -159,7 +136,7 @@ pub fn are_marks(marks: &[u8]) -> bool
     if marks.len() != 204 {
         return false;
     }
-    largest_mark(marks) < 2
+    common::largest_of(marks) < 2
 }
 
 // How many bytes are marked.

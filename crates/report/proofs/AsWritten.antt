@@ -6,15 +6,16 @@ use mathlib.Core.List.{List, [], _++_, append-nil}
 use mathlib.Core.Logic.{_⊎_, inl, inr}
 use Prim.Native.Nat.{ℕ, _≤_}
 use native.Mathlib.Nat.{zero-add, le-refl}
+use native.Mathlib.Decide.{ℕ-discrete}
 use native.Mathlib.Omega.{arith}
-use borrow.Author.Tests.{le-ltb, ltb-false}
+use borrow.Author.Tests.{ne-eqb, le-ltb, ltb-false}
 use lib.Dec.{eqb, ltb}
 use lib.ListN.{length, drop, drop-of-length-le}
 use Rattle.common.specs.Choice.{pick}
 use Rattle.common.specs.Lists.{placed}
 use Rattle.common.proofs.Choice.{false-true}
 use Rattle.report.specs.declared.Report.{Report}
-use Rattle.report.specs.Text.{reportText, fits, sums, writeNumber, writeLength}
+use Rattle.report.specs.Text.{reportText, fits, sums, writeNumber, Writes}
 use Rattle.report.specs.Read.{ReadsWhole, WrittenFor, ReadAsWritten}
 use Rattle.report.proofs.Fronts.{report-unique}
 
@@ -24,35 +25,51 @@ pub record Gives (r : Report) (t : List ℕ) : Type 0 where
   pub add : sums r ≡ true
   pub text : t ≡ reportText r
 
--- none of the three tests refuses
-passed : (a b c : Bool) → _≡_ {A = ℕ} (pick a (pick b (pick c 4 0) 18) 17) 0 → (a ≡ true) × (b ≡ true)
-passed true true c e = (refl, refl)
-passed true false c e = absurd (omega arith)
-passed false b c e = absurd (omega arith)
+-- ---- what is written, where the answer's number is given
 
-pub write-passed : (r : Report) (output : List ℕ) → writeNumber r output ≡ 0 → (fits r ≡ true) × (sums r ≡ true)
-write-passed r output e = passed (fits r) (sums r) (ltb (length output) (length (reportText r))) e
+module _ {due : ℕ} {text output : List ℕ} {number size : ℕ} {exit : List ℕ} (w : Writes due text output number size exit) where
+  pub written-size : due ≡ 0 → size ≡ length text
+  written-size e = w .size-is ∙ ap (λ (k : ℕ). pick (eqb k 0) (length text) 0) e
+
+  pub written-output : due ≡ 0 → exit ≡ placed output 0 text
+  written-output e = w .output-is ∙ ap (λ (k : ℕ). pick (eqb k 0) (placed output 0 text) output) e
+
+  -- no more than there is room for
+  pub written-within : (due ≡ 0 → length text ≤ length output) → size ≤ length output
+  written-within h = by (ℕ-discrete due 0)
+    where
+      by : Dec (due ≡ 0) → size ≤ length output
+      by (yes e) = omega (arith, h e, written-size e)
+      by (no e) = let n : size ≡ 0 = w .size-is ∙ simp (ne-eqb due 0 e) refl in omega arith
+
+-- none of the three tests refuses
+pub record Passed (r : Report) (output : List ℕ) : Type 0 where
+  pub fit : fits r ≡ true
+  pub add : sums r ≡ true
+  pub room : length (reportText r) ≤ length output
+
+pub write-passed : (r : Report) (output : List ℕ) → writeNumber r output ≡ 0 → Passed r output
+write-passed r output e = by (fits r) refl (sums r) refl (ltb (length output) (length (reportText r))) refl
+  where
+    by : (a : Bool) → fits r ≡ a → (b : Bool) → sums r ≡ b → (c : Bool) → ltb (length output) (length (reportText r)) ≡ c → Passed r output
+    by true f true s false l = record { fit = f; add = s; room = ltb-false _ _ l }
+    by true f true s true l = let z : _≡_ {A = ℕ} 4 0 = sym (simp (f, s, l) refl) ∙ e in absurd (omega arith)
+    by true f false s c l = let z : _≡_ {A = ℕ} 18 0 = sym (simp (f, s) refl) ∙ e in absurd (omega arith)
+    by false f b s c l = let z : _≡_ {A = ℕ} 17 0 = sym (simp f refl) ∙ e in absurd (omega arith)
 
 pub write-done : (r : Report) (t : List ℕ) → Gives r t → (output : List ℕ) → length t ≤ length output → writeNumber r output ≡ 0
 write-done r t g output h =
     let l : length t ≡ length (reportText r) = ap length (g .text) in
     simp (g .fit, g .add, le-ltb (length output) (length (reportText r)) (omega arith)) refl
 
--- no more is written than there is room for
-within-output : (a b c : Bool) (n m : ℕ) → ltb m n ≡ c → pick (eqb (pick a (pick b (pick c 4 0) 18) 17) 0) n 0 ≤ m
-within-output true true true n m e = omega arith
-within-output true true false n m e = ltb-false m n e
-within-output true false c n m e = omega arith
-within-output false b c n m e = omega arith
-
-pub write-within : (r : Report) (output : List ℕ) → writeLength r output ≤ length output
-write-within r output = within-output (fits r) (sums r) (ltb (length output) (length (reportText r))) (length (reportText r)) (length output) refl
-
 given-written : (r : Report) (t : List ℕ) → Gives r t → WrittenFor r t
 given-written r t g = record {
-  number = write-done r t g;
-  size = λ output h. ap (λ (n : ℕ). pick (eqb n 0) (length (reportText r)) 0) (write-done r t g output h) ∙ ap length (sym (g .text));
-  text = λ output h. ap (λ (n : ℕ). pick (eqb n 0) (placed output 0 (reportText r)) output) (write-done r t g output h) ∙ ap (placed output 0) (sym (g .text));
+  writes = λ output h.
+      let n = write-done r t g output h in record {
+        number-is = sym n;
+        size-is = ap length (g .text) ∙ sym (ap (λ (k : ℕ). pick (eqb k 0) (length (reportText r)) 0) n);
+        output-is = ap (placed output 0) (g .text) ∙ sym (ap (λ (k : ℕ). pick (eqb k 0) (placed output 0 (reportText r)) output) n);
+      };
 }
 
 -- a list placed at the front of one that is not longer
@@ -63,11 +80,14 @@ placed-all output l h =
 written-given : (r : Report) (t : List ℕ) → WrittenFor r t → Gives r t
 written-given r t w =
     let h : length t ≤ length t = le-refl (length t) in
-    let n = w .number t h in
+    let v = w .writes t h in
+    let n : writeNumber r t ≡ 0 = sym (v .number-is) in
     let p = write-passed r t n in
-    let l : length (reportText r) ≡ length t = sym (ap (λ (k : ℕ). pick (eqb k 0) (length (reportText r)) 0) n) ∙ w .size t h in
-    let x : placed t 0 (reportText r) ≡ placed t 0 t = sym (ap (λ (k : ℕ). pick (eqb k 0) (placed t 0 (reportText r)) t) n) ∙ w .text t h in
-    record { fit = p .0; add = p .1; text = sym (placed-all t t h) ∙ sym x ∙ placed-all t (reportText r) (omega arith) }
+    record {
+      fit = p .fit;
+      add = p .add;
+      text = sym (placed-all t t h) ∙ written-output v n ∙ placed-all t (reportText r) (omega (arith, written-size v n));
+    }
 
 same-text : (r s : Report) → fits r ≡ true → fits s ≡ true → reportText r ≡ reportText s → r ≡ s
 same-text r s f g q = report-unique r s [] [] f g (ap (λ (l : List ℕ). l ++ []) q) .0

@@ -36,7 +36,7 @@ one-two : {A : Type 0} → _≡_ {A = ℕ} 1 2 → A
 one-two e = absurd (omega arith)
 
 -- the same text: the same bits
-pub bits-unique : (b c : Bits) (x y : List ℕ) → formOf b ≡ formOf c → bitsWithin b ≡ true → bitsWithin c ≡ true → bitsText b ++ x ≡ bitsText c ++ y
+bits-unique : (b c : Bits) (x y : List ℕ) → formOf b ≡ formOf c → bitsWithin b ≡ true → bitsWithin c ≡ true → bitsText b ++ x ≡ bitsText c ++ y
     → (b ≡ c) × (x ≡ y)
 bits-unique Absent Absent x y f h k q = (refl, q)
 bits-unique Absent Dash x y f h k q = one-two f
@@ -124,7 +124,7 @@ report-short r =
     let e = row-short 9 (r .rest) (omega arith) in
     omega arith
 
-pub text-joined : (r : Report) (x : List ℕ) → reportText r ++ x ≡ linesText 8 (fields r) ++ (bitsText (r .bits) ++ (lineText (row 9 .key) (r .rest) ++ x))
+text-joined : (r : Report) (x : List ℕ) → reportText r ++ x ≡ linesText 8 (fields r) ++ (bitsText (r .bits) ++ (lineText (row 9 .key) (r .rest) ++ x))
 unfolding reportText
 text-joined r x = simp append-assoc
 

@@ -1,7 +1,7 @@
-pub mod Table
-pub mod LineRuns
+mod Table
+mod LineRuns
 pub mod Fronts
 pub mod Counting
-pub mod Answers
+mod Answers
 pub mod AsWritten
 pub mod Moving

@@ -44,13 +44,13 @@ limited n v h l = let b = forty-bits n v h l in omega arith
 
 -- ---- lines
 
-pub lines-agree : (n : ℕ) (vs ws : List ℕ) → ((i : ℕ) → i < n → getD vs i 0 ≡ getD ws i 0) → linesText n vs ≡ linesText n ws
+lines-agree : (n : ℕ) (vs ws : List ℕ) → ((i : ℕ) → i < n → getD vs i 0 ≡ getD ws i 0) → linesText n vs ≡ linesText n ws
 unfolding linesText
 lines-agree zero vs ws f = refl
 lines-agree (suc n) vs ws f =
     ap₂ (λ (l : List ℕ) (v : ℕ). l ++ lineText (row n .key) v) (lines-agree n vs ws (λ i h. f i (omega arith))) (f n (omega arith))
 
-pub lines-more : (n : ℕ) (vs x : List ℕ) → linesText (suc n) vs ++ x ≡ linesText n vs ++ (lineText (row n .key) (getD vs n 0) ++ x)
+lines-more : (n : ℕ) (vs x : List ℕ) → linesText (suc n) vs ++ x ≡ linesText n vs ++ (lineText (row n .key) (getD vs n 0) ++ x)
 unfolding linesText
 lines-more n vs x = append-assoc (linesText n vs) (lineText (row n .key) (getD vs n 0)) x
 
@@ -81,7 +81,7 @@ lines-unique (suc n) k vs ws x y a b q =
     (λ i h. ⊎-elim (λ e. subst (λ (j : ℕ). getD vs j 0 ≡ getD ws j 0) (sym e) (u .0)) (λ l. r .0 i l) (eq-or-lt-of-le (le-of-suc-le-suc h)), u .1)
 
 -- the line of a row, and what follows
-pub lines-split : (n i : ℕ) (vs : List ℕ) → i < n → (more : List ℕ) × (linesText n vs ≡ linesText i vs ++ (lineText (row i .key) (getD vs i 0) ++ more))
+lines-split : (n i : ℕ) (vs : List ℕ) → i < n → (more : List ℕ) × (linesText n vs ≡ linesText i vs ++ (lineText (row i .key) (getD vs i 0) ++ more))
 unfolding linesText
 lines-split zero i vs h = absurd (not-suc-le-zero h)
 lines-split (suc n) i vs h = by (ℕ-discrete i n) (λ l. lines-split n i vs l)

@@ -1,25 +1,23 @@
 -- A report moved from one form to the other: what is answered, and that there and back gives the same bytes.
 -- Assumes nothing.
-use mathlib.Core.Path.{_≡_, refl, sym, ap, ap₂, _∙_}
+use mathlib.Core.Path.{_≡_, refl, sym, ap, ap₂, subst, _∙_}
 use mathlib.Core.Bool.{Bool, true, false}
 use mathlib.Core.List.{List}
 use Prim.Native.Nat.{ℕ, _+_, _-_, _≤_}
-use native.Mathlib.Decide.{ℕ-discrete}
 use native.Mathlib.Omega.{arith}
 use borrow.Author.Tests.{eqb-true, eq-eqb, ne-eqb}
 use lib.Dec.{eqb}
 use lib.ListN.{length, take, drop}
 use lib.Seq.{take-at}
-use Rattle.common.specs.Choice.{pick}
 use Rattle.common.specs.Lists.{placed}
 use Rattle.common.proofs.Choice.{false-true}
 use Rattle.report.specs.declared.Bits.{Bits}
 use Rattle.report.specs.declared.Bits.the-variants.{Absent, Dash, Number}
 use Rattle.report.specs.declared.Report.{Report}
-use Rattle.report.specs.Text.{reportText, writeNumber, writeLength, writeOutput}
+use Rattle.report.specs.Text.{reportText, writeNumber, Writes}
 use Rattle.report.specs.Read.{ReadsWhole}
 use Rattle.report.specs.Move.{movable, movedBits, moved, moveNumber, Moves, otherForm}
-use Rattle.report.proofs.AsWritten.{read-given, given-read, write-passed, write-done, write-within}
+use Rattle.report.proofs.AsWritten.{written-size, written-output, written-within, read-given, given-read, write-passed, write-done}
 
 -- ---- moving
 
@@ -42,9 +40,7 @@ module _ (t : List ℕ) (form : ℕ) (output : List ℕ) (n : ℕ) (r : Report) 
     answer = n;
     report = r;
     read = w;
-    number-is = simp (ne-eqb n 0 e);
-    size-is = simp (ne-eqb n 0 e);
-    output-is = simp (ne-eqb n 0 e);
+    writes = record { number-is = simp (ne-eqb n 0 e); size-is = simp (ne-eqb n 0 e); output-is = simp (ne-eqb n 0 e) };
   }
 
   pub move-refused : n ≡ 0 → movable (r .bits) form ≡ false → Moves t form output 19 0 output
@@ -52,21 +48,18 @@ module _ (t : List ℕ) (form : ℕ) (output : List ℕ) (n : ℕ) (r : Report) 
     answer = n;
     report = r;
     read = w;
-    number-is = simp (eq-eqb n 0 e, m);
-    size-is = simp (eq-eqb n 0 e, m);
-    output-is = simp (eq-eqb n 0 e, m);
+    writes = record { number-is = simp (eq-eqb n 0 e, m); size-is = simp (eq-eqb n 0 e, m); output-is = simp (eq-eqb n 0 e, m) };
   }
 
   pub move-done : n ≡ 0 → movable (r .bits) form ≡ true → (b : Bits) → b ≡ movedBits (r .bits) → (number size : ℕ) (exit : List ℕ)
-      → number ≡ writeNumber (withBits r b) output → size ≡ writeLength (withBits r b) output → exit ≡ writeOutput (withBits r b) output
-      → Moves t form output number size exit
-  move-done e m b q number size exit x y z = record {
+      → Writes (writeNumber (withBits r b) output) (reportText (withBits r b)) output number size exit → Moves t form output number size exit
+  move-done e m b q number size exit x = record {
     answer = n;
     report = r;
     read = w;
-    number-is = simp (eq-eqb n 0 e, m) (x ∙ ap (λ (c : Bits). writeNumber (withBits r c) output) q);
-    size-is = simp (eq-eqb n 0 e, m) (y ∙ ap (λ (c : Bits). writeLength (withBits r c) output) q);
-    output-is = simp (eq-eqb n 0 e, m) (z ∙ ap (λ (c : Bits). writeOutput (withBits r c) output) q);
+    writes =
+        subst (λ (k : ℕ). Writes k (reportText (moved r)) output number size exit) (sym (simp (eq-eqb n 0 e, m) refl))
+        (subst (λ (c : Bits). Writes (writeNumber (withBits r c) output) (reportText (withBits r c)) output number size exit) q x);
   }
 
 -- ---- there and back
@@ -96,20 +89,8 @@ move-passed read r form output e = by (eqb read 0) refl (movable (r .bits) form)
 
 -- no more is written than there is room for
 pub move-within : {t output exit : List ℕ} {form number size : ℕ} → Moves t form output number size exit → size ≤ length output
-move-within {t} {output} {exit} {form} {number} {size} a = by (ℕ-discrete (moveNumber (a .answer) (a .report) form output) 0)
-  where
-    by : Dec (moveNumber (a .answer) (a .report) form output ≡ 0) → size ≤ length output
-    by (yes e) =
-        let d = move-passed (a .answer) (a .report) form output (sym e) in
-        let n : writeLength (moved (a .report)) output ≡ length (reportText (moved (a .report)))
-        = ap (λ (i : ℕ). pick (eqb i 0) (length (reportText (moved (a .report)))) 0) (d .gone) in
-        let m : size ≡ length (reportText (moved (a .report)))
-        = a .size-is ∙ ap (λ (i : ℕ). pick (eqb i 0) (length (reportText (moved (a .report)))) 0) e in
-        let w = write-within (moved (a .report)) output in
-        omega arith
-    by (no e) =
-        let m : size ≡ 0 = a .size-is ∙ ap (λ (x : Bool). pick x (length (reportText (moved (a .report)))) 0) (ne-eqb _ _ e) in
-        omega arith
+move-within {t} {output} {exit} {form} {number} {size} a =
+    written-within (a .writes) (λ e. write-passed (moved (a .report)) output (move-passed (a .answer) (a .report) form output (sym e) .gone) .room)
 
 -- a text placed at the front of an output stands there
 front : (output l : List ℕ) → take (length l) (placed output 0 l) ≡ l
@@ -121,19 +102,17 @@ pub there-and-back : (t output exit back last : List ℕ) (form n number m : ℕ
     → (number ≡ 0) × (take m last ≡ t)
 there-and-back t output exit hall last form n number m a h b =
     let r = a .report in
-    let d = move-passed (a .answer) r form output (a .number-is) in
+    let d = move-passed (a .answer) r form output (a .writes .number-is) in
     let g = read-given t (a .answer) r (a .read) (d .whole) in
     let p = write-passed (moved r) output (d .gone) in
-    let k : moveNumber (a .answer) r form output ≡ 0 = sym (a .number-is) in
-    let u : n ≡ length (reportText (moved r)) = a .size-is ∙ ap (λ (i : ℕ). pick (eqb i 0) (length (reportText (moved r))) 0) k in
-    let v : exit ≡ placed output 0 (reportText (moved r)) = a .output-is ∙ ap (λ (i : ℕ). pick (eqb i 0) (placed output 0 (reportText (moved r))) output) k in
-    let o : take n exit ≡ reportText (moved r) = ap₂ take u v ∙ front output (reportText (moved r)) in
-    let q = given-read (take n exit) (b .answer) (b .report) (moved r) (b .read) (record { fit = p .0; add = p .1; text = o }) in
+    let k : moveNumber (a .answer) r form output ≡ 0 = sym (a .writes .number-is) in
+    let o : take n exit ≡ reportText (moved r) = ap₂ take (written-size (a .writes) k) (written-output (a .writes) k) ∙ front output (reportText (moved r)) in
+    let q = given-read (take n exit) (b .answer) (b .report) (moved r) (b .read) (record { fit = p .fit; add = p .add; text = o }) in
     let w = back r form (d .may) in
     let e : moved (b .report) ≡ r = ap moved (q .1) ∙ w .0 in
     let f : movable (b .report .bits) (otherForm form) ≡ true = ap (λ (s : Report). movable (s .bits) (otherForm form)) (q .1) ∙ w .1 in
     let i : moveNumber (b .answer) (b .report) (otherForm form) hall ≡ 0
-    = simp (q .0, f) (ap (λ (s : Report). writeNumber s hall) e ∙ write-done r t g hall h) in
-    let x : m ≡ length (reportText (moved (b .report))) = b .size-is ∙ ap (λ (j : ℕ). pick (eqb j 0) (length (reportText (moved (b .report)))) 0) i in
-    let y : last ≡ placed hall 0 (reportText (moved (b .report))) = b .output-is ∙ ap (λ (j : ℕ). pick (eqb j 0) (placed hall 0 (reportText (moved (b .report)))) hall) i in
-    (b .number-is ∙ i, ap₂ take x y ∙ front hall (reportText (moved (b .report))) ∙ ap reportText e ∙ sym (g .text))
+    = simp (q .0, f) (ap (λ (s : Report). writeNumber s hall) e ∙ write-done r t g hall h) in (
+      b .writes .number-is ∙ i,
+      ap₂ take (written-size (b .writes) i) (written-output (b .writes) i) ∙ front hall (reportText (moved (b .report))) ∙ ap reportText e ∙ sym (g .text),
+    )

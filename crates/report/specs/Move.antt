@@ -1,17 +1,14 @@
 -- A report moved from one form to the other: document 02, P7.
 -- Assumes nothing.
-use mathlib.Core.Path.{_≡_}
 use mathlib.Core.Bool.{Bool, false}
 use mathlib.Core.List.{List}
 use Prim.Native.Nat.{ℕ, _-_}
 use lib.Dec.{eqb}
-use lib.ListN.{length}
 use Rattle.common.specs.Choice.{pick}
-use Rattle.common.specs.Lists.{placed}
 use Rattle.report.specs.declared.Bits.{Bits}
 use Rattle.report.specs.declared.Bits.the-variants.{Absent, Dash, Number}
 use Rattle.report.specs.declared.Report.{Report}
-use Rattle.report.specs.Text.{reportText, writeNumber}
+use Rattle.report.specs.Text.{reportText, writeNumber, Writes}
 use Rattle.report.specs.Read.{ReadsWhole}
 
 -- Bits are absent and form 2 is wanted, or a dash and form 1 is. To any other number than 1 and 2 no report can be moved.
@@ -39,24 +36,16 @@ moved r = record {
   rest = r .rest;
 }
 
--- What moving answers where reading gives this number and report, in the order 17, 18, 19, 4; how many bytes it writes; and the output after it.
+-- what moving answers where reading gives this number and report, in the order 17, 18, 19, 4
 abbrev pub moveNumber : ℕ → Report → ℕ → List ℕ → ℕ
 moveNumber read r form output = pick (eqb read 0) (pick (movable (r .bits) form) (writeNumber (moved r) output) 19) read
-
-abbrev pub moveLength : ℕ → Report → ℕ → List ℕ → ℕ
-moveLength read r form output = pick (eqb (moveNumber read r form output) 0) (length (reportText (moved r))) 0
-
-abbrev pub moveOutput : ℕ → Report → ℕ → List ℕ → List ℕ
-moveOutput read r form output = pick (eqb (moveNumber read r form output) 0) (placed output 0 (reportText (moved r))) output
 
 -- what moving the report of a text to a form promises
 pub record Moves (t : List ℕ) (form : ℕ) (output : List ℕ) (number size : ℕ) (exit : List ℕ) : Type 0 where
   pub answer : ℕ
   pub report : Report
   pub read : ReadsWhole t answer report
-  pub number-is : number ≡ moveNumber answer report form output
-  pub size-is : size ≡ moveLength answer report form output
-  pub output-is : exit ≡ moveOutput answer report form output
+  pub writes : Writes (moveNumber answer report form output) (reportText (moved report)) output number size exit
 
 -- the form that is not this one: 2 for 1, and 1 for 2
 abbrev pub otherForm : ℕ → ℕ

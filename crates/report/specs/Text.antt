@@ -1,5 +1,6 @@
 -- The text of a pass report in both forms, and what the writer gives: document 01, "Receiver", and document 02, P7.
 -- Assumes nothing.
+use mathlib.Core.Path.{_≡_}
 use mathlib.Core.List.{List, [], _∷_, _++_}
 use Prim.Native.Nat.{ℕ, zero, suc, _+_, min}
 use mathlib.Core.Bool.{Bool, true, false}
@@ -83,12 +84,17 @@ sums r =
 
 -- ---- writing
 
--- What writing a report into an output answers, in the order 17, 18, 4; how many bytes it writes; and the output after it.
+-- the answer to a text that is to be written into an output: 4 where there is not room for it
+abbrev pub textNumber : List ℕ → List ℕ → ℕ
+textNumber text output = pick (ltb (length output) (length text)) 4 0
+
+-- the answer to a report that is to be written, in the order 17, 18, 4
 abbrev pub writeNumber : Report → List ℕ → ℕ
-writeNumber r output = pick (fits r) (pick (sums r) (pick (ltb (length output) (length (reportText r))) 4 0) 18) 17
+writeNumber r output = pick (fits r) (pick (sums r) (textNumber (reportText r) output) 18) 17
 
-abbrev pub writeLength : Report → List ℕ → ℕ
-writeLength r output = pick (eqb (writeNumber r output) 0) (length (reportText r)) 0
-
-abbrev pub writeOutput : Report → List ℕ → List ℕ
-writeOutput r output = pick (eqb (writeNumber r output) 0) (placed output 0 (reportText r)) output
+-- What writing a text leaves, where `due` is the number of its answer: how many bytes are written, and the output after it; none, and as before, where
+-- that is not 0.
+pub record Writes (due : ℕ) (text output : List ℕ) (number size : ℕ) (exit : List ℕ) : Type 0 where
+  pub number-is : number ≡ due
+  pub size-is : size ≡ pick (eqb due 0) (length text) 0
+  pub output-is : exit ≡ pick (eqb due 0) (placed output 0 text) output

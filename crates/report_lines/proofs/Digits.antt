@@ -19,11 +19,11 @@ abbrev pub valueFrom : ℕ → List ℕ → ℕ
 valueFrom v [] = v
 valueFrom v (c ∷ cs) = valueFrom (v * 10 + (c - 48)) cs
 
-pub value-append : (v : ℕ) (xs ys : List ℕ) → valueFrom v (xs ++ ys) ≡ valueFrom (valueFrom v xs) ys
+value-append : (v : ℕ) (xs ys : List ℕ) → valueFrom v (xs ++ ys) ≡ valueFrom (valueFrom v xs) ys
 value-append v [] ys = refl
 value-append v (x ∷ xs) ys = value-append (v * 10 + (x - 48)) xs ys
 
-pub value-least : (v : ℕ) (xs : List ℕ) → v ≤ valueFrom v xs
+value-least : (v : ℕ) (xs : List ℕ) → v ≤ valueFrom v xs
 value-least v [] = omega arith
 value-least v (x ∷ xs) = let h = value-least (v * 10 + (x - 48)) xs in omega arith
 
@@ -114,7 +114,7 @@ unfolding decimal decimalWithin
 decimal-one d h = rw (lt-ltb d 10 h) refl
 
 -- there is a digit
-pub decimal-some : (n : ℕ) → 1 ≤ length (decimal n)
+decimal-some : (n : ℕ) → 1 ≤ length (decimal n)
 unfolding decimal decimalWithin
 decimal-some n = by (decLt n 10)
   where
@@ -139,14 +139,14 @@ decimal-more v d e h l =
 
 module _ (e : ℕ) (y : List ℕ) (other : Digit e → ⊥) where
   -- they do not go on to the end of digits
-  pub digits-short : (a b : List ℕ) → All Digit a → a ≡ b ++ e ∷ y → ⊥
+  digits-short : (a b : List ℕ) → All Digit a → a ≡ b ++ e ∷ y → ⊥
   digits-short [] [] h q = let z : _≡_ {A = ℕ} 0 1 = cc in omega arith
   digits-short [] (b ∷ bs) h q = let z : _≡_ {A = ℕ} 0 1 = cc in omega arith
   digits-short (a ∷ l) [] h q = let s : a ≡ e = cc in other (subst Digit s (h .0))
   digits-short (a ∷ l) (b ∷ bs) h q = digits-short l bs (h .1) (cc)
 
   -- two ways to end
-  pub digits-end : (c : ℕ) (x : List ℕ) → (Digit c → ⊥) → (a b : List ℕ) → All Digit a → All Digit b → a ++ c ∷ x ≡ b ++ e ∷ y
+  digits-end : (c : ℕ) (x : List ℕ) → (Digit c → ⊥) → (a b : List ℕ) → All Digit a → All Digit b → a ++ c ∷ x ≡ b ++ e ∷ y
       → (a ≡ b) × (c ≡ e) × (x ≡ y)
   digits-end c x n [] [] h k q = (refl, cc, cc)
   digits-end c x n [] (b ∷ bs) h k q = let s : b ≡ c = cc in absurd (n (subst Digit s (k .0)))
@@ -157,7 +157,7 @@ module _ (e : ℕ) (y : List ℕ) (other : Digit e → ⊥) where
       (ap₂ (λ (m : ℕ) (ms : List ℕ). m ∷ ms) s (r .0), r .1, r .2)
 
   -- digits that go on
-  pub digits-on : (c : ℕ) (x : List ℕ) → Digit c → (a b : List ℕ) → All Digit a → All Digit b → a ++ c ∷ x ≡ b ++ e ∷ y
+  digits-on : (c : ℕ) (x : List ℕ) → Digit c → (a b : List ℕ) → All Digit a → All Digit b → a ++ c ∷ x ≡ b ++ e ∷ y
       → (more : List ℕ) × (b ≡ a ++ c ∷ more)
   digits-on c x d [] [] h k q = let s : c ≡ e = cc in absurd (other (subst Digit s d))
   digits-on c x d [] (b ∷ bs) h k q = let s : b ≡ c = cc in (bs, ap (λ (m : ℕ). m ∷ bs) s)
@@ -172,7 +172,7 @@ feed d = omega (arith, d .0)
 
 -- ---- a number and its line feed
 
-pub number-unique : (v w : ℕ) (x y : List ℕ) → v < 100000000000000000000 → w < 100000000000000000000
+number-unique : (v w : ℕ) (x y : List ℕ) → v < 100000000000000000000 → w < 100000000000000000000
     → decimal v ++ 0x0A ∷ x ≡ decimal w ++ 0x0A ∷ y → (v ≡ w) × (x ≡ y)
 number-unique v w x y h k q =
     let r = digits-end 0x0A y feed 0x0A x feed (decimal v) (decimal w) (decimal-digits v) (decimal-digits w) q in

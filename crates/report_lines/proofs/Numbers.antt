@@ -72,7 +72,7 @@ pub record NumberTo (text : List ℕ) (at limit i value : ℕ) : Type 0 where
   pub small : value ≤ limit
   pub is : drop at text ≡ decimal value ++ drop i text
 
-pub not-digit : {c d : ℕ} → DigitIs c d → 10 ≤ d → Digit c → ⊥
+not-digit : {c d : ℕ} → DigitIs c d → 10 ≤ d → Digit c → ⊥
 not-digit e h k = e .other h (k .0) (k .1)
 
 module _ (text : List ℕ) (at limit : ℕ) (top : limit < 1000000000000000000) where

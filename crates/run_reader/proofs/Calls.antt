@@ -7,7 +7,8 @@ use Prim.Native.Nat.{ℕ, _-_, _*_, _/_, _≤_}
 use native.Mathlib.Omega.{arith}
 use lib.Ieee.{Float}
 use lib.ListN.{length, take}
-use Rattle.common.specs.Lists.{All}
+use lib.Dec.{ltb}
+use Rattle.common.specs.Lists.{All, largest}
 use Rattle.soft_decision.specs.Cost.{softly, receivedOf}
 use Rattle.soft_decision.specs.declared.Received.{Received}
 use Rattle.soft_decision.proofs.Runs.{length-received}
@@ -22,10 +23,10 @@ use Rattle.run_reader.proofs.Reading.{read-as}
 
 module _ {R : Type 0} (cost : R → ℕ → ℕ) (rs : List R) {rate memory : ℕ} {lists : Bool} {n : ℕ} {pass : Bool} {output : List ℕ} (p : Passed rate memory lists n pass (length output))
     (l : List ℕ) (c : Costed cost rs l) (size : length rs ≡ n) where
-  pub costs-readable : All (λ c. c ≤ 7) l → Readable rate memory l output
+  costs-readable : All (λ c. c ≤ 7) l → Readable rate memory l output
   costs-readable small = readable p l (c .size ∙ ap (λ (k : ℕ). 4 * k) size) small
 
-  pub costs-read : {number after total count : ℕ} {left : List ℕ}
+  costs-read : {number after total count : ℕ} {left : List ℕ}
       → (number ≡ 0) × (BestRead (runCost (costsOf l) rate memory) (runBits rate (length l / 4)) memory output after total count left)
       → AnswersRun (answerNumber rate memory lists n pass (length output)) (runCost (map cost rs) rate memory) (runBits rate n) memory output number after total count left
   costs-read {after = after} {total} {count} {left} o =
@@ -37,13 +38,13 @@ module _ {R : Type 0} (cost : R → ℕ → ℕ) (rs : List R) {rate memory : �
 
 module _ (rate memory : ℕ) (ss output : List ℕ) where
   -- the number that the tests gave is the one that is due
-  pub hard-due : {v : Bool} {number : ℕ} → number ≡ answerNumber rate memory true (length ss) v (length output) → v ≡ valid ss
+  pub hard-due : {most number : ℕ} → number ≡ answerNumber rate memory true (length ss) (ltb most 4) (length output) → most ≡ largest ss
       → number ≡ answerNumber rate memory true (length ss) (valid ss) (length output)
-  hard-due e v = e ∙ ap (λ (t : Bool). answerNumber rate memory true (length ss) t (length output)) v
+  hard-due e m = e ∙ ap (λ (k : ℕ). answerNumber rate memory true (length ss) (ltb k 4) (length output)) m
 
-  pub hard-tested : {v : Bool} {number k : ℕ} → number ≡ answerNumber rate memory true (length ss) v (length output) → v ≡ valid ss → k ≡ number → k ≡ 0
+  pub hard-tested : {most number k : ℕ} → number ≡ answerNumber rate memory true (length ss) (ltb most 4) (length output) → most ≡ largest ss → k ≡ number → k ≡ 0
       → Passed rate memory true (length ss) (valid ss) (length output)
-  hard-tested e v ek z = passed rate memory true (length ss) (valid ss) (length output) (sym (hard-due e v) ∙ (sym ek ∙ z))
+  hard-tested e m ek z = passed rate memory true (length ss) (valid ss) (length output) (sym (hard-due e m) ∙ (sym ek ∙ z))
 
   module _ (p : Passed rate memory true (length ss) (valid ss) (length output)) (l : List ℕ) (w : hard.Written ss l) (long : 4 * length ss ≤ length l) where
     abbrev k : ℕ

@@ -12,7 +12,9 @@ use lib.Dec.{eqb}
 use lib.Ieee.{Float}
 use lib.ListN.{length, drop}
 use Rattle.common.specs.Choice.{pick, unequal}
-use Rattle.common.specs.Lists.{All}
+use Rattle.common.specs.Lists.{All, largest}
+use Rattle.common.proofs.Lists.{All-at}
+use Rattle.common.proofs.Largest.{largest-most}
 use Rattle.convolutional_code.specs.Bits.{Bits}
 use Rattle.trellis.proofs.Ends.{SomeDecoded}
 use Rattle.trellis.proofs.Laws.{decoded-unique}
@@ -22,7 +24,7 @@ use Rattle.inner_code.proofs.Coder.{coder-memory}
 use Rattle.soft_decision.specs.Cost.{receivedOf}
 use Rattle.inner_code.specs.Encode.{coderAt}
 use Rattle.run_reader.specs.Cost.{differing, totalCost, hardCost, softCost}
-use Rattle.run_reader.specs.Read.{symbolsPerPattern, runBits, runLength, below, valid, sound, readNumber, softNumber, BestRead, AnswersRun, ReadsHard, refused, read}
+use Rattle.run_reader.specs.Read.{symbolsPerPattern, runBits, runLength, valid, sound, readNumber, softNumber, BestRead, AnswersRun, ReadsHard, refused, read}
 use Rattle.run_reader.proofs.Costs.{sent-small}
 use Rattle.run_reader.proofs.Patterns.{run-symbols, sent-whole}
 use Rattle.run_reader.proofs.Unharmed.{hard-decoded, own-best}
@@ -100,9 +102,7 @@ total-soft rate memory is qs lost output =
 -- ---- an unharmed run
 
 pub all-valid : (ss : List ℕ) → All (λ s. s < 4) ss → valid ss ≡ true
-unfolding below
-all-valid [] h = refl
-all-valid (s ∷ ss) h = rw (lt-ltb s 4 (h .0)) (all-valid ss (h .1))
+all-valid ss h = lt-ltb (largest ss) 4 (omega (arith, largest-most ss 3 (λ i l. omega (arith, All-at (λ s. s < 4) ss 0 i h l))))
 
 -- what reading the coding of some bits gives: the answer 0, these bits, the coder's own memory after them, and no difference
 pub record ReadBack (rate m : ℕ) (bits output : List ℕ) (number after cost count : ℕ) (left : List ℕ) : Type 0 where

@@ -1,14 +1,14 @@
-pub mod Serial
+mod Serial
 pub mod Patterns
 pub mod Costs
-pub mod Existence
+mod Existence
 pub mod Unharmed
-pub mod Whole
+mod Whole
 pub mod Decisions
 pub mod SoftDecisions
 pub mod Outcome
 pub mod Reading
-pub mod Calls
+mod Calls
 pub mod Laws
 pub mod SoftLaws
 pub mod Streams

@@ -2,22 +2,24 @@
 -- Assumes nothing.
 use mathlib.Core.Path.{_≡_, refl, sym, _∙_, ap}
 use mathlib.Core.Bool.{Bool, true, false, not}
-use mathlib.Core.List.{List, [], _∷_}
+use mathlib.Core.List.{List}
 use Prim.Native.Nat.{ℕ, zero, suc, _+_, _*_, _/_, _%_, _≤_, _<_}
 use native.Mathlib.Decide.{decLt}
 use native.Mathlib.Nat.{mul-comm, div-lt-iff-lt-mul, le-div-iff-mul-le}
 use native.Mathlib.Omega.{arith}
 use borrow.Author.Tests.{ltb-true, ltb-false, lt-ltb, le-ltb, eqb-true, eq-eqb, ne-eqb}
 use lib.Dec.{ltb, eqb}
-use lib.ListN.{length, getD, take, drop, length-take, List·getD-eq-default}
-use lib.Seq.{getD-take, drop-cons, drop-length}
+use lib.ListN.{length, getD, take, length-take, List·getD-eq-default}
+use lib.Seq.{getD-take}
 use Rattle.answer.specs.Number.{numberOf}
 use Rattle.answer.specs.declared.Answer.{Answer}
 use Rattle.common.specs.Choice.{pick}
-use Rattle.common.specs.Lists.{All}
-use Rattle.common.proofs.Choice.{both-true, flag-false, flag-true}
+use Rattle.common.specs.Lists.{All, largest}
+use Rattle.common.proofs.Choice.{flag-false, flag-true}
+use Rattle.common.proofs.Lists.{All-of}
+use Rattle.common.proofs.Largest.{largest-least}
 use Rattle.depuncturing.specs.Steps.{kindAt, first, value, stepValue}
-use Rattle.run_reader.specs.Read.{symbolsPerPattern, runBits, below, answerNumber, Readable, AnswersRun, refused}
+use Rattle.run_reader.specs.Read.{symbolsPerPattern, runBits, answerNumber, Readable, AnswersRun, refused}
 use Rattle.run_reader.specs.declared.Read.{Read}
 use Rattle.run_reader.proofs.Patterns.{some-symbols, symbols-few}
 use Rattle.puncturing.specs.Step.{patternLength}
@@ -48,53 +50,8 @@ steps-small l steps rate k h e t = by (decLt t k) (decLt t (length (take k steps
 
 -- ---- the test of a list
 
-pub below-all : (limit : ℕ) (xs : List ℕ) → below limit xs ≡ true → All (λ x. x < limit) xs
-unfolding below
-below-all limit [] e = tt
-below-all limit (x ∷ xs) e = let a = both-true (ltb x limit) (below limit xs) e in (ltb-true x limit (a .0), below-all limit xs (a .1))
-
--- the numbers are below the limit where the largest so far is, and those that are left
-pub record Testing (limit : ℕ) (xs : List ℕ) (largest i : ℕ) : Type 0 where
-  pub most : i ≤ length xs
-  pub same : pick (ltb largest limit) (below limit (drop i xs)) false ≡ below limit xs
-
-pub testing-none : (limit : ℕ) (xs : List ℕ) → 0 < limit → Testing limit xs 0 0
-testing-none limit xs h = record { most = omega arith; same = rw (lt-ltb 0 limit h) refl }
-
-both-below : (limit a b : ℕ) (rest : Bool) → pick (ltb (pick (ltb a b) b a) limit) rest false ≡ pick (ltb a limit) (pick (ltb b limit) rest false) false
-both-below limit a b rest = by (decLt a b) (decLt a limit) (decLt b limit)
-  where
-    by : Dec (a < b) → Dec (a < limit) → Dec (b < limit) → pick (ltb (pick (ltb a b) b a) limit) rest false ≡ pick (ltb a limit) (pick (ltb b limit) rest false) false
-    by (yes l) (yes p) (yes q) = rw (lt-ltb a b l, lt-ltb a limit p, lt-ltb b limit q) refl
-    by (yes l) (yes p) (no q) = rw (lt-ltb a b l, lt-ltb a limit p, le-ltb b limit (omega arith)) refl
-    by (yes l) (no p) (yes q) = absurd (omega arith)
-    by (yes l) (no p) (no q) = rw (lt-ltb a b l, le-ltb a limit (omega arith), le-ltb b limit (omega arith)) refl
-    by (no l) (yes p) (yes q) = rw (le-ltb a b (omega arith), lt-ltb a limit p, lt-ltb b limit q) refl
-    by (no l) (yes p) (no q) = absurd (omega arith)
-    by (no l) (no p) q = rw (le-ltb a b (omega arith), le-ltb a limit (omega arith)) refl
-
-pub testing-more : {limit : ℕ} {xs : List ℕ} {largest i : ℕ} → Testing limit xs largest i → i < length xs → (next : ℕ) → next ≡ pick (ltb largest (getD xs i 0)) (getD xs i 0) largest
-    → Testing limit xs next (i + 1)
-unfolding below
-testing-more {limit} {xs} {largest} {i} t h next e =
-    let n : i + 1 ≡ suc i = omega arith in
-    let s : below limit (drop i xs) ≡ pick (ltb (getD xs i 0) limit) (below limit (drop (i + 1) xs)) false = rw (drop-cons xs i 0 h, n) in
-    record {
-      most = omega arith;
-      same =
-          ap (λ (k : ℕ). pick (ltb k limit) (below limit (drop (i + 1) xs)) false) e
-          ∙ (both-below limit largest (getD xs i 0) (below limit (drop (i + 1) xs)) ∙ (ap (λ (r : Bool). pick (ltb largest limit) r false) (sym s) ∙ t .same));
-    }
-
-pub testing-all : {limit : ℕ} {xs : List ℕ} {largest i : ℕ} → Testing limit xs largest i → length xs ≤ i → ltb largest limit ≡ below limit xs
-unfolding below
-testing-all {limit} {xs} {largest} {i} t h =
-    let e : i ≡ length xs = omega (arith, t .most) in
-    whole (ltb largest limit) ∙ (sym (ap (λ (r : Bool). pick (ltb largest limit) r false) (ap (below limit) (ap (λ (k : ℕ). drop k xs) e ∙ drop-length xs))) ∙ t .same)
-  where
-    whole : (b : Bool) → b ≡ pick b true false
-    whole true = refl
-    whole false = refl
+pub below-all : (limit : ℕ) (xs : List ℕ) → ltb (largest xs) limit ≡ true → All (λ x. x < limit) xs
+below-all limit xs e = All-of (λ x. x < limit) xs 0 (λ i h. omega (arith, largest-least xs i, ltb-true (largest xs) limit e))
 
 -- ---- the tests of a call
 

@@ -6,12 +6,12 @@ use mathlib.Core.List.{List, map}
 use Prim.Native.Nat.{ℕ, zero, suc, _+_, _*_, _/_, _%_, _≤_, _<_}
 use native.Mathlib.Omega.{arith}
 use borrow.Author.Tests.{eqb-true}
-use lib.Dec.{eqb}
+use lib.Dec.{eqb, ltb}
 use lib.Ieee.{Float}
 use lib.ListN.{length, getD, take, length-map}
 use lib.Seq.{getD-take, length-take-le}
 use Rattle.common.specs.Choice.{pick}
-use Rattle.common.specs.Lists.{All}
+use Rattle.common.specs.Lists.{All, largest}
 use Rattle.common.proofs.Choice.{both-true}
 use Rattle.common.proofs.Lists.{getD-map-in}
 use Rattle.trellis.proofs.Ends.{SomeDecoded}
@@ -24,7 +24,7 @@ use Rattle.soft_decision.specs.declared.SymbolCosts.{SymbolCosts}
 use Rattle.soft_decision.proofs.Numbers.{costs-small}
 use Rattle.soft_decision.proofs.Runs.{length-received, received-at, along-small}
 use Rattle.run_reader.specs.Cost.{softCost, Costed}
-use Rattle.run_reader.specs.Read.{symbolsPerPattern, runBits, below, sound}
+use Rattle.run_reader.specs.Read.{symbolsPerPattern, runBits, sound}
 use Rattle.run_reader.proofs.Costs.{Splits}
 use Rattle.run_reader.proofs.Existence.{some-best}
 
@@ -37,7 +37,7 @@ pub record OneLength (is qs : List Float) (lost : List ℕ) : Type 0 where
 pub sound-lists : (is qs : List Float) (lost : List ℕ) → sound is qs lost ≡ true → OneLength is qs lost
 sound-lists is qs lost e =
     let a = both-true (eqb (length qs) (length is)) _ e in
-    let b = both-true (eqb (length lost) (length is)) (below 2 lost) (a .1) in
+    let b = both-true (eqb (length lost) (length is)) (ltb (largest lost) 2) (a .1) in
     record { qs-size = eqb-true _ _ (a .0); lost-size = eqb-true _ _ (b .0) }
 
 -- ---- the costs of places
@@ -51,7 +51,7 @@ half (suc n) c = c .q
 abbrev pub soft : List Received → ℕ → ℕ → ℕ
 soft rs j v = decidedAs (half (j % 2) (symbolCosts (getD rs (j / 2) Lost))) v
 
-pub soft-splits : (rs : List Received) → Splits (map softly rs) (soft rs) 0
+soft-splits : (rs : List Received) → Splits (map softly rs) (soft rs) 0
 soft-splits rs = record {
   at = λ i s h four.
       let a : (0 + 2 * i) / 2 ≡ i = omega arith in
@@ -67,7 +67,7 @@ decided-small r zero false = costs-small r 1
 decided-small r (suc n) true = costs-small r 2
 decided-small r (suc n) false = costs-small r 3
 
-pub soft-small : (rs : List Received) (j v : ℕ) → soft rs j v ≤ 7
+soft-small : (rs : List Received) (j v : ℕ) → soft rs j v ≤ 7
 soft-small rs j v = decided-small (getD rs (j / 2) Lost) (j % 2) (eqb v 0)
 
 -- there is a best sequence

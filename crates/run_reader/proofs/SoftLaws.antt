@@ -7,11 +7,11 @@ use Prim.Native.Nat.{ℕ, zero, suc, _+_, _*_, _/_, _%_, _^_, _<_, _≤_}
 use native.Mathlib.Nat.{div-div-eq-div-mul, pow-suc, mul-comm}
 use native.Mathlib.Omega.{arith}
 use borrow.Author.Tests.{eq-eqb}
-use lib.Dec.{eqb}
+use lib.Dec.{eqb, ltb}
 use lib.Ieee.{Float, nan, ofBits, binary32}
 use lib.ListN.{length, getD, drop, replicate, length-map, length-replicate}
 use Rattle.common.specs.Choice.{pick, unequal}
-use Rattle.common.specs.Lists.{All}
+use Rattle.common.specs.Lists.{All, largest}
 use Rattle.convolutional_code.specs.Bits.{Bits, none, more}
 use Rattle.convolutional_code.specs.Code.{memoryAfter}
 use Rattle.convolutional_code.proofs.Bits.{bits-tail}
@@ -28,7 +28,7 @@ use Rattle.soft_decision.proofs.Numbers.{costs-nan, costs-one, costs-minus-one}
 use Rattle.run_reader.specs.Clear as clear
 use Rattle.run_reader.specs.Clear.{Clear, AllClear}
 use Rattle.run_reader.specs.Cost.{differing, totalCost, hardCost, softCost}
-use Rattle.run_reader.specs.Read.{runBits, runLength, below, valid, sound, readNumber, softNumber, BestRead, ReadsHard, ReadsSoft, refused, read}
+use Rattle.run_reader.specs.Read.{runBits, runLength, valid, sound, readNumber, softNumber, BestRead, ReadsHard, ReadsSoft, refused, read}
 use Rattle.run_reader.proofs.Serial.{flat}
 use Rattle.run_reader.proofs.Costs.{sent-bits}
 use Rattle.run_reader.proofs.Unharmed.{differing-clear}
@@ -205,10 +205,10 @@ seven-total (r ∷ rs) [] h w = refl
 seven-total (r ∷ rs) (s ∷ ss) h w =
     omega (arith, signals-symbol r s (h .0) (bits-head w), seven-total rs ss (h .1) (bits-tail (bits-tail w)))
 
-marks-below : (rs : List ℕ) → below 2 (noneLost rs) ≡ true
-unfolding below
-marks-below [] = refl
-marks-below (r ∷ rs) = marks-below rs
+none-marked : (rs : List ℕ) → largest (noneLost rs) ≡ 0
+unfolding largest
+none-marked [] = refl
+none-marked (r ∷ rs) = omega (arith, none-marked rs)
 
 -- what both calls give, one against the other
 pub record SevenTimes (number number′ after after′ cost cost′ count count′ : ℕ) (left left′ : List ℕ) : Type 0 where
@@ -227,7 +227,7 @@ module _ (rate m : ℕ) (rs output : List ℕ) (h : All (λ r. r < 4) rs) where
 
   lists-pass : sound (signalsI rs) (signalsQ rs) (noneLost rs) ≡ true
   lists-pass =
-      rw (eq-eqb (length (signalsQ rs)) n (length-map rs (λ s. signal (s % 2)) ∙ sym size), eq-eqb (length (noneLost rs)) n (length-map rs (λ s. 0) ∙ sym size)) (marks-below rs)
+      rw (eq-eqb (length (signalsQ rs)) n (length-map rs (λ s. signal (s % 2)) ∙ sym size), eq-eqb (length (noneLost rs)) n (length-map rs (λ s. 0) ∙ sym size)) (ap (λ (k : ℕ). ltb k 2) (none-marked rs))
 
   -- the same answer is due
   same-number : softNumber rate m (signalsI rs) (signalsQ rs) (noneLost rs) output ≡ readNumber rate m rs output

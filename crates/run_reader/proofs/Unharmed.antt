@@ -122,7 +122,7 @@ module _ (rate m : ℕ) (hr : rate < 5) (hm : m < 64) (ss : List ℕ) (whole : l
       some-best (map differing ss) (hard ss) (hard-splits ss) rate m hr hm (length ss) (sym (length-map ss differing)) whole (λ j v. differ-le (getD (flat ss) j 0) v)
 
   -- bits that differ nowhere are the best
-  pub free-best : (bits best : List ℕ) → Bits bits → length bits ≡ n → hardCost ss rate m bits ≡ 0 → Best (hardCost ss rate m) n best → best ≡ bits
+  free-best : (bits best : List ℕ) → Bits bits → length bits ≡ n → hardCost ss rate m bits ≡ 0 → Best (hardCost ss rate m) n best → best ≡ bits
   free-best bits best w l z b =
       free (puncturedCosts rate (hard ss)) (apart ss rate hr) n m bits best (best-same n (λ ys v e. sym (steps ys v e)) b) w l (steps bits w l ∙ z)
 

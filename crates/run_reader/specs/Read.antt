@@ -4,13 +4,13 @@
 -- Assumes nothing.
 use mathlib.Core.Path.{_≡_}
 use mathlib.Core.Bool.{Bool, true, false}
-use mathlib.Core.List.{List, [], _∷_, _++_}
+use mathlib.Core.List.{List, _++_}
 use Prim.Native.Nat.{ℕ, _*_, _/_, _%_, _<_, _≤_}
 use lib.Dec.{ltb, eqb}
 use lib.Ieee.{Float}
 use lib.ListN.{length, drop}
 use Rattle.common.specs.Choice.{pick}
-use Rattle.common.specs.Lists.{All}
+use Rattle.common.specs.Lists.{All, largest}
 use Rattle.trellis.specs.Best.{Decoded}
 use Rattle.puncturing.specs.Mode.{modeOf}
 use Rattle.puncturing.specs.Step.{patternLength}
@@ -30,18 +30,13 @@ runLength rate symbols = runBits rate (length symbols)
 
 -- ---- the tests
 
--- every number of a list is below a limit
-unfoldable pub below : ℕ → List ℕ → Bool
-below limit [] = true
-below limit (x ∷ xs) = pick (ltb x limit) (below limit xs) false
-
 -- every symbol is one of the four
 abbrev pub valid : List ℕ → Bool
-valid symbols = below 4 symbols
+valid symbols = ltb (largest symbols) 4
 
 -- three lists of one length, with marks of 0 and 1
 abbrev pub sound : List Float → List Float → List ℕ → Bool
-sound is qs lost = pick (eqb (length qs) (length is)) (pick (eqb (length lost) (length is)) (below 2 lost) false) false
+sound is qs lost = pick (eqb (length qs) (length is)) (pick (eqb (length lost) (length is)) (ltb (largest lost) 2) false) false
 
 -- The number of the answer to n symbols: 6 for another rate, 5 for a memory out of range, 24 where the lists do not pass, 12 where the symbols make no
 -- whole patterns, 13 where the run has more than 1,632 bits, 14 where the symbols do not pass, 4 for short room.

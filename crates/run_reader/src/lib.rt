@@ -1,13 +1,11 @@
 // Reading runs of received symbols: the bits whose coding costs the least, by hard or by soft decisions. The two differ in the costs alone.
 ghost use mathlib.Core.Path.{_≡_};
 ghost use Prim.Native.Nat.{ℕ, _*_, _/_, _<_, _≤_};
-ghost use lib.Dec.{ltb};
 ghost use lib.ListN.{length, getD};
 ghost use Rattle.answer.specs.Number.{numberOf};
-ghost use Rattle.common.specs.Choice.{pick};
 ghost use Rattle.common.specs.Lists.{All};
 ghost use Rattle.run_reader.specs.Cost.{runCost, costsOf};
-ghost use Rattle.run_reader.specs.Read.{symbolsPerPattern, runBits, below, sound, answerNumber, Readable, BestRead, ReadsHard, ReadsSoft};
+ghost use Rattle.run_reader.specs.Read.{symbolsPerPattern, runBits, sound, answerNumber, Readable, BestRead, ReadsHard, ReadsSoft};
 ghost use Rattle.run_reader.specs.Decisions.{decisionCost};
 use answer::Answer;
 use depuncturing::spread_costs;
@@ -17,7 +15,7 @@ use viterbi_decoder::Run;
 use viterbi_decoder::decode;
 
 // The bits of the longest run.
-pub const LONGEST: usize = 1632;
+const LONGEST: usize = 1632;
 
 // The symbols of each rate's pattern.
 const SYMBOL_COUNTS: [u8; 5] = [1, 3, 2, 3, 4];
@@ -38,27 +36,6 @@ pub fn symbol_count(rate: u8) -> u8
     SYMBOL_COUNTS[rate as usize]
 }
 
-// The larger of two numbers.
-fn larger(a: u8, b: u8) -> u8
-    ensures { λ r. ⌜ r ≡ pick (ltb a b) b a ⌝ }
-{
-    if a < b { b } else { a }
-}
-
-// Whether each number is below the limit. The largest is looked for, which takes no branch on a value.
-fn is_below(limit: u8, numbers: &[u8]) -> bool
-    requires { ⌜ 0 < limit ⌝ }
-    ensures { λ r. ⌜ r ≡ below limit (now (numbers .entry)) ⌝ }
-{
-    let mut largest: u8 = 0;
-    let mut i: usize = 0;
-    while i < numbers.len() {
-        largest = larger(largest, numbers[i]);
-        i += 1;
-    }
-    largest < limit
-}
-
 // Whether the lists of a soft run are of one length, and its marks 0 and 1.
 fn is_sound(is: &[f32], qs: &[f32], lost: &[u8]) -> bool
     ensures { λ r. ⌜ r ≡ sound (now (is .entry)) (now (qs .entry)) (now (lost .entry)) ⌝ }
@@ -69,7 +46,7 @@ fn is_sound(is: &[f32], qs: &[f32], lost: &[u8]) -> bool
     if lost.len() != is.len() {
         return false;
     }
-    is_below(2, lost)
+    common::largest_of(lost) < 2
 }
 
 // The answer that is due to a run of so many symbols, by the tests of both calls, where its lists and its symbols pass their own or not and
@@ -187,7 +164,7 @@ pub fn read_run(rate: u8, memory: u8, symbols: &[u8], output: &mut [u8]) -> Read
     ensures { λ r. ⌜
         ReadsHard rate memory (now (symbols .entry)) (now (output .entry)) (numberOf (r .answer)) (r .memory) (r .cost) (r .count) (now (output .exit)) ⌝ }
 {
-    let valid = is_below(4, symbols);
+    let valid = common::largest_of(symbols) < 4;
     let answer = answer_due(rate, memory, true, symbols.len(), valid, output.len());
     if answer.number() != 0 {
         return refused(answer, memory);

@@ -1,5 +1,5 @@
-pub mod Products
+mod Products
 pub mod Fractions
-pub mod Progress
+mod Progress
 pub mod Decided
 pub mod Histories

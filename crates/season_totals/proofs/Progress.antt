@@ -135,7 +135,7 @@ module _ {bytes totals rest : List ℕ} (u : Unread bytes totals rest) where
         blanked = λ z. refl;
       }
 
-  pub unread-done : rest ≡ [] → Seasons bytes 0 totals
+  unread-done : rest ≡ [] → Seasons bytes 0 totals
   unread-done e = record {
     reports = u .reports;
     rest = rest;

@@ -1,20 +1,14 @@
 -- How many symbols packets give: in all, and in each call.
 -- Assumes nothing.
-use mathlib.Core.Path.{_≡_, refl, ap, ap₂, sym, _∙_}
+use mathlib.Core.Path.{_≡_, ap, ap₂, sym, _∙_}
 use mathlib.Core.Bool.{Bool}
-use mathlib.Core.List.{List, map, flatten}
-use Prim.Native.Nat.{ℕ, zero, suc, _+_, _*_, _/_, _%_, _≤_, _<_}
+use mathlib.Core.List.{List}
+use Prim.Native.Nat.{ℕ, _+_, _*_, _/_, _%_, _≤_, _<_}
 use native.Mathlib.Nat.{add-zero, zero-add, mod-lt, div-add-mod', mul-right-comm, mul-div-cancel}
 use native.Mathlib.Omega.{arith}
 use lib.Dec.{T, leb, leb→le}
-use lib.ListN.{length, getD, length-map}
+use lib.ListN.{length, getD}
 use Rattle.common.proofs.Computed.{both, both-left, both-right}
-use Rattle.reed_solomon.specs.Encode.{encoded}
-use Rattle.randomizer.specs.Stream.{dispersed, inPackets, randomizedStream}
-use Rattle.delay_branches.specs.declared.Side.the-variants.{Sending}
-use Rattle.interleaver.specs.Stream.{interleaved}
-use Rattle.interleaver.proofs.Blocks.{length-flatten}
-use Rattle.interleaver.proofs.Streams.{length-delayed, delayed-lengths}
 use Rattle.convolutional_code.specs.Bits.{bitsOf}
 use Rattle.convolutional_code.proofs.Bits.{length-bits}
 use Rattle.puncturing.specs.Mode.{Mode, modeOf, blockBits, blockBitsBy}
@@ -31,39 +25,27 @@ use Rattle.inner_code.specs.declared.InnerCoder.{InnerCoder}
 use Rattle.inner_code.proofs.Converter.{encoded-bits, length-encoded}
 use Rattle.inner_code.proofs.Coder.{range-test, rate-known, fresh-in-range, coder-in-range, coder-rate, coder-place, length-coded}
 use Rattle.inner_code.proofs.Stream.{bytes-fresh}
-use Rattle.sender.specs.Standard.{interleavedBlocks, onAir}
+use Rattle.sent_blocks.specs.Blocks.{sentBytes}
+use Rattle.sent_blocks.proofs.Lengths.{sent-count}
+use Rattle.sender.specs.Standard.{onAir}
 use Rattle.sender.specs.Calls.{senderOf, fewest, most}
 
 -- ---- in all
 
-pub length-packets : (n : ℕ) (bytes : List ℕ) → length (inPackets n bytes) ≡ n
-unfolding inPackets
-length-packets zero bytes = refl
-length-packets (suc n) bytes = ap suc (length-packets n _)
-
--- as many blocks as packets, of 204 bytes each
-length-blocks : (packets : List (List ℕ)) → length (flatten (interleavedBlocks packets)) ≡ 204 * length packets
-unfolding interleavedBlocks randomizedStream
-length-blocks packets =
-    let coded = map encoded (randomizedStream packets) in
-    length-flatten 204 (interleaved coded) (delayed-lengths Sending coded)
-    ∙ ap (λ (k : ℕ). 204 * k)
-    (length-delayed Sending coded ∙ length-map (randomizedStream packets) encoded ∙ length-packets (length packets) (dispersed 0 (flatten packets)))
-
-pub block-bits : (packets : List (List ℕ)) → length (bitsOf (flatten (interleavedBlocks packets))) ≡ 1632 * length packets
-block-bits packets = let e = length-blocks packets in length-bits (flatten (interleavedBlocks packets)) ∙ omega arith
+pub block-bits : (packets : List (List ℕ)) → length (bitsOf (sentBytes packets)) ≡ 1632 * length packets
+block-bits packets = length-bits (sentBytes packets) ∙ omega (arith, sent-count packets)
 
 -- the bits of them that a mode codes
-coded-bits : {m : Mode} → WellFormed m → (packets : List (List ℕ)) → length (encodedBits m (flatten (interleavedBlocks packets))) ≡ blockBitsBy m * length packets
+coded-bits : {m : Mode} → WellFormed m → (packets : List (List ℕ)) → length (encodedBits m (sentBytes packets)) ≡ blockBitsBy m * length packets
 unfolding blockBitsBy
 coded-bits {m} w packets =
     let k = 204 / m .group in
     let n = length packets in
     let c = length (m .columns) in
     let groups : 204 ≡ k * m .group = sym (div-add-mod' 204 (m .group)) ∙ ap (λ (j : ℕ). k * m .group + j) (w .whole-groups) ∙ add-zero _ in
-    let whole : length (flatten (interleavedBlocks packets)) ≡ k * n * m .group
-    = length-blocks packets ∙ ap (λ (j : ℕ). j * n) groups ∙ mul-right-comm k (m .group) n in
-    length-encoded m (flatten (interleavedBlocks packets))
+    let whole : length (sentBytes packets) ≡ k * n * m .group
+    = sent-count packets ∙ ap (λ (j : ℕ). j * n) groups ∙ mul-right-comm k (m .group) n in
+    length-encoded m (sentBytes packets)
     ∙ ap (λ (j : ℕ). j / m .group * c) whole
     ∙ ap (λ (j : ℕ). j * c) (mul-div-cancel (k * n) (w .some-group))
     ∙ mul-right-comm k n c
@@ -72,7 +54,7 @@ pub length-on-air : (rate : ℕ) → rate < 6 → (packets : List (List ℕ)) �
 unfolding onAir
 length-on-air rate h packets =
     let w = well-formed rate h in
-    let bytes = flatten (interleavedBlocks packets) in
+    let bytes = sentBytes packets in
     ap length (sym (bytes-fresh w rate bytes))
     ∙ length-coded w (freshCoder rate) (fresh-in-range rate h) bytes
     ∙ ap (symbolsIn rate 0) (coded-bits w packets)
@@ -80,12 +62,12 @@ length-on-air rate h packets =
 -- ---- in each call
 
 -- the call after some packets sends the symbols that the coded bits of the next block complete, from the place in the pattern where the packets left it
-pub call-count : (rate : ℕ) → rate < 6 → (packets : List (List ℕ))
+call-count : (rate : ℕ) → rate < 6 → (packets : List (List ℕ))
     → symbolCount (senderOf modeOf rate packets .coder) ≡ symbolsIn rate (blockBits rate * length packets % patternLength rate) (blockBits rate)
 unfolding senderOf
 call-count rate h packets =
     let w = well-formed rate h in
-    let bytes = flatten (interleavedBlocks packets) in
+    let bytes = sentBytes packets in
     let bits = encodedBits (modeOf rate) bytes in
     let c = blockCoder (freshCoder rate) bytes in
     simp (range-test c (coder-in-range (freshCoder rate) (fresh-in-range rate h) (encoded-bits (modeOf rate) bytes)))

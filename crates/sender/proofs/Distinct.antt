@@ -2,29 +2,30 @@
 -- The bit is the lowest of byte 12, which the interleaver does not delay.
 -- Assumes nothing.
 use mathlib.Core.Path.{_≡_, refl, ap, sym, _∙_}
-use mathlib.Core.List.{List, [], _∷_, map, flatten}
+use mathlib.Core.List.{List, [], _∷_, map}
 use Prim.Native.Nat.{ℕ, zero, suc, _+_, _-_, _*_, _%_, _<_}
 use native.Mathlib.Nat.{not-suc-le-zero, le-of-suc-le-suc}
 use native.Mathlib.Omega.{arith}
 use borrow.Author.Tests.{le-ltb}
 use lib.Bits.{bitXor}
-use lib.ListN.{length, getD, drop, length-drop, length-map, List·getD-append}
+use lib.ListN.{length, getD, drop, length-drop, List·getD-append}
 use Rattle.common.specs.Lists.{All, Length}
 use Rattle.common.proofs.Lists.{All-at, getD-map-in}
 use Rattle.common.proofs.Xor.{xor-low, xor-undo}
 use Rattle.reed_solomon.specs.Encode.{checkBytes, encoded}
 use Rattle.randomizer.specs.Prbs.{masks}
 use Rattle.randomizer.specs.Packet.{randomized}
-use Rattle.randomizer.specs.Stream.{randomizedStream, randomizedFrom}
+use Rattle.randomizer.specs.Stream.{randomizedFrom}
 use Rattle.randomizer.proofs.Xors.{getD-xors}
 use Rattle.randomizer.proofs.Laws.{length-masks, length-randomized}
 use Rattle.randomizer.proofs.Whole.{randomized-stream}
 use Rattle.delay_branches.specs.declared.Side.the-variants.{Sending}
 use Rattle.interleaver.specs.Stream.{earlier, interleaved}
-use Rattle.interleaver.proofs.Streams.{length-delayed, delayed-at, delayed-lengths}
+use Rattle.interleaver.proofs.Streams.{delayed-at}
 use Rattle.interleaver.proofs.Blocks.{flatten-at}
 use Rattle.convolutional_code.specs.Bits.{bitsOf}
-use Rattle.sender.specs.Standard.{interleavedBlocks}
+use Rattle.sent_blocks.specs.Blocks.{codedBlocks, sentBytes, interleavedBlocks}
+use Rattle.sent_blocks.proofs.Lengths.{coded-count, interleaved-count, interleaved-whole}
 
 -- ---- bits and bytes
 
@@ -66,7 +67,7 @@ module _ (ps : List (List ℕ)) (g : All (Length 188) ps) (b : ℕ) (h : b < len
   size : length (getD ps b []) ≡ 188
   size = All-at (Length 188) ps [] b g h
 
-  coded-byte : getD (getD (map encoded (randomizedStream ps)) b []) 12 0 ≡ bitXor (getD (getD ps b []) 12 0) (mask b)
+  coded-byte : getD (getD (codedBlocks ps) b []) 12 0 ≡ bitXor (getD (getD ps b []) 12 0) (mask b)
   unfolding mask randomized
   coded-byte =
       let p = getD ps b [] in
@@ -79,23 +80,18 @@ module _ (ps : List (List ℕ)) (g : All (Length 188) ps) (b : ℕ) (h : b < len
       ∙ getD-xors p (drop (188 * ((0 + b) % 8)) masks) 12 (omega (arith, size))
       (omega (arith, length-drop (188 * ((0 + b) % 8)) masks, length-masks))
 
-  coded-length : length (map encoded (randomizedStream ps)) ≡ length ps
-  coded-length = ap (λ (l : List (List ℕ)). length (map encoded l)) (sym (randomized-stream ps g)) ∙ length-map (randomizedFrom 0 ps) encoded ∙ length-from 0 ps
-
   -- the bit of the symbols' bits that is the lowest of byte 12 of packet b
-  sent-bit : getD (bitsOf (flatten (interleavedBlocks ps))) (8 * (204 * b + 12) + 7) 0 ≡ bitXor (getD (getD ps b []) 12 0) (mask b) % 2
-  unfolding interleavedBlocks
+  sent-bit : getD (bitsOf (sentBytes ps)) (8 * (204 * b + 12) + 7) 0 ≡ bitXor (getD (getD ps b []) 12 0) (mask b) % 2
   sent-bit =
-      let blocks = map encoded (randomizedStream ps) in
-      low-bit (flatten (interleaved blocks)) (204 * b + 12)
+      low-bit (sentBytes ps) (204 * b + 12)
       ∙ ap (λ (x : ℕ). x % 2)
-      (flatten-at (interleaved blocks) (delayed-lengths Sending blocks) b 12 (omega (arith, length-delayed Sending blocks, coded-length)) (omega arith)
-      ∙ not-delayed blocks b (omega (arith, coded-length))
+      (flatten-at (interleavedBlocks ps) (interleaved-whole ps) b 12 (omega (arith, interleaved-count ps)) (omega arith)
+      ∙ not-delayed (codedBlocks ps) b (omega (arith, coded-count ps))
       ∙ coded-byte)
 
 -- two lists with the same interleaved bits agree in that bit of each packet
 pub same-bits : (ps qs : List (List ℕ)) → All (Length 188) ps → All (Length 188) qs
-    → bitsOf (flatten (interleavedBlocks ps)) ≡ bitsOf (flatten (interleavedBlocks qs))
+    → bitsOf (sentBytes ps) ≡ bitsOf (sentBytes qs)
     → (b : ℕ) → b < length ps → b < length qs → getD (getD ps b []) 12 0 % 2 ≡ getD (getD qs b []) 12 0 % 2
 same-bits ps qs g h s b k l =
     let x = getD (getD ps b []) 12 0 in

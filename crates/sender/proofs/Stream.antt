@@ -9,12 +9,11 @@ use lib.ListN.{length}
 use Rattle.common.specs.Lists.{All, Length}
 use Rattle.reed_solomon.specs.Encode.{encoded}
 use Rattle.randomizer.specs.Packet.{randomized}
-use Rattle.randomizer.specs.Stream.{randomizedStream, randomizedFrom}
+use Rattle.randomizer.specs.Stream.{randomizedFrom}
 use Rattle.randomizer.proofs.Whole.{randomized-stream}
 use Rattle.delay_branches.specs.Block.{fresh, blockOut, branchesAfter}
 use Rattle.delay_branches.specs.declared.Side.the-variants.{Sending}
 use Rattle.interleaver.specs.Stream.{interleaved, run, runAfter}
-use Rattle.interleaver.proofs.Streams.{delayed-lengths}
 use Rattle.interleaver.proofs.Whole.{run-delayed}
 use Rattle.delay_branches.proofs.Blocks.{length-out}
 use Rattle.puncturing.specs.Mode.{Mode}
@@ -24,7 +23,9 @@ use Rattle.inner_code.specs.Encode as inner
 use Rattle.inner_code.proofs.Converter.{encoded-bits, encoded-empty}
 use Rattle.inner_code.proofs.Coder.{fresh-in-range-by, coder-in-range-by, block-coder-append}
 use Rattle.inner_code.proofs.Stream.{calls-stream}
-use Rattle.sender.specs.Standard.{interleavedBlocks, onAir}
+use Rattle.sent_blocks.specs.Blocks.{codedBlocks, interleavedBlocks}
+use Rattle.sent_blocks.proofs.Lengths.{interleaved-whole}
+use Rattle.sender.specs.Standard.{onAir}
 use Rattle.sender.specs.Send.{freshSender, codedPacket, sentBlock, sentSymbols, senderAfter}
 use Rattle.sender.specs.Calls.{callsSymbols, callsSender, senderOf}
 use Rattle.sender.specs.declared.Sender.{Sender}
@@ -98,17 +99,12 @@ module _ {m : Mode} (w : WellFormed m) (t : ℕ → Mode) where
 
 module _ (packets : List (List ℕ)) (g : All (Length 188) packets) where
   -- the blocks of the standard
-  blocks-are : blocks 0 packets ≡ map encoded (randomizedStream packets)
+  blocks-are : blocks 0 packets ≡ codedBlocks packets
   unfolding blocks
   blocks-are = ap (map encoded) (randomized-stream packets g)
 
   interleaved-are : run Sending fresh (blocks 0 packets) ≡ interleavedBlocks packets
-  unfolding interleavedBlocks
   interleaved-are = run-delayed Sending (blocks 0 packets) ∙ ap interleaved blocks-are
-
-  whole : All (Length 204) (interleavedBlocks packets)
-  unfolding interleavedBlocks
-  whole = delayed-lengths Sending (map encoded (randomizedStream packets))
 
   -- Demand 2, of the sending side, in any mode that is well formed, at whatever number of whatever table: the symbols of the calls are those of the
   -- standard
@@ -118,7 +114,7 @@ module _ (packets : List (List ℕ)) (g : All (Length 188) packets) where
     calls-on-air =
         by-stages w t (freshSender rate) 0 packets refl refl
         ∙ ap (inner.callsBy (t rate) (inner.freshCoder rate)) interleaved-are
-        ∙ calls-stream (t rate) w rate (interleavedBlocks packets) whole
+        ∙ calls-stream (t rate) w rate (interleavedBlocks packets) (interleaved-whole packets)
 
     -- and the sender after them
     pub calls-sender : callsSender t (freshSender rate) packets ≡ senderOf t rate packets

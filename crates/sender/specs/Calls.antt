@@ -1,16 +1,14 @@
 -- A list of packets sent call after call: the symbols of each call, the sender after them, and what a history of calls is.
 -- Assumes nothing.
-use mathlib.Core.List.{List, [], _∷_, _++_, map, flatten}
+use mathlib.Core.List.{List, [], _∷_, _++_}
 use Prim.Native.Nat.{ℕ, _%_, _≤_}
 use lib.ListN.{length, take}
-use Rattle.reed_solomon.specs.Encode.{encoded}
-use Rattle.randomizer.specs.Stream.{randomizedStream}
 use Rattle.delay_branches.specs.Block.{fresh}
 use Rattle.delay_branches.specs.declared.Side.the-variants.{Sending}
 use Rattle.interleaver.specs.Stream.{runAfter}
 use Rattle.puncturing.specs.Mode.{Mode}
 use Rattle.inner_code.specs.Encode.{freshCoder, blockCoderBy}
-use Rattle.sender.specs.Standard.{interleavedBlocks}
+use Rattle.sent_blocks.specs.Blocks.{codedBlocks, sentBytes}
 use Rattle.sender.specs.Send.{sentSymbols, sentCount, senderAfter, Sends}
 use Rattle.sender.specs.declared.Sender.{Sender}
 
@@ -29,8 +27,8 @@ callsSender t s (p ∷ ps) = callsSender t (senderAfter t s p) ps
 unfoldable pub senderOf : (ℕ → Mode) → ℕ → List (List ℕ) → Sender
 senderOf t rate packets = record {
   place = length packets % 8;
-  interleaver = record { branches = runAfter Sending fresh (map encoded (randomizedStream packets)) };
-  coder = blockCoderBy (t rate) (freshCoder rate) (flatten (interleavedBlocks packets));
+  interleaver = record { branches = runAfter Sending fresh (codedBlocks packets) };
+  coder = blockCoderBy (t rate) (freshCoder rate) (sentBytes packets);
 }
 
 -- document 01, "Inner code": how many symbols a call sends in each mode, at least and at most

@@ -3,7 +3,7 @@
 -- Assumes nothing.
 use mathlib.Core.Path.{_≡_, refl, ap, ap₂, sym, subst, _∙_}
 use mathlib.Core.Bool.{Bool, true, false}
-use mathlib.Core.List.{List, [], _∷_, _++_, append-assoc, append-nil, map, flatten}
+use mathlib.Core.List.{List, [], _++_, append-assoc, append-nil, map, flatten, map-append}
 use Prim.Native.Nat.{ℕ, _+_, _/_, _%_}
 use native.Mathlib.Omega.{arith}
 use borrow.Author.Tests.{eq-eqb, ne-eqb}
@@ -11,7 +11,8 @@ use lib.Dec.{eqb}
 use lib.ListN.{length, take, drop, length-append, length-map}
 use lib.Seq.{take-at, take-append-seam}
 use Rattle.common.specs.Choice.{pick}
-use Rattle.common.specs.Lists.{All, Length}
+use Rattle.common.specs.Lists.{All, Length, chunksOf, restOf}
+use Rattle.common.proofs.Chunks.{length-chunks, length-rest, chunks-few, cut}
 use Rattle.puncturing.specs.Mode.{modeOf}
 use Rattle.puncturing.specs.WellFormed.{WellFormed}
 use Rattle.puncturing.proofs.Places.{sent-known}
@@ -24,38 +25,27 @@ use Rattle.sender.specs.declared.Sender.{Sender}
 use Rattle.sender.proofs.Inputs.{packet-lengths}
 use Rattle.sender.proofs.Stream.{calls-on-air, calls-sender}
 use Rattle.sender.proofs.History.{history, ready-sent, sent-further}
-use Rattle.sender.proofs.Counts.{length-packets}
-use Rattle.transmission.specs.Run.{packetsOf}
-use Rattle.transmission.proofs.Buffers.{packets-none, packets-inputs}
-use Rattle.sending.specs.Sending.{holding, heldBytes, freshSending, canSend, packetRest, fedSymbols, fedAnswers, FeedsAll, FeedsSending, refused, fed}
+use Rattle.transmission.proofs.Buffers.{packets-inputs}
+use Rattle.sending.specs.Sending.{holding, heldBytes, freshSending, canSend, fedSymbols, fedAnswers, FeedsAll, FeedsSending, refused, fed}
 use Rattle.sending.specs.History.{SendingFeedings, none, feeding, Transmitted}
 use Rattle.sending.specs.declared.Sending.{Sending}
-use Rattle.sending.proofs.Pieces.{cut, length-rest}
 use Rattle.sending.proofs.Laws.{holding-range}
 
-map-append : {A B : Type 0} (f : A → B) (xs ys : List A) → map f (xs ++ ys) ≡ map f xs ++ map f ys
-map-append f [] ys = refl
-map-append {A} {B} f (x ∷ xs) ys = ap (λ (l : List B). f x ∷ l) (map-append f xs ys)
-
-count-packets : (bytes : List ℕ) → length (packetsOf bytes) ≡ length bytes / 188
-unfolding packetsOf
-count-packets bytes = length-packets (length bytes / 188) bytes
-
 -- the bytes held
-pub held-are : (s : Sender) (bytes : List ℕ) → heldBytes (holding s bytes) ≡ bytes
+held-are : (s : Sender) (bytes : List ℕ) → heldBytes (holding s bytes) ≡ bytes
 held-are s bytes = take-append-seam bytes _
 
 module _ (rate : ℕ) (h : modeOf rate .sent ≡ true) where
   formed : WellFormed (modeOf rate)
   formed = well-formed rate (sent-known rate h)
 
-  sizes : (bytes : List ℕ) → All (Length 188) (packetsFor (packetsOf bytes))
-  sizes bytes = packet-lengths (packetsOf bytes) (packets-inputs bytes)
+  sizes : (bytes : List ℕ) → All (Length 188) (packetsFor (chunksOf 188 bytes))
+  sizes bytes = packet-lengths (chunksOf 188 bytes) (packets-inputs bytes)
 
   transmitted-none : Transmitted rate [] [] [] (freshSending rate)
-  unfolding freshSending packetRest callsSymbols callsSender flatten
+  unfolding freshSending restOf callsSymbols callsSender flatten
   transmitted-none =
-      let e = sym (packets-none [] refl) in
+      let e = sym (chunks-few 188 (omega arith) [] (omega arith)) in
       record {
         on-air = calls-on-air [] tt modeOf rate formed ∙ ap (λ (l : List (List ℕ)). onAir (modeOf rate) (packetsFor l)) e;
         answered = ap (map sentNumber) e;
@@ -64,38 +54,38 @@ module _ (rate : ℕ) (h : modeOf rate .sent ≡ true) where
 
   -- a piece more
   module _ (bytes piece output answers : List ℕ) {number count packets : ℕ} {next : Sending} {left told : List ℕ}
-      (f : FeedsAll (holding (senderOf modeOf rate (packetsFor (packetsOf bytes))) (packetRest bytes)) piece output answers number count packets next left told) where
+      (f : FeedsAll (holding (senderOf modeOf rate (packetsFor (chunksOf 188 bytes))) (restOf 188 bytes)) piece output answers number count packets next left told) where
     before : List (List ℕ)
-    before = packetsFor (packetsOf bytes)
+    before = packetsFor (chunksOf 188 bytes)
 
     came : List ℕ
-    came = packetRest bytes ++ piece
+    came = restOf 188 bytes ++ piece
 
     w : Sending
-    w = holding (senderOf modeOf rate (packetsFor (packetsOf bytes))) (packetRest bytes)
+    w = holding (senderOf modeOf rate (packetsFor (chunksOf 188 bytes))) (restOf 188 bytes)
 
-    held : heldBytes w ≡ packetRest bytes
+    held : heldBytes w ≡ restOf 188 bytes
     unfolding w
-    held = held-are (senderOf modeOf rate (packetsFor (packetsOf bytes))) (packetRest bytes)
+    held = held-are (senderOf modeOf rate (packetsFor (chunksOf 188 bytes))) (restOf 188 bytes)
 
-    packets-are : packetsOf (heldBytes w ++ piece) ≡ packetsOf came
+    packets-are : chunksOf 188 (heldBytes w ++ piece) ≡ chunksOf 188 came
     unfolding came
-    packets-are = ap (λ (x : List ℕ). packetsOf (x ++ piece)) held
+    packets-are = ap (λ (x : List ℕ). chunksOf 188 (x ++ piece)) held
 
-    all-packets : packetsFor (packetsOf (bytes ++ piece)) ≡ before ++ packetsFor (packetsOf came)
+    all-packets : packetsFor (chunksOf 188 (bytes ++ piece)) ≡ before ++ packetsFor (chunksOf 188 came)
     unfolding before came
-    all-packets = ap packetsFor (cut bytes piece .packets) ∙ map-append packetFor (packetsOf bytes) (packetsOf (packetRest bytes ++ piece))
+    all-packets = ap packetsFor (cut 188 (omega arith) bytes piece .chunks-are) ∙ map-append packetFor (chunksOf 188 bytes) (chunksOf 188 (restOf 188 bytes ++ piece))
 
     -- what the sender sends after the packets before
-    further : (onAir (modeOf rate) before ++ flatten (callsSymbols modeOf (senderOf modeOf rate before) (packetsFor (packetsOf came)))
-        ≡ onAir (modeOf rate) (before ++ packetsFor (packetsOf came)))
-        × (callsSender modeOf (senderOf modeOf rate before) (packetsFor (packetsOf came)) ≡ senderOf modeOf rate (before ++ packetsFor (packetsOf came)))
+    further : (onAir (modeOf rate) before ++ flatten (callsSymbols modeOf (senderOf modeOf rate before) (packetsFor (chunksOf 188 came)))
+        ≡ onAir (modeOf rate) (before ++ packetsFor (chunksOf 188 came)))
+        × (callsSender modeOf (senderOf modeOf rate before) (packetsFor (chunksOf 188 came)) ≡ senderOf modeOf rate (before ++ packetsFor (chunksOf 188 came)))
     unfolding before
     further =
         sent-further rate formed h before (sizes bytes) (packets-inputs came)
-        (history (senderOf modeOf rate before) (packetsOf came) (ready-sent rate formed h before (sizes bytes)) (packets-inputs came))
+        (history (senderOf modeOf rate before) (chunksOf 188 came) (ready-sent rate formed h before (sizes bytes)) (packets-inputs came))
 
-    sent : take count left ≡ flatten (callsSymbols modeOf (senderOf modeOf rate before) (packetsFor (packetsOf came)))
+    sent : take count left ≡ flatten (callsSymbols modeOf (senderOf modeOf rate before) (packetsFor (chunksOf 188 came)))
     unfolding before w
     sent =
         ap (take count) (f .written)
@@ -105,31 +95,31 @@ module _ (rate : ℕ) (h : modeOf rate .sent ≡ true) where
     answers-count : length (fedAnswers w piece) ≡ packets
     unfolding w
     answers-count =
-        length-map (packetsOf (heldBytes w ++ piece)) sentNumber
-        ∙ count-packets (heldBytes w ++ piece)
+        length-map (chunksOf 188 (heldBytes w ++ piece)) sentNumber
+        ∙ length-chunks 188 (heldBytes w ++ piece)
         ∙ ap (λ (n : ℕ). n / 188) (length-append (heldBytes w) piece ∙ ap (λ (l : List ℕ). length l + length piece) held)
         ∙ sym (f .whole)
 
-    numbers-told : take packets told ≡ map sentNumber (packetsOf came)
+    numbers-told : take packets told ≡ map sentNumber (chunksOf 188 came)
     unfolding w
     numbers-told =
         ap (take packets) (f .answers-written)
         ∙ take-at (fedAnswers w piece) (drop packets answers) packets answers-count
         ∙ ap (map sentNumber) packets-are
 
-    transmitted-more : {symbols numbers : List ℕ} → symbols ≡ onAir (modeOf rate) (packetsFor (packetsOf bytes)) → numbers ≡ map sentNumber (packetsOf bytes)
+    transmitted-more : {symbols numbers : List ℕ} → symbols ≡ onAir (modeOf rate) (packetsFor (chunksOf 188 bytes)) → numbers ≡ map sentNumber (chunksOf 188 bytes)
         → Transmitted rate (bytes ++ piece) (symbols ++ take count left) (numbers ++ take packets told) next
     unfolding before came w
     transmitted-more {symbols} {numbers} a n = record {
       on-air = ap₂ (λ (x y : List ℕ). x ++ y) a sent ∙ further .0 ∙ ap (onAir (modeOf rate)) (sym all-packets);
       answered =
           ap₂ (λ (x y : List ℕ). x ++ y) n numbers-told
-          ∙ sym (map-append sentNumber (packetsOf bytes) (packetsOf came))
-          ∙ ap (map sentNumber) (sym (cut bytes piece .packets));
+          ∙ sym (map-append sentNumber (chunksOf 188 bytes) (chunksOf 188 came))
+          ∙ ap (map sentNumber) (sym (cut 188 (omega arith) bytes piece .chunks-are));
       state =
           f .sending
-          ∙ ap (λ (x : List ℕ). holding (callsSender modeOf (senderOf modeOf rate before) (packetsFor (packetsOf (x ++ piece)))) (packetRest (x ++ piece))) held
-          ∙ ap₂ holding (further .1 ∙ ap (senderOf modeOf rate) (sym all-packets)) (sym (cut bytes piece .rest));
+          ∙ ap (λ (x : List ℕ). holding (callsSender modeOf (senderOf modeOf rate before) (packetsFor (chunksOf 188 (x ++ piece)))) (restOf 188 (x ++ piece))) held
+          ∙ ap₂ holding (further .1 ∙ ap (senderOf modeOf rate) (sym all-packets)) (sym (cut 188 (omega arith) bytes piece .rest-is));
     }
 
   transmitted-feeds : {bytes symbols numbers : List ℕ} {w : Sending} → Transmitted rate bytes symbols numbers w
@@ -138,9 +128,9 @@ module _ (rate : ℕ) (h : modeOf rate .sent ≡ true) where
   transmitted-feeds {bytes} {symbols} {numbers} {w} t piece output answers (refused {number = n} e z) =
       let b : bytes ++ pick (eqb n 0) piece [] ≡ bytes = ap (λ (x : Bool). bytes ++ pick x piece []) (ne-eqb n 0 z) ∙ append-nil bytes in
       record {
-        on-air = append-nil symbols ∙ t .on-air ∙ ap (λ (l : List ℕ). onAir (modeOf rate) (packetsFor (packetsOf l))) (sym b);
-        answered = append-nil numbers ∙ t .answered ∙ ap (λ (l : List ℕ). map sentNumber (packetsOf l)) (sym b);
-        state = t .state ∙ ap (λ (l : List ℕ). holding (senderOf modeOf rate (packetsFor (packetsOf l))) (packetRest l)) (sym b);
+        on-air = append-nil symbols ∙ t .on-air ∙ ap (λ (l : List ℕ). onAir (modeOf rate) (packetsFor (chunksOf 188 l))) (sym b);
+        answered = append-nil numbers ∙ t .answered ∙ ap (λ (l : List ℕ). map sentNumber (chunksOf 188 l)) (sym b);
+        state = t .state ∙ ap (λ (l : List ℕ). holding (senderOf modeOf rate (packetsFor (chunksOf 188 l))) (restOf 188 l)) (sym b);
       }
   transmitted-feeds {bytes} {symbols} {numbers} {w} t piece output answers (fed {number = n} {count = c} {packets = k} {next = next} {left = left} {told = told} z f) =
       subst (λ (x : Bool). Transmitted rate (bytes ++ pick x piece []) (symbols ++ take c left) (numbers ++ take k told) next) (sym (eq-eqb n 0 (f .done)))
@@ -149,9 +139,9 @@ module _ (rate : ℕ) (h : modeOf rate .sent ≡ true) where
   transmitted-feedings : {bytes symbols numbers b s n : List ℕ} {w last : Sending} → Transmitted rate bytes symbols numbers w → SendingFeedings w b s n last
       → Transmitted rate (bytes ++ b) (symbols ++ s) (numbers ++ n) last
   transmitted-feedings {bytes} {symbols} {numbers} t none = record {
-    on-air = append-nil symbols ∙ t .on-air ∙ ap (λ (l : List ℕ). onAir (modeOf rate) (packetsFor (packetsOf l))) (sym (append-nil bytes));
-    answered = append-nil numbers ∙ t .answered ∙ ap (λ (l : List ℕ). map sentNumber (packetsOf l)) (sym (append-nil bytes));
-    state = t .state ∙ ap (λ (l : List ℕ). holding (senderOf modeOf rate (packetsFor (packetsOf l))) (packetRest l)) (sym (append-nil bytes));
+    on-air = append-nil symbols ∙ t .on-air ∙ ap (λ (l : List ℕ). onAir (modeOf rate) (packetsFor (chunksOf 188 l))) (sym (append-nil bytes));
+    answered = append-nil numbers ∙ t .answered ∙ ap (λ (l : List ℕ). map sentNumber (chunksOf 188 l)) (sym (append-nil bytes));
+    state = t .state ∙ ap (λ (l : List ℕ). holding (senderOf modeOf rate (packetsFor (chunksOf 188 l))) (restOf 188 l)) (sym (append-nil bytes));
   }
   transmitted-feedings {bytes} {symbols} {numbers} t (feeding {bytes = b} {symbols = s} {numbers = n} piece output answers left told number count packets f g) =
       let r = transmitted-feedings (transmitted-feeds t piece output answers f) g in
@@ -179,16 +169,16 @@ module _ (rate : ℕ) (h : modeOf rate .sent ≡ true) where
 
   module _ {bytes symbols numbers : List ℕ} {w : Sending} (t : Transmitted rate bytes symbols numbers w) where
     -- the last bytes, exactly, and so many
-    pub held-bytes : heldBytes w ≡ packetRest bytes
-    held-bytes = ap heldBytes (t .state) ∙ held-are (senderOf modeOf rate (packetsFor (packetsOf bytes))) (packetRest bytes)
+    pub held-bytes : heldBytes w ≡ restOf 188 bytes
+    held-bytes = ap heldBytes (t .state) ∙ held-are (senderOf modeOf rate (packetsFor (chunksOf 188 bytes))) (restOf 188 bytes)
 
     pub held-count : w .held ≡ length bytes % 188
-    held-count = ap (λ (x : Sending). x .held) (t .state) ∙ length-rest bytes
+    held-count = ap (λ (x : Sending). x .held) (t .state) ∙ length-rest 188 bytes
 
     -- no call refuses it with 5 or 6
-    pub transmitted-range : canSend w ≡ true
+    transmitted-range : canSend w ≡ true
     transmitted-range =
-        let packets = packetsFor (packetsOf bytes) in
+        let packets = packetsFor (chunksOf 188 bytes) in
         ap canSend (t .state) ∙ holding-range (senderOf modeOf rate packets) bytes (ready-sent rate formed h packets (sizes bytes))
 
 -- a fresh one that was not refused can send

@@ -1,12 +1,16 @@
--- For callers: with room enough nothing is refused, and a sending that can send stays so.
+-- What the tests of a sending tell; for callers: with room enough nothing is refused, and a sending that can send stays so.
 -- Assumes nothing.
 use mathlib.Core.Path.{_≡_, refl, ap, _∙_}
 use mathlib.Core.Bool.{true}
 use mathlib.Core.List.{List, _++_}
-use Prim.Native.Nat.{ℕ}
+use Prim.Native.Nat.{ℕ, _<_}
 use native.Mathlib.Omega.{arith}
-use borrow.Author.Tests.{lt-ltb, le-ltb}
+use borrow.Author.Tests.{lt-ltb, le-ltb, ltb-true}
 use lib.ListN.{length}
+use lib.Dec.{ltb}
+use Rattle.common.specs.Lists.{restOf}
+use Rattle.common.proofs.Chunks.{length-rest}
+use Rattle.common.proofs.Choice.{both-true}
 use Rattle.puncturing.specs.Mode.{modeOf}
 use Rattle.sender.specs.Input.{packetsFor}
 use Rattle.sender.specs.Calls.{callsSender}
@@ -14,14 +18,22 @@ use Rattle.sender.specs.declared.Sender.{Sender}
 use Rattle.sender.proofs.Stages.{range-test}
 use Rattle.sender.proofs.Ready.{Ready, ready-range}
 use Rattle.sender.proofs.History.{ready-calls}
-use Rattle.sending.specs.Sending.{holding, heldBytes, canSend, packetRest, wholePackets, sendingFeedNumber, OutputsFit, FeedsAll, FeedsSending, refused, fed}
+use Rattle.sender.specs.Send.{senderInRange, isSent}
+use Rattle.sending.specs.Sending.{holding, heldBytes, canSend, wholePackets, sendingFeedNumber, OutputsFit, FeedsAll, FeedsSending, refused, fed, sendingInRange}
 use Rattle.sending.specs.declared.Sending.{Sending}
-use Rattle.sending.proofs.Pieces.{length-rest, sending-range, sending-sent}
 use Rattle.sending.proofs.Progress.{ready-of}
 
-pub holding-range : (s : Sender) (bytes : List ℕ) → Ready modeOf s → canSend (holding s (packetRest bytes)) ≡ true
+pub sending-range : (w : Sending) → sendingInRange w ≡ true → (senderInRange modeOf (w .sender) ≡ true) × (w .held < 188)
+sending-range w e =
+    let p = both-true (senderInRange modeOf (w .sender)) (ltb (w .held) 188) e in
+    (p .0, ltb-true (w .held) 188 (p .1))
+
+pub sending-sent : (w : Sending) → canSend w ≡ true → (sendingInRange w ≡ true) × (isSent modeOf (w .sender) ≡ true)
+sending-sent w e = both-true (sendingInRange w) (isSent modeOf (w .sender)) e
+
+pub holding-range : (s : Sender) (bytes : List ℕ) → Ready modeOf s → canSend (holding s (restOf 188 bytes)) ≡ true
 holding-range s bytes g =
-    simp (range-test modeOf s (ready-range s g), lt-ltb (length (packetRest bytes)) 188 (omega (arith, length-rest bytes)), g .sent)
+    simp (range-test modeOf s (ready-range s g), lt-ltb (length (restOf 188 bytes)) 188 (omega (arith, length-rest 188 bytes)), g .sent)
 
 module _ {w : Sending} {piece output answers : List ℕ} {number count packets : ℕ} {next : Sending} {left told : List ℕ}
     (f : FeedsSending w piece output answers number count packets next left told) where

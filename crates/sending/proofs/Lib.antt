@@ -1,4 +1,3 @@
-pub mod Pieces
-pub mod Progress
+mod Progress
 pub mod Laws
 pub mod History

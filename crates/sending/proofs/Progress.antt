@@ -10,7 +10,8 @@ use native.Mathlib.Numerals.{add-one}
 use borrow.Rule.Slice.PartMut.{putMid, midOf}
 use lib.ListN.{length, getD, take, drop, set, length-append, length-drop, drop-of-length-le}
 use lib.Seq.{take-all, take-at, drop-at, drop-drop, drop-cons, set-at, take-append-add, drop-append-add, length-take-le}
-use Rattle.common.specs.Lists.{padded}
+use Rattle.common.specs.Lists.{padded, chunksOf, restOf}
+use Rattle.common.proofs.Chunks.{chunks-few, chunks-more, rest-few, rest-more}
 use Rattle.puncturing.specs.Mode.{modeOf}
 use Rattle.inner_code.proofs.Coder as range
 use Rattle.sender.specs.Input.{isInput, packetFor, packetsFor, sentNumber}
@@ -22,11 +23,8 @@ use Rattle.sender.proofs.Stages.{in-range, symbol-count}
 use Rattle.sender.proofs.Ready.{Ready, ready-range, ready-after}
 use Rattle.sender.proofs.History.{Answered, input-sent}
 use Rattle.sender.proofs.Counts.{most-symbols}
-use Rattle.transmission.specs.Run.{packetsOf}
-use Rattle.transmission.proofs.Buffers.{packets-more}
-use Rattle.sending.specs.Sending.{heldBytes, packetRest, wholePackets, wholeCount, fedSymbols, fedAnswers, OutputsFit, FeedsAll}
+use Rattle.sending.specs.Sending.{heldBytes, wholePackets, wholeCount, fedSymbols, fedAnswers, OutputsFit, FeedsAll}
 use Rattle.sending.specs.declared.Sending.{Sending}
-use Rattle.sending.proofs.Pieces.{rest-few, rest-more, packets-few}
 
 -- a sender in range whose arrays are whole
 pub ready-of : (s : Sender) → length (s .interleaver .branches .cells) ≡ 1122 → length (s .interleaver .branches .positions) ≡ 12 → senderInRange modeOf s ≡ true → isSent modeOf s ≡ true → Ready modeOf s
@@ -56,10 +54,10 @@ pub record Progress (w : Sending) (piece output₀ answers₀ output answers : L
   pub numbered : length told ≡ packets
   pub written : output ≡ front ++ drop count output₀
   pub answered : answers ≡ told ++ drop packets answers₀
-  pub symbols : front ++ flatten (callsSymbols modeOf s (packetsFor (packetsOf (leftOf w piece held at)))) ≡ fedSymbols w piece
-  pub numbers : told ++ map sentNumber (packetsOf (leftOf w piece held at)) ≡ fedAnswers w piece
-  pub sender : callsSender modeOf s (packetsFor (packetsOf (leftOf w piece held at))) ≡ callsSender modeOf (w .sender) (packetsFor (wholePackets w piece))
-  pub rest : packetRest (leftOf w piece held at) ≡ packetRest (heldBytes w ++ piece)
+  pub symbols : front ++ flatten (callsSymbols modeOf s (packetsFor (chunksOf 188 (leftOf w piece held at)))) ≡ fedSymbols w piece
+  pub numbers : told ++ map sentNumber (chunksOf 188 (leftOf w piece held at)) ≡ fedAnswers w piece
+  pub sender : callsSender modeOf s (packetsFor (chunksOf 188 (leftOf w piece held at))) ≡ callsSender modeOf (w .sender) (packetsFor (wholePackets w piece))
+  pub rest : restOf 188 (leftOf w piece held at) ≡ restOf 188 (heldBytes w ++ piece)
   pub total : packets + (held + (length piece - at)) / 188 ≡ wholeCount w piece
   pub few : count ≤ 1632 * packets
 
@@ -111,8 +109,8 @@ module _ {w : Sending} {piece output₀ answers₀ output answers : List ℕ} {s
     few-left : length (leftOf w piece held at) < 188
     few-left = omega (arith, left-size, p .short)
 
-    none-left : packetsOf (leftOf w piece held at) ≡ []
-    none-left = packets-few (leftOf w piece held at) few-left
+    none-left : chunksOf 188 (leftOf w piece held at) ≡ []
+    none-left = chunks-few 188 (omega arith) (leftOf w piece held at) few-left
 
     all-symbols : p .front ≡ fedSymbols w piece
     unfolding callsSymbols flatten
@@ -128,15 +126,15 @@ module _ {w : Sending} {piece output₀ answers₀ output answers : List ℕ} {s
     unfolding callsSender
     last-sender = ap (λ (l : List (List ℕ)). callsSender modeOf s (packetsFor l)) (sym none-left) ∙ p .sender
 
-    last-rest : leftOf w piece held at ≡ packetRest (heldBytes w ++ piece)
-    last-rest = sym (rest-few (leftOf w piece held at) few-left) ∙ p .rest
+    last-rest : leftOf w piece held at ≡ restOf 188 (heldBytes w ++ piece)
+    last-rest = sym (rest-few 188 (omega arith) (leftOf w piece held at) few-left) ∙ p .rest
 
     pub progress-end : (pending : List ℕ) → pending ≡ padded 188 (take held (w .pending) ++ take (length piece - at) (drop at piece))
         → FeedsAll w piece output₀ answers₀ 0 count packets (record { sender = s; pending = pending; held = held + (length piece - at) }) output answers
     progress-end pending e =
-        let l : take held (w .pending) ++ take (length piece - at) (drop at piece) ≡ packetRest (heldBytes w ++ piece)
+        let l : take held (w .pending) ++ take (length piece - at) (drop at piece) ≡ restOf 188 (heldBytes w ++ piece)
         = ap (λ (x : List ℕ). take held (w .pending) ++ x) (take-all (length piece - at) (drop at piece) (omega (arith, length-drop at piece))) ∙ last-rest in
-        let n : held + (length piece - at) ≡ length (packetRest (heldBytes w ++ piece)) = sym left-size ∙ ap length last-rest in
+        let n : held + (length piece - at) ≡ length (restOf 188 (heldBytes w ++ piece)) = sym left-size ∙ ap length last-rest in
         record {
           done = refl;
           counted = sym (p .counted) ∙ ap length all-symbols;
@@ -155,7 +153,7 @@ module _ {w : Sending} {piece output₀ answers₀ output answers : List ℕ} {s
     packet : List ℕ
     packet = packetFor input
 
-    pub end-within : at + (188 - held) ≤ length piece
+    end-within : at + (188 - held) ≤ length piece
     end-within = omega (arith, p .short, p .within)
 
     input-sized : length input ≡ 188
@@ -180,8 +178,8 @@ module _ {w : Sending} {piece output₀ answers₀ output answers : List ℕ} {s
     enough : 188 ≤ length (leftOf w piece held at)
     enough = omega (arith, left-size, p .short)
 
-    cut-packet : packetsOf (leftOf w piece held at) ≡ input ∷ packetsOf (leftOf w piece 0 (at + (188 - held)))
-    cut-packet = packets-more (leftOf w piece held at) enough ∙ ap₂ (λ (x : List ℕ) (y : List ℕ). x ∷ packetsOf y) first later
+    cut-packet : chunksOf 188 (leftOf w piece held at) ≡ input ∷ chunksOf 188 (leftOf w piece 0 (at + (188 - held)))
+    cut-packet = chunks-more 188 (omega arith) (leftOf w piece held at) enough ∙ ap₂ (λ (x : List ℕ) (y : List ℕ). x ∷ chunksOf 188 y) first later
 
     is-input : isInput input ≡ true
     is-input = input-test input (inr input-sized)
@@ -265,20 +263,20 @@ module _ {w : Sending} {piece output₀ answers₀ output answers : List ℕ} {s
                 ∙ sym (append-assoc (p .front) (sentSymbols modeOf s packet) (drop (count + n) output₀));
             answered = next-answers said;
             symbols =
-                ap (λ (x : Sender). (p .front ++ sentSymbols modeOf s packet) ++ flatten (callsSymbols modeOf x (packetsFor (packetsOf (leftOf w piece 0 (at + (188 - held))))))) e
+                ap (λ (x : Sender). (p .front ++ sentSymbols modeOf s packet) ++ flatten (callsSymbols modeOf x (packetsFor (chunksOf 188 (leftOf w piece 0 (at + (188 - held))))))) e
                 ∙ append-assoc (p .front) (sentSymbols modeOf s packet) _
                 ∙ ap (λ (l : List (List ℕ)). p .front ++ flatten (callsSymbols modeOf s (packetsFor l))) (sym cut-packet)
                 ∙ p .symbols;
             numbers =
                 append-assoc (p .told) (said ∷ []) _
-                ∙ ap (λ (j : ℕ). p .told ++ j ∷ map sentNumber (packetsOf (leftOf w piece 0 (at + (188 - held))))) a
+                ∙ ap (λ (j : ℕ). p .told ++ j ∷ map sentNumber (chunksOf 188 (leftOf w piece 0 (at + (188 - held))))) a
                 ∙ ap (λ (l : List (List ℕ)). p .told ++ map sentNumber l) (sym cut-packet)
                 ∙ p .numbers;
             sender =
-                ap (λ (x : Sender). callsSender modeOf x (packetsFor (packetsOf (leftOf w piece 0 (at + (188 - held)))))) e
+                ap (λ (x : Sender). callsSender modeOf x (packetsFor (chunksOf 188 (leftOf w piece 0 (at + (188 - held)))))) e
                 ∙ ap (λ (l : List (List ℕ)). callsSender modeOf s (packetsFor l)) (sym cut-packet)
                 ∙ p .sender;
-            rest = ap packetRest (sym later) ∙ sym (rest-more (leftOf w piece held at) enough) ∙ p .rest;
+            rest = ap (restOf 188) (sym later) ∙ sym (rest-more 188 (omega arith) (leftOf w piece held at) enough) ∙ p .rest;
             total = omega (arith, p .total, p .short, h);
             few = omega (arith, p .few, sent-count, few-symbols);
           }

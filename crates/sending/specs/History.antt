@@ -7,12 +7,12 @@ use Prim.Native.Nat.{ℕ}
 use lib.Dec.{eqb}
 use lib.ListN.{take}
 use Rattle.common.specs.Choice.{pick}
+use Rattle.common.specs.Lists.{chunksOf, restOf}
 use Rattle.puncturing.specs.Mode.{modeOf}
 use Rattle.sender.specs.Standard.{onAir}
 use Rattle.sender.specs.Input.{packetsFor, sentNumber}
 use Rattle.sender.specs.Calls.{senderOf}
-use Rattle.transmission.specs.Run.{packetsOf}
-use Rattle.sending.specs.Sending.{holding, packetRest, FeedsSending}
+use Rattle.sending.specs.Sending.{holding, FeedsSending}
 use Rattle.sending.specs.declared.Sending.{Sending}
 
 -- A history of calls, each with the sending that the one before it left: the bytes that came, those of pieces that were not refused; and
@@ -26,6 +26,6 @@ pub data SendingFeedings : Sending → List ℕ → List ℕ → List ℕ → Se
 -- What bytes come to, from a fresh sending: the symbols of the standard for their whole packets, with null packets put in; for each packet the
 -- number that says whether it was replaced; the sender that has sent them; and the bytes after the last whole packet, held.
 pub record Transmitted (rate : ℕ) (bytes symbols numbers : List ℕ) (w : Sending) : Type 0 where
-  pub on-air : symbols ≡ onAir (modeOf rate) (packetsFor (packetsOf bytes))
-  pub answered : numbers ≡ map sentNumber (packetsOf bytes)
-  pub state : w ≡ holding (senderOf modeOf rate (packetsFor (packetsOf bytes))) (packetRest bytes)
+  pub on-air : symbols ≡ onAir (modeOf rate) (packetsFor (chunksOf 188 bytes))
+  pub answered : numbers ≡ map sentNumber (chunksOf 188 bytes)
+  pub state : w ≡ holding (senderOf modeOf rate (packetsFor (chunksOf 188 bytes))) (restOf 188 bytes)

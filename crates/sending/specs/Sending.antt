@@ -4,17 +4,16 @@
 use mathlib.Core.Path.{_≡_}
 use mathlib.Core.Bool.{Bool, true, false}
 use mathlib.Core.List.{List, _++_, map, flatten}
-use Prim.Native.Nat.{ℕ, _+_, _-_, _/_, _%_, _≤_}
+use Prim.Native.Nat.{ℕ, _+_, _/_, _≤_}
 use lib.Dec.{ltb}
 use lib.ListN.{length, take, drop, replicate}
 use Rattle.common.specs.Choice.{pick}
-use Rattle.common.specs.Lists.{padded}
+use Rattle.common.specs.Lists.{padded, chunksOf, restOf}
 use Rattle.puncturing.specs.Mode.{modeOf}
 use Rattle.sender.specs.Input.{packetsFor, sentNumber}
 use Rattle.sender.specs.Send.{freshSender, senderInRange, isSent}
 use Rattle.sender.specs.Calls.{callsSymbols, callsSender}
 use Rattle.sender.specs.declared.Sender.{Sender}
-use Rattle.transmission.specs.Run.{packetsOf}
 use Rattle.sending.specs.declared.Sending.{Sending}
 
 -- a sender, and the bytes of a packet that is not whole yet
@@ -36,13 +35,9 @@ sendingInRange w = pick (senderInRange modeOf (w .sender)) (ltb (w .held) 188) f
 abbrev pub canSend : Sending → Bool
 canSend w = pick (sendingInRange w) (isSent modeOf (w .sender)) false
 
--- the bytes after the last whole packet
-unfoldable pub packetRest : List ℕ → List ℕ
-packetRest bytes = drop (length bytes - length bytes % 188) bytes
-
--- the packets that are whole with a piece, and how many they are
+-- the packets that are whole with a piece, and how many they are; the bytes after the last of them are the rest
 abbrev pub wholePackets : Sending → List ℕ → List (List ℕ)
-wholePackets w piece = packetsOf (heldBytes w ++ piece)
+wholePackets w piece = chunksOf 188 (heldBytes w ++ piece)
 
 abbrev pub wholeCount : Sending → List ℕ → ℕ
 wholeCount w piece = (w .held + length piece) / 188
@@ -55,7 +50,7 @@ abbrev pub fedAnswers : Sending → List ℕ → List ℕ
 fedAnswers w piece = map sentNumber (wholePackets w piece)
 
 abbrev pub fedSending : Sending → List ℕ → Sending
-fedSending w piece = holding (callsSender modeOf (w .sender) (packetsFor (wholePackets w piece))) (packetRest (heldBytes w ++ piece))
+fedSending w piece = holding (callsSender modeOf (w .sender) (packetsFor (wholePackets w piece))) (restOf 188 (heldBytes w ++ piece))
 
 -- 5 for a state out of range, 6 for one whose mode is not sent, 4 where there is not room for 1,632 symbols, the most that a packet gives, or not a byte for the answer, for each
 -- packet that is whole; 0 where nothing is refused

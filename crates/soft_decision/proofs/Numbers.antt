@@ -10,7 +10,8 @@ use lib.Dec.{T, eqb, eqb-refl}
 use lib.Ieee.{Float, nan, inf, fin, le, ne, isNan, ofBits, binary32, up, down}
 use lib.ListN.{length}
 use Rattle.common.specs.Choice.{indicator}
-use Rattle.soft_decision.specs.Level.{thresholds, atOrBelow, levelOf}
+use Rattle.common.specs.Lists.{total}
+use Rattle.soft_decision.specs.Level.{thresholds, levelOf}
 use Rattle.soft_decision.specs.Cost.{numberCosts, symbolCosts, free, byLevel}
 use Rattle.soft_decision.specs.Steps.{costAt}
 use Rattle.soft_decision.specs.declared.BitCosts.{BitCosts}
@@ -40,7 +41,7 @@ count-le : (b : Bool) → indicator b ≤ 1
 count-le true = omega arith
 count-le false = omega arith
 
-at-most : (ts : List Float) (x : Float) → atOrBelow ts x ≤ length ts
+at-most : (ts : List Float) (x : Float) → total (λ t. indicator (le t x)) ts ≤ length ts
 at-most [] x = omega arith
 at-most (t ∷ ts) x = omega (arith, count-le (le t x), at-most ts x)
 

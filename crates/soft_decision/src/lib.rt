@@ -24,9 +24,9 @@ pub enum Received {
 }
 
 // The levels of the two numbers of a point.
-pub struct Levels {
-    pub i: u8,
-    pub q: u8,
+struct Levels {
+    i: u8,
+    q: u8,
 }
 
 // What deciding a bit as 0, and as 1, costs.
@@ -62,7 +62,7 @@ fn number_level(x: f32) -> u8
 }
 
 // The levels of a point.
-pub fn level(point: Point) -> Levels
+fn level(point: Point) -> Levels
     ensures { λ r. ⌜ (r .i ≡ levelOf (point .i)) × (r .q ≡ levelOf (point .q)) × (r .i ≤ 7) × (r .q ≤ 7) ⌝ }
 {
     let i = point.i;
@@ -103,7 +103,7 @@ fn point_of(symbol: Received) -> Point
 }
 
 // What a received symbol makes its two bits cost.
-pub fn costs(symbol: Received) -> SymbolCosts
+fn costs(symbol: Received) -> SymbolCosts
     ensures { λ r. ⌜ r ≡ symbolCosts symbol ⌝ }
 {
     let point = point_of(symbol);

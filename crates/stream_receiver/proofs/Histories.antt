@@ -3,19 +3,19 @@
 -- Assumes nothing.
 use mathlib.Core.Path.{_≡_, refl, sym, ap, ap₂, subst, subst₂, _∙_}
 use mathlib.Core.Bool.{Bool, true, false}
-use mathlib.Core.List.{List, [], _∷_, _++_, append-assoc, append-nil, flatten}
+use mathlib.Core.List.{List, [], _++_, append-assoc, append-nil, flatten}
 use Prim.Native.Nat.{ℕ, _+_, _-_, _*_, _/_, _%_, _≤_}
 use native.Mathlib.Omega.{arith}
 use borrow.Author.Tests.{eq-eqb, ne-eqb, ltb-false}
 use lib.Dec.{ltb, eqb}
 use lib.ListN.{length, take}
 use Rattle.common.specs.Choice.{pick}
+use Rattle.common.specs.Lists.{restOf}
 use Rattle.receiver.specs.Receive.{freshReceiver}
 use Rattle.receiver.specs.declared.Receiver.{Receiver}
-use Rattle.recording.specs.Recording.{restOf}
 use Rattle.recording.proofs.Decided.{recording-unique, recording-total}
 use Rattle.stream_receiver.specs.Feed.{holding, freshStream, capacityOf, receiverFeedNumber, FeedsReceiver, refused, fed}
-use Rattle.stream_receiver.specs.History.{Feeding, ReceiverFeedings, afterFeedings, bytesIn, bytesOut, Reception}
+use Rattle.stream_receiver.specs.History.{ReceiverFeedings, none, feeding, Reception}
 use Rattle.stream_receiver.specs.declared.StreamReceiver.{StreamReceiver}
 use Rattle.stream_receiver.proofs.Laws.{reception-none, reception-held, reception-range, reception-capacity, reception-taken-piece}
 
@@ -54,17 +54,15 @@ reception-feeds {bytes} {written} {i} r piece output number count next exit (fed
 
 -- ---- the theorem
 
-reception-calls : (cs : List Feeding) {bytes written : List ℕ} {i : StreamReceiver} → Reception bytes written i → ReceiverFeedings i cs
-    → Reception (bytes ++ bytesIn cs) (written ++ bytesOut cs) (afterFeedings i cs)
-reception-calls [] {bytes} {written} {i} r d = subst₂ (λ (x y : List ℕ). Reception x y i) (sym (append-nil bytes)) (sym (append-nil written)) r
-reception-calls (c ∷ cs) {bytes} {written} {i} r d =
-    let b = pick (eqb (c .number) 0) (c .piece) [] in
-    let o = take (c .count) (c .exit) in
-    subst₂ (λ (x y : List ℕ). Reception x y (afterFeedings (c .next) cs)) (append-assoc bytes b (bytesIn cs)) (append-assoc written o (bytesOut cs))
-    (reception-calls cs (reception-feeds r (c .piece) (c .output) (c .number) (c .count) (c .next) (c .exit) (d .0)) (d .1))
+reception-calls : {bytes written came out : List ℕ} {i last : StreamReceiver} → Reception bytes written i → ReceiverFeedings i came out last
+    → Reception (bytes ++ came) (written ++ out) last
+reception-calls {bytes} {written} {i = i} r none = subst₂ (λ (x y : List ℕ). Reception x y i) (sym (append-nil bytes)) (sym (append-nil written)) r
+reception-calls {bytes} {written} {last = last} r (feeding {next = next} {bytes = more} {written = out} piece output exit number count f h) =
+    subst₂ (λ (x y : List ℕ). Reception x y last) (append-assoc bytes (pick (eqb number 0) piece []) more) (append-assoc written (take count exit) out)
+    (reception-calls (reception-feeds r piece output number count next exit f) h)
 
-pub every-history : (cs : List Feeding) → ReceiverFeedings freshStream cs → Reception (bytesIn cs) (bytesOut cs) (afterFeedings freshStream cs)
-every-history cs d = reception-calls cs reception-none d
+pub every-history : {bytes written : List ℕ} {last : StreamReceiver} → ReceiverFeedings freshStream bytes written last → Reception bytes written last
+every-history h = reception-calls reception-none h
 
 -- ---- what bytes come to is decided
 
@@ -72,20 +70,17 @@ pub record SameReception (written written′ : List ℕ) (i i′ : StreamReceive
   pub out : written ≡ written′
   pub state : i ≡ i′
 
-pub reception-unique : {bytes w v : List ℕ} {i j : StreamReceiver} → Reception bytes w i → Reception bytes v j → SameReception w v i j
+reception-unique : {bytes w v : List ℕ} {i j : StreamReceiver} → Reception bytes w i → Reception bytes v j → SameReception w v i j
 reception-unique {bytes} a b =
     let e = recording-unique (a .recording) (b .recording) in
     record {
       out = a .given ∙ ap flatten (e .given) ∙ sym (b .given);
-      state = a .kept ∙ ap (λ (s : Receiver). holding s (restOf bytes)) (e .state) ∙ sym (b .kept);
+      state = a .kept ∙ ap (λ (s : Receiver). holding s (restOf 204 bytes)) (e .state) ∙ sym (b .kept);
     }
 
 -- any two cuttings of the same bytes
-pub any-pieces : (cs ds : List Feeding) → ReceiverFeedings freshStream cs → ReceiverFeedings freshStream ds → bytesIn cs ≡ bytesIn ds
-    → SameReception (bytesOut cs) (bytesOut ds) (afterFeedings freshStream cs) (afterFeedings freshStream ds)
-any-pieces cs ds p q e =
-    reception-unique
-    (subst (λ (x : List ℕ). Reception x (bytesOut cs) (afterFeedings freshStream cs)) e (every-history cs p)) (every-history ds q)
+pub any-pieces : {bytes w v : List ℕ} {i j : StreamReceiver} → ReceiverFeedings freshStream bytes w i → ReceiverFeedings freshStream bytes v j → SameReception w v i j
+any-pieces p q = reception-unique (every-history p) (every-history q)
 
 pub record ReceptionOf (bytes : List ℕ) : Type 0 where
   pub written : List ℕ
@@ -97,6 +92,6 @@ reception-total bytes h =
     let r = recording-total freshReceiver bytes [] in
     record {
       written = flatten (r .packets);
-      stream = holding (r .last) (restOf bytes);
+      stream = holding (r .last) (restOf 204 bytes);
       reception = record { packets = r .packets; recording = r .recording; given = refl; kept = refl; few = h };
     }

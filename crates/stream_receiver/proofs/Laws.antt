@@ -2,19 +2,22 @@
 -- Assumes nothing.
 use mathlib.Core.Path.{_≡_, refl, sym, ap, ap₂, subst, _∙_}
 use mathlib.Core.Bool.{true}
-use mathlib.Core.List.{List, [], _++_, append-assoc, flatten}
+use mathlib.Core.List.{List, [], _++_, flatten}
 use Prim.Native.Nat.{ℕ, zero, _+_, _-_, _*_, _/_, _%_, _≤_, _<_}
 use native.Mathlib.Omega.{arith}
 use borrow.Author.Tests.{lt-ltb}
-use lib.ListN.{length, take, drop, replicate, length-append, length-drop, take-append-drop}
-use lib.Seq.{take-at, length-take-le, drop-append-add}
+use lib.ListN.{length, take, drop, replicate, length-append}
+use lib.Seq.{take-at}
+use Rattle.common.specs.Lists.{restOf}
+use Rattle.common.proofs.Chunks.{length-rest, cut}
 use Rattle.interleaver.proofs.Blocks.{flatten-join}
 use Rattle.receiver.specs.Receive.{freshReceiver}
 use Rattle.receiver.specs.declared.Receiver.{Receiver}
 use Rattle.receiver.proofs.Reached.{Sound, sound-range, sound-fresh}
-use Rattle.recording.specs.Recording.{restOf, Recording, TakesRecording}
-use Rattle.recording.proofs.Joins.{recording-join, recording-few}
+use Rattle.recording.specs.Recording.{Recording, TakesRecording}
+use Rattle.recording.proofs.Joins.{recording-join}
 use Rattle.recording.proofs.Decided.{recording-taken}
+use Rattle.recording.proofs.Recordings.{recording-few}
 use Rattle.stream_receiver.specs.Feed.{holding, heldBytes, freshStream, streamInRange, capacityOf, TakesPiece}
 use Rattle.stream_receiver.specs.History.{Reception}
 use Rattle.stream_receiver.specs.declared.StreamReceiver.{StreamReceiver}
@@ -24,18 +27,12 @@ use Rattle.stream_receiver.specs.declared.StreamReceiver.{StreamReceiver
 held-holding : (s : Receiver) (rest : List ℕ) → heldBytes (holding s rest) ≡ rest
 held-holding s rest = take-at rest (replicate (204 - length rest) zero) (length rest) refl
 
-length-rest : (bytes : List ℕ) → length (restOf bytes) ≡ length bytes % 204
-length-rest bytes = length-drop (length bytes - length bytes % 204) bytes ∙ back (length bytes)
-  where
-    back : (n : ℕ) → n - (n - n % 204) ≡ n % 204
-    back n = omega arith
-
 module _ {bytes written : List ℕ} {i : StreamReceiver} (r : Reception bytes written i) where
   pub reception-held : i .held ≡ length bytes % 204
-  reception-held = ap (λ (j : StreamReceiver). j .held) (r .kept) ∙ length-rest bytes
+  reception-held = ap (λ (j : StreamReceiver). j .held) (r .kept) ∙ length-rest 204 bytes
 
-  pub reception-bytes : heldBytes i ≡ restOf bytes
-  reception-bytes = ap heldBytes (r .kept) ∙ held-holding (i .receiver) (restOf bytes)
+  reception-bytes : heldBytes i ≡ restOf 204 bytes
+  reception-bytes = ap heldBytes (r .kept) ∙ held-holding (i .receiver) (restOf 204 bytes)
 
   sound-taken : Sound (i .receiver) × (i .receiver .counts .taken ≡ length bytes / 204)
   unfolding freshReceiver
@@ -44,7 +41,7 @@ module _ {bytes written : List ℕ} {i : StreamReceiver} (r : Reception bytes wr
       (t .0, omega (arith, t .1))
 
   -- the count of document 01: the whole blocks
-  pub reception-taken : i .receiver .counts .taken ≡ length bytes / 204
+  reception-taken : i .receiver .counts .taken ≡ length bytes / 204
   reception-taken = sound-taken .1
 
   pub reception-range : streamInRange i ≡ true
@@ -64,7 +61,7 @@ reception-full r e = (omega (arith, reception-held r, reception-taken r, r .few,
 -- ---- none
 
 pub reception-none : Reception [] [] freshStream
-unfolding freshStream flatten
+unfolding freshStream flatten restOf
 reception-none = record {
   packets = [];
   recording = recording-few freshReceiver [] [] (omega arith);
@@ -78,33 +75,18 @@ reception-none = record {
 takes-out : {s last : Receiver} {bytes marks output exit : List ℕ} {count : ℕ} (t : TakesRecording s bytes marks output count last exit) → take count exit ≡ flatten (t .packets)
 takes-out {s} {last} {bytes} {marks} {output} {exit} {count} t = ap (take count) (t .written) ∙ take-at (flatten (t .packets)) (drop count output) count (sym (t .counted))
 
-rest-join : (a b : List ℕ) → restOf (restOf a ++ b) ≡ restOf (a ++ b)
-rest-join a b =
-    let k = length a - length a % 204 in
-    let w = take k a in
-    let split : a ++ b ≡ w ++ (restOf a ++ b) = ap (λ (l : List ℕ). l ++ b) (sym (take-append-drop k a)) ∙ append-assoc w (restOf a) b in
-    let n : length w ≡ k = length-take-le k a (omega arith) in
-    let l : length (a ++ b) ≡ k + length (restOf a ++ b) = ap length split ∙ length-append w (restOf a ++ b) ∙ ap (λ (j : ℕ). j + length (restOf a ++ b)) n in
-    let e : length (a ++ b) - length (a ++ b) % 204 ≡ length w + (length (restOf a ++ b) - length (restOf a ++ b) % 204)
-    = ap (λ (j : ℕ). j - j % 204) l ∙ shift (length a) (length (restOf a ++ b)) ∙ ap (λ (j : ℕ). j + (length (restOf a ++ b) - length (restOf a ++ b) % 204)) (sym n) in
-    sym
-    (ap₂ drop e split ∙ drop-append-add w (restOf a ++ b) (length (restOf a ++ b) - length (restOf a ++ b) % 204))
-  where
-    shift : (n m : ℕ) → n - n % 204 + m - (n - n % 204 + m) % 204 ≡ n - n % 204 + (m - m % 204)
-    shift n m = omega arith
-
 module _ {bytes written : List ℕ} {i : StreamReceiver} (r : Reception bytes written i) {piece output exit : List ℕ} {count : ℕ} {next : StreamReceiver} where
   pub reception-taken-piece : TakesPiece i piece output count next exit → length bytes + length piece ≤ 204 * 4294967295
       → Reception (bytes ++ piece) (written ++ take count exit) next
   reception-taken-piece t h =
       let k = t .takes in
-      let g : Recording (i .receiver) (restOf bytes ++ piece) [] (k .packets) (next .receiver)
+      let g : Recording (i .receiver) (restOf 204 bytes ++ piece) [] (k .packets) (next .receiver)
       = subst (λ (x : List ℕ). Recording (i .receiver) (x ++ piece) [] (k .packets) (next .receiver)) (reception-bytes r) (k .recording) in
       record {
         packets = r .packets ++ k .packets;
         recording = recording-join piece (r .recording) g;
         given = ap₂ (λ (x y : List ℕ). x ++ y) (r .given) (takes-out k) ∙ sym (flatten-join (r .packets) (k .packets));
         kept =
-            t .kept ∙ ap (holding (next .receiver)) (ap (λ (x : List ℕ). restOf (x ++ piece)) (reception-bytes r) ∙ rest-join bytes piece);
+            t .kept ∙ ap (holding (next .receiver)) (ap (λ (x : List ℕ). restOf 204 (x ++ piece)) (reception-bytes r) ∙ sym (cut 204 (omega arith) bytes piece .rest-is));
         few = omega (arith, length-append bytes piece);
       }

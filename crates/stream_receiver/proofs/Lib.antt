@@ -1,4 +1,4 @@
-pub mod Pieces
+mod Pieces
 pub mod Laws
 pub mod Histories
 pub mod Reporting

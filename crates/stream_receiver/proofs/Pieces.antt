@@ -13,10 +13,11 @@ use lib.ListN.{length, take, drop, length-append, length-drop, take-append-drop,
 use borrow.Rule.Slice.PartMut.{putMid, midOf}
 use lib.Seq.{take-all, length-take-le, drop-append-add}
 use Rattle.common.proofs.Choice.{both-true}
-use Rattle.common.specs.Lists.{padded}
+use Rattle.common.specs.Lists.{padded, restOf}
 use Rattle.common.proofs.Padded.{padded-full}
+use Rattle.common.proofs.Chunks.{rest-few}
 use Rattle.receiver.specs.Receive.{receiverInRange}
-use Rattle.recording.specs.Recording.{restOf, TakesRecording}
+use Rattle.recording.specs.Recording.{TakesRecording}
 use Rattle.recording.proofs.Joins.{takes-join, takes-few, takes-count, takes-length}
 use Rattle.receiver.specs.declared.Receiver.{Receiver}
 use Rattle.stream_receiver.specs.Feed.{holding, heldBytes, streamInRange, TakesPiece}
@@ -84,11 +85,10 @@ module _ (i : StreamReceiver) (size : length (i .pending) ≡ 204) (small : i .h
   keep-piece piece output array h p =
       let came = heldBytes i ++ piece in
       let l = length-came piece in
-      let z : length came - length came % 204 ≡ 0 = omega arith in
-      let r : restOf came ≡ came = ap (λ (k : ℕ). drop k came) z in
+      let r : restOf 204 came ≡ came = rest-few 204 (omega arith) came (omega arith) in
       record {
         takes = takes-few (i .receiver) came [] output (omega arith);
-        kept = kept-state (i .receiver) (restOf came) (p ∙ ap (padded 204) (sym r)) (sym (ap length r ∙ l));
+        kept = kept-state (i .receiver) (restOf 204 came) (p ∙ ap (padded 204) (sym r)) (sym (ap length r ∙ l));
       }
 
   -- a piece that completes at least one block
@@ -107,7 +107,8 @@ module _ (i : StreamReceiver) (size : length (i .pending) ≡ 204) (small : i .h
     unfolding first
     length-first = length-came (take start piece) ∙ ap (λ (k : ℕ). i .held + k) filler-length
 
-    first-rest : restOf first ≡ []
+    first-rest : restOf 204 first ≡ []
+    unfolding restOf
     first-rest = drop-of-length-le first {i = length first - length first % 204} (omega (arith, length-first))
 
     came-split : first ++ drop start piece ≡ heldBytes i ++ piece
@@ -115,7 +116,8 @@ module _ (i : StreamReceiver) (size : length (i .pending) ≡ 204) (small : i .h
     came-split = append-assoc (heldBytes i) (take start piece) (drop start piece) ∙ ap (λ (l : List ℕ). heldBytes i ++ l) (take-append-drop start piece)
 
     -- the bytes after the last whole block
-    rest-piece : (end : ℕ) → end ≡ length piece - (length piece - start) % 204 → restOf (heldBytes i ++ piece) ≡ drop end piece
+    rest-piece : (end : ℕ) → end ≡ length piece - (length piece - start) % 204 → restOf 204 (heldBytes i ++ piece) ≡ drop end piece
+    unfolding restOf
     rest-piece end d =
         let came = heldBytes i ++ piece in
         let n = length-came piece in
@@ -124,7 +126,7 @@ module _ (i : StreamReceiver) (size : length (i .pending) ≡ 204) (small : i .h
         ap (λ (j : ℕ). drop j came) k ∙ drop-append-add (heldBytes i) piece end
 
     module _ {m : ℕ} {middle : Receiver} {exit : List ℕ} (f : TakesRecording (i .receiver) (heldBytes i ++ take start piece) [] output m middle exit) where
-      pub first-length : length exit ≡ length output
+      first-length : length exit ≡ length output
       unfolding first
       first-length = takes-length f (omega (arith, length-first))
 
@@ -157,12 +159,12 @@ module _ (i : StreamReceiver) (size : length (i .pending) ≡ 204) (small : i .h
             let b = drop start piece in
             let came = heldBytes i ++ piece in
             let d : end ≡ length piece - (length piece - start) % 204 = omega arith in
-            let tail : restOf came ≡ take (length piece - end) (drop end piece)
+            let tail : restOf 204 came ≡ take (length piece - end) (drop end piece)
             = rest-piece end d ∙ sym (take-all (length piece - end) (drop end piece) (omega (arith, length-drop end piece))) in
-            let c : take (length piece - start) b ≡ restOf first ++ b
+            let c : take (length piece - start) b ≡ restOf 204 first ++ b
             = take-all (length piece - start) b (omega (arith, length-drop start piece)) ∙ sym (ap (λ (l : List ℕ). l ++ b) first-rest) in
             let o : midOf m (length exit - m) exit ≡ drop m exit = take-all (length exit - m) (drop m exit) (omega (arith, length-drop m exit)) in
-            let t : TakesRecording middle (restOf first ++ b) [] (drop m exit) n last exit′ = subst₂ (λ (x y : List ℕ). TakesRecording middle x [] y n last exit′) c o g in
+            let t : TakesRecording middle (restOf 204 first ++ b) [] (drop m exit) n last exit′ = subst₂ (λ (x y : List ℕ). TakesRecording middle x [] y n last exit′) c o g in
             let w : exit′ ++ drop (length exit - m) (drop m exit) ≡ exit′
             = ap (λ (l : List ℕ). exit′ ++ l) (drop-of-length-le (drop m exit) {i = length exit - m} (omega (arith, length-drop m exit))) ∙ append-nil exit′ in
             record {
@@ -170,6 +172,6 @@ module _ (i : StreamReceiver) (size : length (i .pending) ≡ 204) (small : i .h
                   subst₂ (λ (x y : List ℕ). TakesRecording (i .receiver) x [] output (m + n) last y) came-split (sym (ap (λ (l : List ℕ). take m exit ++ l) w))
                   (takes-join b f t);
               kept =
-                  kept-state last (restOf came) (a ∙ ap (padded 204) (sym tail))
+                  kept-state last (restOf 204 came) (a ∙ ap (padded 204) (sym tail))
                   (sym (ap length (rest-piece end d) ∙ omega (arith, length-drop end piece, start-within)));
             }

@@ -1,27 +1,23 @@
 -- The report of a pass: the writer takes the numbers of every stream receiver in range, and the text is that of all the bytes that came.
 -- Assumes nothing.
-use mathlib.Core.Path.{_≡_, refl, sym, ap, ap₂, _∙_}
+use mathlib.Core.Path.{_≡_, refl, sym, ap, ap₂, subst, _∙_}
 use mathlib.Core.Bool.{Bool, true, false}
 use mathlib.Core.List.{List}
 use Prim.Native.Nat.{ℕ, _≤_, _<_}
 use native.Mathlib.Omega.{arith}
 use borrow.Author.Tests.{eq-eqb}
-use lib.Dec.{eqb, ltb}
 use lib.ListN.{length}
-use Rattle.common.specs.Choice.{pick}
-use Rattle.common.specs.Lists.{placed}
 use Rattle.reception_counts.specs.declared.Counts.{Counts}
 use Rattle.reception_counts.proofs.Ranges.{CountsRange, counts-range}
 use Rattle.receiver.proofs.Calls.{state-range}
 use Rattle.receiver.specs.declared.Receiver.{Receiver}
 use Rattle.recording.proofs.Decided.{recording-unique}
-use Rattle.report.specs.declared.Report.{Report}
-use Rattle.report.specs.Text.{row, fits, sums, reportText, writeNumber, writeLength, writeOutput}
+use Rattle.report.specs.Text.{row, fits, sums, reportText, textNumber, Writes}
 use Rattle.report.proofs.Counting.{told-fits}
-use Rattle.report.proofs.AsWritten.{write-within}
+use Rattle.report.proofs.AsWritten.{written-within, write-passed}
 use Rattle.stream_receiver.specs.Feed.{streamInRange}
 use Rattle.stream_receiver.specs.History.{Reception}
-use Rattle.stream_receiver.specs.Reporting.{reportOf, streamReport, streamReportNumber, streamReportLength, streamReportOutput, PassReport, textNumber, textLength, textOutput, Reports}
+use Rattle.stream_receiver.specs.Reporting.{reportOf, streamReport, streamReportNumber, PassReport, Reports}
 use Rattle.stream_receiver.specs.declared.StreamReceiver.{StreamReceiver}
 use Rattle.stream_receiver.proofs.Pieces.{stream-range}
 use Rattle.stream_receiver.proofs.Laws.{reception-held, reception-range}
@@ -48,26 +44,8 @@ in-range-written i e =
     (counts-fit (i .receiver .counts) (i .held) c (r .1), counts-add (i .receiver .counts) (i .held) c)
 
 -- so of the answers of the writer only 0 and 4 are left
-short : (a : Bool) (n : ℕ) → pick (eqb (pick a 4 0) 0) n 0 ≡ pick a 0 n
-short true n = refl
-short false n = refl
-
-output-short : (a : Bool) (x y : List ℕ) → pick (eqb (pick a 4 0) 0) x y ≡ pick a y x
-output-short true x y = refl
-output-short false x y = refl
-
-module _ (r : Report) (output : List ℕ) (p : (fits r ≡ true) × (sums r ≡ true)) where
-  text-number : writeNumber r output ≡ textNumber (reportText r) output
-  text-number = simp (p .0, p .1) refl
-
-  text-length : writeLength r output ≡ textLength (reportText r) output
-  text-length =
-      ap (λ (k : ℕ). pick (eqb k 0) (length (reportText r)) 0) text-number ∙ short (ltb (length output) (length (reportText r))) (length (reportText r))
-
-  text-output : writeOutput r output ≡ textOutput (reportText r) output
-  text-output =
-      ap (λ (k : ℕ). pick (eqb k 0) (placed output 0 (reportText r)) output) text-number
-      ∙ output-short (ltb (length output) (length (reportText r))) (placed output 0 (reportText r)) output
+answer-left : (i : StreamReceiver) (output : List ℕ) → streamInRange i ≡ true → streamReportNumber i output ≡ textNumber (reportText (streamReport i)) output
+answer-left i output e = let p = in-range-written i e in simp (e, p .0, p .1) refl
 
 -- ---- the report on all that came
 
@@ -85,28 +63,18 @@ report-total bytes written i r = record {
 }
 
 pub reports : (i : StreamReceiver) (output : List ℕ) (number count : ℕ) (exit : List ℕ)
-    → number ≡ streamReportNumber i output → count ≡ streamReportLength i output → exit ≡ streamReportOutput i output → Reports i output number count exit
-reports i output number count exit n c w = record {
-  number-is = n;
-  count-is = c;
-  exit-is = w;
+    → Writes (streamReportNumber i output) (reportText (streamReport i)) output number count exit → Reports i output number count exit
+reports i output number count exit w = record {
+  writes = w;
   whole = λ bytes written text r p.
-      let e = report-text r p in
-      let g = reception-range r in
-      let k = in-range-written i g in (
-        n ∙ ap (λ (t : Bool). pick t (writeNumber (streamReport i) output) 5) g ∙ text-number (streamReport i) output k ∙ ap (λ (x : List ℕ). textNumber x output) e,
-        c ∙ ap (λ (t : Bool). pick t (writeLength (streamReport i) output) 0) g ∙ text-length (streamReport i) output k ∙ ap (λ (x : List ℕ). textLength x output) e,
-        w ∙ ap (λ (t : Bool). pick t (writeOutput (streamReport i) output) output) g ∙ text-output (streamReport i) output k ∙ ap (λ (x : List ℕ). textOutput x output) e,
-      );
+      subst (λ (x : List ℕ). Writes (textNumber x output) x output number count exit) (report-text r p)
+      (subst (λ (k : ℕ). Writes k (reportText (streamReport i)) output number count exit) (answer-left i output (reception-range r)) w);
 }
 
 -- no more is written than there is room for
 pub reports-within : {i : StreamReceiver} {output exit : List ℕ} {number count : ℕ} → Reports i output number count exit → count ≤ length output
-reports-within {i} {output} {exit} {number} {count} r = by (streamInRange i) refl
+reports-within {i} {output} r = written-within (r .writes) (by (streamInRange i) refl)
   where
-    by : (a : Bool) → streamInRange i ≡ a → count ≤ length output
-    by true e =
-        let n : count ≡ writeLength (streamReport i) output = r .count-is ∙ ap (λ (t : Bool). pick t (writeLength (streamReport i) output) 0) e in
-        let w = write-within (streamReport i) output in
-        omega arith
-    by false e = let n : count ≡ 0 = r .count-is ∙ ap (λ (t : Bool). pick t (writeLength (streamReport i) output) 0) e in omega arith
+    by : (a : Bool) → streamInRange i ≡ a → streamReportNumber i output ≡ 0 → length (reportText (streamReport i)) ≤ length output
+    by true e n = write-passed (streamReport i) output (sym (simp e refl) ∙ n) .room
+    by false e n = let z : _≡_ {A = ℕ} 5 0 = sym (simp e refl) ∙ n in absurd (omega arith)

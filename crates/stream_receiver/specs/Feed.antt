@@ -8,10 +8,10 @@ use Prim.Native.Nat.{ℕ, _+_, _-_, _*_, _/_, _<_}
 use lib.Dec.{ltb}
 use lib.ListN.{length, take, replicate}
 use Rattle.common.specs.Choice.{pick}
-use Rattle.common.specs.Lists.{padded}
+use Rattle.common.specs.Lists.{padded, restOf}
 use Rattle.receiver.specs.Receive.{freshReceiver, receiverInRange}
 use Rattle.receiver.specs.declared.Receiver.{Receiver}
-use Rattle.recording.specs.Recording.{restOf, TakesRecording}
+use Rattle.recording.specs.Recording.{TakesRecording}
 use Rattle.stream_receiver.specs.declared.StreamReceiver.{StreamReceiver}
 
 -- a receiver, and the bytes of a block that is not whole yet
@@ -36,7 +36,7 @@ capacityOf i = 204 * (4294967295 - i .receiver .counts .taken) - i .held
 -- What a piece comes to, after the bytes held: a recording of both, with the packets in the output. The bytes after its last whole block are held.
 pub record TakesPiece (i : StreamReceiver) (piece output : List ℕ) (count : ℕ) (next : StreamReceiver) (exit : List ℕ) : Type 0 where
   pub takes : TakesRecording (i .receiver) (heldBytes i ++ piece) [] output count (next .receiver) exit
-  pub kept : next ≡ holding (next .receiver) (restOf (heldBytes i ++ piece))
+  pub kept : next ≡ holding (next .receiver) (restOf 204 (heldBytes i ++ piece))
 
 -- The tests before the work, in the order of document 01: 5 for a state out of range, 4 where there is not room for a packet for each block
 -- that is whole then, 7 where not all the bytes can be taken; 0 where none refuses.

@@ -4,17 +4,15 @@
 use mathlib.Core.Path.{_≡_}
 use mathlib.Core.List.{List, []}
 use Prim.Native.Nat.{ℕ, _%_}
-use lib.Dec.{ltb}
 use lib.ListN.{length}
 use Rattle.common.specs.Choice.{pick}
-use Rattle.common.specs.Lists.{placed}
 use Rattle.reception_counts.specs.declared.Counts.{Counts}
 use Rattle.receiver.specs.Receive.{freshReceiver}
 use Rattle.receiver.specs.declared.Receiver.{Receiver}
 use Rattle.recording.specs.Recording.{Recording}
 use Rattle.report.specs.declared.Bits.the-variants.{Number}
 use Rattle.report.specs.declared.Report.{Report}
-use Rattle.report.specs.Text.{reportText, writeNumber, writeLength, writeOutput}
+use Rattle.report.specs.Text.{reportText, textNumber, writeNumber, Writes}
 use Rattle.stream_receiver.specs.Feed.{streamInRange}
 use Rattle.stream_receiver.specs.History.{Reception}
 use Rattle.stream_receiver.specs.declared.StreamReceiver.{StreamReceiver}
@@ -36,15 +34,9 @@ reportOf n rest = record {
 abbrev pub streamReport : StreamReceiver → Report
 streamReport i = reportOf (i .receiver .counts) (i .held)
 
--- what writing the report of all that came answers, and the output after it: 5 for a state out of range, and else what the writer does
+-- what writing the report of all that came answers: 5 for a state out of range, and else what the writer does
 abbrev pub streamReportNumber : StreamReceiver → List ℕ → ℕ
 streamReportNumber i output = pick (streamInRange i) (writeNumber (streamReport i) output) 5
-
-abbrev pub streamReportLength : StreamReceiver → List ℕ → ℕ
-streamReportLength i output = pick (streamInRange i) (writeLength (streamReport i) output) 0
-
-abbrev pub streamReportOutput : StreamReceiver → List ℕ → List ℕ
-streamReportOutput i output = pick (streamInRange i) (writeOutput (streamReport i) output) output
 
 -- the text of the report on bytes as one recording
 pub record PassReport (bytes text : List ℕ) : Type 0 where
@@ -53,21 +45,8 @@ pub record PassReport (bytes text : List ℕ) : Type 0 where
   pub recording : Recording freshReceiver bytes [] packets last
   pub text-is : text ≡ reportText (reportOf (last .counts) (length bytes % 204))
 
--- the answer, the length and the output after a text is written into an output
-abbrev pub textNumber : List ℕ → List ℕ → ℕ
-textNumber text output = pick (ltb (length output) (length text)) 4 0
-
-abbrev pub textLength : List ℕ → List ℕ → ℕ
-textLength text output = pick (ltb (length output) (length text)) 0 (length text)
-
-abbrev pub textOutput : List ℕ → List ℕ → List ℕ
-textOutput text output = pick (ltb (length output) (length text)) output (placed output 0 text)
-
 -- What writing the report promises: of every stream receiver what the definitions give of its counts and the bytes held, and of one that bytes
 -- came to the report on those bytes as one recording.
 pub record Reports (i : StreamReceiver) (output : List ℕ) (number count : ℕ) (exit : List ℕ) : Type 0 where
-  pub number-is : number ≡ streamReportNumber i output
-  pub count-is : count ≡ streamReportLength i output
-  pub exit-is : exit ≡ streamReportOutput i output
-  pub whole : (bytes written text : List ℕ) → Reception bytes written i → PassReport bytes text
-      → (number ≡ textNumber text output) × (count ≡ textLength text output) × (exit ≡ textOutput text output)
+  pub writes : Writes (streamReportNumber i output) (reportText (streamReport i)) output number count exit
+  pub whole : (bytes written text : List ℕ) → Reception bytes written i → PassReport bytes text → Writes (textNumber text output) text output number count exit

@@ -2,11 +2,12 @@
 -- Assumes nothing.
 use mathlib.Core.Path.{_≡_, sym, ap, subst, _∙_}
 use mathlib.Core.List.{List, [], _++_}
-use Prim.Native.Nat.{ℕ, _+_, _*_, _/_, _%_, _^_, _<_}
+use Prim.Native.Nat.{ℕ, _+_, _/_, _%_, _^_, _<_}
 use native.Mathlib.Nat.{mod-add-mod}
 use native.Mathlib.Omega.{arith}
-use lib.ListN.{length, take, length-append, length-drop}
-use Rattle.bit_packing.specs.Packing.{packedBytes, bitsAfter, Packings, none, packing}
+use lib.ListN.{length, take, length-append}
+use Rattle.common.proofs.Chunks.{length-rest}
+use Rattle.bit_packing.specs.Packing.{packedBytes, Packings, none, packing}
 use Rattle.bit_packing.proofs.Pieces.{carried-length, every-packing}
 use Rattle.convolutional_code.specs.Bits.{Bits}
 use Rattle.inner_code.specs.Encode.{coderAt}
@@ -81,8 +82,8 @@ module _ {R : Type 0} (cost : R → ℕ → ℕ) where
   pub received-counted : {rate : ℕ} {rs : List R} {bytes : List ℕ} {r : Reading} → ReceivedSoFar cost rate rs bytes r → r .symbols ≡ length rs % 2 ^ 64
   received-counted {rs = rs} s = let n : length (s .costs) / 4 ≡ length rs = omega (arith, s .costed .size) in s .came .counted ∙ ap (λ (k : ℕ). k % 2 ^ 64) n
 
-  module _ {rate : ℕ} {rs : List R} {bytes : List ℕ} {r : Reading} (s : ReceivedSoFar cost rate rs bytes r) {room bits output exit : List ℕ} {last : Last}
-      (l : LastBytes r room bits output last exit) where
+  module _ {rate : ℕ} {rs : List R} {bytes : List ℕ} {r : Reading} (s : ReceivedSoFar cost rate rs bytes r) {lent bits output exit : List ℕ} {last : Last}
+      (l : LastBytes r lent bits output last exit) where
     abbrev sofar : List ℕ
     sofar = s .came .bits
 
@@ -92,7 +93,6 @@ module _ {R : Type 0} (cost : R → ℕ → ℕ) where
 
     -- Whatever pieces the symbols came in, what is written to the end is the bytes of the bits of all of them.
     pub whole-pass : WholePass cost rate rs (bytes ++ take (last .count) exit) (last .rest) (last .bits)
-    unfolding bitsAfter
     whole-pass =
         let f = fed (s .came .fed) in
         let h = every-history cost (s .came .fed) rs (s .costed) in
@@ -104,12 +104,12 @@ module _ {R : Type 0} (cost : R → ℕ → ℕ) where
           memory = r .stream .memory;
           left = h .left;
           runs = h .decided;
-          room = room;
+          lent = lent;
           exit = bits;
           count = l .decided;
-          ended = subst (λ (k : ℕ). Ended cost k (r .stream .memory) (h .left) room (l .decided) (last .rest) bits) (f .rate-is) e;
+          ended = subst (λ (k : ℕ). Ended cost k (r .stream .memory) (h .left) lent (l .decided) (last .rest) bits) (f .rate-is) e;
           bytes-are = p .0;
-          bits-left = omega (arith, carried-length (l .carry) (last .bits) (omega (arith, l .packed .few)), ap length (p .1), length-drop (8 * (length all / 8)) all);
+          bits-left = omega (arith, carried-length (l .carry) (last .bits) (omega (arith, l .packed .few)), ap length (p .1), length-rest 8 all);
         }
 
     -- Where the symbols were received clearly, these are the bytes of the bits that were sent, up to the last whole pattern that came.

@@ -58,14 +58,14 @@ closed-bits {count = count} c =
     let o = c .bits in
     rw (o .written, take-at (o .bits) _ count (o .decoded .best .size ∙ sym (o .counted))) (o .decoded .best .binary)
 
--- ---- the room that the bytes take
+-- ---- the space that the bytes take
 
 -- two costs at least for each bit that is decided
-fed-room : {s next : SymbolStream} {piece output exit : List ℕ} {taken count : ℕ} → StreamReady s → StreamReady next → FeedsSymbols s piece output next taken count exit
+fed-space : {s next : SymbolStream} {piece output exit : List ℕ} {taken count : ℕ} → StreamReady s → StreamReady next → FeedsSymbols s piece output next taken count exit
     → 2 * count + next .count ≤ s .count + taken
-fed-room {s} {next} {piece} g r (gathered l et ec ex h) =
+fed-space {s} {next} {piece} g r (gathered l et ec ex h) =
     omega (arith, held-length next r, ap length (h .held-is), length-append (heldOf s) piece, held-length s g)
-fed-room {s} {next} {piece} {taken = taken} g r (read costs es le size ec after f h) =
+fed-space {s} {next} {piece} {taken = taken} g r (read costs es le size ec after f h) =
     let n = numbers (s .rate) (g .known) in
     omega (
       arith,
@@ -91,7 +91,7 @@ pub record Feeding (start : Reading) (costs output₀ output : List ℕ) (stream
   pub bits : List ℕ
   pub took : Took (start .stream) (take at costs) bits stream
   pub packed : Packs (carriedBits (start .carry) (start .held)) bits output₀ carry held count output
-  pub room : 2 * length bits + stream .count ≤ start .stream .count + at
+  pub space : 2 * length bits + stream .count ≤ start .stream .count + at
 
 pub feeding-none : (r : Reading) → Going r → (costs output : List ℕ) → Feeding r costs output output (r .stream) (r .carry) (r .held) 0 0
 feeding-none r g costs output = record {
@@ -101,7 +101,7 @@ feeding-none r g costs output = record {
   bits = [];
   took = took-none (r .stream);
   packed = packs-none (r .carry) (r .held) output (going-few g);
-  room = omega arith;
+  space = omega arith;
 }
 
 module _ {start : Reading} (going : Going start) {stream : SymbolStream} {costs output₀ output : List ℕ} (whole : length costs % 4 ≡ 0)
@@ -126,7 +126,7 @@ module _ {start : Reading} (going : Going start) {stream : SymbolStream} {costs 
   behind-is =
       let e : length output - count ≡ length (drop count output) = sym (length-drop count output) in ap (λ (k : ℕ). take k (drop count output)) e ∙ take-length (drop count output)
 
-  module _ {room exit : List ℕ} {next : SymbolStream} {taken decided : ℕ} (f : FeedsSymbols stream piece room next taken decided exit) (r : StreamReady next) where
+  module _ {lent exit : List ℕ} {next : SymbolStream} {taken decided : ℕ} (f : FeedsSymbols stream piece lent next taken decided exit) (r : StreamReady next) where
     pub fed-some : (0 < taken) × (at + taken ≤ length costs) × (decided ≤ 1632)
     fed-some = let t = taken-some (g .ready) f (omega (arith, size)) in (t .0, omega (arith, t .1, size), t .2)
 
@@ -134,7 +134,7 @@ module _ {start : Reading} (going : Going start) {stream : SymbolStream} {costs 
     few-bits : 2 * (length (g .bits) + decided) ≤ 16 * length output
     few-bits =
         let s = going-ready going in
-        omega (arith, fits, fed-some .1, g .room, fed-room (g .ready) r f, s .below, numbers (start .stream .rate) (s .known) .costs-most)
+        omega (arith, fits, fed-some .1, g .space, fed-space (g .ready) r f, s .below, numbers (start .stream .rate) (s .known) .costs-most)
 
     pub pack-fits : (held < 8) × (Bits (take decided exit)) × (held + length (take decided exit) < 8 * length behind + 8)
     pack-fits = (
@@ -155,7 +155,7 @@ module _ {start : Reading} (going : Going start) {stream : SymbolStream} {costs 
     )
 
     -- the bytes of these bits, behind those that stand there
-    pub feeding-more : 1632 ≤ length room → {carry′ held′ n : ℕ} {last : List ℕ} → Packs (carriedBits carry held) (take decided exit) behind carry′ held′ n last
+    pub feeding-more : 1632 ≤ length lent → {carry′ held′ n : ℕ} {last : List ℕ} → Packs (carriedBits carry held) (take decided exit) behind carry′ held′ n last
         → Feeding start costs output₀ (putMid count (length output - count) output last) next carry′ held′ (count + n) (at + taken)
     feeding-more long {carry′} {held′} {n} {last} p =
         let t = fed-some in
@@ -167,15 +167,15 @@ module _ {start : Reading} (going : Going start) {stream : SymbolStream} {costs 
         record {
           ready = r;
           most = t .1;
-          fours = omega (arith, g .fours, k, taken-fours stream (g .ready) piece room piece-fours f .0);
+          fours = omega (arith, g .fours, k, taken-fours stream (g .ready) piece lent piece-fours f .0);
           bits = g .bits ++ more;
           took =
               subst (λ (l : List ℕ). Took (start .stream) l (g .bits ++ more) next) (ap (λ (l : List ℕ). take at costs ++ take taken l) all ∙ sym (take-add at taken costs))
-              (took-more (g .took) piece room exit taken decided long piece-fours f r);
+              (took-more (g .took) piece lent exit taken decided long piece-fours f r);
           packed =
               subst (λ (l : List ℕ). Packs (carriedBits (start .carry) (start .held)) (g .bits ++ more) output₀ carry′ held′ (count + n) l)
               (ap (λ (x : List ℕ). take count output ++ x) (sym nothing)) w;
-          room = omega (arith, length-append (g .bits) more, length-take decided exit, g .room, fed-room (g .ready) r f);
+          space = omega (arith, length-append (g .bits) more, length-take decided exit, g .space, fed-space (g .ready) r f);
         }
 
     -- no more bytes than the output has

@@ -49,9 +49,9 @@ pub record FeedsReceived {R : Type 0} (cost : R → ℕ → ℕ) (r : Reading) (
   pub fed : FeedsCosts r costs output next count exit
 
 -- What the end of a reading gives, from what is lent for bits, before and after: those of the whole patterns that are left, behind those that were carried.
-pub record LastBytes (r : Reading) (before bits output : List ℕ) (last : Last) (exit : List ℕ) : Type 0 where
+pub record LastBytes (r : Reading) (lent bits output : List ℕ) (last : Last) (exit : List ℕ) : Type 0 where
   pub decided : ℕ
-  pub closed : Closes (r .stream) before decided (last .rest) bits
+  pub closed : Closes (r .stream) lent decided (last .rest) bits
   pub carry : ℕ
   pub packed : Packs (carriedBits (r .carry) (r .held)) (take decided bits) output carry (last .bits) (last .count) exit
 
@@ -70,9 +70,9 @@ pub record WholePass {R : Type 0} (cost : R → ℕ → ℕ) (rate : ℕ) (rs : 
   pub memory : ℕ
   pub left : List R
   pub runs : Decided cost rate 0 rs decided memory left
-  pub room : List ℕ
+  pub lent : List ℕ
   pub exit : List ℕ
   pub count : ℕ
-  pub ended : Ended cost rate memory left room count rest exit
+  pub ended : Ended cost rate memory left lent count rest exit
   pub bytes-are : bytes ≡ packedBytes (decided ++ take count exit)
   pub bits-left : left-bits ≡ length (decided ++ take count exit) % 8

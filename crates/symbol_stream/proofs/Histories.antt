@@ -32,7 +32,7 @@ module _ {R : Type 0} (cost : R → ℕ → ℕ) where
       (rw (drop-append-le (keptSymbols rate) rs b (omega (arith, n .kept-fewer))) (joined hr r b d)))
 
   -- one result
-  pub decided-unique : {rate m last last′ : ℕ} {rs left left′ : List R} {out out′ : List ℕ} → Decided cost rate m rs out last left → Decided cost rate m rs out′ last′ left′
+  decided-unique : {rate m last last′ : ℕ} {rs left left′ : List R} {out out′ : List ℕ} → Decided cost rate m rs out last left → Decided cost rate m rs out′ last′ left′
       → (out ≡ out′) × (last ≡ last′) × (left ≡ left′)
   decided-unique (few l) (few l′) = (refl, refl, refl)
   decided-unique (few l) (run bits total after full d r) = absurd (omega arith)

@@ -114,7 +114,7 @@ short-run rate n most =
     omega (arith, mul-le-mul-left (patternLength rate) d, mul-div-le 1632 (patternLength rate))
 
 -- the costs of k symbols that make whole patterns, no more than a longest run, can be read
-pub short-readable : (rate m : ℕ) → rate < 5 → m < 64 → (l : List ℕ) (k : ℕ) → length l ≡ 4 * k → k % symbolsPerPattern rate ≡ 0 → k ≤ fullSymbols rate
+short-readable : (rate m : ℕ) → rate < 5 → m < 64 → (l : List ℕ) (k : ℕ) → length l ≡ 4 * k → k % symbolsPerPattern rate ≡ 0 → k ≤ fullSymbols rate
     → All (λ x. x ≤ 7) l → (output : List ℕ) → 1632 ≤ length output → Readable rate m l output
 short-readable rate m hr hm l k size whole most small output long =
     let q : length l / 4 ≡ k = omega arith in
@@ -131,7 +131,7 @@ kept-le rate hr = rw (mul-div-right (1632 / patternLength rate) (some-symbols ra
 
 -- a longest run: the bits that are kept stand at the front of the output
 module _ (rate m : ℕ) (hr : rate < 5) (hm : m < 64) (l output : List ℕ) (size : length l ≡ fullCosts rate) where
-  pub full-quarter : length l / 4 ≡ fullSymbols rate
+  full-quarter : length l / 4 ≡ fullSymbols rate
   full-quarter = omega (arith, numbers rate hr .full-costs)
 
   pub full-readable : All (λ x. x ≤ 7) l → 1632 ≤ length output → Readable rate m l output
@@ -169,7 +169,7 @@ module _ (s : SymbolStream) (g : StreamReady s) (piece : List ℕ) (w : All (λ 
     behind =
         ap (take n) eH ∙ take-at (h ++ p) (drop (s .count + length p) (s .held)) n (length-append h p ∙ (ap (λ (k : ℕ). k + length p) held-length ∙ sym en))
 
-    pub behind-length : s .count + length p ≤ 6528 → length H ≡ 6528
+    behind-length : s .count + length p ≤ 6528 → length H ≡ 6528
     behind-length l =
         ap length eH
         ∙ omega (arith, length-append (h ++ p) (drop (s .count + length p) (s .held)), length-append h p, held-length, length-drop (s .count + length p) (s .held), g .size)
@@ -209,7 +209,7 @@ module _ (s : SymbolStream) (g : StreamReady s) (piece : List ℕ) (w : All (λ 
     pub H-length : length H ≡ 6528
     H-length = behind-length p H full all-of eH (omega (arith, fits, g .size))
 
-    pub run-of : take (full - 0) H ≡ h ++ p
+    run-of : take (full - 0) H ≡ h ++ p
     run-of = let z : full - 0 ≡ full = omega arith in ap (λ (k : ℕ). take k H) z ∙ behind p H full all-of eH
 
     pub run-length : length (take (full - 0) H) ≡ fullCosts (s .rate)
@@ -220,7 +220,7 @@ module _ (s : SymbolStream) (g : StreamReady s) (piece : List ℕ) (w : All (λ 
 
     module _ (from : ℕ) (er : from ≡ keptCosts (s .rate)) (N zeros : List ℕ) (ez : length zeros ≡ 6528)
         (eN : N ≡ take (full - from) (drop from H) ++ drop (0 + length (take (full - from) (drop from H))) zeros) where
-      pub from-le : from ≤ full
+      from-le : from ≤ full
       from-le = omega (arith, numbers (s .rate) (g .known) .costs-fewer)
 
       tail-length : length (take (full - from) (drop from H)) ≡ full - from

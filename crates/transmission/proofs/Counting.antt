@@ -6,6 +6,8 @@ use Prim.Native.Nat.{ℕ, suc, _+_, _-_, _*_, _/_, _%_, _≤_, _<_}
 use native.Mathlib.Nat.{add-comm, mod-lt, mul-zero, mul-suc}
 use native.Mathlib.Omega.{arith}
 use lib.ListN.{length, length-map}
+use Rattle.common.specs.Lists.{chunksOf}
+use Rattle.common.proofs.Chunks.{length-chunks}
 use Rattle.puncturing.specs.Mode.{modeOf, blockBits, blockBitsBy}
 use Rattle.puncturing.specs.Step.{patternLength, symbolsIn, countBy}
 use Rattle.puncturing.proofs.Places.{agreed-of}
@@ -14,15 +16,14 @@ use Rattle.puncturing.proofs.Parts.{symbols-in-append, place-after}
 use Rattle.inner_code.specs.Encode.{symbolCount}
 use Rattle.inner_code.proofs.Coder.{range-test}
 use Rattle.sender.specs.Input.{packetFor, packetsFor}
-use Rattle.sender.proofs.Counts.{length-packets, length-on-air}
-use Rattle.transmission.specs.Run.{packetsOf, runSymbols}
+use Rattle.sender.proofs.Counts.{length-on-air}
+use Rattle.transmission.specs.Run.{runSymbols}
 
 -- the symbols of a buffer of packets
 pub length-run : (rate : ℕ) → rate < 6 → (bytes : List ℕ) → length (runSymbols rate bytes) ≡ symbolsIn rate 0 (blockBits rate * (length bytes / 188))
-unfolding packetsOf
 length-run rate h bytes =
-    length-on-air rate h (packetsFor (packetsOf bytes))
-    ∙ ap (λ (n : ℕ). symbolsIn rate 0 (blockBits rate * n)) (length-map (packetsOf bytes) packetFor ∙ length-packets (length bytes / 188) bytes)
+    length-on-air rate h (packetsFor (chunksOf 188 bytes))
+    ∙ ap (λ (n : ℕ). symbolsIn rate 0 (blockBits rate * n)) (length-map (chunksOf 188 bytes) packetFor ∙ length-chunks 188 bytes)
 
 -- a block leaves the pattern where 1,632 bits leave it
 same-place : (rate place : ℕ) → rate < 6 → place < patternLength rate → (place + 1632) % patternLength rate ≡ (place + blockBits rate) % patternLength rate

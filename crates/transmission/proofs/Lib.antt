@@ -1,4 +1,4 @@
-pub mod Counting
+mod Counting
 pub mod Buffers
-pub mod Progress
-pub mod Outcome
+mod Progress
+mod Outcome

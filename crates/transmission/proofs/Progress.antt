@@ -9,6 +9,7 @@ use native.Mathlib.Omega.{arith}
 use borrow.Rule.Slice.PartMut.{putMid, midOf}
 use lib.ListN.{length, take, drop, length-append, length-drop, drop-of-length-le}
 use lib.Seq.{take-all, take-at, drop-at, drop-drop}
+use Rattle.common.specs.Lists.{chunksOf}
 use Rattle.puncturing.specs.Mode.{modeOf}
 use Rattle.puncturing.proofs.Places.{sent-known}
 use Rattle.puncturing.proofs.WellFormed.{well-formed}
@@ -21,7 +22,7 @@ use Rattle.sender.proofs.Stages.{symbol-count}
 use Rattle.sender.proofs.Ready.{Ready, ready-range, ready-fresh, ready-after}
 use Rattle.sender.proofs.Stream.{calls-on-air}
 use Rattle.sender.proofs.History.{Answered, input-sent}
-use Rattle.transmission.specs.Run.{packetsOf, runSymbols, Sendable}
+use Rattle.transmission.specs.Run.{runSymbols, Sendable}
 use Rattle.transmission.proofs.Buffers.{packets-inputs, Scanning, scanning-start, scanning-end, scanning-packet, scanning-size, scanning-more}
 
 -- the symbols in front are in the output, those of the packets from at on are still to be sent, and together they are those of the run
@@ -31,7 +32,7 @@ pub record Progress (rate : ℕ) (bytes output₀ output : List ℕ) (s : Sender
   pub front : List ℕ
   pub counted : length front ≡ count
   pub written : output ≡ front ++ drop count output₀
-  pub symbols : front ++ flatten (callsSymbols modeOf s (packetsFor (packetsOf (drop at bytes)))) ≡ runSymbols rate bytes
+  pub symbols : front ++ flatten (callsSymbols modeOf s (packetsFor (chunksOf 188 (drop at bytes)))) ≡ runSymbols rate bytes
 
 pub progress-start : (rate : ℕ) (bytes output : List ℕ) (s : Sender) → modeOf rate .sent ≡ true → length bytes % 188 ≡ 0 → s ≡ freshSender rate
     → Progress rate bytes output output s 0 0
@@ -42,8 +43,8 @@ progress-start rate bytes output s h w e = record {
   counted = refl;
   written = refl;
   symbols =
-      ap (λ (x : Sender). flatten (callsSymbols modeOf x (packetsFor (packetsOf bytes)))) e
-      ∙ calls-on-air (packetsFor (packetsOf bytes)) (packet-lengths (packetsOf bytes) (packets-inputs bytes)) modeOf rate (well-formed rate (sent-known rate h));
+      ap (λ (x : Sender). flatten (callsSymbols modeOf x (packetsFor (chunksOf 188 bytes)))) e
+      ∙ calls-on-air (packetsFor (chunksOf 188 bytes)) (packet-lengths (chunksOf 188 bytes) (packets-inputs bytes)) modeOf rate (well-formed rate (sent-known rate h));
 }
 
 module _ {rate : ℕ} {bytes output₀ output : List ℕ} {s : Sender} {at count : ℕ} (g : Sendable rate bytes output₀) (p : Progress rate bytes output₀ output s at count) where
@@ -59,7 +60,7 @@ module _ {rate : ℕ} {bytes output₀ output : List ℕ} {s : Sender} {at count
 
   pub progress-length : length output ≡ length output₀
   progress-length =
-      let rest = flatten (callsSymbols modeOf s (packetsFor (packetsOf (drop at bytes)))) in
+      let rest = flatten (callsSymbols modeOf s (packetsFor (chunksOf 188 (drop at bytes)))) in
       omega (arith, ap length (p .written), length-append (p .front) (drop count output₀), length-drop count output₀, ap length (p .symbols), length-append (p .front) rest, p .counted, g .fits)
 
   pub progress-fits : count ≤ length output
@@ -79,7 +80,7 @@ module _ {rate : ℕ} {bytes output₀ output : List ℕ} {s : Sender} {at count
     packet = packetFor input
 
     -- the symbols of this packet, and those of the packets after it
-    next-symbols : p .front ++ (sentSymbols modeOf s packet ++ flatten (callsSymbols modeOf (senderAfter modeOf s packet) (packetsFor (packetsOf (drop (at + 188) bytes))))) ≡ runSymbols rate bytes
+    next-symbols : p .front ++ (sentSymbols modeOf s packet ++ flatten (callsSymbols modeOf (senderAfter modeOf s packet) (packetsFor (chunksOf 188 (drop (at + 188) bytes))))) ≡ runSymbols rate bytes
     unfolding input packet callsSymbols flatten
     next-symbols =
         ap (λ (l : List (List ℕ)). p .front ++ flatten (callsSymbols modeOf s (packetsFor l))) (sym (scanning-packet (p .scanning) h)) ∙ p .symbols
@@ -97,7 +98,7 @@ module _ {rate : ℕ} {bytes output₀ output : List ℕ} {s : Sender} {at count
 
     fits-next : count + sentCount modeOf s ≤ length output₀
     fits-next =
-        let rest = flatten (callsSymbols modeOf (senderAfter modeOf s packet) (packetsFor (packetsOf (drop (at + 188) bytes)))) in
+        let rest = flatten (callsSymbols modeOf (senderAfter modeOf s packet) (packetsFor (chunksOf 188 (drop (at + 188) bytes)))) in
         omega (arith, ap length next-symbols, length-append (p .front) (sentSymbols modeOf s packet ++ rest), length-append (sentSymbols modeOf s packet) rest, count-is, p .counted, g .fits)
 
     answered : Answered modeOf s input (drop count output)
@@ -138,7 +139,7 @@ module _ {rate : ℕ} {bytes output₀ output : List ℕ} {s : Sender} {at count
                 ∙ ap (λ (l : List ℕ). sentSymbols modeOf s packet ++ l) (drop-drop n count output₀))
                 ∙ sym (append-assoc (p .front) (sentSymbols modeOf s packet) (drop (count + n) output₀));
             symbols =
-                ap (λ (x : Sender). (p .front ++ sentSymbols modeOf s packet) ++ flatten (callsSymbols modeOf x (packetsFor (packetsOf (drop (at + 188) bytes))))) e
+                ap (λ (x : Sender). (p .front ++ sentSymbols modeOf s packet) ++ flatten (callsSymbols modeOf x (packetsFor (chunksOf 188 (drop (at + 188) bytes))))) e
                 ∙ append-assoc (p .front) (sentSymbols modeOf s packet) _
                 ∙ next-symbols;
           }

@@ -4,27 +4,23 @@
 use mathlib.Core.Path.{_≡_}
 use mathlib.Core.Bool.{Bool, true, false}
 use mathlib.Core.List.{List, [], _∷_, _++_}
-use Prim.Native.Nat.{ℕ, _/_, _%_, _≤_}
+use Prim.Native.Nat.{ℕ, _%_, _≤_}
 use lib.Dec.{ltb, eqb}
 use lib.ListN.{length, drop}
 use Rattle.common.specs.Choice.{pick}
-use Rattle.randomizer.specs.Stream.{inPackets}
+use Rattle.common.specs.Lists.{chunksOf}
 use Rattle.puncturing.specs.Mode.{modeOf}
 use Rattle.sender.specs.Standard.{onAir}
 use Rattle.sender.specs.Input.{isSynced, packetsFor}
-
--- the packets of a buffer
-unfoldable pub packetsOf : List ℕ → List (List ℕ)
-packetsOf bytes = inPackets (length bytes / 188) bytes
 
 -- each begins with the sync byte
 unfoldable pub synced : List (List ℕ) → Bool
 synced [] = true
 synced (p ∷ ps) = pick (isSynced p) (synced ps) false
 
--- the symbols of the standard for them, with null packets put in
+-- the symbols of the standard for the packets of a buffer, with null packets put in
 abbrev pub runSymbols : ℕ → List ℕ → List ℕ
-runSymbols rate bytes = onAir (modeOf rate) (packetsFor (packetsOf bytes))
+runSymbols rate bytes = onAir (modeOf rate) (packetsFor (chunksOf 188 bytes))
 
 -- what the tests tell: all of them can be sent
 pub record Sendable (rate : ℕ) (bytes output : List ℕ) : Type 0 where
@@ -40,7 +36,7 @@ runRefusal rate bytes output =
 
 -- the number of the answer: the refusal, or else 15 where a null packet was put in
 abbrev pub runNumber : ℕ → List ℕ → List ℕ → ℕ
-runNumber rate bytes output = pick (eqb (runRefusal rate bytes output) 0) (pick (synced (packetsOf bytes)) 0 15) (runRefusal rate bytes output)
+runNumber rate bytes output = pick (eqb (runRefusal rate bytes output) 0) (pick (synced (chunksOf 188 bytes)) 0 15) (runRefusal rate bytes output)
 
 abbrev pub runCount : ℕ → List ℕ → List ℕ → ℕ
 runCount rate bytes output = pick (eqb (runRefusal rate bytes output) 0) (length (runSymbols rate bytes)) 0

@@ -4,10 +4,11 @@ ghost use mathlib.Core.List.{_++_};
 ghost use Prim.Native.Nat.{_*_, _%_, _<_};
 ghost use lib.Dec.{ltb};
 ghost use lib.ListN.{length, drop};
+ghost use Rattle.common.specs.Lists.{chunksOf};
 ghost use Rattle.answer.specs.Number.{numberOf};
 ghost use Rattle.puncturing.specs.Mode.{blockBits};
 ghost use Rattle.puncturing.specs.Step.{symbolsIn};
-ghost use Rattle.transmission.specs.Run.{packetsOf, synced, runSymbols, Sendable, SendsRun};
+ghost use Rattle.transmission.specs.Run.{synced, runSymbols, Sendable, SendsRun};
 use answer::Answer;
 use inner_code::InnerCoder;
 use puncturing::is_sent;
@@ -25,7 +26,7 @@ pub struct Run {
 // Whether each packet begins with the sync byte.
 fn is_synced(packets: &[u8]) -> bool
     requires { ⌜ length (now packets) % 188 ≡ 0 ⌝ }
-    ensures { λ r. ⌜ r ≡ synced (packetsOf (now (packets .entry))) ⌝ }
+    ensures { λ r. ⌜ r ≡ synced (chunksOf 188 (now (packets .entry))) ⌝ }
 {
     let mut start: usize = 0;
     while start < packets.len() {

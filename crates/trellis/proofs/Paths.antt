@@ -166,7 +166,7 @@ six-lead p s h l =
     let h4 = next-lt _ (s / 8 % 2) h3 (digit (s / 8)) in
     lead6 _ s l (lead5 _ s h4 (lead4 _ s h3 (lead3 _ s h2 (lead2 _ s h1 (lead1 p s h)))))
 
-pub six-le : (F : Costs) → ((k s b : ℕ) → F k s b ≤ 14) → (m s : ℕ) → m < 64 → s < 64 → metric F m 6 s ≤ 84
+six-le : (F : Costs) → ((k s b : ℕ) → F k s b ≤ 14) → (m s : ℕ) → m < 64 → s < 64 → metric F m 6 s ≤ 84
 unfolding memory sixth
 six-le F c m s h l =
     let q : metric F m 6 (memory m (sixth s)) ≤ cost F m (sixth s) = least-bound F m h (sixth-bits s) in

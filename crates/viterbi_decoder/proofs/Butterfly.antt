@@ -24,7 +24,7 @@ use Rattle.viterbi_decoder.specs.Lanes.{lane, held, CostRows, Tables, le
 
 -- ---- costs
 
-pub decided-le : (c0 c1 v : ℕ) → c0 ≤ 7 → c1 ≤ 7 → decided c0 c1 v ≤ 7
+decided-le : (c0 c1 v : ℕ) → c0 ≤ 7 → c1 ≤ 7 → decided c0 c1 v ≤ 7
 decided-le c0 c1 v h l = go (eqb v 0)
   where
     go : (t : Bool) → pick t c0 c1 ≤ 7

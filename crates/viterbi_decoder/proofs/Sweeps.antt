@@ -156,7 +156,7 @@ module _ {steps : List ℕ} {m n k : ℕ} {ms : List ℕ} {o : ℕ} {rows : List
 -- ---- the trace loop
 
 -- tables that agree below n and 64 have the same paths
-pub path-same : (D E : ℕ → ℕ → ℕ) (n : ℕ) → ((k : ℕ) → k < n → (s : ℕ) → s < 64 → D k s ≡ E k s) → ((k s : ℕ) → E k s < 2)
+path-same : (D E : ℕ → ℕ → ℕ) (n : ℕ) → ((k : ℕ) → k < n → (s : ℕ) → s < 64 → D k s ≡ E k s) → ((k s : ℕ) → E k s < 2)
     → (s : ℕ) → s < 64 → path D n s ≡ path E n s
 unfolding path
 path-same D E zero h b s l = refl
@@ -182,7 +182,7 @@ pub trace-none : (D : ℕ → ℕ → ℕ) (s : ℕ) (output : List ℕ) → Who
 unfolding Whole
 trace-none D s output = rw (drop-length, append-nil)
 
-pub trace-more : (D : ℕ → ℕ → ℕ) (k s d : ℕ) (output all : List ℕ) → 0 < k → k ≤ length output → Whole D k s output all → d ≡ D (k - 1) s
+trace-more : (D : ℕ → ℕ → ℕ) (k s d : ℕ) (output all : List ℕ) → 0 < k → k ≤ length output → Whole D k s output all → d ≡ D (k - 1) s
     → Whole D (k - 1) (from s d) (set output (k - 1) (s / 32)) all
 trace-more D zero s d output all h l e q = absurd (omega arith)
 trace-more D (suc k) s d output all h l e q =
@@ -199,11 +199,11 @@ unfolding decision
 decision-lt row s d e = omega arith
 
 -- in lanes
-pub lane-bit : (r : ℕ) → r < 64 → r % 2 ≡ lane r / 32
+lane-bit : (r : ℕ) → r < 64 → r % 2 ≡ lane r / 32
 unfolding lane
 lane-bit r h = omega arith
 
-pub lane-from : (r d : ℕ) → r < 64 → d < 2 → lane (r / 2 + 32 * d) ≡ from (lane r) d
+lane-from : (r d : ℕ) → r < 64 → d < 2 → lane (r / 2 + 32 * d) ≡ from (lane r) d
 unfolding lane
 lane-from r zero h l = computed.agree-at (λ r. lane (r / 2 + 32 * 0)) (λ r. from (lane r) 0) 64 tt r h
 lane-from r (suc zero) h l = computed.agree-at (λ r. lane (r / 2 + 32 * 1)) (λ r. from (lane r) 1) 64 tt r h

@@ -140,9 +140,9 @@ fn write_costs(bits: &[u8; 32], rows: &mut [[u8; 32]; 64])
     }
 }
 
-pub struct Branches {
-    pub even: [u8; 32],
-    pub odd: [u8; 32],
+struct Branches {
+    even: [u8; 32],
+    odd: [u8; 32],
 }
 
 // What bit 0 costs out of each even memory, and out of each odd one: the costs of X and of Y.
@@ -255,9 +255,9 @@ fn lowered(metrics: &[u8; 64], by: u8) -> [u8; 64]
     r
 }
 
-pub struct Row {
-    pub metrics: [u8; 64],
-    pub choices: [u8; 16],
+struct Row {
+    metrics: [u8; 64],
+    choices: [u8; 16],
 }
 
 // One step: the metrics and the choices of all memories.
@@ -331,9 +331,9 @@ fn first_least(metrics: &[u8; 64]) -> usize
     best
 }
 
-pub struct Survivors {
-    pub metrics: [u8; 64],
-    pub offset: usize,
+struct Survivors {
+    metrics: [u8; 64],
+    offset: usize,
 }
 
 // The metrics with that of lane 0 brought down to 84.

@@ -6,7 +6,7 @@ use Prim.Native.Nat.{ℕ}
 use Prim.{tt}
 use native.Mathlib.Omega.{arith}
 use lib.ListN.{getD}
-use Rattle.common.specs.Lists.{All, listOf}
+use Rattle.common.specs.Lists.{All, listOf, chunks, chunksOf}
 use Rattle.common.proofs.Entries.{bytes-of, every-byte}
 use Rattle.algebra.specs.Polynomial.{power, plus, scale, product}
 use Rattle.galois.specs.Field256.{timesX, rounds, mul}
@@ -21,7 +21,7 @@ use Rattle.delay_branches.specs.Block.{fresh, leaving, blockOut}
 use Rattle.convolutional_code.specs.Bits.{bitsOf}
 use Rattle.puncturing.specs.Mode.{modes, modeOf}
 use Rattle.puncturing.specs.Step.{puncturedBy, heldBy}
-use Rattle.inner_code.specs.Converter.{groups, encodedBits, uncodedNumbers, sequenced}
+use Rattle.inner_code.specs.Converter.{encodedBits, uncodedNumbers, sequenced}
 use Rattle.inner_code.specs.Stream.{symbolsAfter, symbols, streamSymbols}
 use Rattle.inner_code.specs.Step.{coderBy}
 use Rattle.worked_cases.specs.Table.{Holds, unit, coefficients, damaged, cases}
@@ -40,5 +40,5 @@ damaged-no-codeword c =
 
 -- every row of the table holds
 pub cases-hold : All Holds cases
-unfolding listOf power plus scale product timesX rounds mul loaded outputBit stepped steps stepBits sequence period enabled masks randomized zipWith code.factors code.generator generatorTail divided remainderFrom checkBytes baseOf queue column fresh leaving blockOut modes modeOf bitsOf symbolsAfter symbols puncturedBy heldBy coderBy flatten groups encodedBits uncodedNumbers sequenced streamSymbols
+unfolding listOf power plus scale product timesX rounds mul loaded outputBit stepped steps stepBits sequence period enabled masks randomized zipWith code.factors code.generator generatorTail divided remainderFrom checkBytes baseOf queue column fresh leaving blockOut modes modeOf bitsOf symbolsAfter symbols puncturedBy heldBy coderBy flatten chunks chunksOf encodedBits uncodedNumbers sequenced streamSymbols
 cases-hold = (refl, (refl, (refl, (refl, (refl, (unit-coded, (damaged-no-codeword, (refl, (refl, (refl, (refl, (refl, (refl, (refl, (refl, (refl, tt))))))))))))))))

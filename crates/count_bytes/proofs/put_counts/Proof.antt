@@ -1,14 +1,14 @@
 -- `count_bytes::put_counts` meets its contract.
 -- Assumes nothing.
 use mathlib.Core.Path.{_≡_, refl, sym, ap, ap₂, _∙_}
-use mathlib.Core.List.{List, _++_}
+use mathlib.Core.List.{List, _++_, map, flatten}
 use Prim.Native.Nat.{ℕ, suc, _+_, _-_, _*_, _≤_, _<_}
 use native.Mathlib.Omega.{arith}
 use lib.ListN.{length, getD, take, drop, length-append, length-take, length-drop}
 use lib.Seq.{take-suc}
 use Rattle.common.specs.Lists.{placed}
 use Rattle.common.proofs.Lists.{put-after}
-use Rattle.count_bytes.specs.Bytes.{toBytes, numbersOf, eightEach, countBytes}
+use Rattle.count_bytes.specs.Bytes.{toBytes, numbersOf, countBytes}
 use Rattle.count_bytes.proofs.Numbers.{length-to, each-length, each-snoc}
 use borrow.Author.Needs.{needs}
 use Rattle.count_bytes.proofs.put_counts.Statement.{statement}
@@ -17,29 +17,29 @@ use Rattle.count_bytes.proofs.put_counts.Tie as tie
 -- the first i of eight numbers are written
 record Put (output₀ numbers output : List ℕ) (i : ℕ) : Type 0 where
   pub within : i ≤ 8
-  pub same : output ≡ eightEach (take i numbers) ++ drop (8 * i) output₀
+  pub same : output ≡ flatten (map (toBytes 8) (take i numbers)) ++ drop (8 * i) output₀
 
 module _ (output₀ numbers : List ℕ) (h : 64 ≤ length output₀) (n : length numbers ≡ 8) where
   put-start : Put output₀ numbers output₀ 0
-  unfolding eightEach
+  unfolding flatten
   put-start = record { within = omega arith; same = refl }
 
-  front-length : (i : ℕ) → i ≤ 8 → length (eightEach (take i numbers)) ≡ 8 * i
+  front-length : (i : ℕ) → i ≤ 8 → length (flatten (map (toBytes 8) (take i numbers))) ≡ 8 * i
   front-length i k = each-length (take i numbers) ∙ let m = length-take i numbers in omega arith
 
   put-length : (output : List ℕ) (i : ℕ) → Put output₀ numbers output i → length output ≡ length output₀
   put-length output i p =
       let w = p .within in
-      ap length (p .same) ∙ length-append (eightEach (take i numbers)) (drop (8 * i) output₀)
+      ap length (p .same) ∙ length-append (flatten (map (toBytes 8) (take i numbers))) (drop (8 * i) output₀)
       ∙ let a = front-length i w in let b = length-drop (8 * i) output₀ in omega arith
 
   put-more : (output next : List ℕ) (i : ℕ) → Put output₀ numbers output i → i < 8 → next ≡ placed output (8 * i) (toBytes 8 (getD numbers i 0))
       → Put output₀ numbers next (i + 1)
   put-more output next i p l e =
       let x : List ℕ = toBytes 8 (getD numbers i 0) in
-      let front : List ℕ = eightEach (take i numbers) in
-      let more : front ++ x ≡ eightEach (take (i + 1) numbers)
-      = each-snoc (take i numbers) (getD numbers i 0) ∙ ap eightEach (sym (take-suc numbers i 0 (omega arith)) ∙ ap (λ (j : ℕ). take j numbers) (step i)) in
+      let front : List ℕ = flatten (map (toBytes 8) (take i numbers)) in
+      let more : front ++ x ≡ flatten (map (toBytes 8) (take (i + 1) numbers))
+      = each-snoc (take i numbers) (getD numbers i 0) ∙ ap (λ (l : List ℕ). flatten (map (toBytes 8) l)) (sym (take-suc numbers i 0 (omega arith)) ∙ ap (λ (j : ℕ). take j numbers) (step i)) in
       let end : 8 * i + length x ≡ 8 * (i + 1) = omega (arith, length-to 8 (getD numbers i 0)) in
       record {
         within = omega arith;
@@ -52,10 +52,10 @@ module _ (output₀ numbers : List ℕ) (h : 64 ≤ length output₀) (n : lengt
       step : (i : ℕ) → suc i ≡ i + 1
       step i = omega arith
 
-  put-end : (output : List ℕ) (i : ℕ) → Put output₀ numbers output i → 8 ≤ i → output ≡ eightEach (take 8 numbers) ++ drop 64 output₀
+  put-end : (output : List ℕ) (i : ℕ) → Put output₀ numbers output i → 8 ≤ i → output ≡ flatten (map (toBytes 8) (take 8 numbers)) ++ drop 64 output₀
   put-end output i p l =
       let e : i ≡ 8 = omega (arith, p .within) in
-      p .same ∙ ap (λ (j : ℕ). eightEach (take j numbers) ++ drop (8 * j) output₀) e
+      p .same ∙ ap (λ (j : ℕ). flatten (map (toBytes 8) (take j numbers)) ++ drop (8 * j) output₀) e
 
 abbrev Inv-loop : tie.InvT-loop
 Inv-loop output₀ numbers i₀ output i = Put output₀ numbers output i

@@ -11,11 +11,11 @@ use Rattle.recording.proofs.are_marks_for.Tie as tie
 returns : tie.Need-returns
 returns c = simp (ne-eqb _ _ (c .if1 .taken))
 
-largest-mark-requires : tie.Need-largest-mark-requires
-largest-mark-requires c κs = search needs
+largest-of-requires : tie.Need-largest-of-requires
+largest-of-requires c κs = search needs
 
 returns-2 : tie.Need-returns-2
-returns-2 c = ap (λ (k : ℕ). ltb k 2) (c .largest-mark .ensures) ∙ sym (simp (eq-eqb _ _ (c .before .if1 .left)))
+returns-2 c = ap (λ (k : ℕ). ltb k 2) (c .largest-of .ensures) ∙ sym (simp (eq-eqb _ _ (c .before .if1 .left)))
 
 pub are-marks-for-spec : {M : Type 1} → statement M
-are-marks-for-spec = tie.close (tie.spec returns largest-mark-requires returns-2)
+are-marks-for-spec = tie.close (tie.spec returns largest-of-requires returns-2)

@@ -47,7 +47,7 @@ returns-3 c =
     let w = c .before .before .write-report in
     move-done (a .text .now) (a .form) (a .output .now) (numberOf (r .result .answer)) (r .result .report) (r .ensures)
     (sym (c .before .before .before .before .before .before .before .before .before .number .ensures) ∙ c .before .before .before .before .before .before .before .before .if1 .left) (sym (c .before .before .before .before .before .before .can-move .ensures) ∙ not-false _ (c .before .before .before .before .before .if2 .left))
-    (c .before .before .before .before .other-bits .result) (c .before .before .before .before .other-bits .ensures) _ _ _ (w .ensures .0) (w .ensures .1) (w .ensures .2)
+    (c .before .before .before .before .other-bits .result) (c .before .before .before .before .other-bits .ensures) _ _ _ (w .ensures)
 
 pub move-report-spec : {M : Type 1} → statement M
 move-report-spec =

@@ -28,7 +28,7 @@ size c =
 returns : tie.Need-returns
 returns c =
     let f : fits (c .before .before .before .args .report) ≡ false = sym (c .before .report-fits .ensures) ∙ not-true _ (c .if1 .taken) in
-    simp f (refl, refl, refl)
+    simp f (record { number-is = refl; size-is = refl; output-is = refl })
 
 sums-right-requires : tie.Need-sums-right-requires
 sums-right-requires c κs = sym (c .before .report-fits .ensures) ∙ not-false _ (c .if1 .left)
@@ -38,7 +38,7 @@ returns-2 c =
     let a = c .before .before .before .before .before .args in
     let f : fits (a .report) ≡ true = sym (c .before .before .before .report-fits .ensures) ∙ not-false _ (c .before .before .if1 .left) in
     let g : sums (a .report) ≡ false = sym (c .before .sums-right .ensures) ∙ not-true _ (c .if2 .taken) in
-    simp (f, g) (refl, refl, refl)
+    simp (f, g) (record { number-is = refl; size-is = refl; output-is = refl })
 
 slice-aggregate-compose : tie.Need-slice-aggregate-compose
 slice-aggregate-compose c = search needs
@@ -52,7 +52,7 @@ returns-3 c =
     let f : fits (a .report) ≡ true = sym (c .before .before .before .before .before .before .before .report-fits .ensures) ∙ not-false _ (c .before .before .before .before .before .before .if1 .left) in
     let g : sums (a .report) ≡ true = sym (c .before .before .before .before .before .sums-right .ensures) ∙ not-false _ (c .before .before .before .before .if2 .left) in
     let n = size (c .before .before) .0 in
-    simp (f, g, lt-ltb (length (a .output .now)) (length (reportText (a .report))) (omega (arith, c .if3 .taken))) (refl, refl, refl)
+    simp (f, g, lt-ltb (length (a .output .now)) (length (reportText (a .report))) (omega (arith, c .if3 .taken))) (record { number-is = refl; size-is = refl; output-is = refl })
 
 array-share-prefix-text : tie.Need-array-share-prefix-text
 array-share-prefix-text c = search needs
@@ -77,11 +77,11 @@ returns-4 c =
     let e = c .before .before .before .before .before .before .before in
     let n = size e .0 in
     let t : take (e .compose .result) (e .compose .last .1 .0) ≡ reportText (a .report) = e .compose .ensures .text in
-    simp (f, g, le-ltb (length (a .output .now)) (length (reportText (a .report))) (omega (arith, c .before .before .before .before .before .if3 .left))) (
-      refl,
-      n,
-      c .before .before .put .ensures ∙ ap (λ (l : List ℕ). take 0 (a .output .now) ++ l ++ drop (0 + length l) (a .output .now)) t,
-    )
+    simp (f, g, le-ltb (length (a .output .now)) (length (reportText (a .report))) (omega (arith, c .before .before .before .before .before .if3 .left))) (record {
+      number-is = refl;
+      size-is = n;
+      output-is = c .before .before .put .ensures ∙ ap (λ (l : List ℕ). take 0 (a .output .now) ++ l ++ drop (0 + length l) (a .output .now)) t;
+    })
 
 pub write-report-spec : {M : Type 1} → statement M
 write-report-spec =

@@ -4,7 +4,7 @@ use mathlib.Core.Path.{_≡_}
 use Prim.Native.Nat.{_+_, _-_}
 use native.Mathlib.Omega.{arith}
 use lib.ListN.{length}
-use Rattle.sending.proofs.Pieces.{sending-range}
+use Rattle.sending.proofs.Laws.{sending-range}
 use Rattle.sending.proofs.Progress.{ready-of, Progress, progress-start, output-length, answers-length, count-within, packets-fit, progress-total, progress-more, progress-end}
 use borrow.Author.Needs.{needs}
 use Rattle.sending.proofs.send_whole.Statement.{statement}

@@ -7,10 +7,11 @@ use native.Mathlib.Omega.{arith}
 use borrow.Author.Tests.{eq-eqb, ne-eqb, lt-ltb, le-ltb, not-true, not-false, eqb-true}
 use lib.ListN.{length, replicate}
 use Rattle.reed_solomon.specs.Marks.{areMarks}
-use Rattle.reed_solomon.proofs.Marks.{marks-of, largest-none, largest-most}
+use Rattle.reed_solomon.proofs.Marks.{marks-of}
 use Rattle.receiver.specs.Receive.{receiverInRange}
 use Rattle.receiver.proofs.Calls.{parts-range, refused-range, refused-length, refused-marks, refused-output, refused-full, state-range}
 use borrow.Author.Needs.{needs}
+use Rattle.common.proofs.Largest.{largest-none, largest-most}
 use Rattle.receiver.proofs.Receiver.receive_marked.Statement.{statement}
 use Rattle.receiver.proofs.Receiver.receive_marked.Tie as tie
 
@@ -19,7 +20,7 @@ sum-none a b e = (omega arith, omega arith)
 
 -- the test of the state, past it, the marks in the delays, and past the test of the marks that come
 range : (c : tie.After-parts-in-range) → c .parts-in-range .result ≡ receiverInRange (c .before .before .before .before .before .before .before .before .before .before .before .before .args .self)
-range c = parts-range (c .before .before .before .before .before .before .before .before .before .before .before .before .args .self) _ _ (c .before .largest-mark .ensures) (c .parts-in-range .ensures)
+range c = parts-range (c .before .before .before .before .before .before .before .before .before .before .before .before .args .self) _ _ (c .before .largest-of .ensures) (c .parts-in-range .ensures)
 
 good : (c : tie.Else1) → receiverInRange (c .before .before .before .before .before .before .before .before .before .before .before .before .before .args .self) ≡ true
 good c = sym (range (c .before)) ∙ not-false _ (c .if1 .left)
@@ -30,11 +31,11 @@ held c = search needs
 marked : (c : tie.Else3) → areMarks (c .before .before .before .before .before .before .before .before .before .before .before .before .before .before .before .before .args .marks .now) ≡ true
 marked c = sym (c .before .are-marks .ensures) ∙ not-false _ (c .if3 .left)
 
-slice-aggregate-largest-mark : tie.Need-slice-aggregate-largest-mark
-slice-aggregate-largest-mark c = search needs
+slice-aggregate-largest-of : tie.Need-slice-aggregate-largest-of
+slice-aggregate-largest-of c = search needs
 
-largest-mark-requires : tie.Need-largest-mark-requires
-largest-mark-requires c κs = search needs
+largest-of-requires : tie.Need-largest-of-requires
+largest-of-requires c κs = search needs
 
 parts-in-range-requires : tie.Need-parts-in-range-requires
 parts-in-range-requires c κs = search needs
@@ -72,8 +73,8 @@ returns-5 c =
     let o = le-ltb _ _ (c .before .if4 .left) in
     refused-full (a .self) (a .block .now) (a .marks .now) (a .output .now) (good (c .before .before .before .before .before)) l (marked (c .before .before)) o (le-ltb _ _ (c .if5 .taken))
 
-largest-mark-requires-2 : tie.Need-largest-mark-requires-2
-largest-mark-requires-2 c κs = search needs
+largest-of-requires-2 : tie.Need-largest-of-requires-2
+largest-of-requires-2 c κs = search needs
 
 add-none : tie.Need-add-none
 add-none c =
@@ -82,8 +83,8 @@ add-none c =
     record {
       fits = omega (
         arith,
-        c .before .before .before .before .before .before .before .before .largest-mark .ensures,
-        c .largest-mark2 .ensures,
+        c .before .before .before .before .before .before .before .before .largest-of .ensures,
+        c .largest-of2 .ensures,
         state-range (s .args .self) (good (c .before .before .before .before .before .before)) .marks,
         largest-most (s .args .marks .now) 1 (λ i b. m .bits i (omega (arith, m .size))),
       );
@@ -95,8 +96,8 @@ take-block-requires c κs =
     let m = marks-of (s .args .marks .now) (marked (c .before .before .before .before)) in (
       record { range = good (c .before .before .before .before .before .before .before); size = c .before .before .before .before .before .before .if2 .left; marked = marked (c .before .before .before .before); enough = c .before .before .before .if4 .left; more = c .before .before .if5 .left },
       λ z. (
-        largest-none (s .args .self .marks) (sym (c .before .before .before .before .before .before .before .before .before .largest-mark .ensures) ∙ sum-none (c .before .before .before .before .before .before .before .before .before .largest-mark .result) (c .before .largest-mark2 .result) (eqb-true _ _ z) .0) ∙ ap (λ (n : ℕ). replicate n 0) (held s),
-        largest-none (s .args .marks .now) (sym (c .before .largest-mark2 .ensures) ∙ sum-none (c .before .before .before .before .before .before .before .before .before .largest-mark .result) (c .before .largest-mark2 .result) (eqb-true _ _ z) .1) ∙ ap (λ (n : ℕ). replicate n 0) (m .size),
+        largest-none (s .args .self .marks) (sym (c .before .before .before .before .before .before .before .before .before .largest-of .ensures) ∙ sum-none (c .before .before .before .before .before .before .before .before .before .largest-of .result) (c .before .largest-of2 .result) (eqb-true _ _ z) .0) ∙ ap (λ (n : ℕ). replicate n 0) (held s),
+        largest-none (s .args .marks .now) (sym (c .before .largest-of2 .ensures) ∙ sum-none (c .before .before .before .before .before .before .before .before .before .largest-of .result) (c .before .largest-of2 .result) (eqb-true _ _ z) .1) ∙ ap (λ (n : ℕ). replicate n 0) (m .size),
       ),
     )
 
@@ -110,8 +111,8 @@ pub receive-marked-spec : {M : Type 1} → statement M
 receive-marked-spec =
     tie.close
     (tie.spec
-    slice-aggregate-largest-mark
-    largest-mark-requires
+    slice-aggregate-largest-of
+    largest-of-requires
     parts-in-range-requires
     returns
     returns-2
@@ -119,7 +120,7 @@ receive-marked-spec =
     returns-3
     returns-4
     returns-5
-    largest-mark-requires-2
+    largest-of-requires-2
     add-none
     take-block-requires
     same-length

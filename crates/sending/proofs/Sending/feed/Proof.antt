@@ -10,7 +10,7 @@ use Rattle.puncturing.specs.Mode.{modeOf}
 use Rattle.sender.specs.Send.{isSent}
 use Rattle.sending.specs.Sending.{sendingInRange, sendingFeedNumber, OutputsFit, FeedsSending, refused, fed}
 use Rattle.sending.specs.declared.Sending.{Sending}
-use Rattle.sending.proofs.Pieces.{sending-range}
+use Rattle.sending.proofs.Laws.{sending-range}
 use borrow.Author.Needs.{needs}
 use Rattle.sending.proofs.Sending.feed.Statement.{statement}
 use Rattle.sending.proofs.Sending.feed.Tie as tie

@@ -14,7 +14,7 @@ returns : tie.Need-returns
 returns c =
     let a = c .before .before .before .before .before .args in
     let e = sym (c .before .in-range .ensures) ∙ not-true _ (c .if1 .taken) in
-    reports (a .self) (a .output .now) _ _ _ (simp e) (simp e) (simp e)
+    reports (a .self) (a .output .now) _ _ _ (record { number-is = simp e; size-is = simp e; output-is = simp e })
 
 report-of-requires : tie.Need-report-of-requires
 report-of-requires c κs = search needs
@@ -31,7 +31,7 @@ returns-2 c =
     let e = sym (c .before .before .before .before .before .before .in-range .ensures) ∙ not-false _ (c .before .before .before .before .before .if1 .left) in
     let w = c .before .before .write-report .ensures in
     let r = c .before .before .before .before .report-of .ensures in
-    reports (a .self) (a .output .now) _ _ _ (w .0 ∙ simp (r, e)) (w .1 ∙ simp (r, e)) (w .2 ∙ simp (r, e))
+    reports (a .self) (a .output .now) _ _ _ (record { number-is = w .number-is ∙ simp (r, e); size-is = w .size-is ∙ simp (r, e); output-is = w .output-is ∙ simp (r, e) })
 
 pub report-spec : {M : Type 1} → statement M
 report-spec =

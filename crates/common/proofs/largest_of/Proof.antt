@@ -1,19 +1,19 @@
--- `reed_solomon::largest_mark` meets its contract: the largest of the first i marks.
+-- `common::largest_of` meets its contract: the largest of the first i bytes.
 -- Assumes nothing.
 use mathlib.Core.Path.{_≡_, refl, sym, ap, _∙_}
 use Prim.Native.Nat.{ℕ, _-_, _≤_, max}
 use lib.ListN.{length, getD, take}
-use Rattle.reed_solomon.specs.Marks.{largest}
-use Rattle.reed_solomon.proofs.Marks.{largest-more, largest-whole}
+use Rattle.common.specs.Lists.{largest}
+use Rattle.common.proofs.Largest.{largest-more, largest-whole}
 use borrow.Author.Needs.{needs}
-use Rattle.reed_solomon.proofs.largest_mark.Statement.{statement}
-use Rattle.reed_solomon.proofs.largest_mark.Tie as tie
+use Rattle.common.proofs.largest_of.Statement.{statement}
+use Rattle.common.proofs.largest_of.Tie as tie
 
 abbrev Inv-loop : tie.InvT-loop
-Inv-loop marks most₀ i₀ most i = (i ≤ length marks) × (most ≡ largest (take i marks))
+Inv-loop bytes most₀ i₀ most i = (i ≤ length bytes) × (most ≡ largest (take i bytes))
 
 abbrev μ-loop : tie.MeasureT-loop
-μ-loop marks most₀ i₀ most i = length marks - i
+μ-loop bytes most₀ i₀ most i = length bytes - i
 
 loop-holds : tie.Need-loop-holds Inv-loop μ-loop
 unfolding largest
@@ -34,14 +34,14 @@ loop-less c = search needs
 loop-again : tie.Need-loop-again Inv-loop μ-loop
 loop-again c =
     let l = c .before .before .before .loop in
-    let m = c .before .before .before .before .before .args .marks .now in
+    let m = c .before .before .before .before .before .args .bytes .now in
     (search needs, c .larger .ensures ∙ ap (λ (k : ℕ). max k (getD m (l .i) 0)) (l .inv .1) ∙ sym (largest-more m (l .i) (search needs)))
 
 returns : tie.Need-returns Inv-loop μ-loop
-returns c = c .before .loop .inv .1 ∙ largest-whole (c .before .before .before .args .marks .now) (c .before .loop .i) (search needs)
+returns c = c .before .loop .inv .1 ∙ largest-whole (c .before .before .before .args .bytes .now) (c .before .loop .i) (search needs)
 
-pub largest-mark-spec : {M : Type 1} → statement M
-largest-mark-spec =
+pub largest-of-spec : {M : Type 1} → statement M
+largest-of-spec =
     tie.close
     (tie.spec
     Inv-loop
