@@ -1,4 +1,5 @@
--- The blocks of a whole list of transport packets, as they go to the inner code: EN 300 421, 4.4.1 and 4.4.2.
+-- The blocks of a whole list of transport packets, as they go to the inner code.
+-- Clauses: EN 300 421, 4.4.1; EN 300 421, 4.4.2.
 -- Assumes nothing.
 use mathlib.Core.List.{List, map, flatten}
 use Prim.Native.Nat.{ℕ}
@@ -6,12 +7,12 @@ use Rattle.reed_solomon.specs.Encode.{encoded}
 use Rattle.randomizer.specs.Stream.{randomizedStream}
 use Rattle.interleaver.specs.Stream.{interleaved}
 
--- 4.4.1: transport multiplex adaptation and randomization for energy dispersal, in groups of eight packets from the first one on.
--- 4.4.2: each randomized packet is coded by RS(204,188).
+-- transport multiplex adaptation and randomization for energy dispersal, in groups of eight packets from the first one on (4.4.1); each randomized
+-- packet is coded by RS(204,188) (4.4.2)
 abbrev pub codedBlocks : List (List ℕ) → List (List ℕ)
 codedBlocks packets = map encoded (randomizedStream packets)
 
--- 4.4.2: the blocks go through the convolutional interleaver, whose branches hold zeros at first
+-- the blocks go through the convolutional interleaver, whose branches hold zeros at first (4.4.2)
 abbrev pub interleavedBlocks : List (List ℕ) → List (List ℕ)
 interleavedBlocks packets = interleaved (codedBlocks packets)
 

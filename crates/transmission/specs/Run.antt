@@ -13,7 +13,7 @@ use Rattle.puncturing.specs.Mode.{modeOf}
 use Rattle.sender.specs.Standard.{onAir}
 use Rattle.sender.specs.Input.{isSynced, packetsFor}
 
--- each begins with the sync byte
+-- each packet of a list begins with the sync byte
 unfoldable pub synced : List (List ℕ) → Bool
 synced [] = true
 synced (p ∷ ps) = pick (isSynced p) (synced ps) false
