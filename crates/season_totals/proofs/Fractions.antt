@@ -11,9 +11,10 @@ use borrow.Author.Tests.{lt-ltb, le-ltb, eq-eqb, ne-eqb}
 use lib.ListN.{length, getD, length-append, List·getD-append}
 use lib.Seq.{getD-at}
 use Rattle.common.specs.Choice.{pick}
+use Rattle.common.specs.Lists.{total}
 use Rattle.report.specs.declared.Report.{Report}
 use Rattle.report.specs.Read.{blank}
-use Rattle.season_totals.specs.Totals.{accepted, total, nth, Worst, TotalsOf, beats, countedReport}
+use Rattle.season_totals.specs.Totals.{accepted, nth, Worst, TotalsOf, beats, countedReport}
 
 -- of three fractions: at most, less, so less
 pub cross : (p a c q d b : ℕ) → 0 < a → 0 < q → p * a ≤ c * q → c * b < d * a → p * b < d * q

@@ -9,14 +9,14 @@ use native.Mathlib.Nat.{mul-suc, not-suc-le-zero}
 use native.Mathlib.Omega.{arith}
 use lib.ListN.{length, getD, take, drop, length-append, length-drop, take-append-drop, drop-of-length-le}
 use lib.Seq.{take-at, take-append-le, length-take-le}
-use Rattle.common.specs.Lists.{All, placed}
+use Rattle.common.specs.Lists.{All, placed, total}
 use Rattle.report_lines.specs.Line.{decimal, lineText}
 use Rattle.report.specs.declared.Report.{Report}
 use Rattle.report.specs.Text.{fits, reportText, row, linesText, fields, bitsText}
 use Rattle.report.specs.Read.{ReadsReport}
 use Rattle.report.proofs.Counting.{Small, fits-small}
 use Rattle.report.proofs.Fronts.{report-short}
-use Rattle.season_totals.specs.Totals.{total, Worst, TotalsFit, countedReport, zeroTotals}
+use Rattle.season_totals.specs.Totals.{Worst, TotalsFit, countedReport, zeroTotals}
 use Rattle.season_totals.specs.Season.{Good, texts, Seasons}
 use Rattle.season_totals.specs.Progress.{Unread}
 use Rattle.season_totals.proofs.Fractions.{totals-more}

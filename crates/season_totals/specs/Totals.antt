@@ -7,6 +7,7 @@ use Prim.Native.Nat.{ℕ, _+_, _*_, _≤_, _<_}
 use lib.Dec.{ltb, eqb}
 use lib.ListN.{length, getD}
 use Rattle.common.specs.Choice.{pick}
+use Rattle.common.specs.Lists.{total}
 use Rattle.report.specs.declared.Report.{Report}
 use Rattle.report.specs.Text.{fits}
 use Rattle.report.specs.Read.{blank}
@@ -17,11 +18,6 @@ wide l = getD l 0 0 + 18446744073709551616 * getD l 1 0
 
 abbrev pub accepted : Report → ℕ
 accepted r = r .delivered + r .waiting + r .outofstep
-
--- a count summed over reports
-abbrev pub total : (Report → ℕ) → List Report → ℕ
-total f [] = 0
-total f (r ∷ rs) = f r + total f rs
 
 abbrev pub nth : List Report → ℕ → Report
 nth rs j = getD rs j blank
