@@ -22,11 +22,6 @@ use Rattle.galois.proofs.Instance.{bytes, byte, byte-add, byte-mul, byte-power}
 use Rattle.byte_lanes.specs.Lanes.{elements, alpha, productsOf, PowersFrom, hornerStep, ValuesAt}
 use Rattle.byte_lanes.proofs.Words.{length-sum, sum-at, length-products, products-at}
 
-pub zeros-at : (n j : ℕ) → getD {A = ℕ} (replicate n 0) j 0 ≡ 0
-zeros-at zero j = refl
-zeros-at (suc n) zero = refl
-zeros-at (suc n) (suc j) = zeros-at n j
-
 -- ---- sixteen powers of 02
 
 -- the first ones, as antt computes them

@@ -15,7 +15,7 @@ use Rattle.common.proofs.Written.{Written, written-none, written-next, written-
 use Rattle.algebra.specs.Field.{ops}
 use Rattle.algebra.specs.Polynomial.{plus, scale, product}
 use Rattle.algebra.proofs.Homomorphism as Hom
-use Rattle.galois.specs.Field256.{numbers, mul}
+use Rattle.galois.specs.Field256.{numbers, mul, scaled}
 use Rattle.galois.proofs.Laws.{mul-lt}
 use Rattle.byte_lanes.specs.Lanes.{elements, word, productsOf}
 use Rattle.galois.proofs.Instance.{bytes, byte, byte-inj, byte-of, byte-zero, byte-add, byte-mul}
@@ -90,6 +90,10 @@ elements-scale = Hom.map-scale numbers (ops bytes) byte byte-add byte-mul byte-z
 
 pub elements-product : (a b : List ℕ) → elements (product numbers a b) ≡ product (ops bytes) (elements a) (elements b)
 elements-product = Hom.map-product numbers (ops bytes) byte byte-add byte-mul byte-zero
+
+pub length-scaled : (c : ℕ) (a : List ℕ) → length (scaled c a) ≡ length a
+unfolding scale
+length-scaled c a = length-map a (mul c)
 
 -- ---- the sum of two lists of one length
 

@@ -9,7 +9,7 @@ use native.Mathlib.Nat.{le-of-suc-le-suc, not-suc-le-zero}
 use native.Mathlib.Decide.{ℕ-discrete}
 use native.Mathlib.Numerals.{add-one}
 use native.Mathlib.Omega.{arith}
-use lib.ListN.{length, getD, take, drop, length-append, List·getD-append}
+use lib.ListN.{length, getD, take, drop, length-append, List·getD-append, replicate}
 use lib.Seq.{take-at, drop-append-add, drop-drop, length-take-le, getD-append-add, getD-take, getD-drop, getD-at}
 use Rattle.common.specs.Lists.{All, listOf}
 
@@ -18,6 +18,10 @@ use Rattle.common.specs.Lists.{All, listOf}
 pub All-each : {A : Type 0} (P : A → Type 0) → ((x : A) → P x) → (xs : List A) → All P xs
 All-each P f [] = tt
 All-each P f (x ∷ xs) = (f x, All-each P f xs)
+
+pub All-append : {A : Type 0} (P : A → Type 0) (xs ys : List A) → All P xs → All P ys → All P (xs ++ ys)
+All-append P [] ys g h = h
+All-append P (x ∷ xs) ys g h = (g .0, All-append P xs ys (g .1) h)
 
 pub All-map : {A : Type 0} (P Q : A → Type 0) → ((x : A) → P x → Q x) → (xs : List A) → All P xs → All Q xs
 All-map P Q f [] h = tt
@@ -97,3 +101,10 @@ put-other l a at k h b (inr c) =
     ap (λ (j : ℕ). getD (take at l ++ a ++ drop (at + length a) l) j 0) (sym n)
     ∙ getD-append-add (take at l ++ a) (drop (at + length a) l) (k - (at + length a)) 0
     ∙ getD-drop (at + length a) l (k - (at + length a)) 0 ∙ ap (λ (j : ℕ). getD l j 0) m
+
+-- ---- zeros
+
+pub zeros-at : (n i : ℕ) → getD {A = ℕ} (replicate n 0) i 0 ≡ 0
+zeros-at zero i = refl
+zeros-at (suc n) zero = refl
+zeros-at (suc n) (suc i) = zeros-at n i

@@ -4,10 +4,10 @@ use mathlib.Core.Path.{_≡_, refl, ap}
 use mathlib.Core.List.{List, [], _∷_, _++_}
 use Prim.Native.Nat.{ℕ, zero, suc, _*_, _/_, _%_, _<_}
 use native.Mathlib.Omega.{arith}
-use lib.ListN.{length, getD}
+use lib.ListN.{length, getD, replicate}
 use Rattle.common.specs.Lists.{total}
 use Rattle.convolutional_code.specs.Bits.{bitsOf, Bits, none, more}
-use Rattle.convolutional_code.specs.Code.{recent, nextMemory, motherOf}
+use Rattle.convolutional_code.specs.Code.{recent, nextMemory, motherOf, coded, memoryAfter}
 use Rattle.convolutional_code.specs.Sweep.{oldest}
 
 pub bits-at : {l : List ℕ} → Bits l → (k : ℕ) → getD l k 0 < 2
@@ -18,6 +18,23 @@ bits-at (more h t) (suc k) = bits-at t k
 pub bits-append : {a b : List ℕ} → Bits a → Bits b → Bits (a ++ b)
 bits-append none t = t
 bits-append (more h s) t = more h (bits-append s t)
+
+pub zero-bits : (n : ℕ) → Bits (replicate n 0)
+zero-bits zero = none
+zero-bits (suc n) = more {b = 0} (omega arith) (zero-bits n)
+
+-- ---- the mother code
+
+pub coded-lt : (taps : List ℕ) (m b : ℕ) → coded taps m b < 2
+coded-lt taps m b = omega arith
+
+pub next-lt : (m b : ℕ) → m < 64 → b < 2 → nextMemory m b < 64
+next-lt m b h k = omega arith
+
+pub memory-snoc : (m : ℕ) (xs : List ℕ) (b : ℕ) → memoryAfter m (xs ++ (b ∷ [])) ≡ nextMemory (memoryAfter m xs) b
+unfolding memoryAfter
+memory-snoc m [] b = refl
+memory-snoc m (x ∷ xs) b = memory-snoc (nextMemory m x) xs b
 
 pub bits-tail : {b : ℕ} {l : List ℕ} → Bits (b ∷ l) → Bits l
 bits-tail (more h t) = t

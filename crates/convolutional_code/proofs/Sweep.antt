@@ -9,7 +9,7 @@ use lib.ListN.{length, getD}
 use Rattle.convolutional_code.specs.Bits.{bitsOf, Bits}
 use Rattle.convolutional_code.specs.Code.{tapsX, tapsY, nextMemory, coded, motherOf, memoryAfter, blockMother}
 use Rattle.convolutional_code.specs.Sweep.{oldest, offsetsX, offsetsY, totalAt, sweep, memoryAt}
-use Rattle.convolutional_code.proofs.Bits.{bits-at, bits-tail, bits-bits, length-bits}
+use Rattle.convolutional_code.proofs.Bits.{bits-at, bits-tail, bits-bits, length-bits, next-lt}
 
 pub length-sweep : (os h : List ℕ) (n k : ℕ) → length (sweep os h n k) ≡ k
 unfolding sweep
@@ -54,9 +54,6 @@ shift m b bs h k =
     let e5 : b ≡ next / 32 % 2 = sym (top b (m / 2) k (omega arith)) in
     λ i. m % 2 ∷ e0 i ∷ e1 i ∷ e2 i ∷ e3 i ∷ e4 i ∷ e5 i ∷ bs
 
-next-small : (memory b : ℕ) → memory < 64 → b < 2 → nextMemory memory b < 64
-next-small m b h k = omega arith
-
 -- a list from its second element on
 total-tail : (os : List ℕ) (a : ℕ) (h : List ℕ) (n : ℕ) → totalAt os (a ∷ h) (suc n) ≡ totalAt os h n
 total-tail [] a h n = refl
@@ -80,7 +77,7 @@ sweep-mother os taps same m (b ∷ bs) h t =
     let rest : sweep os (oldest m ++ b ∷ bs) 1 (length bs) ≡ motherOf taps next bs
     = ap (λ (l : List ℕ). sweep os l 1 (length bs)) (shift m b bs h (bits-at t 0))
     ∙ sweep-tail os (m % 2) (oldest next ++ bs) 0 (length bs)
-    ∙ sweep-mother os taps same next bs (next-small m b h (bits-at t 0)) (bits-tail t)
+    ∙ sweep-mother os taps same next bs (next-lt m b h (bits-at t 0)) (bits-tail t)
     in
     ap₂ (λ (x : ℕ) (l : List ℕ). x ∷ l) (same m b bs) rest
 
@@ -105,7 +102,7 @@ memory-mother m (b ∷ bs) h t =
     in
     ap (λ (k : List ℕ). memoryAt k (suc n)) (shift m b bs h (bits-at t 0))
     ∙ s
-    ∙ memory-mother next bs (next-small m b h (bits-at t 0)) (bits-tail t)
+    ∙ memory-mother next bs (next-lt m b h (bits-at t 0)) (bits-tail t)
 
 -- the bits of some bytes
 module _ (memory : ℕ) (bytes : List ℕ) (k : ℕ) (h : memory < 64) (n : k ≡ 8 * length bytes) where

@@ -16,15 +16,13 @@ use Rattle.puncturing.specs.Mode.{modeOf}
 use Rattle.puncturing.specs.Step.{patternLength}
 use Rattle.puncturing.proofs.Places.{tested-at, agreed-at}
 use Rattle.common.specs.Choice.{pick}
+use Rattle.convolutional_code.proofs.Bits.{coded-lt}
 use Rattle.convolutional_code.specs.Code.{tapsX, tapsY, coded, nextMemory}
 use Rattle.trellis.specs.Metric.{Costs, costFrom}
 use Rattle.viterbi_decoder.specs.Step.{at, decided, stepCost, stepCosts}
 use Rattle.depuncturing.specs.Steps.{kind, width, kindCost, kindAt, first, puncturedCosts, pairCost, value, stepValue}
 
 -- a step's four numbers cost what its coded bits do
-
-coded-lt : (taps : List ℕ) (m b : ℕ) → coded taps m b < 2
-coded-lt taps m b = omega arith
 
 none : (v : ℕ) → decided 0 0 v ≡ 0
 none v = go (eqb v 0)

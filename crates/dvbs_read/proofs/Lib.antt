@@ -1,2 +1,2 @@
 mod Symbols
-mod Turning
+pub mod Turning

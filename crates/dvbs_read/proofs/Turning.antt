@@ -2,7 +2,7 @@
 -- Assumes nothing.
 use mathlib.Core.Path.{_≡_, refl, sym, ap, ap₂, subst, _∙_}
 use mathlib.Core.Bool.{Bool, true, false, true≢false}
-use mathlib.Core.List.{List, [], _∷_, _++_}
+use mathlib.Core.List.{List, [], _++_}
 use Prim.Native.Nat.{ℕ, _+_, _≤_, _<_}
 use native.Mathlib.Omega.{arith}
 use borrow.Author.Tests.{ltb-false}
@@ -11,6 +11,7 @@ use lib.ListN.{length, take, length-append}
 use lib.Seq.{length-take-le, take-take, take-length, take-append-add, getD-append-add}
 use Rattle.common.specs.Choice.{pick}
 use Rattle.common.specs.Lists.{All}
+use Rattle.common.proofs.Lists.{All-append}
 use Rattle.run_reader.specs.Cost.{differing}
 use Rattle.symbol_pass.specs.History.{Going, LastBytes, ReceivedSoFar, WholePass}
 use Rattle.symbol_pass.specs.declared.Reading.{Reading}
@@ -38,10 +39,6 @@ all-taken taken came e = by taken came (ltb taken came) refl e
     by taken came true l e = absurd (true≢false (sym e))
     by taken came false l e = ltb-false taken came l
 
-all-append : (xs ys : List ℕ) → All (λ x. x < 4) xs → All (λ x. x < 4) ys → All (λ x. x < 4) (xs ++ ys)
-all-append [] ys h l = l
-all-append (x ∷ xs) ys h l = (h .0, all-append xs ys (h .1) l)
-
 taken-more : {input symbols : List ℕ} → Taken input symbols true → (piece : List ℕ) (taken : ℕ) (more : Bool) → SymbolsAtFront piece taken
     → more ≡ pick (ltb taken (length piece)) false (ltb 0 (length piece)) → Taken (input ++ piece) (symbols ++ take taken piece) more
 taken-more {input} {symbols} g piece taken more f e =
@@ -54,7 +51,7 @@ taken-more {input} {symbols} g piece taken more f e =
         most = omega (arith, length-append input piece, f .most);
         symbols =
             subst (All (λ x. x < 4)) (sym front)
-            (all-append input (take taken piece)
+            (All-append (λ x. x < 4) input (take taken piece)
             (subst (All (λ x. x < 4)) (sym (g .are) ∙ s) (g .front .symbols)) (f .symbols));
         ends = λ h. subst (λ (x : ℕ). 4 ≤ x) (sym (getD-append-add input piece taken 0)) (f .ends (omega (arith, length-append input piece)));
       });

@@ -1,2 +1,2 @@
 mod Numbers
-mod Turning
+pub mod Turning

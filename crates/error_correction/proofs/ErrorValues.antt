@@ -10,7 +10,7 @@ use native.Mathlib.Omega.{arith}
 use lib.Bits.{bitXor}
 use lib.ListN.{length, getD, take, drop, replicate, length-map, length-append, List·getD-eq-default}
 use lib.Seq.{drop-cons, drop-length, length-take-le, getD-take, take-suc, take-take}
-use Rattle.common.proofs.Lists.{getD-map-in}
+use Rattle.common.proofs.Lists.{getD-map-in, zeros-at}
 use Rattle.algebra.specs.Field.{Field, ops}
 use Rattle.algebra.specs.Polynomial.{eval, plus, scale}
 use Rattle.algebra.proofs.Ring.{ring}
@@ -22,7 +22,7 @@ use Rattle.galois.proofs.Instance.{bytes, byte, byte-zero, byte-one, byte-add, 
 use Rattle.byte_lanes.specs.Lanes.{elements, productsOf, hornerStep}
 use Rattle.error_correction.specs.Correction.{monic, RootProduct, quotientBy, numeratorAt, denominatorAt, FractionsAt, errorValue}
 use Rattle.byte_lanes.proofs.Words.{elements-plus, elements-scale, length-sum, sum-at}
-use Rattle.byte_lanes.proofs.Powers.{zeros-at, length-advanced, advanced-at, eval-from}
+use Rattle.byte_lanes.proofs.Powers.{length-advanced, advanced-at, eval-from}
 use Rattle.byte_lanes.proofs.Words.{length-products, products-at}
 
 -- ---- identities

@@ -13,14 +13,14 @@ use lib.Dec.{eqb, lit<}
 use lib.ListN.{length, getD, take, drop, set, replicate, length-append, length-take, length-drop, length-set, take-append-drop, List·getD-eq-default}
 use lib.Seq.{getD-take, getD-drop, take-suc, take-suc-set, take-all, take-add, length-take-le, ext-getD}
 use Rattle.common.specs.Choice.{pick}
-use Rattle.common.proofs.Lists.{length-listOf, getD-listOf}
+use Rattle.common.proofs.Lists.{length-listOf, getD-listOf, zeros-at}
 use Rattle.algebra.specs.Field.{ops}
 use Rattle.algebra.specs.Polynomial.{eval}
 use Rattle.algebra.proofs.Ring.{zero-add as field-zero-add, add-zero as field-add-zero, mul-zero as field-mul-zero}
 use Rattle.galois.specs.Field256.{pow}
 use Rattle.galois.proofs.Instance.{bytes, byte, byte-val, byte-zero}
 use Rattle.byte_lanes.specs.Lanes.{elements, alpha, PowersFrom, ValuesAt}
-use Rattle.byte_lanes.proofs.Powers.{zeros-at, powers-at}
+use Rattle.byte_lanes.proofs.Powers.{powers-at}
 use Rattle.error_correction.specs.Correction.{EndsAt, masked, Masked, valuesOf, zerosFrom, Listed, rootsOf, onePolynomial, FoundRoots}
 
 -- ---- the degree

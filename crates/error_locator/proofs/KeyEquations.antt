@@ -18,7 +18,7 @@ use Rattle.algebra.proofs.Ring.{zero-add, one-mul, mul-comm, mul-ne}
 use Rattle.algebra.proofs.Elimination.{CombineRow, MulRow, Reach, Vector, Sol, solves, kernel-key, kernel-nonzero, sum-ext, reach-combine, reach-mul, diagonal-combine, diagonal-more, swept-none, swept-skip, swept-row, combine-fewer, mul-fewer}
 use Rattle.galois.specs.Field256.{numbers, mul, scaled}
 use Rattle.galois.proofs.Instance.{bytes, byte, byte-inj, byte-zero, byte-one, byte-add, byte-mul}
-use Rattle.byte_lanes.proofs.Words.{length-sum, sum-at, length-products, products-at}
+use Rattle.byte_lanes.proofs.Words.{length-sum, sum-at, length-products, products-at, length-scaled}
 use Rattle.byte_lanes.specs.Lanes.{elements, productsOf}
 use Rattle.error_locator.specs.Locator.{mat, FirstPivot, combinedOf, Reduced, Pivoted, Cleared, Eliminated, Filled, SolutionAt, Solution, Located}
 
@@ -49,15 +49,11 @@ scaled-at : (a : ℕ) (l : List ℕ) (c : ℕ) → c < length l → byte (getD (
 unfolding scale
 scaled-at a l c h = ap byte (getD-map-in (mul a) l 0 0 c h) ∙ byte-mul a (getD l c 0)
 
-scaled-length : (a : ℕ) (l : List ℕ) → length (scaled a l) ≡ length l
-unfolding scale
-scaled-length a l = length-map l (mul a)
-
 module _ (m new : List ℕ) (i a : ℕ) (lm : length m ≡ 128) (li : i < 8) where
   pub scaled-row : (row : List ℕ) → row ≡ scaled a (take 16 (drop (i * 16) m)) → new ≡ take (i * 16) m ++ row ++ drop (i * 16 + length row) m
       → MulRow bytes 8 9 i (byte a) (mat m) (mat new)
   scaled-row row e f =
-      let n : length row ≡ 16 = ap length e ∙ scaled-length a (take 16 (drop (i * 16) m)) ∙ row-length m i lm li in
+      let n : length row ≡ 16 = ap length e ∙ length-scaled a (take 16 (drop (i * 16) m)) ∙ row-length m i lm li in
       record {
         other = λ r c h l x. ap (λ (u : List ℕ). mat u r c) f ∙ row-other m row i lm li n r c h (omega arith) x;
         row =

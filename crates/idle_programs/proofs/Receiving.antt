@@ -10,6 +10,7 @@ use borrow.Author.Tests.{le-ltb}
 use lib.ListN.{length, getD, take, drop, replicate, length-append, length-replicate, getD-replicate, List·getD-append}
 use lib.Seq.{take-at, length-take-le, getD-append-add}
 use Rattle.common.specs.Lists.{All}
+use Rattle.common.proofs.Lists.{All-append}
 use Rattle.answer.specs.Number.{numberOf}
 use Rattle.reed_solomon.specs.Code.{Codeword, differ, differBits, changes, noChange}
 use Rattle.reed_solomon.specs.Decode.{changedBy}
@@ -98,15 +99,11 @@ Keeps f = (bytes output : List ℕ) → Returns bytes output (f bytes output .nu
 sent : ℕ → ℕ → List (List ℕ)
 sent k v = samples k v ++ replicate 11 (sample 0)
 
-all-join : {A : Type 0} (P : A → Type 0) (a b : List A) → All P a → All P b → All P (a ++ b)
-all-join P [] b p q = q
-all-join P (x ∷ a) b p q = (p .0, all-join P a b (p .1) q)
-
 sent-packets : (k v : ℕ) → v < 256 → All Packet (sent k v)
 unfolding sent
 sent-packets k v h =
     let z = sample-packet 0 (omega arith) in
-    all-join Packet (samples k v) (replicate 11 (sample 0)) (samples-packets k v h) (z, (z, (z, (z, (z, (z, (z, (z, (z, (z, (z, tt)))))))))))
+    All-append Packet (samples k v) (replicate 11 (sample 0)) (samples-packets k v h) (z, (z, (z, (z, (z, (z, (z, (z, (z, (z, (z, tt)))))))))))
 
 sent-length : (k v : ℕ) → length (sent k v) ≡ k + 12
 unfolding sent

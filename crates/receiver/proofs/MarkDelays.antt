@@ -8,7 +8,7 @@ use lib.ListN.{length, replicate, length-replicate}
 use lib.Seq.{ext-getD}
 use Rattle.common.specs.Lists.{Entries, largest}
 use Rattle.common.proofs.Largest.{largest-least, largest-most}
-use Rattle.byte_lanes.proofs.Powers.{zeros-at}
+use Rattle.common.proofs.Lists.{zeros-at}
 use Rattle.reed_solomon.specs.Decode.{Decodes}
 use Rattle.reed_solomon.specs.Marks.{Marks, noMarks, DecodesMarked}
 use Rattle.reed_solomon.specs.declared.Decoded.{Decoded}

@@ -10,8 +10,9 @@ use lib.Dec.{eqb}
 use lib.ListN.{length, take, drop, length-append, length-drop, length-take}
 use lib.Seq.{take-at, drop-at, drop-drop}
 use Rattle.common.specs.Choice.{pick}
-use Rattle.common.specs.Lists.{All, restOf}
+use Rattle.common.specs.Lists.{restOf}
 use Rattle.common.proofs.Chunks.{length-chunks, cut}
+use Rattle.common.proofs.Lists.{All-append}
 use Rattle.interleaver.proofs.Blocks.{flatten-join}
 use Rattle.receiver.specs.Run.{Call, DecodedCalls, answerOf, outputOf, afterCall, afterCalls, OutputFits, packetsGiven}
 use Rattle.receiver.specs.declared.Receiver.{Receiver}
@@ -20,10 +21,6 @@ use Rattle.recording.specs.Recording.{MarkedBy, Recording, TakesRecordin
 use Rattle.recording.proofs.Recordings.{recording-few}
 
 -- ---- calls after calls
-
-all-join : {A : Type 0} (P : A → Type 0) (a b : List A) → All P a → All P b → All P (a ++ b)
-all-join P [] b p q = q
-all-join P (x ∷ a) b p q = (p .0, all-join P a b (p .1) q)
 
 after-join : (s : Receiver) (a b : List Call) → afterCalls s (a ++ b) ≡ afterCalls (afterCalls s a) b
 after-join s [] b = refl
@@ -58,7 +55,7 @@ module _ {s middle last : Receiver} {a : List ℕ} (b : List ℕ) {p q : List (L
             ∙ sym (cut 204 (omega arith) a b .chunks-are);
         marked = marked-join x y (f .marked) (g .marked);
         decodes = calls-join s x y (f .decodes) t;
-        output-fits = all-join OutputFits x y (f .output-fits) (g .output-fits);
+        output-fits = All-append OutputFits x y (f .output-fits) (g .output-fits);
         given =
             ap₂ (λ (u v : List (List ℕ)). u ++ v) (f .given) (g .given ∙ ap (λ (m : Receiver). packetsGiven m y) (f .state)) ∙ sym (given-join s x y);
         state = g .state ∙ ap (λ (m : Receiver). afterCalls m y) (f .state) ∙ sym (after-join s x y);

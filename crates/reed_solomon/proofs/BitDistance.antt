@@ -11,8 +11,9 @@ use lib.Count.{ones, ones-step}
 use lib.ListN.{length}
 use Rattle.common.proofs.Xor.{xor-half, xor-low}
 use Rattle.common.specs.Choice.{unequal}
+use Rattle.common.proofs.Choice.{unequal-le}
 use Rattle.reed_solomon.specs.Code.{unequalBits, distance, differ, differBits, changes, noChange}
-use Rattle.reed_solomon.proofs.Distance.{unequal-same, unequal-other, unequal-le, unequal-xor, distance-none, differ-none}
+use Rattle.reed_solomon.proofs.Distance.{unequal-same, unequal-other, unequal-xor, distance-none, differ-none}
 
 -- ---- of two numbers of n bits
 

@@ -19,6 +19,7 @@ use Rattle.algebra.proofs.Syndromes.{Term, AllZero, keep, support, weight, synd
 use Rattle.algebra.proofs.Terms.{terms, distinct-terms, word-syndrome}
 use Rattle.galois.proofs.Instance.{bytes, byte, byte-inj, powers-differ}
 use Rattle.common.specs.Choice.{unequal}
+use Rattle.common.proofs.Choice.{unequal-le}
 use Rattle.reed_solomon.specs.Code.{Codeword, distance, differ, changes}
 use Rattle.reed_solomon.specs.Decode.{Accepted}
 use Rattle.reed_solomon.specs.declared.Changed.{Changed}
@@ -54,13 +55,6 @@ distance-none d none (x ∷ a) = omega (arith, none x, distance-none d none a)
 pub differ-none : (a : List ℕ) → differ a a ≡ 0
 unfolding differ
 differ-none a = distance-none unequal (λ x. unequal-same x x refl) a
-
-pub unequal-le : (x y : ℕ) → unequal x y ≤ 1
-unequal-le x y = go (ℕ-discrete x y)
-  where
-    go : Dec (x ≡ y) → unequal x y ≤ 1
-    go (yes e) = omega (arith, unequal-same x y e)
-    go (no n) = omega (arith, unequal-other x y n)
 
 pub differ-le : (a b : List ℕ) → differ a b ≤ length a
 unfolding differ distance

@@ -15,12 +15,12 @@ use Rattle.galois.specs.Field256.{numbers, mul, rounds, timesX, scaled}
 use Rattle.galois.proofs.Instance.{bytes, byte, byte-zero, byte-one}
 use Rattle.byte_lanes.specs.Lanes.{alpha, productsOf}
 use Rattle.byte_lanes.proofs.Powers.{products-scaled}
-use Rattle.byte_lanes.proofs.Words.{length-sum, sum-at, length-products, products-at}
+use Rattle.byte_lanes.proofs.Words.{length-sum, sum-at, length-products, products-at, length-scaled}
 use Rattle.reed_solomon.specs.Code.{factors, generator}
 use Rattle.reed_solomon.specs.Encode.{generatorTail, divided, remainderFrom, checkBytes}
 use Rattle.reed_solomon.specs.Steps.{reducedOf, SameValues}
 use Rattle.reed_solomon.proofs.Codewords.{generator-root}
-use Rattle.reed_solomon.proofs.LongDivision.{length-scaled, high, high-one, high-cons, high-append, high-plus, high-scale, high-check}
+use Rattle.reed_solomon.proofs.LongDivision.{high, high-one, high-cons, high-append, high-plus, high-scale, high-check}
 
 -- ---- two products of rows
 

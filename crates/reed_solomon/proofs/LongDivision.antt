@@ -18,7 +18,7 @@ use Rattle.galois.proofs.Instance.{bytes, byte, byte-zero, byte-one, byte-add, 
 use Rattle.reed_solomon.specs.Code.{factors, generator, Codeword, differ}
 use Rattle.reed_solomon.specs.Encode.{generatorTail, divided, remainderFrom, checkBytes, encoded}
 use Rattle.byte_lanes.specs.Lanes.{elements, word, alpha}
-use Rattle.byte_lanes.proofs.Words.{length-sum, elements-append, length-word, bytes-append, bytes-drop, bytes-zeros, bytes-plus, bytes-scale}
+use Rattle.byte_lanes.proofs.Words.{length-sum, elements-append, length-word, bytes-append, bytes-drop, bytes-zeros, bytes-plus, bytes-scale, length-scaled}
 use Rattle.reed_solomon.proofs.Codewords.{codeword-of, codeword-length, generator-root}
 use Rattle.reed_solomon.proofs.Distance.{same-codeword, differ-append, differ-none, differ-le}
 
@@ -117,10 +117,6 @@ monic = generator-is ∙ sym (ap (λ (g : List ℕ). take 16 g ++ 1 ∷ []) gene
 
 sixteen : length (take 16 generator) ≡ 16
 sixteen = ap (λ (g : List ℕ). length (take 16 g)) generator-is
-
-pub length-scaled : (c : ℕ) (a : List ℕ) → length (scaled c a) ≡ length a
-unfolding scale
-length-scaled c a = length-map a (mul c)
 
 power-zero : (x : Fin 256) → power (ops bytes) x 0 ≡ bytes .𝟙
 unfolding power

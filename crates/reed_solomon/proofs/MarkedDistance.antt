@@ -11,6 +11,7 @@ use borrow.Author.Tests.{eq-eqb, ne-eqb}
 use lib.Dec.{eqb}
 use lib.ListN.{length, getD, replicate, length-reverse, length-append}
 use Rattle.common.specs.Choice.{pick, unequal}
+use Rattle.common.proofs.Choice.{unequal-le}
 use Rattle.algebra.specs.Field.{ops}
 use Rattle.algebra.specs.Polynomial.{eval, plus}
 use Rattle.algebra.proofs.Ring.{add-eq-zero, mul-zero, zero-mul}
@@ -27,7 +28,7 @@ use Rattle.byte_lanes.specs.Lanes.{elements}
 use Rattle.error_correction.specs.Correction.{zerosFrom}
 use Rattle.reed_solomon.proofs.Codewords.{codeword-length}
 use Rattle.reed_solomon.proofs.Marks.{mark, mark-marked, marked-append, no-marks}
-use Rattle.reed_solomon.proofs.Distance.{unequal-same, unequal-other, unequal-le, same-codeword}
+use Rattle.reed_solomon.proofs.Distance.{unequal-same, unequal-other, same-codeword}
 
 -- ---- one place
 

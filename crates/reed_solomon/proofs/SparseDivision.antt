@@ -15,7 +15,7 @@ use lib.ListN.{length, getD, take, drop, replicate, length-append, length-drop, 
 use lib.Seq.{take-suc, take-at, drop-at, take-append-add, length-take-le, getD-take, getD-drop, getD-append-add, ext-getD}
 use Rattle.common.specs.Lists.{All}
 use Rattle.common.proofs.Computed.{at}
-use Rattle.common.proofs.Lists.{All-of, put-own, put-other}
+use Rattle.common.proofs.Lists.{All-of, put-own, put-other, zeros-at}
 use Rattle.common.proofs.Xor.{xor-assoc, xor-undo}
 use Rattle.algebra.specs.Field.{Field, ops}
 use Rattle.algebra.specs.Polynomial.{power, eval, plus}
@@ -23,7 +23,6 @@ use Rattle.algebra.proofs.Ring.{ring, add-zero, mul-zero, zero-mul, zero-add}
 use Rattle.galois.specs.Field256.{numbers}
 use Rattle.galois.proofs.Instance.{bytes, byte-one}
 use Rattle.byte_lanes.specs.Lanes.{elements, alpha}
-use Rattle.byte_lanes.proofs.Powers.{zeros-at}
 use Rattle.byte_lanes.proofs.Words.{length-sum, sum-at}
 use Rattle.reed_solomon.specs.Steps.{delays, delayedSum, DelayedSums, SparseQuotient, SparseRemainder, SameValues}
 use Rattle.reed_solomon.proofs.LongDivision.{high, high-one, high-append, high-plus, high-zeros}

@@ -9,6 +9,7 @@ use native.Mathlib.Omega.{arith}
 use borrow.Author.Tests.{lt-ltb, le-ltb}
 use lib.ListN.{length, getD, List·getD-append, length-append}
 use Rattle.common.specs.Lists.{All}
+use Rattle.common.proofs.Lists.{All-append}
 use Rattle.report_lines.specs.Line.{decimalWithin, decimal, lineText}
 
 abbrev pub Digit : ℕ → Type 0
@@ -27,10 +28,6 @@ value-least : (v : ℕ) (xs : List ℕ) → v ≤ valueFrom v xs
 value-least v [] = omega arith
 value-least v (x ∷ xs) = let h = value-least (v * 10 + (x - 48)) xs in omega arith
 
-all-append : (xs ys : List ℕ) → All Digit xs → All Digit ys → All Digit (xs ++ ys)
-all-append [] ys a b = b
-all-append (x ∷ xs) ys a b = (a .0, all-append xs ys (a .1) b)
-
 -- ---- decimals
 
 within-digits : (k n : ℕ) → All Digit (decimalWithin k n)
@@ -40,7 +37,7 @@ within-digits (suc k) n = by (decLt n 10) (within-digits k (n / 10))
   where
     by : Dec (n < 10) → All Digit (decimalWithin k (n / 10)) → All Digit (decimalWithin (suc k) n)
     by (yes h) r = rw (lt-ltb n 10 h) ((omega arith, omega arith), tt)
-    by (no h) r = rw (le-ltb n 10 (omega arith)) (all-append (decimalWithin k (n / 10)) ((48 + n % 10) ∷ []) r ((omega arith, omega arith), tt))
+    by (no h) r = rw (le-ltb n 10 (omega arith)) (All-append Digit (decimalWithin k (n / 10)) ((48 + n % 10) ∷ []) r ((omega arith, omega arith), tt))
 
 within-value : (k n : ℕ) → n < 10 ^ k → valueFrom 0 (decimalWithin k n) ≡ n
 unfolding decimalWithin

@@ -15,6 +15,7 @@ use Rattle.common.specs.Choice.{pick, unequal}
 use Rattle.common.specs.Lists.{All, largest}
 use Rattle.common.proofs.Lists.{All-at}
 use Rattle.common.proofs.Largest.{largest-most}
+use Rattle.common.proofs.Choice.{unequal-le}
 use Rattle.convolutional_code.specs.Bits.{Bits}
 use Rattle.trellis.proofs.Ends.{SomeDecoded}
 use Rattle.trellis.proofs.Laws.{decoded-unique}
@@ -145,13 +146,6 @@ pub cost-least : {cost : List ℕ → ℕ} {n memory : ℕ} {output : List ℕ} 
 cost-least o sent w l = omega (arith, o .decoded .costs, o .decoded .best .least sent w l)
 
 -- and at most two for each symbol by hard decisions
-differ-le : (a b : ℕ) → unequal a b ≤ 1
-differ-le a b = go (eqb a b)
-  where
-    go : (t : Bool) → pick {A = ℕ} t 0 1 ≤ 1
-    go true = omega arith
-    go false = omega arith
-
 pub total-le : {R : Type 0} (cost : R → ℕ → ℕ) (most : ℕ) → ((r : R) (s : ℕ) → cost r s ≤ most) → (rs : List R) (ss : List ℕ) → totalCost (map cost rs) ss ≤ most * length rs
 unfolding totalCost
 total-le cost most h [] ss = omega arith
@@ -164,7 +158,7 @@ cost-most rate m symbols o =
     omega (
       arith,
       o .decoded .costs,
-      total-le differing 2 (λ r s. omega (arith, differ-le (r / 2) (s / 2), differ-le (r % 2) (s % 2))) symbols (symbolsOf (coderAt rate m) (o .bits)),
+      total-le differing 2 (λ r s. omega (arith, unequal-le (r / 2) (s / 2), unequal-le (r % 2) (s % 2))) symbols (symbolsOf (coderAt rate m) (o .bits)),
     )
 
 -- from one list to another is no farther than by way of a third
@@ -173,9 +167,9 @@ differ-triangle a b c = go (eqb a b) (eqb a c) refl refl
   where
     go : (t u : Bool) → eqb a b ≡ t → eqb a c ≡ u → unequal b c ≤ pick t 0 1 + pick u 0 1
     go true true e f = let q : b ≡ c = sym (eqb-true a b e) ∙ eqb-true a c f in rw (eq-eqb b c q) (omega arith)
-    go true false e f = omega (arith, differ-le b c)
-    go false true e f = omega (arith, differ-le b c)
-    go false false e f = omega (arith, differ-le b c)
+    go true false e f = omega (arith, unequal-le b c)
+    go false true e f = omega (arith, unequal-le b c)
+    go false false e f = omega (arith, unequal-le b c)
 
 triangle : (rs xs ys : List ℕ) → length xs ≡ length rs → length ys ≡ length rs
     → totalCost (map differing xs) ys ≤ totalCost (map differing rs) xs + totalCost (map differing rs) ys

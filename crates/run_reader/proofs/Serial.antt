@@ -8,7 +8,7 @@ use lib.Dec.{eqb}
 use Rattle.common.specs.Choice.{pick}
 use Rattle.convolutional_code.specs.Bits.{Bits, none, more}
 use Rattle.convolutional_code.specs.Code.{tapsX, tapsY, nextMemory, coded}
-use Rattle.convolutional_code.proofs.Bits.{bits-append}
+use Rattle.convolutional_code.proofs.Bits.{bits-append, coded-lt}
 use Rattle.puncturing.specs.Mode.{modeOf}
 use Rattle.puncturing.specs.Step.{nextPlace, heldCount, symbolList, punctured, heldAfter, puncturedBy, heldBy, heldCountBy}
 use Rattle.depuncturing.specs.Steps.{kind}
@@ -60,9 +60,6 @@ serial =
 unfoldable pub stream : ℕ → ℕ → ℕ → List ℕ → List ℕ
 stream rate place m [] = []
 stream rate place m (b ∷ bs) = put (kind rate place) (coded tapsX m b) (coded tapsY m b) ++ stream rate (nextPlace rate place) (nextMemory m b) bs
-
-coded-lt : (taps : List ℕ) (m b : ℕ) → coded taps m b < 2
-coded-lt taps m b = omega arith
 
 put-bits : (q : ℕ) {x y : ℕ} → x < 2 → y < 2 → Bits (put q x y)
 put-bits zero h l = none

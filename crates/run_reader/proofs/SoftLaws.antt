@@ -12,9 +12,10 @@ use lib.Ieee.{Float, nan, ofBits, binary32}
 use lib.ListN.{length, getD, drop, replicate, length-map, length-replicate}
 use Rattle.common.specs.Choice.{pick, unequal}
 use Rattle.common.specs.Lists.{All, largest}
-use Rattle.convolutional_code.specs.Bits.{Bits, none, more}
+use Rattle.common.proofs.Lists.{zeros-at}
+use Rattle.convolutional_code.specs.Bits.{Bits}
 use Rattle.convolutional_code.specs.Code.{memoryAfter}
-use Rattle.convolutional_code.proofs.Bits.{bits-tail}
+use Rattle.convolutional_code.proofs.Bits.{bits-tail, zero-bits}
 use Rattle.trellis.specs.Best.{ZeroAtLast, Best, Decoded}
 use Rattle.trellis.proofs.Order.{bits-head}
 use Rattle.trellis.proofs.Laws.{scale, unique, decoded-unique}
@@ -98,20 +99,11 @@ lost-all (i ∷ is) (q ∷ qs) (zero ∷ lost) h ss = absurd (omega (arith, h .0
 lost-all (i ∷ is) (q ∷ qs) (suc m ∷ lost) h [] = refl
 lost-all (i ∷ is) (q ∷ qs) (suc m ∷ lost) h (s ∷ ss) = omega (arith, lost-free s, lost-all is qs lost (h .1) ss)
 
-zeros-bits : (n : ℕ) → Bits (replicate n 0)
-zeros-bits zero = none
-zeros-bits (suc n) = more {b = 0} (omega arith) (zeros-bits n)
-
-zeros-at : (n i : ℕ) → _≡_ {A = ℕ} (getD (replicate n 0) i 0) 0
-zeros-at zero i = refl
-zeros-at (suc n) zero = refl
-zeros-at (suc n) (suc i) = zeros-at n i
-
 -- of sequences that cost nothing the zeros are the best
 zeros-best : (cost : List ℕ → ℕ) (n : ℕ) → ((ys : List ℕ) → cost ys ≡ 0) → Best cost n (replicate n 0)
 unfolding ZeroAtLast
 zeros-best cost n h = record {
-  binary = zeros-bits n;
+  binary = zero-bits n;
   size = length-replicate {A = ℕ} n 0;
   least = λ ys w l. rw (h (replicate n 0)) (omega arith);
   ties = λ ys w l e i a b. zeros-at n i;

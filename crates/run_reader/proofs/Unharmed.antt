@@ -10,6 +10,7 @@ use borrow.Author.Tests.{eqb-true, eq-eqb}
 use lib.Dec.{eqb, ltb, ltb→lt}
 use lib.ListN.{length, getD, take, drop, length-map}
 use Rattle.common.specs.Choice.{pick, unequal}
+use Rattle.common.proofs.Choice.{unequal-le}
 use Rattle.common.proofs.Lists.{getD-map-in}
 use Rattle.convolutional_code.specs.Bits.{Bits}
 use Rattle.convolutional_code.specs.Code.{tapsX, tapsY, coded, memoryAfter}
@@ -103,11 +104,7 @@ apart ss rate h k s b c hb hc p q = kind-apart ss (kindAt rate k) (first rate k)
 -- ---- a run, whatever was received
 
 differ-le : (a b : ℕ) → unequal a b ≤ 7
-differ-le a b = go (eqb a b)
-  where
-    go : (t : Bool) → pick {A = ℕ} t 0 1 ≤ 7
-    go true = omega arith
-    go false = omega arith
+differ-le a b = omega (arith, unequal-le a b)
 
 module _ (rate m : ℕ) (hr : rate < 5) (hm : m < 64) (ss : List ℕ) (whole : length ss % symbolsPerPattern rate ≡ 0) where
   abbrev n : ℕ

@@ -10,7 +10,7 @@ use borrow.Author.Tests.{le-ltb}
 use lib.ListN.{length, take, drop, replicate, length-replicate}
 use lib.Seq.{take-at}
 use Rattle.common.specs.Lists.{All, Length}
-use Rattle.common.proofs.Lists.{All-map}
+use Rattle.common.proofs.Lists.{All-map, All-append}
 use Rattle.randomizer.specs.Stream.{Packet}
 use Rattle.puncturing.specs.Mode.{Mode}
 use Rattle.puncturing.specs.WellFormed.{WellFormed}
@@ -105,10 +105,6 @@ history {t} s (x ∷ rest) g ps = go (history (senderAfter t s (packetFor x)) re
 
 -- ---- one list of packets after another
 
-all-append : {A : Type 0} (P : A → Type 0) (xs ys : List A) → All P xs → All P ys → All P (xs ++ ys)
-all-append P [] ys g h = h
-all-append P (x ∷ xs) ys g h = (g .0, all-append P xs ys (g .1) h)
-
 module _ (t : ℕ → Mode) where
   symbols-append : (s : Sender) (ps qs : List (List ℕ))
       → flatten (callsSymbols t s (ps ++ qs)) ≡ flatten (callsSymbols t s ps) ++ flatten (callsSymbols t (callsSender t s ps) qs)
@@ -160,7 +156,7 @@ module _ {t : ℕ → Mode} (rate : ℕ) (w : WellFormed (t rate)) (q : t rate .
       let packets = packetsFor inputs in
       let e = calls-sender sent f t rate w in
       let told-all = told ready-sent g c in
-      let l = all-append (Length 188) sent packets f (packet-lengths inputs g) in (
+      let l = All-append (Length 188) sent packets f (packet-lengths inputs g) in (
         ap₂ (λ (a b : List ℕ). a ++ b) (sym (calls-on-air sent f t rate w))
             (told-all .symbols ∙ ap (λ (s : Sender). flatten (callsSymbols t s packets)) (sym e))
             ∙ sym (symbols-append t (freshSender rate) sent packets)

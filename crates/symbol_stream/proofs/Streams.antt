@@ -13,6 +13,8 @@ use lib.Dec.{leb, leb→le}
 use lib.ListN.{length, getD, take, drop, length-append, length-drop, length-take}
 use lib.Seq.{take-append-le, take-suc, take-length, take-take, length-take-le, take-nil, take-at}
 use Rattle.common.proofs.Computed as computed
+use Rattle.common.proofs.Lists.{All-append}
+use Rattle.convolutional_code.proofs.Bits.{memory-snoc}
 use Rattle.convolutional_code.specs.Bits.{Bits}
 use Rattle.convolutional_code.specs.Code.{nextMemory, memoryAfter}
 use Rattle.puncturing.specs.Mode.{modeOf}
@@ -22,11 +24,6 @@ use Rattle.run_reader.specs.Read.{symbolsPerPattern, runBits, Readable, BestRea
 use Rattle.symbol_stream.specs.Stream.{runPatterns, keptPatterns, fullSymbols, keptSymbols, keptBits, fullCosts, keptCosts, heldOf, FullRead, StreamReady, FeedsSymbols, gathered, read, Closes}
 
 -- ---- the memory after bits, one after the other
-
-memory-snoc : (m : ℕ) (xs : List ℕ) (b : ℕ) → memoryAfter m (xs ++ (b ∷ [])) ≡ nextMemory (memoryAfter m xs) b
-unfolding memoryAfter
-memory-snoc m [] b = refl
-memory-snoc m (x ∷ xs) b = memory-snoc (nextMemory m x) xs b
 
 pub record Passing (memory : ℕ) (bits : List ℕ) (m k : ℕ) : Type 0 where
   pub most : k ≤ length bits
@@ -84,10 +81,6 @@ numbers rate h = record {
 }
 
 -- ---- lists of costs
-
-all-append : (xs ys : List ℕ) → All (λ x. x ≤ 7) xs → All (λ x. x ≤ 7) ys → All (λ x. x ≤ 7) (xs ++ ys)
-all-append [] ys h l = l
-all-append (x ∷ xs) ys h l = (h .0, all-append xs ys (h .1) l)
 
 pub all-take : (n : ℕ) (xs : List ℕ) → All (λ x. x ≤ 7) xs → All (λ x. x ≤ 7) (take n xs)
 all-take zero xs h = tt
@@ -187,7 +180,7 @@ module _ (s : SymbolStream) (g : StreamReady s) (piece : List ℕ) (w : All (λ 
           size = behind-length piece H (s .count + length piece) refl eH (omega (arith, n .costs-most));
           below = omega arith;
           fours = omega (arith, g .fours);
-          small = subst (All (λ x. x ≤ 7)) (sym b) (all-append h piece (g .small) w);
+          small = subst (All (λ x. x ≤ 7)) (sym b) (All-append (λ x. x ≤ 7) h piece (g .small) w);
         },
       )
 
@@ -216,7 +209,7 @@ module _ (s : SymbolStream) (g : StreamReady s) (piece : List ℕ) (w : All (λ 
     run-length = ap length run-of ∙ (length-append h p ∙ omega (arith, held-length, all-of))
 
     pub run-small : All (λ x. x ≤ 7) (take (full - 0) H)
-    run-small = subst (All (λ x. x ≤ 7)) (sym run-of) (all-append h p (g .small) (all-take (full - s .count - 0) piece w))
+    run-small = subst (All (λ x. x ≤ 7)) (sym run-of) (All-append (λ x. x ≤ 7) h p (g .small) (all-take (full - s .count - 0) piece w))
 
     module _ (from : ℕ) (er : from ≡ keptCosts (s .rate)) (N zeros : List ℕ) (ez : length zeros ≡ 6528)
         (eN : N ≡ take (full - from) (drop from H) ++ drop (0 + length (take (full - from) (drop from H))) zeros) where

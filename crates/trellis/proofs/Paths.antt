@@ -13,7 +13,7 @@ use lib.ListN.{length, length-reverse, replicate, length-replicate}
 use Rattle.common.specs.Choice.{pick}
 use Rattle.convolutional_code.specs.Bits.{Bits, none, more}
 use Rattle.convolutional_code.specs.Code.{nextMemory, memoryAfter}
-use Rattle.convolutional_code.proofs.Bits.{bits-tail}
+use Rattle.convolutional_code.proofs.Bits.{bits-tail, zero-bits, next-lt, memory-snoc}
 use Rattle.trellis.specs.Best.{Best}
 use Rattle.trellis.proofs.Order.{rank, bits-head, rank-ties}
 use Rattle.trellis.specs.Metric.{Costs, costFrom, far, from, via, choice, metric, path, survivor, FirstLeast}
@@ -154,9 +154,6 @@ lead5 m s h e = omega arith
 lead6 : (m s : ℕ) → s < 64 → m / 2 ≡ s % 32 → nextMemory m (s / 32 % 2) ≡ s
 lead6 m s h e = omega arith
 
-pub next-lt : (p b : ℕ) → p < 64 → b < 2 → nextMemory p b < 64
-next-lt p b h l = omega arith
-
 pub six-lead : (p s : ℕ) → p < 64 → s < 64
     → nextMemory (nextMemory (nextMemory (nextMemory (nextMemory (nextMemory p (s % 2)) (s / 2 % 2)) (s / 4 % 2)) (s / 8 % 2)) (s / 16 % 2)) (s / 32 % 2) ≡ s
 six-lead p s h l =
@@ -278,11 +275,6 @@ module _ (F : Costs) (c : (k s b : ℕ) → F k s b ≤ 14) (m : ℕ) (hm : m < 
 
 -- the same in the order of time
 
-memory-snoc : (m : ℕ) (xs : List ℕ) (b : ℕ) → memoryAfter m (xs ++ (b ∷ [])) ≡ nextMemory (memoryAfter m xs) b
-unfolding memoryAfter
-memory-snoc m [] b = refl
-memory-snoc m (x ∷ xs) b = memory-snoc (nextMemory m x) xs b
-
 cost-snoc : (F : Costs) (k m : ℕ) (xs : List ℕ) (b : ℕ)
     → costFrom F k m (xs ++ (b ∷ [])) ≡ costFrom F k m xs + F (k + length xs) (memoryAfter m xs) b
 unfolding costFrom memoryAfter
@@ -322,10 +314,6 @@ back-cost F m ys = rw reverse-reverse at (cost-reverse F m (reverse ys))
 
 back-rank : (ys : List ℕ) → rank ys ≡ value (reverse ys)
 back-rank ys = rw reverse-reverse at (rank-reverse (reverse ys))
-
-zero-bits : (n : ℕ) → Bits (replicate n 0)
-zero-bits zero = none
-zero-bits (suc n) = more (digit 0) (zero-bits n)
 
 pub record Answer (F : Costs) (n m s : ℕ) (bs : List ℕ) : Type 0 where
   pub best : Best (costFrom F 0 m) n bs

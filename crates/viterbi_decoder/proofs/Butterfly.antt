@@ -16,6 +16,7 @@ use Rattle.common.specs.Choice.{pick}
 use Rattle.common.specs.Lists.{All, listOf}
 use Rattle.common.proofs.Computed as computed
 use Rattle.common.proofs.Lists.{length-listOf, getD-listOf, all-listOf}
+use Rattle.convolutional_code.proofs.Bits.{coded-lt}
 use Rattle.convolutional_code.specs.Code.{tapsX, tapsY, coded}
 use Rattle.trellis.specs.Metric.{via, choice}
 use Rattle.trellis.proofs.Paths.{choice-lt}
@@ -89,9 +90,6 @@ y-flipped i h = record {
   even-one = computed.agree-at (λ i. coded tapsY (lane i) 1) (λ i. 1 - coded tapsY (lane i) 0) 32 tt i h;
   odd-zero = computed.agree-at (λ i. coded tapsY (lane i + 1) 0) (λ i. 1 - coded tapsY (lane i) 0) 32 tt i h;
 }
-
-coded-lt : (taps : List ℕ) (m b : ℕ) → coded taps m b < 2
-coded-lt taps m b = omega arith
 
 abbrev xTable : List ℕ
 xTable = 0 ∷ 1 ∷ 1 ∷ 0 ∷ 1 ∷ 0 ∷ 0 ∷ 1 ∷ 0 ∷ 1 ∷ 1 ∷ 0 ∷ 1 ∷ 0 ∷ 0 ∷ 1 ∷ 0 ∷ 1 ∷ 1 ∷ 0 ∷ 1 ∷ 0 ∷ 0 ∷ 1 ∷ 0 ∷ 1 ∷ 1 ∷ 0 ∷ 1 ∷ 0 ∷ 0 ∷ 1 ∷ []

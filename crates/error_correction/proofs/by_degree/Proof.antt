@@ -4,8 +4,8 @@ use mathlib.Core.Path.{_≡_, refl, sym, _∙_}
 use Prim.Native.Nat.{_-_, _≤_}
 use native.Mathlib.Omega.{arith}
 use lib.ListN.{getD}
+use Rattle.common.proofs.Lists.{zeros-at}
 use Rattle.common.proofs.Each.{Updated, updated-none, updated-more}
-use Rattle.byte_lanes.proofs.Powers.{zeros-at}
 use borrow.Author.Needs.{needs}
 use Rattle.error_correction.proofs.by_degree.Statement.{statement}
 use Rattle.error_correction.proofs.by_degree.Tie as tie

@@ -4,11 +4,11 @@ use mathlib.Core.Path.{_≡_, refl, ap, _∙_, subst⁻¹}
 use Prim.Native.Nat.{ℕ, _-_, _≤_, _<_}
 use native.Mathlib.Omega.{arith}
 use lib.ListN.{getD}
+use Rattle.common.proofs.Lists.{zeros-at}
 use Rattle.common.proofs.Each.{Updated, updated-none, updated-more}
 use Rattle.galois.proofs.Instance.{byte}
 use Rattle.error_correction.specs.Correction.{monic}
 use Rattle.error_correction.proofs.ErrorValues.{value-small, value-of}
-use Rattle.byte_lanes.proofs.Powers.{zeros-at}
 use borrow.Author.Needs.{needs}
 use Rattle.error_correction.proofs.error_values.Statement.{statement}
 use Rattle.error_correction.proofs.error_values.Tie as tie

@@ -5,8 +5,8 @@ use Prim.Native.Nat.{ℕ, _+_, _-_, _≤_, _<_}
 use native.Mathlib.Omega.{arith}
 use native.Mathlib.Decide.{decLt}
 use lib.ListN.{getD, List·getD-eq-default}
+use Rattle.common.proofs.Lists.{zeros-at}
 use Rattle.common.proofs.Each.{Updated, updated-none, updated-more}
-use Rattle.byte_lanes.proofs.Powers.{zeros-at}
 use borrow.Author.Needs.{needs}
 use Rattle.error_locator.proofs.lowered.Statement.{statement}
 use Rattle.error_locator.proofs.lowered.Tie as tie
