@@ -120,7 +120,9 @@ uint64_t dvbs_read_soft_run(uint8_t rate, uint8_t memory,
                             uint8_t *result, size_t result_len);
 
 /* What a fresh receiver gives for the whole blocks of a recording; bytes after
- * the last of them are left alone. Returns how many bytes of packets were
+ * the last of them are left alone. The blocks must follow each other without gap
+ * or repeat: behind one that is missing or doubled up to six packets are given
+ * that were never sent. After a gap begin a new run. Returns how many bytes of packets were
  * written; answer[0] is the answer, by which a refused run is told from one that
  * gave no packet yet. counts: taken, filling, delivered, lost, waiting,
  * outofstep, changed, bits, eight bytes each, lowest first. Lend 188 bytes for

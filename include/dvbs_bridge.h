@@ -70,7 +70,9 @@ uint8_t dvbs_bridge_fresh(uint8_t *state, size_t state_len);
 /* Takes one block of 204 interleaved bytes, and writes the packet that it
  * completes to the front of the output, of which 188 bytes are lent. Refused in the
  * order 22, 5, 3, 4, 7; else 0, 8, 9, 10 or 11, and the output is written on 0
- * alone. */
+ * alone. The blocks must follow each other without gap or repeat: behind one that
+ * is missing or doubled up to six packets are given that were never sent. After a
+ * gap begin with a fresh state. */
 uint8_t dvbs_bridge_take(uint8_t *state, size_t state_len,
                          const uint8_t *block, size_t block_len,
                          uint8_t *output, size_t output_len);

@@ -61,12 +61,12 @@ no_report() {
     "$@" > out 2> err || true
     [ ! -s out ] && [ "$(cat err)" = "$wanted" ] || fail "$what: $(cat out err)"
 }
-no_report "a directory as input" "pass: Is a directory" bash -c "'$bin/pass_report' < ."
-no_report "a closed input" "pass: Bad file descriptor" bash -c "'$bin/pass_report' <&-"
+no_report "a directory as input" "standard input: Is a directory" bash -c "'$bin/pass_report' < ."
+no_report "a closed input" "standard input: Bad file descriptor" bash -c "'$bin/pass_report' <&-"
 no_report "a full device for the report" "report: No space left on device" bash -c "'$bin/pass_report' < recording > /dev/full"
 no_report "a closed output for the report" "report: Bad file descriptor" bash -c "'$bin/pass_report' < recording >&-"
-no_report "a full device for packets" "pass: No space left on device" bash -c "'$bin/dvbs_receive' < recording > /dev/full"
-no_report "a directory as input of dvbs_receive" "pass: Is a directory" bash -c "'$bin/dvbs_receive' < ."
+no_report "a full device for packets" "standard output: No space left on device" bash -c "'$bin/dvbs_receive' < recording > /dev/full"
+no_report "a directory as input of dvbs_receive" "standard input: Is a directory" bash -c "'$bin/dvbs_receive' < ."
 echo "inputs and outputs that fail: no report, and a message"
 
 # dvbs_send: more than its buffer takes at once, with two packets that are none and a rest. In all pieces the symbols are those of the list
@@ -108,6 +108,6 @@ for rate in 0 1 2 3 4; do
 done
 "$bin/dvbs_read_soft" 2 < /dev/null > out 2> err
 [ ! -s out ] && [ "$(cat err)" = "$(printf 'rest=0\nbits=0\nbytes=0')" ] || fail "dvbs_read_soft on no input"
-no_report "a directory as input of dvbs_read_soft" "$(printf 'standard input: Is a directory\nrest=0\nbits=0\nbytes=0')" bash -c "'$bin/dvbs_read_soft' 0 < ."
+no_report "a directory as input of dvbs_read_soft" "standard input: Is a directory" bash -c "'$bin/dvbs_read_soft' 0 < ."
 no_report "a full device for bytes" "standard output: No space left on device" bash -c "'$bin/dvbs_read_soft' 0 < points > /dev/full"
 echo "dvbs_read and dvbs_read_soft in 120 cuttings: one stream of bytes, one text on standard error"

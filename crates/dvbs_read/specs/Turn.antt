@@ -2,7 +2,7 @@
 -- Clause: document 02, P1.
 -- Assumes nothing.
 use mathlib.Core.Path.{_≡_}
-use mathlib.Core.Bool.{Bool, true, false}
+use mathlib.Core.Bool.{false}
 use mathlib.Core.List.{List, [], _++_}
 use Prim.Native.Nat.{ℕ, _%_, _^_, _≤_, _<_}
 use lib.Dec.{ltb}
@@ -11,7 +11,7 @@ use Rattle.common.specs.Choice.{pick}
 use Rattle.common.specs.Lists.{All}
 use Rattle.input_pieces.specs.Read.{ReadsPiece}
 use Rattle.run_reader.specs.Cost.{differing}
-use Rattle.symbol_pass.specs.History.{Begun, Going, FeedsReceived, WholePass}
+use Rattle.symbol_pass.specs.History.{Begun, Going, FeedsReceived, ReceivedSoFar, WholePass}
 use Rattle.symbol_pass.specs.declared.Reading.{Reading}
 use Rattle.dvbs_read.specs.declared.Turn.{Turn}
 
@@ -40,17 +40,24 @@ pub record Turns (r : Reading) (before buffer output : List ℕ) (t : Turn) (exi
   pub piece-fits : t .piece .length ≤ length buffer
   pub count-fits : t .count ≤ length exit
 
--- Turns one after the other, the first with a reading of which nothing has come, and each after one that says to read more: the bytes that were read,
--- those that were written, and whether to read more.
-pub data ReadTurns (rate : ℕ) : List ℕ → List ℕ → Reading → Bool → Type 0 where
-  begun : {r : Reading} → Begun rate r → ReadTurns rate [] [] r true
-  turn : {input bytes : List ℕ} {r : Reading} (before buffer output exit : List ℕ) (t : Turn) → ReadTurns rate input bytes r true → Turns r before buffer output t exit
-      → ReadTurns rate (input ++ take (t .piece .length) buffer) (bytes ++ take (t .count) exit) (t .reading) (t .more)
+-- Turns one after the other, the first with a reading of which nothing has come, none with a byte that is no symbol: the bytes that were read, and those
+-- that were written.
+pub data ReadTurns (rate : ℕ) : List ℕ → List ℕ → Reading → Type 0 where
+  begun : {r : Reading} → Begun rate r → ReadTurns rate [] [] r
+  turn : {input bytes : List ℕ} {r : Reading} (before buffer output exit : List ℕ) (t : Turn) → ReadTurns rate input bytes r → Turns r before buffer output t exit → t .answer ≡ 0
+      → ReadTurns rate (input ++ take (t .piece .length) buffer) (bytes ++ take (t .count) exit) (t .reading)
 
--- What a whole run gives for all the bytes that were read: the bytes of the bits of the symbols up to the first byte that is none, and the place of that one,
--- which is counted modulo 2 to the 64th.
-pub record WholeRun (rate : ℕ) (input bytes : List ℕ) (place rest left-bits : ℕ) : Type 0 where
+-- What a whole run gives for all the bytes that were read: each is a symbol, and the bytes that were written are those of the bits of all of them.
+pub record WholeRun (rate : ℕ) (input bytes : List ℕ) (rest left-bits : ℕ) : Type 0 where
+  pub symbols : All (λ x. x < 4) input
+  pub pass : WholePass differing rate input bytes rest left-bits
+
+-- What a run that met a byte which is no symbol gives: the place of that byte, which is counted modulo 2 to the 64th, and the bytes of the bits that were
+-- decided of the symbols before it. The last of these symbols are not decided.
+pub record RefusedRun (rate : ℕ) (input bytes : List ℕ) (place : ℕ) : Type 0 where
   pub count : ℕ
   pub front : SymbolsAtFront input count
+  pub within : count < length input
   pub place-is : place ≡ count % 2 ^ 64
-  pub pass : WholePass differing rate (take count input) bytes rest left-bits
+  pub last : Reading
+  pub received : ReceivedSoFar differing rate (take count input) bytes last

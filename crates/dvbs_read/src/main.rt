@@ -114,14 +114,12 @@ fn next_turn(
 
 // Says at which place a byte is no symbol; the first byte of the stream has place 0.
 fn report_answer(place: u64, answer: u8) {
-    if answer != 0 {
-        report(b"symbol=", place, b" ");
-        report(b"answer=", answer as u64, b"\n");
-    }
+    report(b"symbol=", place, b" ");
+    report(b"answer=", answer as u64, b"\n");
 }
 
-// Reads until the input ends, a byte is no symbol, or a read or a write fails. A proved loop has to end, and nothing says that an input does: the
-// loop counts its turns down, from a number that no run uses up. The buffers are for a piece of 16,384 symbols, for their costs, for the bits of a
+// Reads until the input ends. Where a byte is no symbol, or a read or a write fails, that is said, and no more is written or told: what came before it is
+// not a whole run. A proved loop has to end, and nothing says that an input does: the loop counts its turns down, from a number that no run uses up. The buffers are for a piece of 16,384 symbols, for their costs, for the bits of a
 // run, and for the bytes that the bits of a piece fill at most.
 fn read_all(reading: Reading)
     requires { ⌜ Going reading ⌝ }
@@ -138,9 +136,16 @@ fn read_all(reading: Reading)
         let piece = turn.piece;
         let next = turn.reading;
         let count = turn.count;
-        symbol_pass::report_failed(piece.got);
-        report_answer(next.symbols, turn.answer);
+        let answer = turn.answer;
+        if piece.got < 0 {
+            input_pieces::say_failed();
+            return;
+        }
         if !symbol_pass::write_bytes(&output, count) {
+            return;
+        }
+        if answer != 0 {
+            report_answer(next.symbols, answer);
             return;
         }
         more = turn.more;

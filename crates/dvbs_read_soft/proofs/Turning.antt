@@ -1,7 +1,6 @@
 -- Turns one after the other: what the program writes is the bytes of the bits of all the whole points.
 -- Assumes nothing.
 use mathlib.Core.Path.{_≡_, sym, ap, subst, _∙_}
-use mathlib.Core.Bool.{Bool}
 use mathlib.Core.List.{List, _++_, map, append-nil, append-assoc, map-append}
 use Prim.Native.Nat.{ℕ, _+_, _-_, _%_, _≤_, _<_}
 use native.Mathlib.Omega.{arith}
@@ -94,7 +93,7 @@ record SoFar (rate : ℕ) (input bytes : List ℕ) (p : Points) : Type 0 where
   held : take (p .held) (p .tail) ≡ restOf 8 input
   count : p .held ≡ length input % 8
 
-so-far : {rate : ℕ} {input bytes : List ℕ} {p : Points} {more : Bool} → ReadTurns rate input bytes p more → SoFar rate input bytes p
+so-far : {rate : ℕ} {input bytes : List ℕ} {p : Points} → ReadTurns rate input bytes p → SoFar rate input bytes p
 unfolding chunksOf chunks restOf
 so-far (begun {p} b e) = record { received = received-none softly b; held = ap (λ (k : ℕ). take k (p .tail)) e; count = e }
 so-far {rate} (turn {input} {bytes} {p} before buffer output exit t h w) =
@@ -112,6 +111,6 @@ so-far {rate} (turn {input} {bytes} {p} before buffer output exit t h w) =
     }
 
 -- Whatever pieces the reads brought, what is written to the end is the bytes of the bits of all the whole points.
-pub every-run : {rate : ℕ} {input bytes : List ℕ} {p : Points} {more : Bool} → ReadTurns rate input bytes p more → {lent bits output exit : List ℕ} {last : Last}
+pub every-run : {rate : ℕ} {input bytes : List ℕ} {p : Points} → ReadTurns rate input bytes p → {lent bits output exit : List ℕ} {last : Last}
     → LastBytes (p .reading) lent bits output last exit → WholeRun rate input (bytes ++ take (last .count) exit) (last .rest) (last .bits) (p .held)
 every-run h l = let s = so-far h in record { pass = whole-pass softly (s .received) l; left-is = s .count }

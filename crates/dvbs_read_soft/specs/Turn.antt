@@ -3,7 +3,6 @@
 -- Clause: document 02, P8.
 -- Assumes nothing.
 use mathlib.Core.Path.{_≡_}
-use mathlib.Core.Bool.{Bool, true}
 use mathlib.Core.List.{List, [], _++_}
 use Prim.Native.Nat.{ℕ, _+_, _-_, _%_, _≤_, _<_}
 use lib.Dec.{ltb}
@@ -52,12 +51,11 @@ pub record Turns (p : Points) (before buffer output : List ℕ) (t : Turn) (exit
   pub more-is : t .more ≡ ltb 0 (t .piece .length)
   pub count-fits : t .count ≤ length exit
 
--- Turns one after the other, the first with a reading of which nothing has come, and each after one that says to read more: the bytes that were read, those
--- that were written, and whether to read more.
-pub data ReadTurns (rate : ℕ) : List ℕ → List ℕ → Points → Bool → Type 0 where
-  begun : {p : Points} → Begun rate (p .reading) → p .held ≡ 0 → ReadTurns rate [] [] p true
-  turn : {input bytes : List ℕ} {p : Points} (before buffer output exit : List ℕ) (t : Turn) → ReadTurns rate input bytes p true → Turns p before buffer output t exit
-      → ReadTurns rate (input ++ take (t .piece .length) (drop 8 buffer)) (bytes ++ take (t .count) exit) (t .points) (t .more)
+-- Turns one after the other, the first with a reading of which nothing has come: the bytes that were read, and those that were written.
+pub data ReadTurns (rate : ℕ) : List ℕ → List ℕ → Points → Type 0 where
+  begun : {p : Points} → Begun rate (p .reading) → p .held ≡ 0 → ReadTurns rate [] [] p
+  turn : {input bytes : List ℕ} {p : Points} (before buffer output exit : List ℕ) (t : Turn) → ReadTurns rate input bytes p → Turns p before buffer output t exit
+      → ReadTurns rate (input ++ take (t .piece .length) (drop 8 buffer)) (bytes ++ take (t .count) exit) (t .points)
 
 -- What a whole run gives for all the bytes that were read: the bytes of the bits of their whole points. So many bytes are in no point.
 pub record WholeRun (rate : ℕ) (input bytes : List ℕ) (rest left-bits left-bytes : ℕ) : Type 0 where

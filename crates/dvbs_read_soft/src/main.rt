@@ -188,8 +188,9 @@ fn next_turn(
     }
 }
 
-// Reads until the input ends, or a read or a write fails. A proved loop has to end, and nothing says that an input does: the loop counts its turns
-// down, from a number that no run uses up. At the end it is said how many bytes make no whole point. The buffers are for a piece of 65,536 bytes behind
+// Reads until the input ends. Where a read or a write fails, that is said, and no more is written or told: what came before it is not a whole run. A proved
+// loop has to end, and nothing says that an input does: the loop counts its turns down, from a number that no run uses up. At the end it is said how many
+// bytes make no whole point. The buffers are for a piece of 65,536 bytes behind
 // those that are held, for the costs of its points, for the bits of a run, and for the bytes that the bits of a piece fill at most.
 fn read_all(reading: Reading)
     requires { ⌜ Going reading ⌝ }
@@ -211,7 +212,10 @@ fn read_all(reading: Reading)
         let piece = turn.piece;
         let next = turn.points;
         let count = turn.count;
-        symbol_pass::report_failed(piece.got);
+        if piece.got < 0 {
+            input_pieces::say_failed();
+            return;
+        }
         if !symbol_pass::write_bytes(&output, count) {
             return;
         }

@@ -3,29 +3,44 @@
 // MARKS is a file with a byte for each received byte, in their order: 1 for a doubtful one, 0 for any other. Bytes past its end are not marked.
 use libc::STDERR_FILENO;
 use libc::STDIN_FILENO;
+use pass::Pass;
 
 mod marked;
 
+// Tells of a pass whose packets went to standard output: its report, where all of it was read and written.
+fn tell(pass: Pass) {
+    if pass.failed {
+        return;
+    }
+    if text_output::close_output() {
+        pass::write_told(STDERR_FILENO, pass::told_of(pass));
+    }
+}
+
+fn usage() {
+    io::write_all(
+        STDERR_FILENO,
+        b"usage: dvbs_receive [MARKS] < blocks > packets\n",
+    );
+}
+
 fn main() {
     let arguments = os::arg_count();
-    if arguments < 2 {
-        pass::write_report(STDERR_FILENO, pass::receive_file(STDIN_FILENO, true));
-        return;
-    }
     if arguments > 2 {
-        io::write_all(
-            STDERR_FILENO,
-            b"usage: dvbs_receive [MARKS] < blocks > packets\n",
-        );
+        usage();
         return;
     }
-    let mut path = io::buffer();
-    let length = os::arg(1, &mut path);
-    let fd = os::open_read(&path[..length]);
+    if input_pieces::is_option(1) {
+        usage();
+        return;
+    }
+    if arguments < 2 {
+        tell(pass::receive_file(STDIN_FILENO, true));
+        return;
+    }
+    let fd = input_pieces::open_argument(1);
     if fd < 0 {
-        os::fail(&path[..length]);
         return;
     }
-    marked::receive_files(STDIN_FILENO, fd);
-    libc::close(fd);
+    tell(marked::receive_files(STDIN_FILENO, fd));
 }

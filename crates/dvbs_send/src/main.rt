@@ -45,9 +45,9 @@ fn report_answers(first: u64, answers: &[u8]) {
     }
 }
 
-// Says how many bytes at the end made no whole packet.
+// Says how many bytes at the end made no whole packet, where standard output was closed well.
 fn report_rest(rest: usize) {
-    if rest != 0 {
+    if text_output::close_output() && rest != 0 {
         report(b"rest=", rest as u64, b"\n");
     }
 }
@@ -75,7 +75,7 @@ fn next_turn(sending: Sending, buffer: &mut [u8], symbols: &mut [u8], answers: &
 fn write_symbols(symbols: &[u8], count: usize) -> bool
     requires { ⌜ count ≤ length (now symbols) ⌝ }
 {
-    io::write_all(STDOUT_FILENO, &symbols[..count])
+    text_output::write_stream(STDOUT_FILENO, b"standard output", &symbols[..count])
 }
 
 // Sends until the input ends, or a read or a write fails. A proved loop has to end, and nothing says that an input does: the
@@ -94,7 +94,7 @@ fn send_all(sending: Sending, buffer: &mut [u8], symbols: &mut [u8], answers: &m
         let whole = turn.packets;
         let next = turn.sending;
         if got < 0 {
-            os::fail(b"standard input");
+            input_pieces::say_failed();
             return;
         }
         if got == 0 {
@@ -102,7 +102,6 @@ fn send_all(sending: Sending, buffer: &mut [u8], symbols: &mut [u8], answers: &m
             return;
         }
         if !write_symbols(symbols, count) {
-            os::fail(b"standard output");
             return;
         }
         report_answers(packets, &answers[..whole]);

@@ -6,12 +6,18 @@ use mathlib.Core.List.{List}
 use Prim.Native.Nat.{ℕ, _≤_}
 use native.Mathlib.Nat.{min-le-right, min-eq-left}
 use native.Mathlib.Omega.{arith}
+use borrow.Author.Tests.{leb-false}
 use lib.IntN.{ℤ, pos, negsuc}
-use lib.Signed.{ltZ}
+use lib.Signed.{ltZ, leZ}
 use Rattle.io.specs.Counts.{clamped}
 use Rattle.libc.specs.Io.{Moved}
-use Rattle.input_pieces.specs.Read.{ReadsPiece}
+use Rattle.input_pieces.specs.Read.{Opened, ReadsPiece}
 use Rattle.input_pieces.specs.declared.Piece.{Piece}
+
+-- a number that is not at most 2 is above it
+pub beyond-standard : (fd : ℤ) → leZ fd (pos 2) ≡ false → Opened fd
+beyond-standard (pos k) h = leb-false k 2 h
+beyond-standard (negsuc k) h = absurd (true≢false h)
 
 clamped-most : (z : ℤ) (most : ℕ) → clamped z most ≤ most
 clamped-most (pos k) most = min-le-right k most

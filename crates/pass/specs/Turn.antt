@@ -1,18 +1,20 @@
--- One turn of a pass, and a whole pass: what was read is what the stream receiver was fed with.
+-- One turn of a pass, a whole pass, and what is told of it: what was read is what the stream receiver was fed with.
 -- Clause: document 01, "Receiver".
 -- Assumes nothing.
 use mathlib.Core.Path.{_≡_}
-use mathlib.Core.Bool.{false}
+use mathlib.Core.Bool.{true, false}
 use mathlib.Core.List.{List}
 use Prim.Native.Nat.{ℕ, min}
 use lib.IntN.{pos}
-use lib.ListN.{length, take}
+use lib.ListN.{length, take, replicate}
 use Rattle.input_pieces.specs.Read.{ReadsPiece}
 use Rattle.stream_receiver.specs.Feed.{capacityOf, FeedsReceiver}
 use Rattle.stream_receiver.specs.History.{Reception}
+use Rattle.stream_receiver.specs.Reporting.{Reports}
 use Rattle.stream_receiver.specs.declared.StreamReceiver.{StreamReceiver}
 use Rattle.pass.specs.declared.Turn.{Turn}
 use Rattle.pass.specs.declared.Pass.{Pass}
+use Rattle.pass.specs.declared.Told.{Told}
 
 -- One read of at most as many bytes as the buffer has and as can still come; the bytes that came, at the front of the buffer, are fed and
 -- not refused. What is given stands at the front of the packets.
@@ -28,3 +30,8 @@ pub record Passes (r : Pass) : Type 0 where
   pub reception : Reception bytes written (r .stream)
   pub all : length bytes ≡ r .came
   pub ended : r .failed ≡ false → r .last ≡ pos 0
+
+-- What is told of a pass: nothing where a read or a write failed, and else its report.
+pub data Tells (p : Pass) (told : Told) : Type 0 where
+  part : p .failed ≡ true → told .length ≡ 0 → Tells p told
+  whole : (number : ℕ) → p .failed ≡ false → Reports (p .stream) (replicate 320 0) number (told .length) (told .text) → Tells p told

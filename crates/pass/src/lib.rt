@@ -1,10 +1,10 @@
 // A pass: received bytes of any length from a file or a pipe, piece after piece as they are read.
 // No contract can say what a read reads or a write writes. `read_piece` of input_pieces ties the bytes that came to the read, and
-// `receive_piece` says that these and no others are fed; the rest is proved over all the bytes that came.
+// `receive_piece` says that these and no others are fed; the rest is proved over all the bytes that came. What fails is said where it fails.
 ghost use mathlib.Core.Path.{_≡_};
 ghost use Prim.Native.Nat.{_≤_, min};
 ghost use lib.ListN.{length};
-ghost use Rattle.pass.specs.Turn.{Turns, Passes};
+ghost use Rattle.pass.specs.Turn.{Turns, Passes, Tells};
 ghost use Rattle.stream_receiver.specs.History.{ReceiverCame};
 use input_pieces::Piece;
 use libc::STDOUT_FILENO;
@@ -19,6 +19,12 @@ pub struct Pass {
     pub last: isize,
     // A read or a write failed: what came is a part.
     pub failed: bool,
+}
+
+// The text that is told of a pass, at the front of an array.
+pub struct Told {
+    pub text: [u8; 320],
+    pub length: usize,
 }
 
 // One read, how many bytes of packets were given, and the stream receiver after it.
@@ -62,7 +68,7 @@ fn hand_on(packets: &[u8], count: usize, wanted: bool) -> bool
     requires { ⌜ count ≤ length (now packets) ⌝ }
 {
     if wanted {
-        io::write_all(STDOUT_FILENO, &packets[..count])
+        text_output::write_stream(STDOUT_FILENO, b"standard output", &packets[..count])
     } else {
         true
     }
@@ -84,6 +90,7 @@ fn receive_all(fd: i32, wanted: bool, buffer: &mut [u8], packets: &mut [u8]) -> 
         stream = turn.stream;
         came += length as u64;
         if last < 0 {
+            input_pieces::say_failed();
             return Pass {
                 stream,
                 came,
@@ -119,15 +126,29 @@ pub fn receive_file(fd: i32, wanted: bool) -> Pass
     receive_all(fd, wanted, &mut buffer, &mut packets)
 }
 
-// Writes the report of a pass, or says that there is none: a report of a part would look like that of a whole. The text is longer than any report.
-pub fn write_report(fd: i32, pass: Pass) {
+// What is told of a pass: its report, or nothing where a read or a write failed, since a report of a part would look like that of a whole. The text is
+// longer than any report.
+pub fn told_of(pass: Pass) -> Told
+    ensures { λ r. ⌜ Tells pass r ⌝ }
+    ensures { λ r. ⌜ r .length ≤ length (r .text) ⌝ }
+{
+    let mut text = [0u8; 320];
     if pass.failed {
-        os::fail(b"pass");
-        return;
+        return Told { text, length: 0 };
     }
     let stream = pass.stream;
-    let mut text = [0u8; 320];
     let written = stream.report(&mut text);
-    let n = written.length;
-    text_output::write_whole(fd, b"report", &text[..n]);
+    Told {
+        text,
+        length: written.length,
+    }
+}
+
+// Writes what is told of a pass: whether all of it was written.
+pub fn write_told(fd: i32, told: Told) -> bool
+    requires { ⌜ told .length ≤ length (told .text) ⌝ }
+{
+    let text = told.text;
+    let n = told.length;
+    text_output::write_whole(fd, b"report", &text[..n])
 }

@@ -9,5 +9,11 @@ fn main() {
         io::write_all(STDERR_FILENO, b"usage: pass_report < blocks\n");
         return;
     }
-    pass::write_report(STDOUT_FILENO, pass::receive_file(STDIN_FILENO, false));
+    let pass = pass::receive_file(STDIN_FILENO, false);
+    if pass.failed {
+        return;
+    }
+    if pass::write_told(STDOUT_FILENO, pass::told_of(pass)) {
+        text_output::close_output();
+    }
 }

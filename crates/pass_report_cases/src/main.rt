@@ -10,7 +10,10 @@ fn report_of(path: &[u8]) {
         os::fail(path);
         return;
     }
-    pass::write_report(STDOUT_FILENO, pass::receive_file(file, false));
+    pass::write_told(
+        STDOUT_FILENO,
+        pass::told_of(pass::receive_file(file, false)),
+    );
     libc::close(file);
 }
 

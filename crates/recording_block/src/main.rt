@@ -97,6 +97,13 @@ fn report_block(answer: u8, changed: Changed) {
     report(b"bits=", changed.bits as u64, b"\n");
 }
 
+// The same, after standard output was closed: not where it was lost.
+fn tell(answer: u8, changed: Changed) {
+    if text_output::close_output() {
+        report_block(answer, changed);
+    }
+}
+
 // Corrects the block that starts the part, and writes it where there is one.
 fn write_block(part: &[u8]) {
     let mut output = [0u8; 204];
@@ -105,12 +112,11 @@ fn write_block(part: &[u8]) {
     let answer = decoded.answer;
     let number = answer.number();
     if number == 0 {
-        if !io::write_all(STDOUT_FILENO, &output) {
-            os::fail(b"standard output");
+        if !text_output::write_stream(STDOUT_FILENO, b"standard output", &output) {
             return;
         }
     }
-    report_block(number, decoded.changed);
+    tell(number, decoded.changed);
 }
 
 // Block p of the recording in an open file.
@@ -135,13 +141,15 @@ fn usage() {
 }
 
 fn main() {
-    let mut path = io::buffer();
     let mut word = [0u8; 32];
     if os::arg_count() != 3 {
         usage();
         return;
     }
-    let length = os::arg(1, &mut path);
+    if input_pieces::is_option(1) {
+        usage();
+        return;
+    }
     let digits = os::arg(2, &mut word);
     let Parsed::Number(p) = parse(&word[..digits]) else {
         usage();
@@ -149,14 +157,12 @@ fn main() {
     };
     // A receiver takes no more than 4,294,967,295 blocks, and block p is corrected at its call p + 12.
     if p > 4294967283 {
-        report_block(16, Changed { bytes: 0, bits: 0 });
+        tell(16, Changed { bytes: 0, bits: 0 });
         return;
     }
-    let fd = os::open_read(&path[..length]);
+    let fd = input_pieces::open_argument(1);
     if fd < 0 {
-        os::fail(&path[..length]);
         return;
     }
     decode_at(fd, p);
-    libc::close(fd);
 }

@@ -17,7 +17,9 @@ fn write_moved(text: &[u8], form: u64) {
         return;
     }
     let n = written.length;
-    text_output::write_whole(STDOUT_FILENO, b"report", &output[..n]);
+    if text_output::write_whole(STDOUT_FILENO, b"report", &output[..n]) {
+        text_output::close_output();
+    }
 }
 
 // The buffer is longer than any report: a text that fills it is none, whatever follows.
@@ -25,7 +27,7 @@ fn move_input(form: u64) {
     let mut buffer = [0u8; 512];
     let part = input_pieces::fill(STDIN_FILENO, &mut buffer);
     if part.failed {
-        os::fail(b"standard input");
+        input_pieces::say_failed();
         return;
     }
     let n = part.length;

@@ -92,7 +92,9 @@ fn write_season(season: Season)
     let read = season.finish();
     let mut text = [0u8; 160];
     let n = season_totals::compose(read, &mut text);
-    text_output::write_whole(STDOUT_FILENO, b"season", &text[..n]);
+    if text_output::write_whole(STDOUT_FILENO, b"season", &text[..n]) {
+        text_output::close_output();
+    }
 }
 
 fn main() {
@@ -103,7 +105,7 @@ fn main() {
     let mut buffer = io::large_buffer();
     let ended = read_all(&mut buffer);
     if ended.failed {
-        os::fail(b"standard input");
+        input_pieces::say_failed();
         return;
     }
     let season = ended.season;

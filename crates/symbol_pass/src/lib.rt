@@ -54,22 +54,11 @@ pub fn report(key: &[u8], n: u64, end: &[u8]) {
     io::write_all(STDERR_FILENO, end);
 }
 
-// Says that a read failed, by its answer.
-pub fn report_failed(got: isize) {
-    if got < 0 {
-        os::fail(b"standard input");
-    }
-}
-
 // Writes the first so many bytes to standard output: whether that did not fail. If it did, that is said.
 pub fn write_bytes(bytes: &[u8], count: usize) -> bool
     requires { ⌜ count ≤ length (now bytes) ⌝ }
 {
-    if io::write_all(STDOUT_FILENO, &bytes[..count]) {
-        return true;
-    }
-    os::fail(b"standard output");
-    false
+    text_output::write_stream(STDOUT_FILENO, b"standard output", &bytes[..count])
 }
 
 // A reading of which nothing has come.
@@ -136,13 +125,17 @@ fn last_bytes(reading: Reading, bits: &mut [u8], output: &mut [u8]) -> Last
     }
 }
 
-// Writes what is left of the stream, and says how many symbols make no whole pattern and how many bits no whole byte: whether the write did not fail.
+// Writes what is left of the stream and closes standard output. Where neither failed, it says how many symbols make no whole pattern and how many bits no
+// whole byte. Its result is whether neither failed.
 pub fn finish(reading: Reading, bits: &mut [u8], output: &mut [u8]) -> bool
     requires { ⌜ (Going reading) × (1632 ≤ length (now bits)) × (204 ≤ length (now output)) ⌝ }
 {
     let last = last_bytes(reading, bits, output);
     let count = last.count;
     if !write_bytes(output, count) {
+        return false;
+    }
+    if !text_output::close_output() {
         return false;
     }
     report(b"rest=", last.rest as u64, b"\n");

@@ -40,8 +40,8 @@ slice-aggregate-next-turn-4 c = search needs
 next-turn-requires : tie.Need-next-turn-requires Inv-loop μ-loop
 next-turn-requires c κs = search needs
 
-report-failed-requires : tie.Need-report-failed-requires Inv-loop μ-loop
-report-failed-requires c κs = search needs
+say-failed-requires : tie.Need-say-failed-requires Inv-loop μ-loop
+say-failed-requires c κs = search needs
 
 report-answer-requires : tie.Need-report-answer-requires Inv-loop μ-loop
 report-answer-requires c κs = search needs
@@ -55,6 +55,9 @@ write-bytes-requires c κs = c .before .before .before .before .before .before .
 returns : tie.Need-returns Inv-loop μ-loop
 returns c = search needs
 
+returns-3 : tie.Need-returns-3 Inv-loop μ-loop
+returns-3 c = search needs
+
 sub-turns : tie.Need-sub-turns Inv-loop μ-loop
 sub-turns c = search needs
 
@@ -63,7 +66,7 @@ loop-less c = search needs
 
 loop-again : tie.Need-loop-again Inv-loop μ-loop
 loop-again c =
-    let t = c .before .before .before .before .before .before .before .before .before .before .before .before in
+    let t = c .before .before .before .before .before .before .before .before .before .before .before .before .before in
     let l = t .before .before .before .before .before .before .before .loop .inv in
     record {
       going = turn-going (l .going) (t .next-turn .ensures);
@@ -85,6 +88,9 @@ finish-requires c κs = let l = c .before .before .before .loop .inv in (l .goin
 returns-2 : tie.Need-returns-2 Inv-loop μ-loop
 returns-2 c = search needs
 
+returns-4 : tie.Need-returns-4 Inv-loop μ-loop
+returns-4 c = search needs
+
 pub read-all-spec : {M : Type 1} → statement M
 read-all-spec =
     tie.close
@@ -97,15 +103,17 @@ read-all-spec =
     slice-aggregate-next-turn-3
     slice-aggregate-next-turn-4
     next-turn-requires
-    report-failed-requires
-    report-answer-requires
+    say-failed-requires
+    returns
     slice-aggregate-write-bytes
     write-bytes-requires
-    returns
+    returns-2
+    report-answer-requires
+    returns-3
     sub-turns
     loop-less
     loop-again
     slice-aggregate-finish
     slice-aggregate-finish-2
     finish-requires
-    returns-2)
+    returns-4)

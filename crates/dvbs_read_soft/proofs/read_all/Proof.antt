@@ -42,14 +42,14 @@ slice-aggregate-next-turn-4 c = search needs
 next-turn-requires : tie.Need-next-turn-requires Inv-loop μ-loop
 next-turn-requires c κs = search needs
 
-report-failed-requires : tie.Need-report-failed-requires Inv-loop μ-loop
-report-failed-requires c κs = search needs
+say-failed-requires : tie.Need-say-failed-requires Inv-loop μ-loop
+say-failed-requires c κs = search needs
 
 slice-aggregate-write-bytes : tie.Need-slice-aggregate-write-bytes Inv-loop μ-loop
 slice-aggregate-write-bytes c = search needs
 
 write-bytes-requires : tie.Need-write-bytes-requires Inv-loop μ-loop
-write-bytes-requires c κs = c .before .before .before .before .before .before .before .before .before .next-turn .ensures .count-fits
+write-bytes-requires c κs = c .before .before .before .before .before .before .before .before .before .before .next-turn .ensures .count-fits
 
 returns : tie.Need-returns Inv-loop μ-loop
 returns c = search needs
@@ -62,7 +62,7 @@ loop-less c = search needs
 
 loop-again : tie.Need-loop-again Inv-loop μ-loop
 loop-again c =
-    let t = c .before .before .before .before .before .before .before .before .before .before .before in
+    let t = c .before .before .before .before .before .before .before .before .before .before .before .before in
     let l = t .before .before .before .before .before .before .before .loop .inv in
     let h = t .next-turn .ensures .taken .holds in
     record {
@@ -99,6 +99,9 @@ returns-2 c = search needs
 returns-3 : tie.Need-returns-3 Inv-loop μ-loop
 returns-3 c = search needs
 
+returns-4 : tie.Need-returns-4 Inv-loop μ-loop
+returns-4 c = search needs
+
 pub read-all-spec : {M : Type 1} → statement M
 read-all-spec =
     tie.close
@@ -111,10 +114,11 @@ read-all-spec =
     slice-aggregate-next-turn-3
     slice-aggregate-next-turn-4
     next-turn-requires
-    report-failed-requires
+    say-failed-requires
+    returns
     slice-aggregate-write-bytes
     write-bytes-requires
-    returns
+    returns-2
     sub-turns
     loop-less
     loop-again
@@ -124,5 +128,5 @@ read-all-spec =
     slice-aggregate-report
     slice-aggregate-report-2
     report-requires
-    returns-2
-    returns-3)
+    returns-3
+    returns-4)

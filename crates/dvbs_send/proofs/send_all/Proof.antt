@@ -11,11 +11,11 @@ use Rattle.dvbs_send.proofs.send_all.Statement.{statement}
 use Rattle.dvbs_send.proofs.send_all.Tie as tie
 
 abbrev Inv-loop : tie.InvT-loop
-Inv-loop buffer₀ symbols₀ answers₀ sending₀ packets₀ turns₀ t13 t14 buffer symbols answers sending packets turns =
+Inv-loop buffer₀ symbols₀ answers₀ sending₀ packets₀ turns₀ buffer symbols answers sending packets turns =
     Buffers sending buffer symbols answers
 
 abbrev μ-loop : tie.MeasureT-loop
-μ-loop buffer₀ symbols₀ answers₀ sending₀ packets₀ turns₀ t13 t14 buffer symbols answers sending packets turns = turns
+μ-loop buffer₀ symbols₀ answers₀ sending₀ packets₀ turns₀ buffer symbols answers sending packets turns = turns
 
 -- how many packets a turn tells of
 packets-whole : (c : tie.After-next-turn Inv-loop μ-loop) → c .next-turn .result .packets ≤ length (c .next-turn .last .1 .1 .1 .0)
@@ -27,11 +27,8 @@ loop-holds c = search needs
 next-turn-requires : tie.Need-next-turn-requires Inv-loop μ-loop
 next-turn-requires c κs = search needs
 
-slice-aggregate-fail : tie.Need-slice-aggregate-fail Inv-loop μ-loop
-slice-aggregate-fail c = search needs
-
-fail-requires : tie.Need-fail-requires Inv-loop μ-loop
-fail-requires c κs = search needs
+say-failed-requires : tie.Need-say-failed-requires Inv-loop μ-loop
+say-failed-requires c κs = search needs
 
 same-length : tie.Need-same-length Inv-loop μ-loop
 same-length c = search needs
@@ -63,32 +60,14 @@ returns-2 c = search needs
 write-symbols-requires : tie.Need-write-symbols-requires Inv-loop μ-loop
 write-symbols-requires c κs = c .before .before .before .before .before .before .before .before .before .before .before .before .next-turn .ensures .count-fits
 
-slice-aggregate-fail-2 : tie.Need-slice-aggregate-fail-2 Inv-loop μ-loop
-slice-aggregate-fail-2 c = search needs
-
-fail-requires-2 : tie.Need-fail-requires-2 Inv-loop μ-loop
-fail-requires-2 c κs = search needs
-
 same-length-7 : tie.Need-same-length-7 Inv-loop μ-loop
-same-length-7 c =
-    let t = c .before .before .before .before .before .before .before .before .before .before .before .before .before .before .before .before in
-    let l = t .before .before .before .before .before in
-    let s = l .before .before .before .before in
-    omega (arith, t .next-turn .kept .1 .0, l .loop .inv .piece, s .pre .piece)
+same-length-7 c = search needs
 
 same-length-8 : tie.Need-same-length-8 Inv-loop μ-loop
-same-length-8 c =
-    let t = c .before .before .before .before .before .before .before .before .before .before .before .before .before .before .before .before in
-    let l = t .before .before .before .before .before in
-    let s = l .before .before .before .before in
-    omega (arith, t .next-turn .kept .1 .1 .0, l .loop .inv .output, s .pre .output)
+same-length-8 c = search needs
 
 same-length-9 : tie.Need-same-length-9 Inv-loop μ-loop
-same-length-9 c =
-    let t = c .before .before .before .before .before .before .before .before .before .before .before .before .before .before .before .before in
-    let l = t .before .before .before .before .before in
-    let s = l .before .before .before .before in
-    omega (arith, t .next-turn .kept .1 .1 .1 .0, l .loop .inv .numbers, s .pre .numbers)
+same-length-9 c = search needs
 
 returns-3 : tie.Need-returns-3 Inv-loop μ-loop
 returns-3 c = search needs
@@ -142,8 +121,7 @@ send-all-spec =
     μ-loop
     loop-holds
     next-turn-requires
-    slice-aggregate-fail
-    fail-requires
+    say-failed-requires
     same-length
     same-length-2
     same-length-3
@@ -154,8 +132,6 @@ send-all-spec =
     same-length-6
     returns-2
     write-symbols-requires
-    slice-aggregate-fail-2
-    fail-requires-2
     same-length-7
     same-length-8
     same-length-9

@@ -6,14 +6,23 @@ use borrow.Author.Needs.{needs}
 use Rattle.dvbs_send.proofs.write_symbols.Statement.{statement}
 use Rattle.dvbs_send.proofs.write_symbols.Tie as tie
 
-slice-aggregate-write-all : tie.Need-slice-aggregate-write-all
-slice-aggregate-write-all c = sym (length-take-le _ _ (c .before .before .pre))
+slice-aggregate-write-stream : tie.Need-slice-aggregate-write-stream
+slice-aggregate-write-stream c = search needs
 
-write-all-requires : tie.Need-write-all-requires
-write-all-requires c κs = search needs
+slice-aggregate-write-stream-2 : tie.Need-slice-aggregate-write-stream-2
+slice-aggregate-write-stream-2 c = let s = c .before .before .before in sym (length-take-le (s .args .count) (s .args .symbols .now) (s .pre))
+
+write-stream-requires : tie.Need-write-stream-requires
+write-stream-requires c κs = search needs
 
 returns : tie.Need-returns
 returns c = search needs
 
 pub write-symbols-spec : {M : Type 1} → statement M
-write-symbols-spec = tie.close (tie.spec slice-aggregate-write-all write-all-requires returns)
+write-symbols-spec =
+    tie.close
+    (tie.spec
+    slice-aggregate-write-stream
+    slice-aggregate-write-stream-2
+    write-stream-requires
+    returns)

@@ -6,11 +6,14 @@ use borrow.Author.Needs.{needs}
 use Rattle.pass.proofs.hand_on.Statement.{statement}
 use Rattle.pass.proofs.hand_on.Tie as tie
 
-slice-aggregate-write-all : tie.Need-slice-aggregate-write-all
-slice-aggregate-write-all c = let s = c .before .before .before in sym (length-take-le (s .args .count) (s .args .packets .now) (s .pre))
+slice-aggregate-write-stream : tie.Need-slice-aggregate-write-stream
+slice-aggregate-write-stream c = search needs
 
-write-all-requires : tie.Need-write-all-requires
-write-all-requires c κs = search needs
+slice-aggregate-write-stream-2 : tie.Need-slice-aggregate-write-stream-2
+slice-aggregate-write-stream-2 c = let s = c .before .before .before .before in sym (length-take-le (s .args .count) (s .args .packets .now) (s .pre))
+
+write-stream-requires : tie.Need-write-stream-requires
+write-stream-requires c κs = search needs
 
 returns : tie.Need-returns
 returns c = search needs
@@ -19,4 +22,11 @@ returns-2 : tie.Need-returns-2
 returns-2 c = search needs
 
 pub hand-on-spec : {M : Type 1} → statement M
-hand-on-spec = tie.close (tie.spec slice-aggregate-write-all write-all-requires returns returns-2)
+hand-on-spec =
+    tie.close
+    (tie.spec
+    slice-aggregate-write-stream
+    slice-aggregate-write-stream-2
+    write-stream-requires
+    returns
+    returns-2)

@@ -55,8 +55,11 @@ same-length c = search needs
 same-length-2 : tie.Need-same-length-2 Inv-loop μ-loop
 same-length-2 c = search needs
 
+say-failed-requires : tie.Need-say-failed-requires Inv-loop μ-loop
+say-failed-requires c κs = search needs
+
 returns : tie.Need-returns Inv-loop μ-loop
-returns c = passes-part (more (c .before .before .before .before .before .before .before .before))
+returns c = passes-part (more (c .before .before .before .before .before .before .before .before .before))
 
 hand-on-requires : tie.Need-hand-on-requires Inv-loop μ-loop
 hand-on-requires c κs =
@@ -113,6 +116,7 @@ receive-all-spec =
     loop-holds
     receive-piece-requires
     add-came
+    say-failed-requires
     same-length
     same-length-2
     returns

@@ -13,11 +13,8 @@ slice-aggregate-fill c = search needs
 fill-requires : tie.Need-fill-requires
 fill-requires c κs = search needs
 
-slice-aggregate-fail : tie.Need-slice-aggregate-fail
-slice-aggregate-fail c = search needs
-
-fail-requires : tie.Need-fail-requires
-fail-requires c κs = search needs
+say-failed-requires : tie.Need-say-failed-requires
+say-failed-requires c κs = search needs
 
 returns : tie.Need-returns
 returns c = search needs
@@ -42,8 +39,7 @@ move-input-spec =
     (tie.spec
     slice-aggregate-fill
     fill-requires
-    slice-aggregate-fail
-    fail-requires
+    say-failed-requires
     returns
     array-share-prefix-buffer
     slice-aggregate-write-moved

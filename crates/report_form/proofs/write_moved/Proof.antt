@@ -51,8 +51,14 @@ slice-aggregate-write-whole-2 c = sym (length-take-le _ _ (small (c .before .bef
 write-whole-requires : tie.Need-write-whole-requires
 write-whole-requires c κs = search needs
 
+close-output-requires : tie.Need-close-output-requires
+close-output-requires c κs = search needs
+
 returns-2 : tie.Need-returns-2
 returns-2 c = search needs
+
+returns-3 : tie.Need-returns-3
+returns-3 c = search needs
 
 pub write-moved-spec : {M : Type 1} → statement M
 write-moved-spec =
@@ -70,4 +76,6 @@ write-moved-spec =
     array-share-prefix-output
     slice-aggregate-write-whole-2
     write-whole-requires
-    returns-2)
+    close-output-requires
+    returns-2
+    returns-3)

@@ -34,8 +34,14 @@ slice-aggregate-write-whole-2 c = sym (length-take-le _ _ (small (c .before .bef
 write-whole-requires : tie.Need-write-whole-requires
 write-whole-requires c κs = search needs
 
+close-output-requires : tie.Need-close-output-requires
+close-output-requires c κs = search needs
+
 returns : tie.Need-returns
 returns c = search needs
+
+returns-2 : tie.Need-returns-2
+returns-2 c = search needs
 
 pub write-season-spec : {M : Type 1} → statement M
 write-season-spec =
@@ -48,4 +54,6 @@ write-season-spec =
     array-share-prefix-text
     slice-aggregate-write-whole-2
     write-whole-requires
-    returns)
+    close-output-requires
+    returns
+    returns-2)

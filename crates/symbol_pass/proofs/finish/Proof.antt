@@ -20,6 +20,9 @@ same-length-2 c = search needs
 returns : tie.Need-returns
 returns c = search needs
 
+close-output-requires : tie.Need-close-output-requires
+close-output-requires c κs = search needs
+
 slice-aggregate-report : tie.Need-slice-aggregate-report
 slice-aggregate-report c = search needs
 
@@ -47,6 +50,15 @@ same-length-4 c = search needs
 returns-2 : tie.Need-returns-2
 returns-2 c = search needs
 
+same-length-5 : tie.Need-same-length-5
+same-length-5 c = search needs
+
+same-length-6 : tie.Need-same-length-6
+same-length-6 c = search needs
+
+returns-3 : tie.Need-returns-3
+returns-3 c = search needs
+
 pub finish-spec : {M : Type 1} → statement M
 finish-spec =
     tie.close
@@ -56,12 +68,16 @@ finish-spec =
     same-length
     same-length-2
     returns
+    close-output-requires
+    same-length-3
+    same-length-4
+    returns-2
     slice-aggregate-report
     slice-aggregate-report-2
     report-requires
     slice-aggregate-report-3
     slice-aggregate-report-4
     report-requires-2
-    same-length-3
-    same-length-4
-    returns-2)
+    same-length-5
+    same-length-6
+    returns-3)

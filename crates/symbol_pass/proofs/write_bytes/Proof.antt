@@ -6,31 +6,23 @@ use borrow.Author.Needs.{needs}
 use Rattle.symbol_pass.proofs.write_bytes.Statement.{statement}
 use Rattle.symbol_pass.proofs.write_bytes.Tie as tie
 
-slice-aggregate-write-all : tie.Need-slice-aggregate-write-all
-slice-aggregate-write-all c = sym (length-take-le _ _ (c .before .before .pre))
+slice-aggregate-write-stream : tie.Need-slice-aggregate-write-stream
+slice-aggregate-write-stream c = search needs
 
-write-all-requires : tie.Need-write-all-requires
-write-all-requires c κs = search needs
+slice-aggregate-write-stream-2 : tie.Need-slice-aggregate-write-stream-2
+slice-aggregate-write-stream-2 c = let s = c .before .before .before in sym (length-take-le (s .args .count) (s .args .bytes .now) (s .pre))
+
+write-stream-requires : tie.Need-write-stream-requires
+write-stream-requires c κs = search needs
 
 returns : tie.Need-returns
 returns c = search needs
-
-slice-aggregate-fail : tie.Need-slice-aggregate-fail
-slice-aggregate-fail c = search needs
-
-fail-requires : tie.Need-fail-requires
-fail-requires c κs = search needs
-
-returns-2 : tie.Need-returns-2
-returns-2 c = search needs
 
 pub write-bytes-spec : {M : Type 1} → statement M
 write-bytes-spec =
     tie.close
     (tie.spec
-    slice-aggregate-write-all
-    write-all-requires
-    returns
-    slice-aggregate-fail
-    fail-requires
-    returns-2)
+    slice-aggregate-write-stream
+    slice-aggregate-write-stream-2
+    write-stream-requires
+    returns)

@@ -1,4 +1,4 @@
--- `dvbs_receive::marked::receive_files` is safe, and ends: no more than 4,294,967,295 blocks are taken.
+-- `dvbs_receive::marked::receive_files` is safe, and ends: each turn counts a block more.
 -- Assumes nothing.
 use Prim.Native.Nat.{_-_, _≤_}
 use native.Mathlib.Omega.{arith}
@@ -7,10 +7,10 @@ use Rattle.dvbs_receive.proofs.marked.receive_files.Statement.{statemen
 use Rattle.dvbs_receive.proofs.marked.receive_files.Tie as tie
 
 abbrev Inv-loop : tie.InvT-loop
-Inv-loop fd marks-fd receiver₀ blocks₀ t13 t14 t15 receiver blocks = blocks ≤ 4294967295
+Inv-loop fd marks-fd receiver₀ blocks₀ lasting₀ receiver blocks lasting = blocks ≤ 4294967295
 
 abbrev μ-loop : tie.MeasureT-loop
-μ-loop fd marks-fd receiver₀ blocks₀ t13 t14 t15 receiver blocks = 4294967295 - blocks
+μ-loop fd marks-fd receiver₀ blocks₀ lasting₀ receiver blocks lasting = 4294967295 - blocks
 
 new-requires : tie.Need-new-requires Inv-loop μ-loop
 new-requires c κs = search needs
@@ -24,32 +24,32 @@ slice-aggregate-fill c = search needs
 fill-requires : tie.Need-fill-requires Inv-loop μ-loop
 fill-requires c κs = search needs
 
-slice-aggregate-fail : tie.Need-slice-aggregate-fail Inv-loop μ-loop
-slice-aggregate-fail c = search needs
+say-failed-requires : tie.Need-say-failed-requires Inv-loop μ-loop
+say-failed-requires c κs = search needs
 
-fail-requires : tie.Need-fail-requires Inv-loop μ-loop
-fail-requires c κs = search needs
+pass-of-requires : tie.Need-pass-of-requires Inv-loop μ-loop
+pass-of-requires c κs = search needs
 
 returns : tie.Need-returns Inv-loop μ-loop
 returns c = search needs
 
-report-requires : tie.Need-report-requires Inv-loop μ-loop
-report-requires c κs = search needs
+pass-of-requires-2 : tie.Need-pass-of-requires-2 Inv-loop μ-loop
+pass-of-requires-2 c κs = search needs
 
 returns-2 : tie.Need-returns-2 Inv-loop μ-loop
 returns-2 c = search needs
 
-slice-aggregate-fill-2 : tie.Need-slice-aggregate-fill-2 Inv-loop μ-loop
-slice-aggregate-fill-2 c = search needs
+slice-aggregate-next-marks : tie.Need-slice-aggregate-next-marks Inv-loop μ-loop
+slice-aggregate-next-marks c = search needs
 
-fill-requires-2 : tie.Need-fill-requires-2 Inv-loop μ-loop
-fill-requires-2 c κs = search needs
+next-marks-requires : tie.Need-next-marks-requires Inv-loop μ-loop
+next-marks-requires c κs = search needs
 
-slice-aggregate-fail-2 : tie.Need-slice-aggregate-fail-2 Inv-loop μ-loop
-slice-aggregate-fail-2 c = search needs
+say-marks-failed-requires : tie.Need-say-marks-failed-requires Inv-loop μ-loop
+say-marks-failed-requires c κs = search needs
 
-fail-requires-2 : tie.Need-fail-requires-2 Inv-loop μ-loop
-fail-requires-2 c κs = search needs
+pass-of-requires-3 : tie.Need-pass-of-requires-3 Inv-loop μ-loop
+pass-of-requires-3 c κs = search needs
 
 returns-3 : tie.Need-returns-3 Inv-loop μ-loop
 returns-3 c = search needs
@@ -72,35 +72,35 @@ number-requires c κs = search needs
 refuse-marks-requires : tie.Need-refuse-marks-requires Inv-loop μ-loop
 refuse-marks-requires c κs = search needs
 
+pass-of-requires-4 : tie.Need-pass-of-requires-4 Inv-loop μ-loop
+pass-of-requires-4 c κs = let t = c .before .before .before .before .before .before .before .before .before .before .before .before .before .before .before .before .before .before .loop-test in (omega arith, omega arith)
+
 returns-4 : tie.Need-returns-4 Inv-loop μ-loop
 returns-4 c = search needs
 
-slice-aggregate-write-all : tie.Need-slice-aggregate-write-all Inv-loop μ-loop
-slice-aggregate-write-all c = search needs
+slice-aggregate-hand-on : tie.Need-slice-aggregate-hand-on Inv-loop μ-loop
+slice-aggregate-hand-on c = search needs
 
-write-all-requires : tie.Need-write-all-requires Inv-loop μ-loop
-write-all-requires c κs = search needs
+hand-on-requires : tie.Need-hand-on-requires Inv-loop μ-loop
+hand-on-requires c κs = search needs
 
-slice-aggregate-fail-3 : tie.Need-slice-aggregate-fail-3 Inv-loop μ-loop
-slice-aggregate-fail-3 c = search needs
-
-fail-requires-3 : tie.Need-fail-requires-3 Inv-loop μ-loop
-fail-requires-3 c κs = search needs
+pass-of-requires-5 : tie.Need-pass-of-requires-5 Inv-loop μ-loop
+pass-of-requires-5 c κs = let t = c .before .before .before .before .before .before .before .before .before .before .before .before .before .before .before .before .before .before .before .before .before .loop-test in (omega arith, omega arith)
 
 returns-5 : tie.Need-returns-5 Inv-loop μ-loop
 returns-5 c = search needs
 
 add-blocks : tie.Need-add-blocks Inv-loop μ-loop
-add-blocks c = let t = c .before .before .before .before .before .before .before .before .before .before .before .before .before .before .before .before .before .before .before .loop-test in omega arith
+add-blocks c = let t = c .before .before .before .before .before .before .before .before .before .before .before .before .before .before .before .before .before .before .before .before .loop-test in omega arith
 
 loop-less : tie.Need-loop-less Inv-loop μ-loop
-loop-less c = let t = c .before .before .before .before .before .before .before .before .before .before .before .before .before .before .before .before .before .before .before .loop-test in omega arith
+loop-less c = let t = c .before .before .before .before .before .before .before .before .before .before .before .before .before .before .before .before .before .before .before .before .loop-test in omega arith
 
 loop-again : tie.Need-loop-again Inv-loop μ-loop
-loop-again c = let t = c .before .before .before .before .before .before .before .before .before .before .before .before .before .before .before .before .before .before .before .loop-test in omega arith
+loop-again c = let t = c .before .before .before .before .before .before .before .before .before .before .before .before .before .before .before .before .before .before .before .before .loop-test in omega arith
 
-report-requires-2 : tie.Need-report-requires-2 Inv-loop μ-loop
-report-requires-2 c κs = search needs
+pass-of-requires-6 : tie.Need-pass-of-requires-6 Inv-loop μ-loop
+pass-of-requires-6 c κs = search needs
 
 returns-6 : tie.Need-returns-6 Inv-loop μ-loop
 returns-6 c = search needs
@@ -115,15 +115,15 @@ receive-files-spec =
     loop-holds
     slice-aggregate-fill
     fill-requires
-    slice-aggregate-fail
-    fail-requires
+    say-failed-requires
+    pass-of-requires
     returns
-    report-requires
+    pass-of-requires-2
     returns-2
-    slice-aggregate-fill-2
-    fill-requires-2
-    slice-aggregate-fail-2
-    fail-requires-2
+    slice-aggregate-next-marks
+    next-marks-requires
+    say-marks-failed-requires
+    pass-of-requires-3
     returns-3
     slice-aggregate-receive-marked
     slice-aggregate-receive-marked-2
@@ -131,14 +131,14 @@ receive-files-spec =
     receive-marked-requires
     number-requires
     refuse-marks-requires
+    pass-of-requires-4
     returns-4
-    slice-aggregate-write-all
-    write-all-requires
-    slice-aggregate-fail-3
-    fail-requires-3
+    slice-aggregate-hand-on
+    hand-on-requires
+    pass-of-requires-5
     returns-5
     add-blocks
     loop-less
     loop-again
-    report-requires-2
+    pass-of-requires-6
     returns-6)

@@ -1,0 +1,198 @@
+#!/bin/bash
+# The programs where something fails or is refused: nothing that they leave then looks whole. Also numbers that a short test does not reach, and a gap in
+# the blocks.
+#   tests/failures.sh      from the top of the repository, after the programs and reference/ are built
+# Prints a line for each kind of case, and stops at the first that fails.
+set -euo pipefail
+bin=$PWD/target/bin
+reference=$PWD/target/cargo/release
+data=$PWD/reference/tests/data
+work=$(mktemp -d)
+trap 'rm -rf "$work"' EXIT
+cc -O2 -Wall -Wextra -Werror -shared -fPIC -o "$work/failing.so" tests/failing.c
+cd "$work"
+
+fail() {
+    echo "FAILED: $*"
+    exit 1
+}
+
+# says WHAT WANTED COMMAND..: nothing on standard output, and exactly these lines on standard error.
+says() {
+    local what=$1 wanted=$2
+    shift 2
+    "$@" > out 2> err || true
+    [ ! -s out ] && [ "$(cat err)" = "$wanted" ] || fail "$what: $(cat out err), not $wanted"
+}
+
+# part WHAT WHOLE WANTED COMMAND..: a part of the whole output, and exactly these lines on standard error.
+part() {
+    local what=$1 whole=$2 wanted=$3
+    shift 3
+    "$@" > out 2> err || true
+    [ "$(wc -c < out)" -lt "$(wc -c < "$whole")" ] && cmp -n "$(wc -c < out)" out "$whole" || fail "$what: the output is not a part of the whole"
+    [ "$(cat err)" = "$wanted" ] || fail "$what: $(cat err), not $wanted"
+}
+
+# failing "CALL DESCRIPTOR WHICH ANSWER" COMMAND..: the command, with one call answered so (tests/failing.c).
+failing() {
+    local call=$1
+    shift
+    FAIL=$call LD_PRELOAD=$work/failing.so "$@"
+}
+
+# fill FILE BYTE AT COUNT: so many times this byte, octal, from there on.
+fill() {
+    head -c "$4" /dev/zero | tr '\0' "\\$2" | dd of="$1" bs=1 seek="$3" conv=notrunc status=none
+}
+
+# 120 packets, their blocks, symbols and points.
+cat "$data/packets.ts" "$data/packets.ts" "$data/packets.ts" > packets
+"$reference/interleaved" < packets > blocks
+"$bin/dvbs_send" 2 < packets > symbols
+"$reference/channel" 2 inf 1 < symbols > points
+"$bin/dvbs_receive" < blocks > received 2> report
+"$bin/dvbs_read" 2 < symbols > bytes 2> told
+"$bin/dvbs_read_soft" 2 < points > bytes.soft 2> told.soft
+cmp bytes blocks && cmp bytes.soft blocks && cmp -n "$(wc -c < received)" received packets || fail "an unharmed link"
+io_error="Input/output error"
+
+# ---- a read that fails, or a byte that is none, in mid-stream
+part "a failed read of dvbs_read" bytes "standard input: $io_error" failing "read 0 3 -5" "$bin/dvbs_read" 2 < symbols
+part "a failed read of dvbs_read_soft" bytes "standard input: $io_error" failing "read 0 3 -5" "$bin/dvbs_read_soft" 2 < points
+part "a failed read of dvbs_send" symbols "standard input: $io_error" failing "read 0 2 -5" "$bin/dvbs_send" 2 < packets
+says "a failed first read of dvbs_receive" "standard input: $io_error" failing "read 0 1 -5" "$bin/dvbs_receive" < blocks
+says "a failed last read of pass_report" "standard input: $io_error" failing "read 0 2 -5" "$bin/pass_report" < blocks
+says "a directory as input of dvbs_read" "standard input: Is a directory" "$bin/dvbs_read" 2 < .
+for place in 0 7 16383 16384 40000; do
+    cp symbols bad
+    fill bad 004 $place 1
+    part "a byte above 3 at $place" bytes "symbol=$place answer=14" "$bin/dvbs_read" 2 < bad
+done
+echo "reads that fail and bytes that are no symbols: a message, and no line that looks whole"
+
+# ---- a write that fails, is short, or takes nothing; an output that is lost when it is closed
+for program in "dvbs_read 2" "dvbs_read_soft 2" "dvbs_send 2" dvbs_receive; do
+    case $program in
+        dvbs_read\ *) input=symbols whole=bytes ;;
+        dvbs_read_soft*) input=points whole=bytes ;;
+        dvbs_send*) input=packets whole=symbols ;;
+        *) input=blocks whole=received ;;
+    esac
+    # Each word of the program's command is a word here.
+    part "a failed write of $program" $whole "standard output: No space left on device" failing "write 1 1 -28" "$bin"/$program < $input
+    part "a write of $program that takes nothing" $whole "standard output: not written whole" failing "write 1 1 0" "$bin"/$program < $input
+    failing "write 1 1+ 1000" "$bin"/$program < $input 2> err | cmp - $whole || fail "short writes of $program"
+    failing "close 1 1 -5" "$bin"/$program < $input > out 2> err
+    cmp out $whole && [ "$(cat err)" = "standard output: $io_error" ] || fail "an output of $program that is lost when closed: $(cat err)"
+done
+# cut_off INPUT NAME COMMAND..: the text on standard output lacks its last line, and that is said.
+cut_off() {
+    local input=$1 name=$2 what=${3##*/}
+    shift 2
+    failing "write 1 1 20" "$@" < "$input" > out 2> err
+    [ "$(wc -c < out)" = 20 ] && [ "$(cat err)" = "$name: not written whole" ] || fail "a short write of $what: $(cat err)"
+    failing "close 1 1 -5" "$@" < "$input" > out 2> err
+    [ "$(cat err)" = "standard output: $io_error" ] || fail "an output of $what that is lost when closed: $(cat err)"
+}
+"$bin/pass_report" < blocks > told.report
+sed 's/^bits=.*/bits=-/' told.report > second
+cut_off blocks report "$bin/pass_report"
+cut_off told.report season "$bin/season"
+cut_off second report "$bin/report_form" 1
+# The report of dvbs_receive goes to standard error.
+failing "write 2 1 20" "$bin/dvbs_receive" < blocks 2> err > /dev/null
+! grep -q '^rest=' err && grep -q 'report: not written whole$' err || fail "a short write of the report of dvbs_receive"
+echo "writes that fail or are short, and outputs that are lost when closed: said, and no line that looks whole"
+
+# ---- marks
+head -c "$(wc -c < blocks)" /dev/zero > none
+head -c $(($(wc -c < blocks) - 57)) blocks > cut
+"$bin/dvbs_receive" none < cut > out 2> err
+[ "$(tail -n 1 err)" = rest=147 ] && "$reference/pass_report" none < cut | cmp - err || fail "the rest of a pass with marks"
+part "a failed read with marks" received "standard input: $io_error" failing "read 0 40 -5" "$bin/dvbs_receive" none < blocks
+part "failed marks" received "marks: $io_error" failing "read 3 40 -5" "$bin/dvbs_receive" none < blocks
+part "a failed write with marks" received "standard output: No space left on device" failing "write 1 5 -28" "$bin/dvbs_receive" none < blocks
+part "a write with marks that takes nothing" received "standard output: not written whole" failing "write 1 5 0" "$bin/dvbs_receive" none < blocks
+failing "close 1 1 -5" "$bin/dvbs_receive" none < blocks > out 2> err
+cmp out received && [ "$(cat err)" = "standard output: $io_error" ] || fail "an output with marks that is lost when closed: $(cat err)"
+says "marks, a directory as input, and a full output" "standard input: Is a directory" bash -c "'$bin/dvbs_receive' none < . > /dev/full"
+says "marks, and an input and an output that fail" "standard output: No space left on device" bash -c "FAIL='read 0 60 -5' LD_PRELOAD='$work/failing.so' '$bin/dvbs_receive' none < blocks > /dev/full"
+# Marks that have ended stay ended: a file that grows after its end was seen marks nothing. Here it ends after ten blocks, and grows after twenty were taken.
+cp blocks harmed
+fill harmed 252 6000 192
+fill none 001 6000 192
+head -c 2040 none > marks
+"$bin/dvbs_receive" marks < harmed > wanted 2> wanted.report
+mkfifo feed
+"$bin/dvbs_receive" marks < feed > out 2> err &
+exec 3> feed
+head -c 4080 harmed >&3
+for _ in $(seq 100); do [ "$(wc -c < out)" = $((188 * 9)) ] && break; sleep 0.1; done
+[ "$(wc -c < out)" = $((188 * 9)) ] || fail "nine packets of twenty blocks"
+tail -c +2041 none >> marks
+tail -c +4081 harmed >&3
+exec 3>&-
+wait
+cmp out wanted && cmp err wanted.report || fail "marks that grow after their end"
+# A standard stream that is closed has the number that the file would get.
+closed="standard input, output or error is closed"
+says "marks and a closed input" "$closed" bash -c "'$bin/dvbs_receive' none <&-"
+says "marks and a closed output" "$closed" bash -c "'$bin/dvbs_receive' none < blocks >&-"
+says "a block and a closed input" "$closed" bash -c "'$bin/recording_block' blocks 0 <&-"
+says "a block and a closed output" "$closed" bash -c "'$bin/recording_block' blocks 0 >&-"
+echo "marks that fail, that end and grow, and standard streams that are closed: as they should"
+
+# ---- names of files
+long=$(head -c 5000 /dev/zero | tr '\0' a)
+too_long="file name: none, or longer than 4095 bytes"
+says "a long name of marks" "$too_long" "$bin/dvbs_receive" "$long" < blocks
+says "a long name of a recording" "$too_long" "$bin/recording_block" "$long" 0
+says "an empty name" "$too_long" "$bin/dvbs_receive" "" < blocks
+says "an option" "usage: dvbs_receive [MARKS] < blocks > packets" "$bin/dvbs_receive" --help < blocks
+says "a directory as a recording" "the recording: Is a directory" "$bin/recording_block" . 0
+echo "names that are too long, options and directories: said"
+
+# ---- numbers of blocks: twelve blocks far inside a sparse file are those of a small one
+head -c $((204 * 12)) blocks > twelve
+"$bin/recording_block" twelve 0 > wanted 2> wanted.said
+: > sparse
+for p in 400 40000 50001 1000003; do
+    dd if=twelve of=sparse bs=204 seek=$p conv=notrunc status=none
+done
+for p in 400 40000 50001 1000003; do
+    "$bin/recording_block" sparse $p > out 2> err
+    cmp out wanted && cmp err wanted.said || fail "block $p of a sparse recording"
+    "$reference/recorded_block" sparse $p > wanted.out 2> wanted.err
+    cmp out wanted.out && cmp err wanted.err || fail "block $p of a sparse recording, by the reference"
+done
+says "a failed read of a recording" "the recording: $io_error" failing "pread 3 1 -5" "$bin/recording_block" sparse 400
+failing "pread 3 1+ 100" "$bin/recording_block" sparse 400 2> err | cmp - wanted || fail "short reads of a recording"
+says "a block's output that is full" "standard output: No space left on device" bash -c "'$bin/recording_block' sparse 400 > /dev/full"
+# A million blocks of zeros, and what is after them: each is a codeword that begins with neither sync byte.
+truncate -s $((204 * 1000001 + 100)) zeros
+printf 'form=2\ntaken=1000001\nfilling=11\ndelivered=0\nlost=0\nwaiting=999990\noutofstep=0\nchanged=0\nbits=0\nrest=100\n' > wanted
+"$bin/pass_report" < zeros | cmp - wanted || fail "the report of a million blocks"
+"$bin/dvbs_receive" zeros < zeros 2>&1 | cmp - wanted || fail "the report of a million blocks with marks"
+echo "blocks beyond the first million: as the first"
+
+# ---- each mode of dvbs_send: GNU Radio's symbols
+for mode in 0 1 2 3; do
+    "$bin/dvbs_send" $mode < "$data/packets.ts" | cmp - "$data/symbols_rate$mode.bin" || fail "dvbs_send $mode beside GNU Radio's symbols"
+done
+echo "dvbs_send in each mode: as GNU Radio"
+
+# ---- a gap in the blocks, by the letter of documents 01 and 02: lost blocks move the place in the group on, so behind a block that is missing or doubled
+# packets are given that were never sent, and are counted as delivered, until a group starts. docs/TRUST.md says so under "Not claimed".
+od -An -v -tx1 -w188 packets | sort -u > sent
+# gap WHAT DELIVERED NEVER_SENT < blocks
+gap() {
+    cat > gapped
+    "$bin/dvbs_receive" < gapped > out 2> err
+    "$reference/pass_report" < gapped | cmp - err || fail "$1: the reference's report"
+    grep -q "^delivered=$2$" err || fail "$1: $(grep delivered err)"
+    [ "$(od -An -v -tx1 -w188 out | grep -vcxFf sent)" = "$3" ] || fail "$1: not $3 packets that were never sent"
+}
+{ head -c $((204 * 57)) blocks; tail -c +$((204 * 58 + 1)) blocks; } | gap "block 57 missing" 97 6
+{ head -c $((204 * 60)) blocks; tail -c +$((204 * 59 + 1)) blocks; } | gap "block 59 twice" 98 4
+echo "a gap in the blocks: by the letter of the papers"
