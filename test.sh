@@ -1,6 +1,6 @@
 #!/bin/bash
 # The tests: that nothing is unused, and that the docs are in step; the Rattle gate; then what stands beside the crates: the exported functions
-# against the second coder and decoder of reference/, the programs on inputs in pieces, on pass reports and with marks, the commands of README.md and docs/PROGRAMS.md,
+# against the second coder and decoder of reference/, the programs on inputs in pieces, on pass reports, with marks and where something fails, the commands of README.md and docs/PROGRAMS.md,
 # and the usage lines of the programs.
 # The gate's line `N passed, 0 failed` comes last, and only where all of it passed.
 set -euo pipefail
@@ -76,6 +76,7 @@ comparison=$!
 bash tests/pieces.sh
 bash tests/reports.sh
 bash tests/marks.sh
+bash tests/failures.sh
 wait "$comparison" || { cat "$work/compared"; fail "the comparison with the reference"; }
 cat "$work/compared"
 
