@@ -1,16 +1,14 @@
 -- `transmission::is_short` meets its contract.
 -- Assumes nothing.
 use mathlib.Core.Path.{_≡_, sym, _∙_}
-use Prim.Native.Nat.{ℕ, _+_, _-_, _%_, _<_}
+use Prim.Native.Nat.{_+_, _-_, _%_, _<_}
 use native.Mathlib.Nat.{mod-lt}
 use native.Mathlib.Omega.{arith}
 use borrow.Author.Tests.{lt-ltb, le-ltb}
-use mathlib.Core.List.{List, [], _∷_}
 use lib.ListN.{getD}
-use Rattle.common.proofs.Computed.{agree-at}
-use Rattle.puncturing.specs.Mode.{modeOf, blockBits}
-use Rattle.puncturing.specs.Step.{patternLength, symbolsIn}
-use Rattle.puncturing.proofs.Places.{length-le}
+use Rattle.puncturing.specs.Mode.{blockBits}
+use Rattle.puncturing.specs.Step.{symbolsIn}
+use Rattle.puncturing.proofs.Places.{lengths, length-is, length-le}
 use Rattle.transmission.proofs.Counting.{Counting, counting-start, counting-end, counting-short, counting-more, needed-is}
 use borrow.Author.Needs.{needs}
 use Rattle.transmission.proofs.is_short.Statement.{statement}
@@ -22,14 +20,6 @@ Inv-loop rate packets space length place₀ left₀ k₀ place left k = Counting
 abbrev μ-loop : tie.MeasureT-loop
 μ-loop rate packets space length place₀ left₀ k₀ place left k = packets - k
 
--- the table of the pattern lengths
-lengths : List ℕ
-lengths = 1 ∷ 4 ∷ 3 ∷ 5 ∷ 7 ∷ 1 ∷ []
-
-length-is : (rate : ℕ) → rate < 6 → getD lengths rate 0 ≡ patternLength rate
-unfolding lengths modeOf
-length-is rate h = agree-at (λ r. getD lengths r 0) patternLength 6 tt rate h
-
 -- the need of a packet
 needed : (c : tie.After-symbol-count Inv-loop μ-loop)
     → c .symbol-count .result ≡ symbolsIn (c .before .before .before .args .rate) (c .before .before .loop .place) (blockBits (c .before .before .before .args .rate))
@@ -39,7 +29,6 @@ array-read-length : tie.Need-array-read-length Inv-loop μ-loop
 array-read-length c = search needs
 
 cast-length : tie.Need-cast-length Inv-loop μ-loop
-unfolding lengths
 cast-length c = let h = c .pre in omega (arith, length-is (c .args .rate) h, length-le (c .args .rate) h)
 
 loop-holds : tie.Need-loop-holds Inv-loop μ-loop
@@ -60,11 +49,9 @@ add-place : tie.Need-add-place Inv-loop μ-loop
 add-place c = let l = c .before .before .before in omega (arith, l .loop .inv .in-pattern, length-le (l .before .args .rate) (l .before .pre))
 
 rem-place : tie.Need-rem-place Inv-loop μ-loop
-unfolding lengths
 rem-place c = let l = c .before .before .before in omega (arith, l .loop .inv .in-pattern, length-is (l .before .args .rate) (l .before .pre))
 
 cast-place-2 : tie.Need-cast-place-2 Inv-loop μ-loop
-unfolding lengths
 cast-place-2 c =
     let l = c .before .before .before in
     let a = l .before in
@@ -79,7 +66,6 @@ loop-less : tie.Need-loop-less Inv-loop μ-loop
 loop-less c = search needs
 
 loop-again : tie.Need-loop-again Inv-loop μ-loop
-unfolding lengths
 loop-again c =
     let l = c .before .before in
     let a = l .before .before in
