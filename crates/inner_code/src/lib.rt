@@ -31,7 +31,7 @@ pub struct InnerCoder {
     pub held: u8,
 }
 
-// A fresh coder. As for every constructor of the project the answer stands beside the state, since an enum cannot hold a state with arrays.
+// A fresh coder. The answer stands beside it, as it stands beside a fresh sender, whose arrays no enum can hold.
 // Where the answer is 6 the coder holds the rate that was wanted, and every call refuses it: with 5 where there is no such mode, with 6 where the
 // mode is not sent.
 pub struct Created {
