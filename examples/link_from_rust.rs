@@ -3,7 +3,7 @@
 /// Two of the functions that `include/dvbs.h` declares. A slice is a pointer and its length.
 mod c {
     extern "C" {
-        pub fn dvbs_rs_encode(data: *const u8, data_len: usize, output: *mut u8, output_len: usize) -> u8;
+        pub fn dvbs_rs_encode(message: *const u8, message_len: usize, output: *mut u8, output_len: usize) -> u8;
         pub fn dvbs_rs_decode(block: *mut u8, block_len: usize, count: *mut u8, count_len: usize) -> u8;
     }
 }

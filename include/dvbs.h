@@ -17,7 +17,7 @@
  *   4  room too short
  *   5  a number is out of its range: here a place above 7, a memory above 63, or
  *      a number of blocks that is not the recording's
- *   6  a mode other than 0 to 3 and 5; for reading, a rate other than 0 to 4
+ *   6  a rate other than 0 to 3 and 5; for reading, one other than 0 to 4
  *   7  the receiver has taken 4,294,967,295 blocks
  *   8  no codeword within eight bytes; with marks, none with 2 e + f at most 16
  *  12  symbols that do not make whole puncturing patterns
@@ -53,7 +53,7 @@ uint8_t dvbs_derandomize(uint8_t place, const uint8_t *packet, size_t packet_len
 
 /* Outer coder, RS(204,188): the 188 bytes of a message and its 16 check bytes.
  * Returns the answer. */
-uint8_t dvbs_rs_encode(const uint8_t *data, size_t data_len,
+uint8_t dvbs_rs_encode(const uint8_t *message, size_t message_len,
                        uint8_t *output, size_t output_len);
 
 /* Outer decoder: leaves the codeword within eight bytes of the block in its
@@ -77,7 +77,7 @@ uint8_t dvbs_rs_decode_marked(uint8_t *block, size_t block_len,
                               uint8_t *count, size_t count_len);
 
 /* What a fresh sender sends for the packets, which lie one after the other;
- * modes 0 to 3 are QPSK 1/2, 2/3, 3/4, 5/6, and 5 is 16QAM 3/4 of EN 301 210;
+ * rates 0 to 3 are QPSK 1/2, 2/3, 3/4, 5/6, and 5 is 16QAM 3/4 of EN 301 210;
  * QPSK 7/8, rate 4, is read and no longer sent. Returns how many symbols were
  * written, one byte each: 2 I + Q, and at 16QAM 8 U2 + 4 U1 + 2 C2 + C1;
  * answer[0] is the answer. A packet gives at most 1,632 symbols, and at 16QAM
@@ -86,7 +86,7 @@ uint8_t dvbs_rs_decode_marked(uint8_t *block, size_t block_len,
  * else 0: a caller that has nothing to send lends 188 zeros. Lengths are tested
  * before anything is sent. Where no byte is lent for the answer: returns 0,
  * writes nothing. */
-uint64_t dvbs_send_run(uint8_t mode, const uint8_t *packets, size_t packets_len,
+uint64_t dvbs_send_run(uint8_t rate, const uint8_t *packets, size_t packets_len,
                        uint8_t *output, size_t output_len,
                        uint8_t *answer, size_t answer_len);
 

@@ -5,7 +5,7 @@ ghost use Rattle.answer.specs.Number.{numberOf};
 pub enum Answer {
     // The call did its work.
     Done,
-    // A packet, or the data of the outer coder, is not 188 bytes.
+    // A packet, or the message of the outer coder, is not 188 bytes.
     PacketLength,
     // A packet does not begin with the sync byte 47 hex.
     SyncByte,
@@ -15,7 +15,7 @@ pub enum Answer {
     OutputLength,
     // A number in the state lies outside its range.
     StateRange,
-    // A fresh sender or inner coder is wanted at a rate other than 0 to 4.
+    // A mode that is not sent: a sender or an inner coder is wanted in one, or has it in its state. Of reading: a rate other than 0 to 4.
     UnknownRate,
     // The receiver has taken as many blocks as it can count.
     CountsFull,

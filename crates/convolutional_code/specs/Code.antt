@@ -40,6 +40,6 @@ unfoldable pub memoryAfter : ℕ → List ℕ → ℕ
 memoryAfter memory [] = memory
 memoryAfter memory (b ∷ bs) = memoryAfter (nextMemory memory b) bs
 
--- X and then Y of the bits of a block: X of bit n is at n, and Y at 1632 + n
+-- X and then Y of some bits: of k bits, X of bit n is at n, and Y at k + n
 abbrev pub blockMother : ℕ → List ℕ → List ℕ
 blockMother memory bits = motherOf tapsX memory bits ++ motherOf tapsY memory bits

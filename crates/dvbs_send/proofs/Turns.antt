@@ -10,7 +10,7 @@ use Rattle.input_pieces.specs.Read.{ReadsPiece}
 use Rattle.input_pieces.specs.declared.Piece.{Piece}
 use Rattle.sending.specs.Sending.{canSend, fedSymbols, OutputsFit, FeedsSending}
 use Rattle.sending.specs.declared.Sending.{Sending}
-use Rattle.sending.proofs.Laws.{feeds-all, fed-range, sending-range, sending-sent}
+use Rattle.sending.proofs.Laws.{most-fits, feeds-all, fed-range, sending-range, sending-sent}
 use Rattle.dvbs_send.specs.Turn.{Turns}
 
 pub turns : (w : Sending) (before buffer symbols answers : List ℕ) {piece : Piece} {number count packets : ℕ} {next : Sending} {left told : List ℕ}
@@ -23,7 +23,7 @@ turns w before buffer symbols answers {piece} {number} {count} {packets} {next} 
     let q = sending-sent w range in
     let h = sending-range w (q .0) .1 in
     let l = length-take n buffer in
-    let g : OutputsFit w (take n buffer) symbols answers = record { range = q .0; sent = q .1; symbols = omega arith; answers-fit = omega arith } in
+    let g : OutputsFit w (take n buffer) symbols answers = most-fits w (take n buffer) symbols answers cells positions range (omega arith) (omega arith) in
     let all = feeds-all f g in
     record {
       read = e;

@@ -19,7 +19,6 @@ use puncturing::Symbol;
 use puncturing::block_count;
 use puncturing::held_count;
 use puncturing::is_sent;
-use puncturing::pattern_length;
 use puncturing::puncture;
 use puncturing::puncture_block;
 use qam::code_qam;
@@ -32,7 +31,7 @@ pub struct InnerCoder {
     pub held: u8,
 }
 
-// A fresh coder. As for every constructor of the project the answer stands beside the state, since an enum cannot hold a state with arrays.
+// A fresh coder. The answer stands beside it, as it stands beside a fresh sender, whose arrays no enum can hold.
 // Where the answer is 6 the coder holds the rate that was wanted, and every call refuses it: with 5 where there is no such mode, with 6 where the
 // mode is not sent.
 pub struct Created {
@@ -57,7 +56,7 @@ impl InnerCoder {
     pub const BLOCK_LENGTH: usize = 204;
 
     // The bits of each mode's puncturing pattern.
-    pub const PATTERN_LENGTHS: [u8; 6] = puncturing::PATTERN_LENGTHS;
+    pub const PATTERN_LENGTHS: [u8; 6] = code_tables::PATTERN_LENGTHS;
 
     pub fn new(rate: u8) -> Created
         ensures { λ r. ⌜ (numberOf (r .answer) ≡ newNumber rate) × (r .coder ≡ freshCoder rate) ⌝ }
@@ -94,7 +93,8 @@ impl InnerCoder {
         if memory >= 64 {
             return false;
         }
-        if place >= pattern_length(rate) {
+        let lengths = InnerCoder::PATTERN_LENGTHS;
+        if place >= lengths[rate as usize] {
             return false;
         }
         held <= held_count(rate, place)
@@ -112,7 +112,8 @@ impl InnerCoder {
         block_count(rate, place) as usize
     }
 
-    // Codes one bit.
+    // Codes one bit of the encoded branch. At 16QAM 3/4 the number is that of its two coded bits alone, 2 C2 + C1 with Y as C2 and X as C1:
+    // `encode` puts the bits that are not coded beside them.
     pub fn step(self, bit: bool) -> Stepped
         ensures { λ r. ⌜ (numberOf (r .answer) ≡ stepNumber self) × (r .coder ≡ stepCoder self bit) × (r .symbol ≡ stepSymbol self bit) ⌝ }
     {

@@ -2,7 +2,9 @@
 ghost use mathlib.Core.Path.{_≡_};
 ghost use mathlib.Core.List.{_++_};
 ghost use Prim.Native.Nat.{ℕ, _+_, _*_, _<_, _≤_};
+ghost use lib.Dec.{ltb};
 ghost use lib.ListN.{length, getD, drop};
+ghost use Rattle.common.specs.Choice.{pick};
 ghost use Rattle.convolutional_code.specs.Bits.{Bits, bitsOf};
 ghost use Rattle.convolutional_code.specs.Code.{memoryAfter, blockMother};
 ghost use Rattle.inner_code.specs.Triples.{firsts, pairs, groupPairs, numbered};
@@ -56,7 +58,17 @@ fn number(u: u8, c2: u8, c1: u8) -> u8
     4 * u + (2 * c2 + c1)
 }
 
-// The symbols: the pairs beside Y and X of each bit.
+// X or Y of the one bit of a pattern.
+fn coded_bit(bit: usize, x: u8, y: u8) -> u8
+    ensures { λ r. ⌜ r ≡ pick (ltb bit 1632) x y ⌝ }
+{
+    if bit < code_tables::Y1 {
+        return x;
+    }
+    y
+}
+
+// The symbols: the pairs beside the two coded bits of each pattern.
 fn sequence(uncoded: &[u8], coded: &[u8], output: &mut [u8])
     requires { ⌜
         ((n : ℕ) → getD (now uncoded) n 0 < 4)
@@ -66,9 +78,13 @@ fn sequence(uncoded: &[u8], coded: &[u8], output: &mut [u8])
         × (544 ≤ length (now output)) ⌝ }
     ensures { λ r. ⌜ now (output .exit) ≡ numbered (now (uncoded .entry)) (now (coded .entry)) 0 544 ++ drop 544 (now (output .entry)) ⌝ }
 {
+    let c2 = code_tables::C2_16QAM;
+    let c1 = code_tables::C1_16QAM;
     let mut n: usize = 0;
     while n < 544 {
-        output[n] = number(uncoded[n], coded[544 + n], coded[n]);
+        let x = coded[n];
+        let y = coded[544 + n];
+        output[n] = number(uncoded[n], coded_bit(c2[0], x, y), coded_bit(c1[0], x, y));
         n += 1;
     }
 }

@@ -2,12 +2,14 @@
 -- Assumes nothing.
 use mathlib.Core.Path.{_≡_, refl, ap, subst, sym, _∙_}
 use mathlib.Core.Bool.{Bool, true, false}
+use mathlib.Core.List.{List, [], _∷_}
 use mathlib.Core.Logic.{⊎-elim}
 use Prim.Native.Nat.{ℕ, zero, suc, _≤_, _<_}
 use native.Mathlib.Omega.{arith}
 use native.Mathlib.Nat.{le-of-suc-le-suc, not-suc-le-zero, eq-or-lt-of-le}
 use borrow.Author.Tests.{ltb-true, ltb-false}
 use lib.Dec.{T, ltb, leb, eqb, eqb→eq, leb→le}
+use lib.ListN.{getD}
 use Rattle.common.proofs.Choice.{false-true}
 use Rattle.common.proofs.Computed as computed
 use Rattle.puncturing.specs.Mode.{Mode, noMode, modeOf}
@@ -27,6 +29,14 @@ agreedOf n f g = testedOf n (λ r p. eqb (f r p) (g r p))
 
 pub agreed-of : (n : ℕ) (f g : ℕ → ℕ → ℕ) → T (agreedOf n f g) → (r p : ℕ) → r < n → p < patternLength r → f r p ≡ g r p
 agreed-of n f g t r p h k = eqb→eq (f r p) (g r p) (tested-of n (λ r p. eqb (f r p) (g r p)) t r p h k)
+
+-- the table of the pattern lengths
+abbrev pub lengths : List ℕ
+lengths = 1 ∷ 4 ∷ 3 ∷ 5 ∷ 7 ∷ 1 ∷ []
+
+pub length-is : (r : ℕ) → r < 6 → getD lengths r 0 ≡ patternLength r
+unfolding modeOf
+length-is r h = computed.agree-at (λ r. getD lengths r 0) patternLength 6 tt r h
 
 pub length-le : (r : ℕ) → r < 6 → patternLength r ≤ 7
 unfolding modeOf

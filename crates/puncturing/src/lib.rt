@@ -12,13 +12,11 @@ ghost use Rattle.puncturing.specs.Run.{byKind, punctureStep, puncturedSy
 mod tables;
 mod whole;
 
+use code_tables::PATTERN_LENGTHS;
 use tables::COMPLETED;
 use tables::COUNTS;
 use tables::HELD;
 use whole::whole_patterns;
-
-// The bits of each rate's pattern.
-pub const PATTERN_LENGTHS: [u8; 6] = [1, 4, 3, 5, 7, 1];
 
 // Which modes are sent: 1 where one is.
 const SENT: [u8; 6] = [1, 1, 1, 1, 0, 1];

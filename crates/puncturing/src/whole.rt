@@ -1,4 +1,4 @@
-// Whole patterns of a block: the symbol list of each rate, and its symbols from where their coded bits stand.
+// Whole patterns of a block: the symbols of each rate's list, from where their coded bits stand.
 ghost use mathlib.Core.Path.{_≡_};
 ghost use Prim.Native.Nat.{ℕ, _+_, _*_, _<_, _≤_};
 ghost use lib.ListN.{length, getD};
@@ -6,25 +6,7 @@ ghost use Rattle.common.specs.Lists.{placed};
 ghost use Rattle.convolutional_code.specs.Bits.{Bits};
 ghost use Rattle.puncturing.specs.Step.{patternLength};
 ghost use Rattle.puncturing.specs.Run.{patternSymbols, patternsSymbols, iBits, qBits};
-
-// Where the coded bits of a pattern stand, from its first bit on: the X of a block come before the Y.
-const X1: usize = 0;
-
-const X3: usize = 2;
-
-const X5: usize = 4;
-
-const X7: usize = 6;
-
-const Y1: usize = 1632;
-
-const Y2: usize = 1633;
-
-const Y3: usize = 1634;
-
-const Y4: usize = 1635;
-
-const Y6: usize = 1637;
+use code_tables::PATTERN_LENGTHS;
 
 // One pattern whose first bit is bit n: each symbol from where its I and its Q stand.
 fn pattern(coded: &[u8], n: usize, i: &[usize], q: &[usize], output: &mut [u8], at: usize)
@@ -101,44 +83,33 @@ pub fn whole_patterns(
         × (now (output .exit)
         ≡ placed (now (output .entry)) at (patternsSymbols (iBits rate) (qBits rate) (now (coded .entry)) (patternLength rate) from turns)) ⌝ }
 {
+    let lengths = PATTERN_LENGTHS;
     if rate == 0 {
-        return patterns(coded, from, &[X1], &[Y1], 1, turns, output, at);
+        let i = code_tables::I_1_2;
+        let q = code_tables::Q_1_2;
+        let len = lengths[0] as usize;
+        return patterns(coded, from, &i, &q, len, turns, output, at);
     }
     if rate == 1 {
-        return patterns(
-            coded,
-            from,
-            &[X1, Y2, Y3],
-            &[Y1, X3, Y4],
-            4,
-            turns,
-            output,
-            at,
-        );
+        let i = code_tables::I_2_3;
+        let q = code_tables::Q_2_3;
+        let len = lengths[1] as usize;
+        return patterns(coded, from, &i, &q, len, turns, output, at);
     }
     if rate == 2 {
-        return patterns(coded, from, &[X1, Y2], &[Y1, X3], 3, turns, output, at);
+        let i = code_tables::I_3_4;
+        let q = code_tables::Q_3_4;
+        let len = lengths[2] as usize;
+        return patterns(coded, from, &i, &q, len, turns, output, at);
     }
     if rate == 3 {
-        return patterns(
-            coded,
-            from,
-            &[X1, Y2, Y4],
-            &[Y1, X3, X5],
-            5,
-            turns,
-            output,
-            at,
-        );
+        let i = code_tables::I_5_6;
+        let q = code_tables::Q_5_6;
+        let len = lengths[3] as usize;
+        return patterns(coded, from, &i, &q, len, turns, output, at);
     }
-    patterns(
-        coded,
-        from,
-        &[X1, Y2, Y4, Y6],
-        &[Y1, Y3, X5, X7],
-        7,
-        turns,
-        output,
-        at,
-    )
+    let i = code_tables::I_7_8;
+    let q = code_tables::Q_7_8;
+    let len = lengths[4] as usize;
+    patterns(coded, from, &i, &q, len, turns, output, at)
 }

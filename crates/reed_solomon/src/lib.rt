@@ -13,26 +13,6 @@ mod division;
 mod error_bits;
 mod syndromes;
 
-// The sixteen coefficients of the generator polynomial below x^16, from x^15 down.
-pub const GENERATOR: [u8; 16] = [
-    0x3B,
-    0x0D,
-    0x68,
-    0xBD,
-    0x44,
-    0xD1,
-    0x1E,
-    0x08,
-    0xA3,
-    0x41,
-    0x29,
-    0xE5,
-    0x62,
-    0x32,
-    0x24,
-    0x3B,
-];
-
 // What decoding changed in a block: how many bytes, and how many bits of them.
 pub struct Changed {
     pub bytes: u8,

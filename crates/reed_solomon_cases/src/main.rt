@@ -2,9 +2,9 @@
 ghost use mathlib.Core.Path.{_≡_};
 ghost use Prim.Native.Nat.{_<_, _≤_};
 ghost use lib.ListN.{length};
+use code_tables::GENERATOR;
 use libc::STDOUT_FILENO;
 use reed_solomon::Decoded;
-use reed_solomon::GENERATOR;
 
 // How many blocks were corrected with the right count, how many were refused and untouched, and how many were neither.
 struct Tally {

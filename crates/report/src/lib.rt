@@ -232,23 +232,24 @@ fn sums_right(report: Report) -> bool
     filling == least(taken, 11)
 }
 
-// An answer, the report that was read, and the place after it.
-pub struct ReportRead {
+// An answer, the report that was read, and the place after it; where none stands there, the place where it was to begin.
+pub struct FrontRead {
     pub answer: Answer,
     pub report: Report,
     pub end: usize,
 }
 
 // Reads the report that a text has from a place on; more may follow.
-pub fn read_front(text: &[u8], at: usize) -> ReportRead
+pub fn read_front(text: &[u8], at: usize) -> FrontRead
     requires { ⌜ at ≤ length (now text) ⌝ }
     ensures { λ r. ⌜
         ReadsReport (drop at (now (text .entry))) (numberOf (r .answer)) (r .report) (drop (r .end) (now (text .entry)))
-        × (r .end ≤ length (now (text .entry))) ⌝ }
+        × (r .end ≤ length (now (text .entry)))
+        × (numberOf (r .answer) ≡ 17 → r .end ≡ at) ⌝ }
 {
     let lines = read_lines(text, at);
     if !lines.found {
-        return ReportRead {
+        return FrontRead {
             answer: Answer::NotReport,
             report: BLANK,
             end: at,
@@ -256,17 +257,23 @@ pub fn read_front(text: &[u8], at: usize) -> ReportRead
     }
     let report = lines.report;
     if !sums_right(report) {
-        return ReportRead {
+        return FrontRead {
             answer: Answer::WrongSums,
             report: BLANK,
             end: lines.end,
         };
     }
-    ReportRead {
+    FrontRead {
         answer: Answer::Done,
         report,
         end: lines.end,
     }
+}
+
+// An answer, and the report that was read.
+pub struct ReportRead {
+    pub answer: Answer,
+    pub report: Report,
 }
 
 // Reads a text that is to be one report and nothing else: more text after it is 17, whatever its sums are.
@@ -279,10 +286,11 @@ pub fn read_report(text: &[u8]) -> ReportRead
         return ReportRead {
             answer: Answer::NotReport,
             report: BLANK,
-            end: 0,
         };
     }
-    read
+    let answer = read.answer;
+    let report = read.report;
+    ReportRead { answer, report }
 }
 
 // Writes the line of a row of the table.

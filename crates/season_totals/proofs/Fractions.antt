@@ -52,7 +52,7 @@ module _ (rs : List Report) (r : Report) where
     -- the worst stays
     stays : (0 < a → 0 < accepted r → r .changed * a ≤ c * accepted r) → (a ≡ 0 → accepted r ≡ 0) → Worst (rs ++ r ∷ []) w c a
     stays h z = record {
-      none = λ e. (o .none e .0, each (λ s. accepted s ≡ 0) (o .none e .1) (z e));
+      none = λ e. (o .none e .0, o .none e .1, each (λ s. accepted s ≡ 0) (o .none e .2) (z e));
       place = λ e.
           let p = o .place e in
           let l : p .0 < length rs = p .2 in
@@ -98,7 +98,7 @@ module _ (rs : List Report) (r : Report) where
       by : Dec (accepted r ≡ 0) → Dec (getD t 6 0 ≡ 0) → Dec (getD t 5 0 * accepted r < r .changed * getD t 6 0) → leads (beats t r)
       by (yes e) y z = rw (eq-eqb _ _ e) (stays _ _ _ o (λ p q. absurd (omega arith)) (λ p. e))
       by (no e) (yes f) z =
-          rw (ne-eqb _ _ e, eq-eqb _ _ f) (takes (goes _ _ _ o (omega arith) (λ j h k. let g = o .none f .1 j h in absurd (omega arith))))
+          rw (ne-eqb _ _ e, eq-eqb _ _ f) (takes (goes _ _ _ o (omega arith) (λ j h k. let g = o .none f .2 j h in absurd (omega arith))))
       by (no e) (no f) (yes l) =
           rw (ne-eqb _ _ e, ne-eqb _ _ f, lt-ltb _ _ l)
           (takes (goes _ _ _ o (omega arith) (λ j h k. cross _ _ _ _ _ _ (omega arith) k (o .most (omega arith) j h k) l)))
@@ -131,6 +131,6 @@ worst-unique rs w c a v d b x y = by (ℕ-discrete a 0) (ℕ-discrete b 0)
 
     by : Dec (a ≡ 0) → Dec (b ≡ 0) → w ≡ v
     by (yes e) (yes f) = x .none e .0 ∙ sym (y .none f .0)
-    by (yes e) (no f) = let n = y .place (omega arith) in let g = x .none e .1 (n .0) (n .2) in absurd (f (n .4 ∙ g))
-    by (no e) (yes f) = let n = x .place (omega arith) in let g = y .none f .1 (n .0) (n .2) in absurd (e (n .4 ∙ g))
+    by (yes e) (no f) = let n = y .place (omega arith) in let g = x .none e .2 (n .0) (n .2) in absurd (f (n .4 ∙ g))
+    by (no e) (yes f) = let n = x .place (omega arith) in let g = y .none f .2 (n .0) (n .2) in absurd (e (n .4 ∙ g))
     by (no e) (no f) = order (omega arith) (omega arith) (decLt w v) (decLt v w)

@@ -16,9 +16,9 @@ use Rattle.report.specs.Text.{fits, reportText, row, linesText, fields, bitsTex
 use Rattle.report.specs.Read.{ReadsReport}
 use Rattle.report.proofs.Counting.{Small, fits-small}
 use Rattle.report.proofs.Fronts.{report-short}
-use Rattle.season_totals.specs.Totals.{Worst, TotalsFit, countedReport, zeroTotals}
+use Rattle.season_totals.specs.Totals.{TotalsOf, TotalsFit, countedReport, zeroTotals}
 use Rattle.season_totals.specs.Season.{Good, texts, Seasons}
-use Rattle.season_totals.specs.Progress.{Unread}
+use Rattle.season_totals.specs.Progress.{Unread, freshSeason}
 use Rattle.season_totals.proofs.Fractions.{totals-more}
 
 texts-more : (rs : List Report) (r : Report) (x : List ℕ) → texts (rs ++ r ∷ []) ++ x ≡ texts rs ++ (reportText r ++ x)
@@ -46,17 +46,23 @@ unfolding reportText lineText
 report-some r =
     omega (arith, length-append (linesText 8 (fields r) ++ bitsText (r .bits)) (lineText (row 9 .key) (r .rest)), length-append (row 9 .key ++ decimal (r .rest)) (0x0A ∷ []))
 
-no-worst : Worst [] 0 0 0
-no-worst = record { none = λ e. (refl, λ j h. absurd (not-suc-le-zero h)); place = λ e. absurd (omega arith); most = λ e. absurd (omega arith); first = λ e. absurd (omega arith) }
-
-pub unread-none : Unread [] zeroTotals []
-unread-none = record {
-  reports = [];
-  good = tt;
-  few = omega arith;
-  text = refl;
-  sums = record { passes = refl; taken = refl; lost = refl; changed = refl; worst = no-worst };
+-- the totals of no report
+no-totals : TotalsOf [] (freshSeason .totals)
+no-totals = record {
+  passes = refl;
+  taken = refl;
+  lost = refl;
+  changed = refl;
+  worst = record {
+    none = λ e. (refl, refl, λ j h. absurd (not-suc-le-zero h));
+    place = λ e. absurd (omega arith);
+    most = λ e. absurd (omega arith);
+    first = λ e. absurd (omega arith);
+  };
 }
+
+pub unread-none : Unread [] (freshSeason .totals) []
+unread-none = record { reports = []; good = tt; few = omega arith; text = refl; sums = no-totals }
 
 module _ {bytes totals rest : List ℕ} (u : Unread bytes totals rest) where
   -- more bytes come

@@ -23,9 +23,9 @@ abbrev pub nth : List Report → ℕ → Report
 nth rs j = getD rs j blank
 
 -- The worst of the reports, from 1, with its changed c and accepted a: of those with any accepted the largest changed divided by accepted,
--- and the earliest of these. The number and accepted are 0 where none has any accepted. Fractions are compared by their cross products.
+-- and the earliest of these. All three are 0 where none has any accepted. Fractions are compared by their cross products.
 pub record Worst (rs : List Report) (w c a : ℕ) : Type 0 where
-  pub none : a ≡ 0 → (w ≡ 0) × ((j : ℕ) → j < length rs → accepted (nth rs j) ≡ 0)
+  pub none : a ≡ 0 → (w ≡ 0) × (c ≡ 0) × ((j : ℕ) → j < length rs → accepted (nth rs j) ≡ 0)
   pub place : 0 < a → (j : ℕ) × (w ≡ j + 1) × (j < length rs) × (c ≡ nth rs j .changed) × (a ≡ accepted (nth rs j))
   pub most : 0 < a → (j : ℕ) → j < length rs → 0 < accepted (nth rs j) → nth rs j .changed * a ≤ c * accepted (nth rs j)
   pub first : 0 < a → (j : ℕ) → j + 1 < w → j < length rs → 0 < accepted (nth rs j) → nth rs j .changed * a < c * accepted (nth rs j)

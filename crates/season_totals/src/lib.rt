@@ -235,9 +235,10 @@ impl Season {
     pub fn new() -> Season
         ensures { λ r. ⌜ r ≡ freshSeason ⌝ }
     {
+        let totals = [0u64; 7];
         Season {
             answer: Answer::Done,
-            totals: [0u64; 7],
+            totals,
             pending: [0u8; 320],
             held: 0,
         }

@@ -1,5 +1,5 @@
--- The interleaved bits tell packets apart: two lists with the same bits agree in a bit of each packet.
--- The bit is the lowest of byte 12, which the interleaver does not delay.
+-- The interleaved bytes tell packets apart: two lists whose bytes agree in one bit of a block agree in a bit of the packet.
+-- The bit is the lowest of byte 12, which the interleaver does not delay, and which every mode codes.
 -- Assumes nothing.
 use mathlib.Core.Path.{_≡_, refl, ap, sym, _∙_}
 use mathlib.Core.List.{List, [], _∷_, map}
@@ -29,7 +29,7 @@ use Rattle.sent_blocks.proofs.Lengths.{coded-count, interleaved-count, interlea
 
 -- ---- bits and bytes
 
-low-bit : (l : List ℕ) (i : ℕ) → getD (bitsOf l) (8 * i + 7) 0 ≡ getD l i 0 % 2
+pub low-bit : (l : List ℕ) (i : ℕ) → getD (bitsOf l) (8 * i + 7) 0 ≡ getD l i 0 % 2
 unfolding bitsOf
 low-bit [] i = refl
 low-bit (b ∷ bs) zero = refl
@@ -80,27 +80,21 @@ module _ (ps : List (List ℕ)) (g : All (Length 188) ps) (b : ℕ) (h : b < len
       ∙ getD-xors p (drop (188 * ((0 + b) % 8)) masks) 12 (omega (arith, size))
       (omega (arith, length-drop (188 * ((0 + b) % 8)) masks, length-masks))
 
-  -- the bit of the symbols' bits that is the lowest of byte 12 of packet b
-  sent-bit : getD (bitsOf (sentBytes ps)) (8 * (204 * b + 12) + 7) 0 ≡ bitXor (getD (getD ps b []) 12 0) (mask b) % 2
-  sent-bit =
-      low-bit (sentBytes ps) (204 * b + 12)
-      ∙ ap (λ (x : ℕ). x % 2)
+  -- the lowest bit of byte 12 of packet b, as it is sent
+  sent-low : getD (sentBytes ps) (204 * b + 12) 0 % 2 ≡ bitXor (getD (getD ps b []) 12 0) (mask b) % 2
+  sent-low =
+      ap (λ (x : ℕ). x % 2)
       (flatten-at (interleavedBlocks ps) (interleaved-whole ps) b 12 (omega (arith, interleaved-count ps)) (omega arith)
       ∙ not-delayed (codedBlocks ps) b (omega (arith, coded-count ps))
       ∙ coded-byte)
 
--- two lists with the same interleaved bits agree in that bit of each packet
-pub same-bits : (ps qs : List (List ℕ)) → All (Length 188) ps → All (Length 188) qs
-    → bitsOf (sentBytes ps) ≡ bitsOf (sentBytes qs)
-    → (b : ℕ) → b < length ps → b < length qs → getD (getD ps b []) 12 0 % 2 ≡ getD (getD qs b []) 12 0 % 2
-same-bits ps qs g h s b k l =
+-- two lists that send the same bit there agree in it
+pub same-low : (ps qs : List (List ℕ)) → All (Length 188) ps → All (Length 188) qs → (b : ℕ) → b < length ps → b < length qs
+    → getD (sentBytes ps) (204 * b + 12) 0 % 2 ≡ getD (sentBytes qs) (204 * b + 12) 0 % 2
+    → getD (getD ps b []) 12 0 % 2 ≡ getD (getD qs b []) 12 0 % 2
+same-low ps qs g h b k l s =
     let x = getD (getD ps b []) 12 0 in
     let y = getD (getD qs b []) 12 0 in
     let m = mask b % 2 in
-    let f : bitXor (x % 2) m ≡ bitXor (y % 2) m =
-    sym (xor-low x (mask b))
-    ∙ sym (sent-bit ps g b k)
-    ∙ ap (λ (t : List ℕ). getD t (8 * (204 * b + 12) + 7) 0) s
-    ∙ sent-bit qs h b l
-    ∙ xor-low y (mask b) in
+    let f : bitXor (x % 2) m ≡ bitXor (y % 2) m = sym (xor-low x (mask b)) ∙ sym (sent-low ps g b k) ∙ s ∙ sent-low qs h b l ∙ xor-low y (mask b) in
     sym (xor-undo (x % 2) m) ∙ ap (λ (t : ℕ). bitXor t m) f ∙ xor-undo (y % 2) m

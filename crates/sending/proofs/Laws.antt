@@ -3,7 +3,7 @@
 use mathlib.Core.Path.{_≡_, refl, ap, _∙_}
 use mathlib.Core.Bool.{true}
 use mathlib.Core.List.{List, _++_}
-use Prim.Native.Nat.{ℕ, _<_}
+use Prim.Native.Nat.{ℕ, _*_, _≤_, _<_}
 use native.Mathlib.Omega.{arith}
 use borrow.Author.Tests.{lt-ltb, le-ltb, ltb-true}
 use lib.ListN.{length}
@@ -19,8 +19,9 @@ use Rattle.sender.proofs.Stages.{range-test}
 use Rattle.sender.proofs.Ready.{Ready, ready-range}
 use Rattle.sender.proofs.History.{ready-calls}
 use Rattle.sender.specs.Send.{senderInRange, isSent}
-use Rattle.sending.specs.Sending.{holding, heldBytes, canSend, wholePackets, sendingFeedNumber, OutputsFit, FeedsAll, FeedsSending, refused, fed, sendingInRange}
+use Rattle.sending.specs.Sending.{holding, heldBytes, canSend, wholePackets, wholeCount, sendingFeedNumber, OutputsFit, FeedsAll, FeedsSending, refused, fed, sendingInRange}
 use Rattle.sending.specs.declared.Sending.{Sending}
+use Rattle.sending.proofs.Counts.{most-fed}
 use Rattle.sending.proofs.Progress.{ready-of}
 
 pub sending-range : (w : Sending) → sendingInRange w ≡ true → (senderInRange modeOf (w .sender) ≡ true) × (w .held < 188)
@@ -34,6 +35,15 @@ sending-sent w e = both-true (sendingInRange w) (isSent modeOf (w .sender)) e
 pub holding-range : (s : Sender) (bytes : List ℕ) → Ready modeOf s → canSend (holding s (restOf 188 bytes)) ≡ true
 holding-range s bytes g =
     simp (range-test modeOf s (ready-range s g), lt-ltb (length (restOf 188 bytes)) 188 (omega (arith, length-rest 188 bytes)), g .sent)
+
+-- room for 1,632 symbols for each packet that is whole is always enough; its arrays are whole
+pub most-fits : (w : Sending) (piece output answers : List ℕ) → length (w .sender .interleaver .branches .cells) ≡ 1122
+    → length (w .sender .interleaver .branches .positions) ≡ 12 → canSend w ≡ true → 1632 * wholeCount w piece ≤ length output → wholeCount w piece ≤ length answers
+    → OutputsFit w piece output answers
+most-fits w piece output answers n m e h k =
+    let r = sending-sent w e in
+    let g = ready-of (w .sender) n m (sending-range w (r .0) .0) (r .1) in
+    record { range = r .0; sent = r .1; symbols = omega (arith, most-fed w piece g); answers-fit = k }
 
 module _ {w : Sending} {piece output answers : List ℕ} {number count packets : ℕ} {next : Sending} {left told : List ℕ}
     (f : FeedsSending w piece output answers number count packets next left told) where

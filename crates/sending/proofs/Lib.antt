@@ -1,3 +1,4 @@
+mod Counts
 mod Progress
 pub mod Laws
 pub mod History

@@ -4,7 +4,7 @@ use mathlib.Core.Path.{_≡_, refl, ap, ap₂, sym, subst, subst₂, _∙_}
 use mathlib.Core.Bool.{true}
 use mathlib.Core.Logic.{inr}
 use mathlib.Core.List.{List, [], _∷_, _++_, append-assoc, append-nil, flatten, map}
-use Prim.Native.Nat.{ℕ, suc, _+_, _-_, _*_, _/_, _≤_, _<_}
+use Prim.Native.Nat.{ℕ, suc, _+_, _-_, _/_, _≤_, _<_}
 use native.Mathlib.Omega.{arith}
 use native.Mathlib.Numerals.{add-one}
 use borrow.Rule.Slice.PartMut.{putMid, midOf}
@@ -22,7 +22,6 @@ use Rattle.sender.proofs.Inputs.{input-test, packet-size}
 use Rattle.sender.proofs.Stages.{in-range, symbol-count}
 use Rattle.sender.proofs.Ready.{Ready, ready-range, ready-after}
 use Rattle.sender.proofs.History.{Answered, input-sent}
-use Rattle.sender.proofs.Counts.{most-symbols}
 use Rattle.sending.specs.Sending.{heldBytes, wholePackets, wholeCount, fedSymbols, fedAnswers, OutputsFit, FeedsAll}
 use Rattle.sending.specs.declared.Sending.{Sending}
 
@@ -59,7 +58,6 @@ pub record Progress (w : Sending) (piece output₀ answers₀ output answers : L
   pub sender : callsSender modeOf s (packetsFor (chunksOf 188 (leftOf w piece held at))) ≡ callsSender modeOf (w .sender) (packetsFor (wholePackets w piece))
   pub rest : restOf 188 (leftOf w piece held at) ≡ restOf 188 (heldBytes w ++ piece)
   pub total : packets + (held + (length piece - at)) / 188 ≡ wholeCount w piece
-  pub few : count ≤ 1632 * packets
 
 pub progress-start : (w : Sending) (piece output answers : List ℕ) → Ready modeOf (w .sender) → w .held < 188
     → Progress w piece output answers output answers (w .sender) (w .held) 0 0 0
@@ -78,7 +76,6 @@ progress-start w piece output answers g h = record {
   sender = refl;
   rest = refl;
   total = omega arith;
-  few = omega arith;
 }
 
 module _ {w : Sending} {piece output₀ answers₀ output answers : List ℕ} {s : Sender} {held at count packets : ℕ} (size : length (w .pending) ≡ 188)
@@ -92,9 +89,16 @@ module _ {w : Sending} {piece output₀ answers₀ output answers : List ℕ} {s
   packets-within : packets ≤ wholeCount w piece
   packets-within = omega (arith, p .total)
 
+  -- the symbols written and those still to come are all of them
+  all-counted : count + length (flatten (callsSymbols modeOf s (packetsFor (chunksOf 188 (leftOf w piece held at))))) ≡ length (fedSymbols w piece)
+  all-counted =
+      ap (λ (n : ℕ). n + length (flatten (callsSymbols modeOf s (packetsFor (chunksOf 188 (leftOf w piece held at)))))) (sym (p .counted))
+      ∙ sym (length-append (p .front) (flatten (callsSymbols modeOf s (packetsFor (chunksOf 188 (leftOf w piece held at))))))
+      ∙ ap length (p .symbols)
+
   pub output-length : length output ≡ length output₀
   output-length =
-      omega (arith, ap length (p .written), length-append (p .front) (drop count output₀), length-drop count output₀, p .counted, p .few, packets-within, output-fits .symbols)
+      omega (arith, ap length (p .written), length-append (p .front) (drop count output₀), length-drop count output₀, p .counted, all-counted, output-fits .symbols)
 
   pub answers-length : length answers ≡ length answers₀
   answers-length =
@@ -191,20 +195,22 @@ module _ {w : Sending} {piece output₀ answers₀ output answers : List ℕ} {s
     count-is : length (sentSymbols modeOf s packet) ≡ sentCount modeOf s
     count-is = symbol-count s packet (ready-range s (p .ready)) packet-sized (p .ready .formed)
 
-    few-symbols : sentCount modeOf s ≤ 1632
-    few-symbols = most-symbols (s .coder) (p .ready .coder)
-
     one-more : packets + 1 ≤ wholeCount w piece
     one-more = omega (arith, p .total, p .short, h)
 
     pub packets-fit : packets < length answers
     packets-fit = omega (arith, one-more, answers-length, output-fits .answers-fit)
 
-    output-enough : count + 1632 ≤ length output
-    output-enough = omega (arith, one-more, output-length, output-fits .symbols, p .few)
+    output-enough : count + sentCount modeOf s ≤ length output
+    unfolding packet callsSymbols flatten
+    output-enough =
+        let later = flatten (callsSymbols modeOf (senderAfter modeOf s packet) (packetsFor (chunksOf 188 (leftOf w piece 0 (at + (188 - held)))))) in
+        let e : length (flatten (callsSymbols modeOf s (packetsFor (chunksOf 188 (leftOf w piece held at))))) ≡ length (sentSymbols modeOf s packet) + length later
+        = ap (λ (l : List (List ℕ)). length (flatten (callsSymbols modeOf s (packetsFor l)))) cut-packet ∙ length-append (sentSymbols modeOf s packet) later in
+        omega (arith, e, all-counted, count-is, output-length, output-fits .symbols)
 
     answered-call : Answered modeOf s input (drop count output)
-    answered-call = input-sent s input (drop count output) (p .ready) is-input (omega (arith, length-drop count output, output-enough, few-symbols))
+    answered-call = input-sent s input (drop count output) (p .ready) is-input (omega (arith, length-drop count output, output-enough))
 
     front-output : take count output ≡ p .front
     front-output = ap (take count) (p .written) ∙ take-at (p .front) (drop count output₀) count (p .counted)
@@ -235,7 +241,7 @@ module _ {w : Sending} {piece output₀ answers₀ output answers : List ℕ} {s
       sent-count = kept .counted ∙ answered-call .count
 
       pub progress-total : count + n ≤ length output₀
-      progress-total = omega (arith, sent-count, few-symbols, output-enough, output-length)
+      progress-total = omega (arith, sent-count, output-enough, output-length)
 
       pub progress-more : {said : ℕ} → said ≡ number
           → Progress w piece output₀ answers₀ (putMid count (length output - count) output left) (set answers packets said) next 0 (at + (188 - held)) (count + n) (packets + 1)
@@ -278,5 +284,4 @@ module _ {w : Sending} {piece output₀ answers₀ output answers : List ℕ} {s
                 ∙ p .sender;
             rest = ap (restOf 188) (sym later) ∙ sym (rest-more 188 (omega arith) (leftOf w piece held at) enough) ∙ p .rest;
             total = omega (arith, p .total, p .short, h);
-            few = omega (arith, p .few, sent-count, few-symbols);
           }

@@ -52,18 +52,18 @@ fedAnswers w piece = map sentNumber (wholePackets w piece)
 abbrev pub fedSending : Sending → List ℕ → Sending
 fedSending w piece = holding (callsSender modeOf (w .sender) (packetsFor (wholePackets w piece))) (restOf 188 (heldBytes w ++ piece))
 
--- 5 for a state out of range, 6 for one whose mode is not sent, 4 where there is not room for 1,632 symbols, the most that a packet gives, or not a byte for the answer, for each
--- packet that is whole; 0 where nothing is refused
+-- 5 for a state out of range, 6 for one whose mode is not sent, 4 where the output is too short for the symbols, or there is not a byte for the answer of
+-- each packet that is whole; 0 where nothing is refused
 abbrev pub sendingFeedNumber : Sending → List ℕ → List ℕ → List ℕ → ℕ
 sendingFeedNumber w piece output answers =
     pick (sendingInRange w)
-    (pick (isSent modeOf (w .sender)) (pick (ltb (length output / 1632) (wholeCount w piece)) 4 (pick (ltb (length answers) (wholeCount w piece)) 4 0)) 6) 5
+    (pick (isSent modeOf (w .sender)) (pick (ltb (length output) (length (fedSymbols w piece))) 4 (pick (ltb (length answers) (wholeCount w piece)) 4 0)) 6) 5
 
 -- what the tests tell
 pub record OutputsFit (w : Sending) (piece output answers : List ℕ) : Type 0 where
   pub range : sendingInRange w ≡ true
   pub sent : isSent modeOf (w .sender) ≡ true
-  pub symbols : wholeCount w piece ≤ length output / 1632
+  pub symbols : length (fedSymbols w piece) ≤ length output
   pub answers-fit : wholeCount w piece ≤ length answers
 
 -- what is left where nothing is refused

@@ -34,9 +34,6 @@ pub struct Fed {
 }
 
 impl Sending {
-    // The output that each packet is lent: the symbols of one at rate 1/2.
-    pub const MOST_SYMBOLS: usize = 1632;
-
     pub fn new(rate: u8) -> Begun
         ensures { λ r. ⌜ (numberOf (r .answer) ≡ newNumber rate) × (r .sending ≡ freshSending rate) ⌝ }
     {
@@ -91,9 +88,10 @@ impl Sending {
                 sending: self,
             };
         }
+        let place = coder.place;
         let held = self.held;
         let packets = whole_count(held, piece.len());
-        if output.len() / Sending::MOST_SYMBOLS < packets {
+        if transmission::is_short(rate, place, packets, output.len()) {
             return Fed {
                 answer: Answer::OutputLength,
                 count: 0,

@@ -11,7 +11,6 @@ use Rattle.common.proofs.Chunks.{length-chunks}
 use Rattle.puncturing.specs.Mode.{modeOf, blockBits, blockBitsBy}
 use Rattle.puncturing.specs.Step.{patternLength, symbolsIn, countBy}
 use Rattle.puncturing.proofs.Places.{agreed-of}
-use Rattle.puncturing.proofs.WellFormed.{well-formed}
 use Rattle.puncturing.proofs.Parts.{symbols-in-append, place-after}
 use Rattle.inner_code.specs.Encode.{symbolCount}
 use Rattle.inner_code.proofs.Coder.{range-test}
@@ -30,21 +29,21 @@ same-place : (rate place : ℕ) → rate < 6 → place < patternLength rate → 
 unfolding blockBitsBy modeOf
 same-place rate place h k = agreed-of 6 (λ r p. (p + 1632) % patternLength r) (λ r p. (p + blockBits r) % patternLength r) tt rate place h k
 
--- k of n packets have been counted, from the space, and left is what they leave
-pub record Counting (rate n space : ℕ) (place left k : ℕ) : Type 0 where
+-- k of n packets have been counted, from the place where the first begins and from the space, and left is what they leave
+pub record Counting (rate start n space : ℕ) (place left k : ℕ) : Type 0 where
   pub known : rate < 6
   pub within : k ≤ n
   pub in-pattern : place < patternLength rate
-  pub balance : symbolsIn rate 0 (blockBits rate * n) + left ≡ space + symbolsIn rate place (blockBits rate * (n - k))
+  pub balance : symbolsIn rate start (blockBits rate * n) + left ≡ space + symbolsIn rate place (blockBits rate * (n - k))
 
-pub counting-start : (rate n space : ℕ) → rate < 6 → Counting rate n space 0 space 0
-counting-start rate n space h = record { known = h; within = omega arith; in-pattern = well-formed rate h .some-bits; balance = ap (λ (m : ℕ). symbolsIn rate 0 (blockBits rate * m) + space) (sym none) ∙ add-comm _ _ }
+pub counting-start : (rate start n space : ℕ) → rate < 6 → start < patternLength rate → Counting rate start n space start space 0
+counting-start rate start n space h p = record { known = h; within = omega arith; in-pattern = p; balance = ap (λ (m : ℕ). symbolsIn rate start (blockBits rate * m) + space) (sym none) ∙ add-comm _ _ }
   where
     none : n - 0 ≡ n
     none = omega arith
 
-module _ {rate n space place left k : ℕ} (c : Counting rate n space place left k) where
-  pub counting-end : n ≤ k → symbolsIn rate 0 (blockBits rate * n) ≤ space
+module _ {rate start n space place left k : ℕ} (c : Counting rate start n space place left k) where
+  pub counting-end : n ≤ k → symbolsIn rate start (blockBits rate * n) ≤ space
   unfolding countBy
   counting-end h =
       let z : n - k ≡ 0 = omega (arith, c .within) in
@@ -64,11 +63,11 @@ module _ {rate n space place left k : ℕ} (c : Counting rate n space place left
         ∙ ap (λ (p : ℕ). symbolsIn rate place b + symbolsIn rate p (b * rest))
         (place-after rate place b (c .in-pattern) ∙ sym (same-place rate place (c .known) (c .in-pattern)))
 
-    pub counting-short : left < symbolsIn rate place (blockBits rate) → space < symbolsIn rate 0 (blockBits rate * n)
+    pub counting-short : left < symbolsIn rate place (blockBits rate) → space < symbolsIn rate start (blockBits rate * n)
     counting-short l = omega (arith, c .balance, split)
 
     pub counting-more : {length needed : ℕ} → length ≡ patternLength rate → needed ≡ symbolsIn rate place (blockBits rate) → needed ≤ left
-        → Counting rate n space ((place + 1632) % length) (left - needed) (k + 1)
+        → Counting rate start n space ((place + 1632) % length) (left - needed) (k + 1)
     counting-more {length} {needed} e f l =
         let p : (place + 1632) % patternLength rate ≡ (place + 1632) % length = ap (λ (m : ℕ). (place + 1632) % m) (sym e) in
         record {

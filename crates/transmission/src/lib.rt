@@ -7,7 +7,7 @@ ghost use lib.ListN.{length, drop};
 ghost use Rattle.common.specs.Lists.{chunksOf};
 ghost use Rattle.answer.specs.Number.{numberOf};
 ghost use Rattle.puncturing.specs.Mode.{blockBits};
-ghost use Rattle.puncturing.specs.Step.{symbolsIn};
+ghost use Rattle.puncturing.specs.Step.{patternLength, symbolsIn};
 ghost use Rattle.transmission.specs.Run.{synced, runSymbols, Sendable, SendsRun};
 use answer::Answer;
 use inner_code::InnerCoder;
@@ -38,14 +38,15 @@ fn is_synced(packets: &[u8]) -> bool
     true
 }
 
-// Whether there is too little space for the symbols of so many packets.
-fn is_short(rate: u8, packets: usize, space: usize) -> bool
-    requires { ⌜ rate < 6 ⌝ }
-    ensures { λ r. ⌜ r ≡ ltb space (symbolsIn rate 0 (blockBits rate * packets)) ⌝ }
+// Whether there is too little space for the symbols of so many packets, of which the first begins at a place of the mode's pattern.
+// A part, with a requires: `send_run` and those who send piece by piece make the test with it.
+pub fn is_short(rate: u8, start: u8, packets: usize, space: usize) -> bool
+    requires { ⌜ (rate < 6) × (start < patternLength rate) ⌝ }
+    ensures { λ r. ⌜ r ≡ ltb space (symbolsIn rate start (blockBits rate * packets)) ⌝ }
 {
     let lengths = InnerCoder::PATTERN_LENGTHS;
     let length = lengths[rate as usize] as u16;
-    let mut place: u8 = 0;
+    let mut place = start;
     let mut left = space;
     let mut k: usize = 0;
     while k < packets {
@@ -104,7 +105,7 @@ pub fn send_run(rate: u8, packets: &[u8], output: &mut [u8]) -> Run
             count: 0,
         };
     }
-    if is_short(rate, packets.len() / Sender::PACKET_LENGTH, output.len()) {
+    if is_short(rate, 0, packets.len() / Sender::PACKET_LENGTH, output.len()) {
         return Run {
             answer: Answer::OutputLength,
             count: 0,

@@ -2,6 +2,7 @@
 -- Assumes nothing.
 use mathlib.Core.Path.{refl, sym, _∙_}
 use mathlib.Core.Bool.{Bool, true}
+use native.Mathlib.Omega.{arith}
 use borrow.Author.Tests.{not-true, not-false}
 use Rattle.common.proofs.Choice.{flag-true, flag-false}
 use Rattle.report.specs.Steps.{Front}
@@ -26,7 +27,7 @@ returns : tie.Need-returns
 returns c =
     let a = c .before .before .before .before .args in
     let l = c .before .before .read-lines in
-    (read-none (a .text .now) (a .at) (l .result .report) (l .result .end) (flag-false (λ (f : Bool). Front (a .text .now) (a .at) f (l .result .report) (l .result .end)) (l .result .found) (c .if1 .taken) (l .ensures)), search needs)
+    (read-none (a .text .now) (a .at) (l .result .report) (l .result .end) (flag-false (λ (f : Bool). Front (a .text .now) (a .at) f (l .result .report) (l .result .end)) (l .result .found) (c .if1 .taken) (l .ensures)), search needs, λ e. refl)
 
 sums-right-requires : tie.Need-sums-right-requires
 sums-right-requires c κs = there c .small refl
@@ -36,14 +37,14 @@ returns-2 c =
     let a = c .before .before .before .before .before .before .before .args in
     let l = c .before .before .before .before .before .read-lines in
     let f = there (c .before .before) in
-    (read-wrong (a .text .now) (a .at) (l .result .report) (l .result .end) f (sym (c .before .sums-right .ensures) ∙ not-true _ (c .if2 .taken)), f .place refl)
+    (read-wrong (a .text .now) (a .at) (l .result .report) (l .result .end) f (sym (c .before .sums-right .ensures) ∙ not-true _ (c .if2 .taken)), f .place refl, λ e. absurd (omega arith))
 
 returns-3 : tie.Need-returns-3
 returns-3 c =
     let a = c .before .before .before .before .before .before .before .args in
     let l = c .before .before .before .before .before .read-lines in
     let f = there (c .before .before) in
-    (read-done (a .text .now) (a .at) (l .result .report) (l .result .end) f (sym (c .before .sums-right .ensures) ∙ not-false _ (c .if2 .left)), f .place refl)
+    (read-done (a .text .now) (a .at) (l .result .report) (l .result .end) f (sym (c .before .sums-right .ensures) ∙ not-false _ (c .if2 .left)), f .place refl, λ e. absurd (omega arith))
 
 pub read-front-spec : {M : Type 1} → statement M
 read-front-spec =

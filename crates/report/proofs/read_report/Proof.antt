@@ -23,10 +23,10 @@ returns c =
 
 returns-2 : tie.Need-returns-2
 returns-2 c =
-    let a = c .before .before .before .args in
-    let r = c .before .read-front in
+    let a = c .before .before .before .before .args in
+    let r = c .before .before .read-front in
     whole-all (a .text .now) (numberOf (r .result .answer)) (r .result .report) (drop (r .result .end) (a .text .now)) (r .ensures .0)
-    (drop-of-length-le (a .text .now) {i = r .result .end} (omega (arith, c .if1 .left)))
+    (drop-of-length-le (a .text .now) {i = r .result .end} (omega (arith, c .before .if1 .left)))
 
 pub read-report-spec : {M : Type 1} → statement M
 read-report-spec = tie.close (tie.spec read-front-requires returns returns-2)

@@ -1,49 +1,38 @@
 -- `transmission::is_short` meets its contract.
 -- Assumes nothing.
 use mathlib.Core.Path.{_≡_, sym, _∙_}
-use Prim.Native.Nat.{ℕ, _+_, _-_, _%_, _<_}
+use Prim.Native.Nat.{_+_, _-_, _%_, _<_}
 use native.Mathlib.Nat.{mod-lt}
 use native.Mathlib.Omega.{arith}
 use borrow.Author.Tests.{lt-ltb, le-ltb}
-use mathlib.Core.List.{List, [], _∷_}
 use lib.ListN.{getD}
-use Rattle.common.proofs.Computed.{agree-at}
-use Rattle.puncturing.specs.Mode.{modeOf, blockBits}
-use Rattle.puncturing.specs.Step.{patternLength, symbolsIn}
-use Rattle.puncturing.proofs.Places.{length-le}
+use Rattle.puncturing.specs.Mode.{blockBits}
+use Rattle.puncturing.specs.Step.{symbolsIn}
+use Rattle.puncturing.proofs.Places.{lengths, length-is, length-le}
 use Rattle.transmission.proofs.Counting.{Counting, counting-start, counting-end, counting-short, counting-more, needed-is}
 use borrow.Author.Needs.{needs}
 use Rattle.transmission.proofs.is_short.Statement.{statement}
 use Rattle.transmission.proofs.is_short.Tie as tie
 
 abbrev Inv-loop : tie.InvT-loop
-Inv-loop rate packets space length place₀ left₀ k₀ place left k = Counting rate packets space place left k
+Inv-loop rate start packets space length place₀ left₀ k₀ place left k = Counting rate start packets space place left k
 
 abbrev μ-loop : tie.MeasureT-loop
-μ-loop rate packets space length place₀ left₀ k₀ place left k = packets - k
-
--- the table of the pattern lengths
-lengths : List ℕ
-lengths = 1 ∷ 4 ∷ 3 ∷ 5 ∷ 7 ∷ 1 ∷ []
-
-length-is : (rate : ℕ) → rate < 6 → getD lengths rate 0 ≡ patternLength rate
-unfolding lengths modeOf
-length-is rate h = agree-at (λ r. getD lengths r 0) patternLength 6 tt rate h
+μ-loop rate start packets space length place₀ left₀ k₀ place left k = packets - k
 
 -- the need of a packet
 needed : (c : tie.After-symbol-count Inv-loop μ-loop)
     → c .symbol-count .result ≡ symbolsIn (c .before .before .before .args .rate) (c .before .before .loop .place) (blockBits (c .before .before .before .args .rate))
-needed c = c .symbol-count .ensures ∙ needed-is _ _ (c .before .before .before .pre) (c .before .before .loop .inv .in-pattern)
+needed c = c .symbol-count .ensures ∙ needed-is _ _ (c .before .before .before .pre .0) (c .before .before .loop .inv .in-pattern)
 
 array-read-length : tie.Need-array-read-length Inv-loop μ-loop
 array-read-length c = search needs
 
 cast-length : tie.Need-cast-length Inv-loop μ-loop
-unfolding lengths
-cast-length c = let h = c .pre in omega (arith, length-is (c .args .rate) h, length-le (c .args .rate) h)
+cast-length c = let h = c .pre .0 in omega (arith, length-is (c .args .rate) h, length-le (c .args .rate) h)
 
 loop-holds : tie.Need-loop-holds Inv-loop μ-loop
-loop-holds c = counting-start _ _ _ (c .pre)
+loop-holds c = counting-start _ _ _ _ (c .pre .0) (c .pre .1)
 
 symbol-count-requires : tie.Need-symbol-count-requires Inv-loop μ-loop
 symbol-count-requires c κs = search needs
@@ -54,23 +43,21 @@ returns c =
     sym (lt-ltb _ _ (counting-short (l .before .loop .inv) (l .loop-test .taken) (rw (needed (c .before)) at (c .if1 .taken))))
 
 cast-place : tie.Need-cast-place Inv-loop μ-loop
-cast-place c = let l = c .before .before .before in omega (arith, l .loop .inv .in-pattern, length-le (l .before .args .rate) (l .before .pre))
+cast-place c = let l = c .before .before .before in omega (arith, l .loop .inv .in-pattern, length-le (l .before .args .rate) (l .before .pre .0))
 
 add-place : tie.Need-add-place Inv-loop μ-loop
-add-place c = let l = c .before .before .before in omega (arith, l .loop .inv .in-pattern, length-le (l .before .args .rate) (l .before .pre))
+add-place c = let l = c .before .before .before in omega (arith, l .loop .inv .in-pattern, length-le (l .before .args .rate) (l .before .pre .0))
 
 rem-place : tie.Need-rem-place Inv-loop μ-loop
-unfolding lengths
-rem-place c = let l = c .before .before .before in omega (arith, l .loop .inv .in-pattern, length-is (l .before .args .rate) (l .before .pre))
+rem-place c = let l = c .before .before .before in omega (arith, l .loop .inv .in-pattern, length-is (l .before .args .rate) (l .before .pre .0))
 
 cast-place-2 : tie.Need-cast-place-2 Inv-loop μ-loop
-unfolding lengths
 cast-place-2 c =
     let l = c .before .before .before in
     let a = l .before in
-    let p = length-is (a .args .rate) (a .pre) in
+    let p = length-is (a .args .rate) (a .pre .0) in
     let r : (l .loop .place + 1632) % getD lengths (a .args .rate) 0 < getD lengths (a .args .rate) 0 = mod-lt (l .loop .place + 1632) (omega (arith, l .loop .inv .in-pattern, p)) in
-    omega (arith, r, length-le (a .args .rate) (a .pre), p)
+    omega (arith, r, length-le (a .args .rate) (a .pre .0), p)
 
 add-k : tie.Need-add-k Inv-loop μ-loop
 add-k c = search needs
@@ -79,11 +66,10 @@ loop-less : tie.Need-loop-less Inv-loop μ-loop
 loop-less c = search needs
 
 loop-again : tie.Need-loop-again Inv-loop μ-loop
-unfolding lengths
 loop-again c =
     let l = c .before .before in
     let a = l .before .before in
-    counting-more (l .before .loop .inv) (l .loop-test .taken) (length-is (a .args .rate) (a .pre)) (needed (c .before)) (c .if1 .left)
+    counting-more (l .before .loop .inv) (l .loop-test .taken) (length-is (a .args .rate) (a .pre .0)) (needed (c .before)) (c .if1 .left)
 
 returns-2 : tie.Need-returns-2 Inv-loop μ-loop
 returns-2 c = sym (le-ltb _ _ (counting-end (c .before .loop .inv) (c .loop-test .left)))

@@ -7,6 +7,7 @@ use lib.Dec.{ltb}
 use lib.ListN.{length}
 use Rattle.puncturing.specs.Mode.{modeOf}
 use Rattle.puncturing.proofs.Places.{sent-known}
+use Rattle.puncturing.proofs.WellFormed.{well-formed}
 use Rattle.transmission.specs.Run.{runSymbols, runRefusal}
 use Rattle.transmission.proofs.Counting.{length-run}
 use Rattle.transmission.proofs.Outcome.{run-refused, run-answered}
@@ -41,7 +42,7 @@ short c =
     ap (ltb (length (a .output .now))) (length-run (a .rate) (sent-known (a .rate) (sent (e .before))) (a .packets .now)) ∙ sym (c .is-short .ensures)
 
 is-short-requires : tie.Need-is-short-requires
-is-short-requires c κs = sent-known (c .before .before .before .before .before .args .rate) (sent (c .before))
+is-short-requires c κs = let h = sent-known (c .before .before .before .before .before .args .rate) (sent (c .before)) in (h, well-formed _ h .some-bits)
 
 returns-3 : tie.Need-returns-3
 returns-3 c =

@@ -2,14 +2,16 @@
 -- Assumes nothing.
 use mathlib.Core.Path.{_≡_, refl, ap}
 use mathlib.Core.Bool.{Bool, true, false}
+use Prim.Native.Nat.{_≤_, _<_}
 use native.Mathlib.Omega.{arith}
 use borrow.Author.Needs.{needs}
 use borrow.Author.Tests.{lt-ltb, le-ltb}
 use lib.Dec.{ltb}
+use lib.ListN.{getD}
 use Rattle.common.specs.Choice.{pick}
 use Rattle.puncturing.specs.Mode.{Mode}
 use Rattle.puncturing.specs.Step.{patternLength}
-use Rattle.puncturing.proofs.Places.{outside}
+use Rattle.puncturing.proofs.Places.{lengths, length-is, outside}
 use Rattle.inner_code.specs.Step.{inRangeBy}
 use Rattle.inner_code.proofs.InnerCoder.in_range.Statement.{statement}
 use Rattle.inner_code.proofs.InnerCoder.in_range.Tie as tie
@@ -30,26 +32,37 @@ returns-2 : tie.Need-returns-2
 unfolding inRangeBy
 returns-2 c = simp (le-ltb _ _ (c .if2 .taken))
 
-pattern-length-requires : tie.Need-pattern-length-requires
-pattern-length-requires c κs = search needs
+cast-if3 : tie.Need-cast-if3
+cast-if3 c = search needs
+
+array-read-if3 : tie.Need-array-read-if3
+array-read-if3 c = search needs
+
+-- the table of the pattern lengths has the mode's
+outside-pattern : (c : tie.Then3) → let a = c .before .before .before .args .self in patternLength (a .rate) ≤ a .place
+outside-pattern c =
+    let a = c .before .before .before .args .self in
+    let h : getD lengths (a .rate) 0 ≤ a .place = c .if3 .taken in
+    rw (length-is (a .rate) (c .before .before .if1 .left)) at h
+
+in-pattern : (c : tie.Else3) → let a = c .before .before .before .args .self in a .place < patternLength (a .rate)
+in-pattern c =
+    let a = c .before .before .before .args .self in
+    let h : a .place < getD lengths (a .rate) 0 = c .if3 .left in
+    rw (length-is (a .rate) (c .before .before .if1 .left)) at h
 
 returns-3 : tie.Need-returns-3
 unfolding inRangeBy
-returns-3 c =
-    let e = c .before .before in
-    simp (lt-ltb _ _ (e .if2 .left), le-ltb _ _ (rw (c .before .pattern-length .ensures) at (c .if3 .taken)))
+returns-3 c = simp (lt-ltb _ _ (c .before .if2 .left), le-ltb _ _ (outside-pattern c))
 
 held-count-requires : tie.Need-held-count-requires
-held-count-requires c κs = search needs
+held-count-requires c κs = (c .before .before .if1 .left, in-pattern c)
 
 returns-4 : tie.Need-returns-4
 unfolding inRangeBy
-returns-4 c =
-    let e = c .before .before .before in
-    rw (c .held-count .ensures)
-    (simp (lt-ltb _ _ (e .if2 .left), lt-ltb _ _ (rw (c .before .before .pattern-length .ensures) at (c .before .if3 .left))))
+returns-4 c = rw (c .held-count .ensures) (simp (lt-ltb _ _ (c .before .before .if2 .left), lt-ltb _ _ (in-pattern (c .before))))
 
 pub in-range-spec : {M : Type 1} → statement M
 in-range-spec =
     tie.close
-    (tie.spec returns returns-2 pattern-length-requires returns-3 held-count-requires returns-4)
+    (tie.spec returns returns-2 cast-if3 array-read-if3 returns-3 held-count-requires returns-4)

@@ -1,4 +1,4 @@
--- `puncturing::whole::whole_patterns` meets its contract: the arrays are the tables of the modes.
+-- `puncturing::whole::whole_patterns` meets its contract: the lists of crates/code_tables are those of the modes.
 -- Assumes nothing.
 use Rattle.puncturing.specs.Mode.{modeOf}
 use Rattle.puncturing.specs.Run.{iBits, qBits}
@@ -6,6 +6,12 @@ use Rattle.puncturing.proofs.Rates.{asked, given, four}
 use borrow.Author.Needs.{needs}
 use Rattle.puncturing.proofs.whole.whole_patterns.Statement.{statement}
 use Rattle.puncturing.proofs.whole.whole_patterns.Tie as tie
+
+array-read-len : tie.Need-array-read-len
+array-read-len c = search needs
+
+cast-len : tie.Need-cast-len
+cast-len c = search needs
 
 slice-aggregate-patterns : tie.Need-slice-aggregate-patterns
 slice-aggregate-patterns c = search needs
@@ -34,6 +40,12 @@ returns c =
     let e = t .if1 .taken in
     given 0 (a .args .rate) (a .args .coded .now) (a .args .output .now) _ (a .args .from) (a .args .turns) (a .args .at) _ e (c .before .before .patterns .ensures)
 
+array-read-len-2 : tie.Need-array-read-len-2
+array-read-len-2 c = search needs
+
+cast-len-2 : tie.Need-cast-len-2
+cast-len-2 c = search needs
+
 slice-aggregate-patterns-3 : tie.Need-slice-aggregate-patterns-3
 slice-aggregate-patterns-3 c = search needs
 
@@ -60,6 +72,12 @@ returns-2 c =
     let t = c .before .before .before .before .before .before in
     let e = t .if2 .taken in
     given 1 (a .args .rate) (a .args .coded .now) (a .args .output .now) _ (a .args .from) (a .args .turns) (a .args .at) _ e (c .before .before .patterns2 .ensures)
+
+array-read-len-3 : tie.Need-array-read-len-3
+array-read-len-3 c = search needs
+
+cast-len-3 : tie.Need-cast-len-3
+cast-len-3 c = search needs
 
 slice-aggregate-patterns-5 : tie.Need-slice-aggregate-patterns-5
 slice-aggregate-patterns-5 c = search needs
@@ -88,6 +106,12 @@ returns-3 c =
     let e = t .if3 .taken in
     given 2 (a .args .rate) (a .args .coded .now) (a .args .output .now) _ (a .args .from) (a .args .turns) (a .args .at) _ e (c .before .before .patterns3 .ensures)
 
+array-read-len-4 : tie.Need-array-read-len-4
+array-read-len-4 c = search needs
+
+cast-len-4 : tie.Need-cast-len-4
+cast-len-4 c = search needs
+
 slice-aggregate-patterns-7 : tie.Need-slice-aggregate-patterns-7
 slice-aggregate-patterns-7 c = search needs
 
@@ -114,6 +138,12 @@ returns-4 c =
     let t = c .before .before .before .before .before .before in
     let e = t .if4 .taken in
     given 3 (a .args .rate) (a .args .coded .now) (a .args .output .now) _ (a .args .from) (a .args .turns) (a .args .at) _ e (c .before .before .patterns4 .ensures)
+
+array-read-len-5 : tie.Need-array-read-len-5
+array-read-len-5 c = search needs
+
+cast-len-5 : tie.Need-cast-len-5
+cast-len-5 c = search needs
 
 slice-aggregate-patterns-9 : tie.Need-slice-aggregate-patterns-9
 slice-aggregate-patterns-9 c = search needs
@@ -146,26 +176,36 @@ pub whole-patterns-spec : {M : Type 1} → statement M
 whole-patterns-spec =
     tie.close
     (tie.spec
+    array-read-len
+    cast-len
     slice-aggregate-patterns
     slice-aggregate-patterns-2
     patterns-requires
     same-length
     returns
+    array-read-len-2
+    cast-len-2
     slice-aggregate-patterns-3
     slice-aggregate-patterns-4
     patterns-requires-2
     same-length-2
     returns-2
+    array-read-len-3
+    cast-len-3
     slice-aggregate-patterns-5
     slice-aggregate-patterns-6
     patterns-requires-3
     same-length-3
     returns-3
+    array-read-len-4
+    cast-len-4
     slice-aggregate-patterns-7
     slice-aggregate-patterns-8
     patterns-requires-4
     same-length-4
     returns-4
+    array-read-len-5
+    cast-len-5
     slice-aggregate-patterns-9
     slice-aggregate-patterns-10
     patterns-requires-5

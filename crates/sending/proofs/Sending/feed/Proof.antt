@@ -1,15 +1,22 @@
 -- `sending::Sending::feed` meets its contract.
 -- Assumes nothing.
-use mathlib.Core.Path.{_≡_, sym, _∙_}
+use mathlib.Core.Path.{_≡_, ap, sym, _∙_}
 use mathlib.Core.Bool.{true}
 use mathlib.Core.List.{List}
-use Prim.Native.Nat.{ℕ, _<_}
+use Prim.Native.Nat.{ℕ, _*_, _<_}
 use native.Mathlib.Omega.{arith}
-use borrow.Author.Tests.{lt-ltb, le-ltb, not-true, not-false}
-use Rattle.puncturing.specs.Mode.{modeOf}
+use borrow.Author.Tests.{lt-ltb, le-ltb, ltb-false, not-true, not-false}
+use lib.Dec.{ltb}
+use lib.ListN.{length}
+use Rattle.puncturing.specs.Mode.{modeOf, blockBits}
+use Rattle.puncturing.specs.Step.{symbolsIn}
+use Rattle.inner_code.proofs.Coder.{rate-known}
 use Rattle.sender.specs.Send.{isSent}
-use Rattle.sending.specs.Sending.{sendingInRange, sendingFeedNumber, OutputsFit, FeedsSending, refused, fed}
+use Rattle.sender.proofs.Ready.{Ready}
+use Rattle.sending.specs.Sending.{fedSymbols, sendingInRange, sendingFeedNumber, OutputsFit, FeedsSending, refused, fed}
 use Rattle.sending.specs.declared.Sending.{Sending}
+use Rattle.sending.proofs.Counts.{length-fed}
+use Rattle.sending.proofs.Progress.{ready-of}
 use Rattle.sending.proofs.Laws.{sending-range}
 use borrow.Author.Needs.{needs}
 use Rattle.sending.proofs.Sending.feed.Statement.{statement}
@@ -17,6 +24,16 @@ use Rattle.sending.proofs.Sending.feed.Tie as tie
 
 refuse : (w : Sending) (piece output answers : List ℕ) (n : ℕ) → sendingFeedNumber w piece output answers ≡ n → 0 < n → FeedsSending w piece output answers n 0 0 w output answers
 refuse w piece output answers n e h = refused (sym e) (λ z. omega arith)
+
+-- the arrays are whole
+size : (s : tie.Start) → length (s .args .self .pending) ≡ 188
+size s = search needs
+
+cells : (s : tie.Start) → length (s .args .self .sender .interleaver .branches .cells) ≡ 1122
+cells s = search needs
+
+positions : (s : tie.Start) → length (s .args .self .sender .interleaver .branches .positions) ≡ 12
+positions s = search needs
 
 in-range-requires : tie.Need-in-range-requires
 in-range-requires c κs = search needs
@@ -48,34 +65,57 @@ sent c = sym (c .before .is-sent .ensures) ∙ not-false _ (c .if2 .left)
 ranged : (c : tie.Else2) → sendingInRange (c .before .before .before .before .before .before .before .before .before .args .self) ≡ true
 ranged c = good (c .before .before .before .before)
 
+ready : (c : tie.Else2) → Ready modeOf (c .before .before .before .before .before .before .before .before .before .args .self .sender)
+ready c =
+    let s = c .before .before .before .before .before .before .before .before .before in
+    ready-of (s .args .self .sender) (cells s) (positions s) (sending-range (s .args .self) (ranged c) .0) (sent c)
+
 whole-count-requires : tie.Need-whole-count-requires
 whole-count-requires c κs = sending-range (c .before .before .before .before .before .before .before .before .before .args .self) (ranged c) .1
 
-returns-3 : tie.Need-returns-3
-returns-3 c =
+is-short-requires : tie.Need-is-short-requires
+is-short-requires c κs = let g = ready (c .before) .coder in (rate-known (c .before .before .before .before .before .before .before .before .before .before .args .self .sender .coder) g, g .place)
+
+-- the third test
+short : (c : tie.After-is-short)
+    → let a = c .before .before .before .before .before .before .before .before .before .before .before .args in
+    ltb (length (a .output .now)) (length (fedSymbols (a .self) (a .piece .now))) ≡ c .is-short .result
+short c =
     let e = c .before .before in
     let s = e .before .before .before .before .before .before .before .before .before in
+    let coder = s .args .self .sender .coder in
+    let most = length (s .args .output .now) in
+    ap (ltb most) (length-fed (s .args .self) (s .args .piece .now) (ready e) (size s) (sending-range (s .args .self) (ranged e) .1))
+    ∙ ap (λ (n : ℕ). ltb most (symbolsIn (coder .rate) (coder .place) (blockBits (coder .rate) * n))) (sym (c .before .whole-count .ensures))
+    ∙ sym (c .is-short .ensures)
+
+returns-3 : tie.Need-returns-3
+returns-3 c =
+    let e = c .before .before .before in
+    let s = e .before .before .before .before .before .before .before .before .before in
     refuse (s .args .self) (s .args .piece .now) (s .args .output .now) (s .args .answers .now) 4
-    (simp (ranged e, sent e, lt-ltb _ _ (rw (c .before .whole-count .ensures) at (c .if3 .taken)))) (omega arith)
+    (simp (ranged e, sent e, short (c .before) ∙ c .if3 .taken)) (omega arith)
 
 returns-4 : tie.Need-returns-4
 returns-4 c =
-    let n = c .before .before in
+    let i = c .before .before in
+    let n = i .before in
     let e = n .before in
     let s = e .before .before .before .before .before .before .before .before .before in
     refuse (s .args .self) (s .args .piece .now) (s .args .output .now) (s .args .answers .now) 4
-    (simp (ranged e, sent e, le-ltb _ _ (rw (n .whole-count .ensures) at (c .before .if3 .left)), lt-ltb _ _ (rw (n .whole-count .ensures) at (c .if4 .taken)))) (omega arith)
+    (simp (ranged e, sent e, short i ∙ c .before .if3 .left, lt-ltb _ _ (rw (n .whole-count .ensures) at (c .if4 .taken)))) (omega arith)
 
 -- past the others
 output-fits : (c : tie.Else4)
-    → let a = c .before .before .before .before .before .before .before .before .before .before .before .before .args in
+    → let a = c .before .before .before .before .before .before .before .before .before .before .before .before .before .args in
     OutputsFit (a .self) (a .piece .now) (a .output .now) (a .answers .now)
 output-fits c =
-    let n = c .before .before in
+    let i = c .before .before in
+    let n = i .before in
     record {
       range = ranged (n .before);
       sent = sent (n .before);
-      symbols = rw (n .whole-count .ensures) at (c .before .if3 .left);
+      symbols = ltb-false _ _ (short i ∙ c .before .if3 .left);
       answers-fit = rw (n .whole-count .ensures) at (c .if4 .left);
     }
 
@@ -104,6 +144,7 @@ feed-spec =
     is-sent-requires
     returns-2
     whole-count-requires
+    is-short-requires
     returns-3
     returns-4
     send-whole-requires
