@@ -52,6 +52,10 @@ unfoldable pub zerosFrom : ℕ → List ℕ → List ℕ
 zerosFrom n [] = []
 zerosFrom n (x ∷ l) = pick (eqb x 0) (n ∷ []) [] ++ zerosFrom (n + 1) l
 
+-- none of sixteen lanes is zero
+pub record NoZero (v : List ℕ) : Type 0 where
+  pub each : (j : ℕ) → j < 16 → getD v j 0 ≡ 0 → ⊥
+
 -- roots, and those among the first of sixteen places more: v has the values at the places x, of which the first is that of degree i
 pub record Listed (degrees places : List ℕ) (count : ℕ) (v x : List ℕ) (i : ℕ) (degrees' places' : List ℕ) (count' : ℕ) : Type 0 where
   pub number : count' ≡ count + length (zerosFrom i v)

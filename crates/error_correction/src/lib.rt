@@ -3,8 +3,10 @@
 ghost use mathlib.Core.Path.{_≡_};
 ghost use mathlib.Core.List.{_∷_};
 ghost use Prim.Native.Nat.{ℕ, _+_, _-_, _<_, _≤_};
+ghost use lib.Dec.{eqb};
 ghost use lib.ListN.{length, getD, take, drop};
-ghost use Rattle.error_correction.specs.Correction.{EndsAt, Unmarked, ByDegree, masked, Masked, zerosFrom, Listed, rootsOf, onePolynomial, FoundRoots, monic, RootProduct, FractionsAt, ErrorValues, sumOf, Explained, correctedBy, changedIn};
+ghost use Rattle.common.specs.Choice.{indicator};
+ghost use Rattle.error_correction.specs.Correction.{EndsAt, Unmarked, ByDegree, masked, Masked, zerosFrom, NoZero, Listed, rootsOf, onePolynomial, FoundRoots, monic, RootProduct, FractionsAt, ErrorValues, sumOf, Explained, correctedBy, changedIn};
 
 // The degrees of the erasures and those at which the locator vanishes, in order, their places, and how many they are. The places after them are zero.
 pub struct Roots {
@@ -115,8 +117,28 @@ fn list_zeros(
     }
 }
 
-// The degrees below 204 of the erasures and those at which the locator vanishes, sixteen places at a time; u has the marks by degree, and f says how many
-// bytes are marked.
+// 1 for a lane that is zero, else 0.
+fn is_zero(x: u8) -> u8
+    ensures { λ r. ⌜ (r ≡ indicator (eqb x 0)) × (r ≤ 1) ⌝ }
+{
+    (x == 0) as u8
+}
+
+// How many of sixteen lanes are zero. Only that 0 means none is used, and stated.
+fn zero_lanes(v: [u8; 16]) -> u8
+    ensures { λ r. ⌜ (r ≡ 0 → NoZero v) ⌝ }
+{
+    let mut n: u8 = 0;
+    let mut j: usize = 0;
+    while j < 16 {
+        n += is_zero(v[j]);
+        j += 1;
+    }
+    n
+}
+
+// The degrees below 204 of the erasures and those at which the locator vanishes, sixteen places at a time (Chien search); u has the marks by degree, and
+// f says how many bytes are marked. Most sixteens have no root, and are passed over.
 pub fn find_roots(u: &[u8], f: usize, q: [u8; 9]) -> Roots
     requires { ⌜ (length (now u) ≡ 208) × (f ≡ 0 → Unmarked (now u)) × (length (rootsOf (now u) q) ≤ 16) ⌝ }
     ensures { λ r. ⌜ FoundRoots (now (u .entry)) q (r .degrees) (r .places) (r .count) ⌝ }
@@ -133,10 +155,12 @@ pub fn find_roots(u: &[u8], f: usize, q: [u8; 9]) -> Roots
     let mut i: u8 = 0;
     while i < 208 {
         let v = with_erasures(u, f, i as usize, byte_lanes::evaluate(&q[..end], x));
-        let degrees = found.degrees;
-        let places = found.places;
-        let r = list_zeros(degrees, places, found.count, v, x, i);
-        found = r;
+        if zero_lanes(v) != 0 {
+            let degrees = found.degrees;
+            let places = found.places;
+            let r = list_zeros(degrees, places, found.count, v, x, i);
+            found = r;
+        }
         let y = byte_lanes::next_powers(x);
         x = y;
         i += 16;
