@@ -2,34 +2,33 @@
 -- Assumes nothing.
 use mathlib.Core.Path.{_≡_, refl, sym, _∙_, ap₂}
 use mathlib.Core.Bool.{Bool, true, false}
-use mathlib.Core.List.{List}
-use Prim.Native.Nat.{ℕ, zero, suc, _+_, _-_, _*_, _/_, _%_, _≤_, _<_}
+use mathlib.Core.List.{List, [], _∷_}
+use Prim.Native.Nat.{ℕ, _+_, _*_, _/_, _%_, _≤_, _<_}
 use native.Mathlib.Omega.{arith}
 use lib.Dec.{eqb}
 use lib.ListN.{length, getD, set, take, length-take, length-map}
 use lib.Seq.{getD-take, length-take-le}
 use Rattle.common.specs.Choice.{pick, unequal}
 use Rattle.common.specs.Lists.{All}
+use Rattle.common.proofs.Computed as computed
 use Rattle.common.proofs.Each.{Updated, updated-none, updated-more}
 use Rattle.common.proofs.Lists.{All-at, All-of}
 use Rattle.run_reader.specs.Cost.{differing, Costed}
 use Rattle.run_reader.specs.Decisions.{component, decisionCost}
 use Rattle.run_reader.proofs.Unharmed.{differing-at}
 
--- a bit differs from 0 where it is 1, and from 1 where it is 0
-from-zero : (b : ℕ) → b < 2 → b ≡ unequal b 0
-from-zero zero h = refl
-from-zero (suc zero) h = refl
-from-zero (suc (suc b)) h = absurd (omega arith)
+abbrev pub decisionTable : List (List ℕ)
+decisionTable = (0 ∷ 1 ∷ 0 ∷ 1 ∷ []) ∷ (0 ∷ 1 ∷ 1 ∷ 0 ∷ []) ∷ (1 ∷ 0 ∷ 0 ∷ 1 ∷ []) ∷ (1 ∷ 0 ∷ 1 ∷ 0 ∷ []) ∷ []
 
-from-one : (b : ℕ) → b < 2 → 1 - b ≡ unequal b 1
-from-one zero h = refl
-from-one (suc zero) h = refl
-from-one (suc (suc b)) h = absurd (omega arith)
+table-at : (s j : ℕ) → s < 4 → j < 4 → getD (getD decisionTable s []) j 0 ≡ unequal (component (j / 2) s) (j % 2)
+table-at s j h l =
+    let a : (4 * s + j) / 4 ≡ s = omega arith in
+    let b : (4 * s + j) % 4 ≡ j = omega arith in
+    rw (a, b) at
+    (computed.agree-at (λ t. getD (getD decisionTable (t / 4) []) (t % 4) 0) (λ t. unequal (component (t % 4 / 2) (t / 4)) (t % 4 % 2)) 16 tt (4 * s + j) (omega arith))
 
--- I and Q of a symbol
-pub symbol-bits : (ss : List ℕ) (i : ℕ) → All (λ s. s < 4) ss → i < length ss → (getD ss i 0 / 2 ≤ 1) × (getD ss i 0 % 2 ≤ 1)
-symbol-bits ss i w h = let four : getD ss i 0 < 4 = All-at (λ s. s < 4) ss 0 i w h in (omega arith, omega arith)
+pub symbol-lt : (ss : List ℕ) (i : ℕ) → All (λ s. s < 4) ss → i < length ss → getD ss i 0 < 4
+symbol-lt ss i w h = All-at (λ s. s < 4) ss 0 i w h
 
 -- decision j of symbol i
 decision-at : (ss : List ℕ) (t i j : ℕ) → t ≡ 4 * i + j → j < 4 → decisionCost ss t ≡ unequal (component (j / 2) (getD ss i 0)) (j % 2)
@@ -51,24 +50,23 @@ pub deciding-none : (ss output : List ℕ) → Deciding ss output output 0 0
 deciding-none ss output = record { most = omega arith; end = refl; written = updated-none }
 
 pub deciding-more : {ss output₀ output : List ℕ} {i at : ℕ} → All (λ s. s < 4) ss → 4 * length ss ≤ length output₀ → Deciding ss output₀ output i at → i < length ss
-    → let s = getD ss i 0 in
-    Deciding ss output₀ (set (set (set (set output at (s / 2)) (at + 1) (1 - s / 2)) (at + 1 + 1) (s % 2)) (at + 1 + 1 + 1) (1 - s % 2)) (i + 1) (at + 1 + 1 + 1 + 1)
+    → let row = getD decisionTable (getD ss i 0) [] in
+    Deciding ss output₀ (set (set (set (set output at (getD row 0 0)) (at + 1) (getD row 1 0)) (at + 1 + 1) (getD row 2 0)) (at + 1 + 1 + 1) (getD row 3 0)) (i + 1) (at + 1 + 1 + 1 + 1)
 deciding-more {ss} {output₀} {output} {i} {at} w fits g h =
     let s = getD ss i 0 in
-    let four : s < 4 = All-at (λ s. s < 4) ss 0 i w h in
-    let a : ℕ = at in
     let en = g .end in
-    let hi : s / 2 < 2 = omega arith in
-    let hq : s % 2 < 2 = omega arith in
     record {
       most = omega arith;
       end = omega arith;
       written =
-          updated-more (1 - s % 2) (omega arith) (from-one (s % 2) hq ∙ sym (decision-at ss (a + 1 + 1 + 1) i 3 (omega arith) (omega arith)))
-          (updated-more (s % 2) (omega arith) (from-zero (s % 2) hq ∙ sym (decision-at ss (a + 1 + 1) i 2 (omega arith) (omega arith)))
-          (updated-more (1 - s / 2) (omega arith) (from-one (s / 2) hi ∙ sym (decision-at ss (a + 1) i 1 (omega arith) (omega arith)))
-          (updated-more (s / 2) (omega arith) (from-zero (s / 2) hi ∙ sym (decision-at ss a i 0 (omega arith) (omega arith))) (g .written))));
+          updated-more _ (omega arith) (cost (at + 1 + 1 + 1) 3 (omega arith) (omega arith))
+          (updated-more _ (omega arith) (cost (at + 1 + 1) 2 (omega arith) (omega arith))
+          (updated-more _ (omega arith) (cost (at + 1) 1 (omega arith) (omega arith))
+          (updated-more _ (omega arith) (cost at 0 (omega arith) (omega arith)) (g .written))));
     }
+  where
+    cost : (t j : ℕ) → t ≡ 4 * i + j → j < 4 → getD (getD decisionTable (getD ss i 0) []) j 0 ≡ decisionCost ss t
+    cost t j e l = table-at (getD ss i 0) j (symbol-lt ss i w h) l ∙ sym (decision-at ss t i j e l)
 
 -- ---- what was written
 

@@ -20,6 +20,9 @@ const LONGEST: usize = 1632;
 // The symbols of each rate's pattern.
 const SYMBOL_COUNTS: [u8; 5] = [1, 3, 2, 3, 4];
 
+// What deciding the I of each symbol as 0 and as 1 costs, and then its Q.
+const DECISIONS: [[u8; 4]; 4] = [[0, 1, 0, 1], [0, 1, 1, 0], [1, 0, 0, 1], [1, 0, 1, 0]];
+
 // What a call hands back: the answer, the coder's memory after the bits, what they cost, and how many bits were written. Where the answer is not 0,
 // the memory is the one given and both numbers are 0.
 pub struct Read {
@@ -104,17 +107,18 @@ pub fn decision_costs(symbols: &[u8], output: &mut [u8])
     requires { ⌜ (All (λ s. s < 4) (now symbols)) × (4 * length (now symbols) ≤ length (now output)) ⌝ }
     ensures { λ _. ⌜ ((t : ℕ) → t < 4 * length (now (symbols .entry)) → getD (now (output .exit)) t 0 ≡ decisionCost (now (symbols .entry)) t) ⌝ }
 {
+    let decisions = DECISIONS;
     let mut i: usize = 0;
     let mut at: usize = 0;
     while i < symbols.len() {
-        let s = symbols[i];
-        output[at] = s / 2;
+        let four = decisions[symbols[i] as usize];
+        output[at] = four[0];
         let at1 = at + 1;
-        output[at1] = 1 - s / 2;
+        output[at1] = four[1];
         let at2 = at1 + 1;
-        output[at2] = s % 2;
+        output[at2] = four[2];
         let at3 = at2 + 1;
-        output[at3] = 1 - s % 2;
+        output[at3] = four[3];
         at = at3 + 1;
         i += 1;
     }
