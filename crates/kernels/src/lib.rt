@@ -1,4 +1,4 @@
-// Stages that the library does not export, for the benchmark alone. They are functions for C, and take whatever they are lent.
+// Stages that the library does not export, for the benchmark and the tests alone. They are functions for C, and take whatever they are lent.
 // A slice is a pointer and a length; slices of one call must not overlap.
 ghost use mathlib.Core.Path.{_≡_};
 ghost use Rattle.delay_branches.specs.declared.Side.the-variants.{Sending};
