@@ -6,7 +6,8 @@ use Prim.Native.Nat.{ℕ, zero, suc, _+_, _*_, _/_, _%_, _≤_, _<_}
 use native.Mathlib.Omega.{arith}
 use lib.ListN.{length, getD, length-append}
 use Rattle.common.specs.Lists.{ByteEntries}
-use Rattle.count_bytes.specs.Bytes.{byteAt, toBytes, fromBytes}
+use Rattle.common.specs.Bytes.{byteAt}
+use Rattle.count_bytes.specs.Bytes.{toBytes, fromBytes}
 
 low-byte : (b m : ℕ) → b < 256 → (b + 256 * m) % 256 ≡ b
 low-byte b m h = omega arith

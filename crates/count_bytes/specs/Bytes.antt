@@ -6,11 +6,6 @@ use Prim.Native.Nat.{ℕ, zero, suc, _+_, _*_, _/_, _%_}
 use lib.ListN.{take, drop}
 use Rattle.reception_counts.specs.declared.Counts.{Counts}
 
--- byte k of a number, the lowest being byte 0
-unfoldable pub byteAt : ℕ → ℕ → ℕ
-byteAt zero n = n % 256
-byteAt (suc k) n = byteAt k (n / 256)
-
 -- a number in so many bytes
 unfoldable pub toBytes : ℕ → ℕ → List ℕ
 toBytes zero n = []

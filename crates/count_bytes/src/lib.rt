@@ -5,21 +5,9 @@ ghost use mathlib.Core.List.{_++_};
 ghost use Prim.Native.Nat.{_+_, _*_, _≤_, _<_};
 ghost use lib.ListN.{length, take, drop};
 ghost use Rattle.common.specs.Lists.{placed};
-ghost use Rattle.count_bytes.specs.Bytes.{byteAt, toBytes, fromBytes, countBytes, countsAt};
+ghost use Rattle.count_bytes.specs.Bytes.{toBytes, fromBytes, countBytes, countsAt};
+use common::byte_at;
 use reception_counts::Counts;
-
-// Byte k of a number, the lowest being byte 0.
-pub fn byte_at(n: u64, k: usize) -> u8
-    ensures { λ r. ⌜ r ≡ byteAt k n ⌝ }
-{
-    let mut left = n;
-    let mut j: usize = 0;
-    while j < k {
-        left = left / 256;
-        j += 1;
-    }
-    (left % 256) as u8
-}
 
 // Writes a number in eight bytes, from a place on.
 fn put_number(number: u64, at: usize, output: &mut [u8])

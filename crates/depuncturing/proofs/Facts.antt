@@ -18,8 +18,7 @@ use Rattle.puncturing.proofs.Places.{tested-at, agreed-at}
 use Rattle.common.specs.Choice.{pick}
 use Rattle.convolutional_code.proofs.Bits.{coded-lt}
 use Rattle.convolutional_code.specs.Code.{tapsX, tapsY, coded, nextMemory}
-use Rattle.trellis.specs.Metric.{Costs, costFrom}
-use Rattle.viterbi_decoder.specs.Step.{at, decided, stepCost, stepCosts}
+use Rattle.convolutional_code.specs.Costs.{Costs, costFrom, at, decided, stepCost, stepCosts}
 use Rattle.depuncturing.specs.Steps.{kind, width, kindCost, kindAt, first, puncturedCosts, pairCost, value, stepValue}
 
 -- a step's four numbers cost what its coded bits do

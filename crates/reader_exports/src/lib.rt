@@ -5,7 +5,7 @@ ghost use mathlib.Core.List.{_++_};
 ghost use Prim.Native.Nat.{_≤_};
 ghost use lib.ListN.{length, drop};
 ghost use Rattle.reader_exports.specs.ReadRun.{resultBytes, ReadRunExported, SoftRunExported};
-use count_bytes::byte_at;
+use common::byte_at;
 
 // Writes what reading a run came to: the number of the answer, the memory after it, and the cost in four bytes.
 fn put_result(number: u8, memory: u8, cost: u64, result: &mut [u8])

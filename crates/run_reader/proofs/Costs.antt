@@ -12,7 +12,7 @@ use Rattle.common.specs.Lists.{All}
 use Rattle.common.proofs.Lists.{length-listOf, getD-listOf}
 use Rattle.convolutional_code.specs.Bits.{Bits, none, more}
 use Rattle.convolutional_code.specs.Code.{tapsX, tapsY, nextMemory, coded}
-use Rattle.trellis.specs.Metric.{costFrom}
+use Rattle.convolutional_code.specs.Costs.{costFrom}
 use Rattle.puncturing.specs.Step.{patternLength, nextPlace}
 use Rattle.inner_code.specs.Step.{symbolsOf, coderAfter}
 use Rattle.inner_code.specs.declared.InnerCoder.{InnerCoder}

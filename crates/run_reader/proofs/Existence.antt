@@ -7,7 +7,7 @@ use native.Mathlib.Omega.{arith}
 use lib.ListN.{length}
 use Rattle.convolutional_code.specs.Bits.{Bits}
 use Rattle.convolutional_code.specs.Code.{tapsX, tapsY, coded}
-use Rattle.trellis.specs.Metric.{costFrom}
+use Rattle.convolutional_code.specs.Costs.{costFrom}
 use Rattle.trellis.proofs.Ends.{SomeDecoded, some-decoded}
 use Rattle.trellis.proofs.Laws.{decoded-same}
 use Rattle.puncturing.specs.Step.{patternLength}

@@ -9,10 +9,9 @@ use lib.ListN.{length, getD, take, drop, length-take, List·getD-eq-default}
 use lib.Seq.{getD-take}
 use Rattle.common.specs.Lists.{All}
 use Rattle.common.proofs.Lists.{All-at, length-listOf}
-use Rattle.trellis.specs.Metric.{costFrom}
+use Rattle.convolutional_code.specs.Costs.{costFrom, stepCosts}
 use Rattle.trellis.specs.Best.{Decoded}
 use Rattle.trellis.proofs.Laws.{decoded-same}
-use Rattle.viterbi_decoder.specs.Step.{stepCosts}
 use Rattle.puncturing.specs.Step.{patternLength}
 use Rattle.depuncturing.specs.Steps.{first, stepValue}
 use Rattle.run_reader.specs.Cost.{runCost, symbolCost, costsOf, Costed}

@@ -14,7 +14,7 @@ use Rattle.common.proofs.Choice.{unequal-le}
 use Rattle.common.proofs.Lists.{getD-map-in}
 use Rattle.convolutional_code.specs.Bits.{Bits}
 use Rattle.convolutional_code.specs.Code.{tapsX, tapsY, coded, memoryAfter}
-use Rattle.trellis.specs.Metric.{costFrom}
+use Rattle.convolutional_code.specs.Costs.{costFrom}
 use Rattle.trellis.specs.Best.{Best, Decoded}
 use Rattle.convolutional_code.proofs.Bits.{bits-tail}
 use Rattle.trellis.proofs.Ends.{SomeDecoded}

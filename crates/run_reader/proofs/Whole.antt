@@ -6,10 +6,9 @@ use Prim.Native.Nat.{ℕ, _*_, _%_, _<_}
 use native.Mathlib.Omega.{arith}
 use lib.ListN.{length, getD}
 use Rattle.convolutional_code.specs.Bits.{Bits}
-use Rattle.trellis.specs.Metric.{costFrom}
+use Rattle.convolutional_code.specs.Costs.{costFrom, stepCosts}
 use Rattle.trellis.specs.Best.{Decoded}
 use Rattle.trellis.proofs.Laws.{decoded-same}
-use Rattle.viterbi_decoder.specs.Step.{stepCosts}
 use Rattle.puncturing.specs.Step.{patternLength}
 use Rattle.depuncturing.specs.Steps.{puncturedCosts, pairCost, stepValue}
 use Rattle.depuncturing.proofs.Facts.{steps-are, cost-same}

@@ -9,7 +9,8 @@ use native.Mathlib.Nat.{eq-or-lt-of-le}
 use native.Mathlib.Numerals.{add-one}
 use native.Mathlib.Omega.{arith}
 use Rattle.trellis.specs.Best.{Decoded}
-use Rattle.trellis.specs.Metric.{Costs, costFrom, metric, survivor, FirstLeast}
+use Rattle.convolutional_code.specs.Costs.{Costs, costFrom}
+use Rattle.trellis.specs.Metric.{metric, survivor, FirstLeast}
 use Rattle.trellis.proofs.Paths.{Answer, answer}
 
 pub ends-one : (M : ℕ → ℕ) → FirstLeast M 1 0

@@ -11,7 +11,7 @@ use Rattle.convolutional_code.specs.Bits.{Bits}
 use Rattle.convolutional_code.specs.Code.{nextMemory, memoryAfter}
 use Rattle.convolutional_code.proofs.Bits.{bits-tail}
 use Rattle.trellis.specs.Best.{ZeroAtLast, Best, Decoded}
-use Rattle.trellis.specs.Metric.{Costs, costFrom}
+use Rattle.convolutional_code.specs.Costs.{Costs, costFrom}
 use Rattle.trellis.proofs.Order.{bits-head}
 
 -- ---- the best sequence is unique

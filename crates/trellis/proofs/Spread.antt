@@ -9,7 +9,8 @@ use lib.Dec.{eqb}
 use Rattle.common.specs.Choice.{pick}
 use Rattle.convolutional_code.proofs.Bits.{next-lt}
 use Rattle.convolutional_code.specs.Code.{nextMemory}
-use Rattle.trellis.specs.Metric.{Costs, far, from, via, choice, metric}
+use Rattle.convolutional_code.specs.Costs.{Costs}
+use Rattle.trellis.specs.Metric.{far, from, via, choice, metric}
 use Rattle.trellis.proofs.Paths.{choice-lt, step-le, six-lead}
 
 pick-le : (t : Bool) (a b c : ℕ) → a ≤ c → b ≤ c → pick t a b ≤ c

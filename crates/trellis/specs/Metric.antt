@@ -4,16 +4,7 @@ use mathlib.Core.List.{List, [], _∷_}
 use Prim.Native.Nat.{ℕ, zero, suc, _+_, _*_, _/_, _%_, _<_, _≤_}
 use lib.Dec.{ltb, eqb}
 use Rattle.common.specs.Choice.{pick}
-use Rattle.convolutional_code.specs.Code.{nextMemory}
-
--- `F k m b` is what bit b of step k costs out of memory m
-abbrev pub Costs : Type 0
-Costs = ℕ → ℕ → ℕ → ℕ
-
--- the cost of bits from step k and memory m on
-unfoldable pub costFrom : Costs → ℕ → ℕ → List ℕ → ℕ
-costFrom F k m [] = 0
-costFrom F k m (b ∷ bs) = F k m b + costFrom F (suc k) (nextMemory m b) bs
+use Rattle.convolutional_code.specs.Costs.{Costs}
 
 -- the metric at the start of a memory that is not the run's: six steps, which lead to every memory, cost at most 6 * 14
 abbrev pub far : ℕ

@@ -8,7 +8,8 @@ use lib.ListN.{length, set}
 use Rattle.common.specs.Lists.{placed}
 use Rattle.common.proofs.Written.{Written, written-none, written-more, written-length}
 use Rattle.common.proofs.Outputs.{placed-all}
-use Rattle.count_bytes.specs.Bytes.{byteAt, toBytes}
+use Rattle.common.specs.Bytes.{byteAt}
+use Rattle.count_bytes.specs.Bytes.{toBytes}
 use Rattle.count_bytes.proofs.Numbers.{length-to, byte-to}
 use borrow.Author.Needs.{needs}
 use Rattle.count_bytes.proofs.put_number.Statement.{statement}

@@ -3,7 +3,7 @@
 use mathlib.Core.Path.{_≡_}
 use Prim.Native.Nat.{_+_, _-_, _*_, _≤_}
 use native.Mathlib.Omega.{arith}
-use Rattle.viterbi_decoder.specs.Step.{stepCosts}
+use Rattle.convolutional_code.specs.Costs.{stepCosts}
 use Rattle.viterbi_decoder.proofs.Sweeps.{Carrying, carrying-none, fits-byte, carrying-more}
 use Rattle.viterbi_decoder.proofs.block.Statement.{statement}
 use Rattle.viterbi_decoder.proofs.block.Tie as tie

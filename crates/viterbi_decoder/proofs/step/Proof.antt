@@ -1,7 +1,7 @@
 -- `viterbi_decoder::step` meets its contract: proofs/Butterfly.antt says why the lanes are the ways into the memories.
 -- Assumes nothing.
 use Prim.Native.Nat.{ℕ, _+_, _<_, _≤_}
-use Rattle.viterbi_decoder.specs.Step.{at, stepCost}
+use Rattle.convolutional_code.specs.Costs.{at, stepCost}
 use Rattle.viterbi_decoder.proofs.Butterfly.{stepCost-le, Costed, row-fits, costed, Lanes, stepped, fits}
 use borrow.Author.Needs.{needs}
 use Rattle.viterbi_decoder.proofs.step.Statement.{statement}

@@ -1,12 +1,12 @@
--- `count_bytes::byte_at` meets its contract.
+-- `common::byte_at` meets its contract.
 -- Assumes nothing.
 use mathlib.Core.Path.{_≡_, ap, _∙_}
 use Prim.Native.Nat.{ℕ, suc, _+_, _-_, _/_, _%_, _≤_, _<_}
 use native.Mathlib.Omega.{arith}
-use Rattle.count_bytes.specs.Bytes.{byteAt}
+use Rattle.common.specs.Bytes.{byteAt}
 use borrow.Author.Needs.{needs}
-use Rattle.count_bytes.proofs.byte_at.Statement.{statement}
-use Rattle.count_bytes.proofs.byte_at.Tie as tie
+use Rattle.common.proofs.byte_at.Statement.{statement}
+use Rattle.common.proofs.byte_at.Tie as tie
 
 -- the byte that is wanted is byte k - j of what is left
 record Divided (n k left j : ℕ) : Type 0 where
