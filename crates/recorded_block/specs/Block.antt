@@ -1,11 +1,12 @@
 -- One block of a recording, corrected: document 02, P5.
 -- Assumes nothing.
 use mathlib.Core.Path.{_≡_}
-use mathlib.Core.List.{List, _++_}
+use mathlib.Core.List.{List, [], _∷_, _++_}
 use Prim.Native.Nat.{ℕ, _+_, _*_, _/_, _<_, min}
 use lib.Dec.{ltb, eqb}
 use lib.ListN.{length, getD, take, drop}
 use Rattle.common.specs.Choice.{pick}
+use Rattle.common.specs.Refusal.{unless, when, firstDue}
 use Rattle.answer.specs.Number.{numberOf}
 use Rattle.reed_solomon.specs.Code.{noChange}
 use Rattle.reed_solomon.specs.Decode.{Decodes, decodedNumber, changedBy}
@@ -21,7 +22,12 @@ blockCount bytes = length bytes / 204
 -- the tests before the work, in the order of document 02; 0 where none refuses
 abbrev pub blockRefusal : List ℕ → ℕ → ℕ → List ℕ → ℕ
 blockRefusal bytes blocks p output =
-    pick (eqb blocks (blockCount bytes)) (pick (ltb (min blocks 4294967295) (p + 12)) 16 (pick (ltb (length output) 204) 4 0)) 5
+    firstDue (
+    unless (eqb blocks (blockCount bytes)) 5
+    ∷ when (ltb (min blocks 4294967295) (p + 12)) 16
+    ∷ when (ltb (length output) 204) 4
+    ∷ []
+    )
 
 -- the output after the work: a codeword is written to its front
 abbrev pub outputWith : Decoded → List ℕ → List ℕ → List ℕ

@@ -4,12 +4,13 @@
 -- Assumes nothing.
 use mathlib.Core.Path.{_≡_}
 use mathlib.Core.Bool.{Bool, true, false}
-use mathlib.Core.List.{List, _++_}
+use mathlib.Core.List.{List, [], _∷_, _++_}
 use Prim.Native.Nat.{ℕ, _*_, _/_, _%_, _<_, _≤_}
 use lib.Dec.{ltb, eqb}
 use lib.Ieee.{Float}
 use lib.ListN.{length, drop}
 use Rattle.common.specs.Choice.{pick}
+use Rattle.common.specs.Refusal.{unless, when, firstDue}
 use Rattle.common.specs.Lists.{All, largest}
 use Rattle.trellis.specs.Best.{Decoded}
 use Rattle.puncturing.specs.Mode.{modeOf}
@@ -42,15 +43,16 @@ sound is qs lost = pick (eqb (length qs) (length is)) (pick (eqb (length lost) (
 -- whole patterns, 13 where the run has more than 1,632 bits, 14 where the symbols do not pass, 4 for short room.
 abbrev pub answerNumber : ℕ → ℕ → Bool → ℕ → Bool → ℕ → ℕ
 answerNumber rate memory lists n symbols space =
-    pick (ltb rate 5)
-    (pick (ltb memory 64)
-    (pick lists
-    (pick (eqb (n % symbolsPerPattern rate) 0)
-    (pick (ltb 1632 (runBits rate n)) 13 (pick symbols (pick (ltb space (runBits rate n)) 4 0) 14))
-    12)
-    24)
-    5)
-    6
+    firstDue (
+    unless (ltb rate 5) 6
+    ∷ unless (ltb memory 64) 5
+    ∷ unless lists 24
+    ∷ unless (eqb (n % symbolsPerPattern rate) 0) 12
+    ∷ when (ltb 1632 (runBits rate n)) 13
+    ∷ unless symbols 14
+    ∷ when (ltb space (runBits rate n)) 4
+    ∷ []
+    )
 
 -- of hard decisions, which come as one list of symbols
 abbrev pub readNumber : ℕ → ℕ → List ℕ → List ℕ → ℕ
