@@ -7,10 +7,10 @@ ghost use lib.ListN.{length, take, drop};
 ghost use Rattle.bridge.specs.State.{placeOf, placeByte, stateOf, stateBytes};
 use count_bytes::counts_at;
 use count_bytes::put_counts;
-use delay_branches::Branches;
 use group_sync::GroupSync;
 use group_sync::Place;
 use interleaver::Deinterleaver;
+use interleaver::branches::Branches;
 use receiver::Receiver;
 
 // The first byte of each field, and the length of all of them. The counts are eight fields of eight bytes.

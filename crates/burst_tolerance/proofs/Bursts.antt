@@ -18,13 +18,13 @@ use Rattle.reed_solomon.specs.Code.{distance, differ}
 use Rattle.reed_solomon.proofs.Distance.{differ-append}
 use Rattle.reed_solomon.proofs.Laws.{within-eight}
 use Rattle.randomizer.specs.Stream.{Packet}
-use Rattle.delay_branches.specs.Block.{fresh}
-use Rattle.delay_branches.specs.declared.Side.the-variants.{Receiving}
-use Rattle.delay_branches.specs.declared.Branches.{Branches}
+use Rattle.interleaver.specs.Block.{fresh}
+use Rattle.interleaver.specs.declared.branches.Side.the-variants.{Receiving}
+use Rattle.interleaver.specs.declared.branches.Branches.{Branches}
 use Rattle.interleaver.specs.Stream.{run}
 use Rattle.interleaver.specs.Gathered.{placeIn, gathered}
 use Rattle.interleaver.proofs.Whole.{length-run}
-use Rattle.interleaver.proofs.Blocks.{length-flatten}
+use Rattle.interleaver.proofs.BlockLists.{length-flatten}
 use Rattle.group_sync.specs.Stream.{beforeGroup}
 use Rattle.reception_counts.specs.declared.Counts.{Counts}
 use Rattle.receiver.specs.Receive.{freshReceiver, NoMarks, delayedBlock}

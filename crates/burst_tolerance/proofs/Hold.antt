@@ -9,7 +9,7 @@ use lib.ListN.{length, getD, replicate}
 use Rattle.common.specs.Lists.{All, Length}
 use Rattle.common.proofs.Entries.{bytes-of, every-byte}
 use Rattle.randomizer.specs.Stream.{Packet}
-use Rattle.interleaver.proofs.Blocks.{length-flatten}
+use Rattle.interleaver.proofs.BlockLists.{length-flatten}
 use Rattle.receiver.specs.Receive.{freshReceiver}
 use Rattle.receiver.specs.Run.{Call, DecodedCalls, lentBlocks, Plain, OutputFits}
 use Rattle.receiver.specs.Begun.{lefts}

@@ -18,7 +18,7 @@ use Rattle.reed_solomon.proofs.LongDivision.{encoded-bytes}
 use Rattle.randomizer.specs.Packet.{randomized}
 use Rattle.randomizer.specs.Stream.{Packet, randomizedFrom}
 use Rattle.randomizer.proofs.Whole.{packet-lengths, randomized-stream}
-use Rattle.delay_branches.specs.declared.Side.the-variants.{Sending}
+use Rattle.interleaver.specs.declared.branches.Side.the-variants.{Sending}
 use Rattle.interleaver.proofs.Streams.{delayed-bytes}
 use Rattle.convolutional_code.specs.Bits.{bitsOf}
 use Rattle.convolutional_code.proofs.Bits.{length-bits, bits-bits}

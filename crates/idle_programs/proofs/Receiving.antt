@@ -22,9 +22,9 @@ use Rattle.reed_solomon.proofs.Laws.{Same, decodes-near-marked}
 use Rattle.reed_solomon.proofs.Marks.{are-marks-none, marks-of}
 use Rattle.randomizer.specs.Stream.{Packet}
 use Rattle.randomizer.proofs.Whole.{packet-lengths}
-use Rattle.interleaver.proofs.Blocks.{length-flatten, flatten-join}
-use Rattle.delay_branches.specs.declared.Side.the-variants.{Receiving}
-use Rattle.delay_branches.proofs.Blocks.{length-out}
+use Rattle.interleaver.proofs.BlockLists.{length-flatten, flatten-join}
+use Rattle.interleaver.specs.declared.branches.Side.the-variants.{Receiving}
+use Rattle.interleaver.proofs.Blocks.{length-out}
 use Rattle.receiver.specs.Receive.{freshReceiver, marksIn, delayedBlock, delayedMarks, ofAccepted, stepOf, stateAfter, Ready, ReceivesMarked, Receives}
 use Rattle.receiver.specs.Kept.{Kept}
 use Rattle.receiver.specs.declared.Receiver.{Receiver}

@@ -13,7 +13,7 @@ use Rattle.common.specs.Lists.{All, chunksOf}
 use Rattle.common.proofs.Chunks.{chunks-joined}
 use Rattle.randomizer.specs.Stream.{Packet}
 use Rattle.randomizer.proofs.Whole.{packet-lengths}
-use Rattle.interleaver.proofs.Blocks.{length-flatten}
+use Rattle.interleaver.proofs.BlockLists.{length-flatten}
 use Rattle.convolutional_code.specs.Bits.{bitsOf, Bits}
 use Rattle.convolutional_code.proofs.Bits.{bits-bits}
 use Rattle.puncturing.specs.Mode.{modeOf, blockBits}

@@ -7,10 +7,10 @@ use lib.Dec.{ltb, eqb}
 use lib.ListN.{length, drop}
 use Rattle.common.specs.Choice.{pick}
 use Rattle.common.specs.Refusal.{unless, when, firstDue}
-use Rattle.delay_branches.specs.Branch.{branchesInRange}
-use Rattle.delay_branches.specs.Block.{blockOut, branchesAfter}
-use Rattle.delay_branches.specs.declared.Side.{Side}
-use Rattle.delay_branches.specs.declared.Branches.{Branches}
+use Rattle.interleaver.specs.Branch.{branchesInRange}
+use Rattle.interleaver.specs.Block.{blockOut, branchesAfter}
+use Rattle.interleaver.specs.declared.branches.Side.{Side}
+use Rattle.interleaver.specs.declared.branches.Branches.{Branches}
 
 -- the number of the answer, by the tests in the order of document 01
 abbrev pub passNumber : Side → Branches → List ℕ → List ℕ → ℕ

@@ -1,14 +1,17 @@
 // Convolutional interleaving and its removal: EN 300 421, 4.4.2.
 ghost use mathlib.Core.Path.{_≡_};
 ghost use Rattle.answer.specs.Number.{numberOf};
-ghost use Rattle.delay_branches.specs.Branch.{branchesInRange};
-ghost use Rattle.delay_branches.specs.Block.{fresh};
+ghost use Rattle.interleaver.specs.Branch.{branchesInRange};
+ghost use Rattle.interleaver.specs.Block.{fresh};
 ghost use Rattle.interleaver.specs.Call.{passNumber, passBranches, passOutput};
+
+pub mod branches;
+
 use answer::Answer;
-use delay_branches::Branches;
-use delay_branches::Side;
-use delay_branches::pass_block;
-use delay_branches::positions_within;
+use branches::Branches;
+use branches::Side;
+use branches::pass_block;
+use branches::positions_within;
 
 // An answer, and the branches after it.
 struct Passed {

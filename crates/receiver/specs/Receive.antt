@@ -15,10 +15,10 @@ use Rattle.reed_solomon.specs.Marks.{areMarks, noMarks, DecodesMarked}
 use Rattle.reed_solomon.specs.declared.Decoded.{Decoded}
 use Rattle.reed_solomon.specs.declared.Decoded.the-variants.{Corrected, Uncorrectable, BlockLength, MarkValue}
 use Rattle.randomizer.specs.Packet.{derandomized}
-use Rattle.delay_branches.specs.Block.{fresh, blockOut, branchesAfter}
-use Rattle.delay_branches.specs.Branch as branch
-use Rattle.delay_branches.specs.declared.Branches.{Branches}
-use Rattle.delay_branches.specs.declared.Side.the-variants.{Receiving}
+use Rattle.interleaver.specs.Block.{fresh, blockOut, branchesAfter}
+use Rattle.interleaver.specs.Branch as branch
+use Rattle.interleaver.specs.declared.branches.Branches.{Branches}
+use Rattle.interleaver.specs.declared.branches.Side.the-variants.{Receiving}
 use Rattle.group_sync.specs.Group.{syncInRange, freshSync, groupStep}
 use Rattle.group_sync.specs.declared.BlockDecoding.{BlockDecoding}
 use Rattle.group_sync.specs.declared.BlockDecoding.the-variants as decoding

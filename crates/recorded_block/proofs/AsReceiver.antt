@@ -18,15 +18,15 @@ use Rattle.reed_solomon.specs.declared.Changed.{Changed}
 use Rattle.reed_solomon.specs.declared.Decoded.{Decoded}
 use Rattle.reed_solomon.specs.declared.Decoded.the-variants.{Corrected, Uncorrectable, BlockLength, MarkValue}
 use Rattle.reed_solomon.proofs.Laws.{unique}
-use Rattle.delay_branches.specs.Block as block
-use Rattle.delay_branches.specs.Block.{fresh, blockOut}
-use Rattle.delay_branches.specs.declared.Side.{Side}
-use Rattle.delay_branches.specs.declared.Side.the-variants.{Receiving}
-use Rattle.delay_branches.specs.declared.Branches.{Branches}
-use Rattle.delay_branches.proofs.Blocks.{length-out}
+use Rattle.interleaver.specs.Block as block
+use Rattle.interleaver.specs.Block.{fresh, blockOut}
+use Rattle.interleaver.specs.declared.branches.Side.{Side}
+use Rattle.interleaver.specs.declared.branches.Side.the-variants.{Receiving}
+use Rattle.interleaver.specs.declared.branches.Branches.{Branches}
+use Rattle.interleaver.proofs.Blocks.{length-out}
 use Rattle.interleaver.specs.Stream.{run, runAfter}
 use Rattle.interleaver.specs.Gathered.{gathered}
-use Rattle.interleaver.proofs.Blocks.{length-flatten, flatten-join}
+use Rattle.interleaver.proofs.BlockLists.{length-flatten, flatten-join}
 use Rattle.interleaver.proofs.Gathering.{gathered-front, run-gathered}
 use Rattle.group_sync.specs.Group.{groupStep}
 use Rattle.group_sync.specs.declared.Outcome.{Outcome}

@@ -11,9 +11,9 @@ use Rattle.common.specs.Choice.{pick}
 use Rattle.common.specs.Refusal.{unless, when, firstDue}
 use Rattle.reed_solomon.specs.Encode.{encoded}
 use Rattle.randomizer.specs.Packet.{randomized}
-use Rattle.delay_branches.specs.Branch as branch
-use Rattle.delay_branches.specs.Block.{fresh, blockOut, branchesAfter}
-use Rattle.delay_branches.specs.declared.Side.the-variants.{Sending}
+use Rattle.interleaver.specs.Branch as branch
+use Rattle.interleaver.specs.Block.{fresh, blockOut, branchesAfter}
+use Rattle.interleaver.specs.declared.branches.Side.the-variants.{Sending}
 use Rattle.puncturing.specs.Mode.{Mode}
 use Rattle.inner_code.specs.Step.{inRangeBy}
 use Rattle.inner_code.specs.Encode.{freshCoder, blockSymbolsBy, blockCoderBy, symbolCountBy}

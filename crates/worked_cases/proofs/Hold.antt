@@ -15,9 +15,9 @@ use Rattle.reed_solomon.specs.Encode.{generatorTail, divided, remainderFrom, ch
 use Rattle.reed_solomon.proofs.LongDivision.{encoded-only}
 use Rattle.randomizer.specs.Prbs.{loaded, outputBit, stepped, steps, stepBits, sequence, period, enabled, masks}
 use Rattle.randomizer.specs.Packet.{randomized}
-use Rattle.delay_branches.specs.Branch.{baseOf, queue}
-use Rattle.delay_branches.specs.Column.{column}
-use Rattle.delay_branches.specs.Block.{fresh, leaving, blockOut}
+use Rattle.interleaver.specs.Branch.{baseOf, queue}
+use Rattle.interleaver.specs.Column.{column}
+use Rattle.interleaver.specs.Block.{fresh, leaving, blockOut}
 use Rattle.convolutional_code.specs.Bits.{bitsOf}
 use Rattle.puncturing.specs.Mode.{modes, modeOf}
 use Rattle.puncturing.specs.Step.{puncturedBy, heldBy}

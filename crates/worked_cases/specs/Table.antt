@@ -13,8 +13,8 @@ use Rattle.reed_solomon.specs.Code.{Codeword}
 use Rattle.reed_solomon.specs.Encode.{checkBytes}
 use Rattle.randomizer.specs.Prbs as prbs
 use Rattle.randomizer.specs.Packet.{randomized}
-use Rattle.delay_branches.specs.Block.{fresh, blockOut}
-use Rattle.delay_branches.specs.declared.Side.the-variants.{Sending}
+use Rattle.interleaver.specs.Block.{fresh, blockOut}
+use Rattle.interleaver.specs.declared.branches.Side.the-variants.{Sending}
 use Rattle.convolutional_code.specs.Bits.{bitsOf}
 use Rattle.puncturing.specs.Mode.{modeOf}
 use Rattle.inner_code.specs.Stream.{symbols, streamSymbols}
