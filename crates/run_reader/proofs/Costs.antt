@@ -19,7 +19,7 @@ use Rattle.inner_code.specs.declared.InnerCoder.{InnerCoder}
 use Rattle.depuncturing.specs.Steps.{width, kindCost, kindAt, first, puncturedCosts, pairCost}
 use Rattle.inner_code.specs.Encode.{coderAt}
 use Rattle.run_reader.specs.Cost.{totalCost, runCost, symbolCost, costsOf, Costed}
-use Rattle.trellis.proofs.Order.{bits-head}
+use Rattle.viterbi_decoder.proofs.Order.{bits-head}
 use Rattle.convolutional_code.proofs.Bits.{bits-tail}
 use Rattle.puncturing.proofs.Parts.{none-held}
 use Rattle.run_reader.proofs.Serial.{put, flat, holding, stream, stream-symbols, stream-bits}

@@ -8,8 +8,8 @@ use lib.ListN.{length}
 use Rattle.convolutional_code.specs.Bits.{Bits}
 use Rattle.convolutional_code.specs.Code.{tapsX, tapsY, coded}
 use Rattle.convolutional_code.specs.Costs.{costFrom}
-use Rattle.trellis.proofs.Ends.{SomeDecoded, some-decoded}
-use Rattle.trellis.proofs.Laws.{decoded-same}
+use Rattle.viterbi_decoder.proofs.Ends.{SomeDecoded, some-decoded}
+use Rattle.viterbi_decoder.proofs.Laws.{decoded-same}
 use Rattle.puncturing.specs.Step.{patternLength}
 use Rattle.depuncturing.specs.Steps.{kindCost, kindAt, first, puncturedCosts}
 use Rattle.run_reader.specs.Cost.{runCost}

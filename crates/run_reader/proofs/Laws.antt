@@ -17,8 +17,8 @@ use Rattle.common.proofs.Lists.{All-at}
 use Rattle.common.proofs.Largest.{largest-most}
 use Rattle.common.proofs.Choice.{unequal-le}
 use Rattle.convolutional_code.specs.Bits.{Bits}
-use Rattle.trellis.proofs.Ends.{SomeDecoded}
-use Rattle.trellis.proofs.Laws.{decoded-unique}
+use Rattle.viterbi_decoder.proofs.Ends.{SomeDecoded}
+use Rattle.viterbi_decoder.proofs.Laws.{decoded-unique}
 use Rattle.puncturing.specs.Step.{patternLength}
 use Rattle.inner_code.specs.Step.{symbolsOf, coderAfter}
 use Rattle.inner_code.proofs.Coder.{coder-memory}

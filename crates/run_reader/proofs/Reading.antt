@@ -10,8 +10,8 @@ use lib.Seq.{getD-take}
 use Rattle.common.specs.Lists.{All}
 use Rattle.common.proofs.Lists.{All-at, length-listOf}
 use Rattle.convolutional_code.specs.Costs.{costFrom, stepCosts}
-use Rattle.trellis.specs.Best.{Decoded}
-use Rattle.trellis.proofs.Laws.{decoded-same}
+use Rattle.viterbi_decoder.specs.Best.{Decoded}
+use Rattle.viterbi_decoder.proofs.Laws.{decoded-same}
 use Rattle.puncturing.specs.Step.{patternLength}
 use Rattle.depuncturing.specs.Steps.{first, stepValue}
 use Rattle.run_reader.specs.Cost.{runCost, symbolCost, costsOf, Costed}

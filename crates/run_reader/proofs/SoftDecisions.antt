@@ -14,7 +14,7 @@ use Rattle.common.specs.Choice.{pick}
 use Rattle.common.specs.Lists.{All, largest}
 use Rattle.common.proofs.Choice.{both-true}
 use Rattle.common.proofs.Lists.{getD-map-in}
-use Rattle.trellis.proofs.Ends.{SomeDecoded}
+use Rattle.viterbi_decoder.proofs.Ends.{SomeDecoded}
 use Rattle.soft_decision.specs.Cost.{symbolCosts, decidedAs, softly, receivedOf}
 use Rattle.soft_decision.specs.Steps.{costAt, costsAlong, symbolAt}
 use Rattle.soft_decision.specs.declared.BitCosts.{BitCosts}

@@ -16,9 +16,9 @@ use Rattle.common.proofs.Lists.{zeros-at}
 use Rattle.convolutional_code.specs.Bits.{Bits}
 use Rattle.convolutional_code.specs.Code.{memoryAfter}
 use Rattle.convolutional_code.proofs.Bits.{bits-tail, zero-bits}
-use Rattle.trellis.specs.Best.{ZeroAtLast, Best, Decoded}
-use Rattle.trellis.proofs.Order.{bits-head}
-use Rattle.trellis.proofs.Laws.{scale, unique, decoded-unique}
+use Rattle.viterbi_decoder.specs.Best.{ZeroAtLast, Best, Decoded}
+use Rattle.viterbi_decoder.proofs.Order.{bits-head}
+use Rattle.viterbi_decoder.proofs.Laws.{scale, unique, decoded-unique}
 use Rattle.inner_code.specs.Step.{symbolsOf}
 use Rattle.inner_code.specs.Encode.{coderAt}
 use Rattle.soft_decision.specs.Cost.{byLevel, numberCosts, symbolCosts, decidedAs, softly, receivedOf}

@@ -15,11 +15,11 @@ use Rattle.common.proofs.Lists.{getD-map-in}
 use Rattle.convolutional_code.specs.Bits.{Bits}
 use Rattle.convolutional_code.specs.Code.{tapsX, tapsY, coded, memoryAfter}
 use Rattle.convolutional_code.specs.Costs.{costFrom}
-use Rattle.trellis.specs.Best.{Best, Decoded}
+use Rattle.viterbi_decoder.specs.Best.{Best, Decoded}
 use Rattle.convolutional_code.proofs.Bits.{bits-tail}
-use Rattle.trellis.proofs.Ends.{SomeDecoded}
-use Rattle.trellis.proofs.Laws.{Apart, free, best-same}
-use Rattle.trellis.proofs.Order.{bits-head}
+use Rattle.viterbi_decoder.proofs.Ends.{SomeDecoded}
+use Rattle.viterbi_decoder.proofs.Laws.{Apart, free, best-same}
+use Rattle.viterbi_decoder.proofs.Order.{bits-head}
 use Rattle.puncturing.specs.Mode.{modeOf}
 use Rattle.puncturing.specs.Step.{patternLength}
 use Rattle.puncturing.proofs.Places.{tested-at}

@@ -7,8 +7,8 @@ use native.Mathlib.Omega.{arith}
 use lib.ListN.{length, getD}
 use Rattle.convolutional_code.specs.Bits.{Bits}
 use Rattle.convolutional_code.specs.Costs.{costFrom, stepCosts}
-use Rattle.trellis.specs.Best.{Decoded}
-use Rattle.trellis.proofs.Laws.{decoded-same}
+use Rattle.viterbi_decoder.specs.Best.{Decoded}
+use Rattle.viterbi_decoder.proofs.Laws.{decoded-same}
 use Rattle.puncturing.specs.Step.{patternLength}
 use Rattle.depuncturing.specs.Steps.{puncturedCosts, pairCost, stepValue}
 use Rattle.depuncturing.proofs.Facts.{steps-are, cost-same}

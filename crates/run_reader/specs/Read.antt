@@ -12,7 +12,7 @@ use lib.ListN.{length, drop}
 use Rattle.common.specs.Choice.{pick}
 use Rattle.common.specs.Refusal.{unless, when, firstDue}
 use Rattle.common.specs.Lists.{All, largest}
-use Rattle.trellis.specs.Best.{Decoded}
+use Rattle.viterbi_decoder.specs.Best.{Decoded}
 use Rattle.puncturing.specs.Mode.{modeOf}
 use Rattle.puncturing.specs.Step.{patternLength}
 use Rattle.soft_decision.specs.Cost.{receivedOf}

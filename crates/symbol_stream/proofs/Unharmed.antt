@@ -15,7 +15,7 @@ use Rattle.puncturing.specs.Step.{patternLength, symbolsIn}
 use Rattle.inner_code.specs.Step.{symbolsOf}
 use Rattle.inner_code.proofs.Coder.{length-symbols}
 use Rattle.inner_code.specs.Encode.{coderAt}
-use Rattle.trellis.specs.Best.{Decoded}
+use Rattle.viterbi_decoder.specs.Best.{Decoded}
 use Rattle.soft_decision.specs.Cost.{softly, receivedOf}
 use Rattle.soft_decision.specs.declared.Received.{Received}
 use Rattle.run_reader.specs.Clear.{AllClear}

@@ -15,7 +15,7 @@ use Rattle.common.specs.Choice.{pick}
 use Rattle.common.proofs.Computed as computed
 use Rattle.convolutional_code.specs.Code.{tapsX, tapsY, coded}
 use Rattle.convolutional_code.specs.Costs.{at, decided, stepCost}
-use Rattle.trellis.specs.Metric.{from, via, choice}
+use Rattle.viterbi_decoder.specs.Metric.{from, via, choice}
 use Rattle.viterbi_decoder.specs.Lanes.{lane, held, CostRows, Tables, lesser, chosen, Stepped}
 
 -- ---- costs

@@ -17,11 +17,11 @@ use Rattle.common.specs.Choice.{pick}
 use Rattle.common.specs.Lists.{placed}
 use Rattle.common.proofs.Computed as computed
 use Rattle.common.proofs.Outputs.{length-placed}
-use Rattle.trellis.specs.Best.{Decoded}
+use Rattle.viterbi_decoder.specs.Best.{Decoded}
 use Rattle.convolutional_code.specs.Costs.{Costs, costFrom, at, stepCosts, Small}
-use Rattle.trellis.specs.Metric.{far, from, via, choice, metric, choices, path, survivor, FirstLeast}
-use Rattle.trellis.proofs.Paths.{choice-lt, Answer, answer}
-use Rattle.trellis.proofs.Spread.{metric-le, spread}
+use Rattle.viterbi_decoder.specs.Metric.{far, from, via, choice, metric, choices, path, survivor, FirstLeast}
+use Rattle.viterbi_decoder.proofs.Paths.{choice-lt, Answer, answer}
+use Rattle.viterbi_decoder.proofs.Spread.{metric-le, spread}
 use Rattle.viterbi_decoder.specs.Lanes.{lane, held, Stepped, origin, Metrics, Origins, Carried, Forward, low, traced}
 use Rattle.viterbi_decoder.proofs.Butterfly.{stepCost-le, lane-lt, lane-lane}
 

@@ -8,7 +8,7 @@ use lib.ListN.{length, getD}
 use Rattle.common.specs.Choice.{pick}
 use Rattle.convolutional_code.specs.Code.{tapsX, tapsY, coded}
 use Rattle.convolutional_code.specs.Costs.{Costs, at, decided}
-use Rattle.trellis.specs.Metric.{from, via, choice, metric, choices}
+use Rattle.viterbi_decoder.specs.Metric.{from, via, choice, metric, choices}
 
 -- the lane of a memory: its six bits in the other order, so that the newest one counts 1
 unfoldable pub lane : ℕ → ℕ

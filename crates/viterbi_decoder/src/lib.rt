@@ -6,9 +6,9 @@ ghost use Prim.Native.Nat.{ℕ, _+_, _-_, _*_, _/_, _%_, _<_, _≤_};
 ghost use lib.Dec.{eqb};
 ghost use lib.ListN.{length, take, drop};
 ghost use Rattle.common.specs.Choice.{pick};
-ghost use Rattle.trellis.specs.Best.{Decoded};
+ghost use Rattle.viterbi_decoder.specs.Best.{Decoded};
 ghost use Rattle.convolutional_code.specs.Costs.{costFrom, at, decided, stepCost, stepCosts, Small};
-ghost use Rattle.trellis.specs.Metric.{far, FirstLeast};
+ghost use Rattle.viterbi_decoder.specs.Metric.{far, FirstLeast};
 ghost use Rattle.viterbi_decoder.specs.Lanes.{lane, held, Tables, CostRows, lesser as lesserOf, chosen as chosenOf, Stepped, Carried, Forward, low, traced};
 
 // X of the mother code for a bit 0, out of the memory of each lane.

@@ -10,8 +10,8 @@ use Rattle.common.specs.Choice.{pick}
 use Rattle.convolutional_code.proofs.Bits.{next-lt}
 use Rattle.convolutional_code.specs.Code.{nextMemory}
 use Rattle.convolutional_code.specs.Costs.{Costs}
-use Rattle.trellis.specs.Metric.{far, from, via, choice, metric}
-use Rattle.trellis.proofs.Paths.{choice-lt, step-le, six-lead}
+use Rattle.viterbi_decoder.specs.Metric.{far, from, via, choice, metric}
+use Rattle.viterbi_decoder.proofs.Paths.{choice-lt, step-le, six-lead}
 
 pick-le : (t : Bool) (a b c : ℕ) → a ≤ c → b ≤ c → pick t a b ≤ c
 pick-le true a b c h l = h

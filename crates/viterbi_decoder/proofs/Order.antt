@@ -8,7 +8,7 @@ use native.Mathlib.Omega.{arith}
 use lib.ListN.{length, getD, drop}
 use Rattle.convolutional_code.specs.Bits.{Bits, more}
 use Rattle.convolutional_code.proofs.Bits.{bits-tail}
-use Rattle.trellis.specs.Best.{ZeroAtLast}
+use Rattle.viterbi_decoder.specs.Best.{ZeroAtLast}
 
 unfoldable pub rank : List ℕ → ℕ
 rank [] = 0

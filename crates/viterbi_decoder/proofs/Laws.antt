@@ -10,9 +10,9 @@ use lib.ListN.{length}
 use Rattle.convolutional_code.specs.Bits.{Bits}
 use Rattle.convolutional_code.specs.Code.{nextMemory, memoryAfter}
 use Rattle.convolutional_code.proofs.Bits.{bits-tail}
-use Rattle.trellis.specs.Best.{ZeroAtLast, Best, Decoded}
+use Rattle.viterbi_decoder.specs.Best.{ZeroAtLast, Best, Decoded}
 use Rattle.convolutional_code.specs.Costs.{Costs, costFrom}
-use Rattle.trellis.proofs.Order.{bits-head}
+use Rattle.viterbi_decoder.proofs.Order.{bits-head}
 
 -- ---- the best sequence is unique
 

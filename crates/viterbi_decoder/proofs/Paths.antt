@@ -14,10 +14,10 @@ use Rattle.common.specs.Choice.{pick}
 use Rattle.convolutional_code.specs.Bits.{Bits, none, more}
 use Rattle.convolutional_code.specs.Code.{nextMemory, memoryAfter}
 use Rattle.convolutional_code.proofs.Bits.{bits-tail, zero-bits, next-lt, memory-snoc}
-use Rattle.trellis.specs.Best.{Best}
-use Rattle.trellis.proofs.Order.{rank, bits-head, rank-ties}
+use Rattle.viterbi_decoder.specs.Best.{Best}
+use Rattle.viterbi_decoder.proofs.Order.{rank, bits-head, rank-ties}
 use Rattle.convolutional_code.specs.Costs.{Costs, costFrom}
-use Rattle.trellis.specs.Metric.{far, from, via, choice, metric, path, survivor, FirstLeast}
+use Rattle.viterbi_decoder.specs.Metric.{far, from, via, choice, metric, path, survivor, FirstLeast}
 
 -- memory, cost and rank of bits that stand newest first
 memory : ℕ → List ℕ → ℕ

@@ -8,10 +8,10 @@ use native.Mathlib.Decide.{decLt}
 use native.Mathlib.Nat.{eq-or-lt-of-le}
 use native.Mathlib.Numerals.{add-one}
 use native.Mathlib.Omega.{arith}
-use Rattle.trellis.specs.Best.{Decoded}
+use Rattle.viterbi_decoder.specs.Best.{Decoded}
 use Rattle.convolutional_code.specs.Costs.{Costs, costFrom}
-use Rattle.trellis.specs.Metric.{metric, survivor, FirstLeast}
-use Rattle.trellis.proofs.Paths.{Answer, answer}
+use Rattle.viterbi_decoder.specs.Metric.{metric, survivor, FirstLeast}
+use Rattle.viterbi_decoder.proofs.Paths.{Answer, answer}
 
 pub ends-one : (M : ℕ → ℕ) → FirstLeast M 1 0
 ends-one M = record { small = omega arith; least = λ t h. rw (is-zero t (omega arith)) (omega arith); first = λ t h. absurd (omega arith) }
