@@ -9,9 +9,9 @@ use lib.Ieee.{Float}
 use lib.ListN.{length, take}
 use lib.Dec.{ltb}
 use Rattle.common.specs.Lists.{All, largest}
-use Rattle.soft_decision.specs.Cost.{softly, receivedOf}
-use Rattle.soft_decision.specs.declared.Received.{Received}
-use Rattle.soft_decision.proofs.Runs.{length-received}
+use Rattle.branch_metrics.specs.Cost.{softly, receivedOf}
+use Rattle.branch_metrics.specs.declared.soft_decision.Received.{Received}
+use Rattle.branch_metrics.proofs.Runs.{length-received}
 use Rattle.run_reader.specs.Cost.{differing, runCost, costsOf, Costed}
 use Rattle.run_reader.specs.Read.{runBits, valid, sound, answerNumber, Readable, BestRead, AnswersRun, ReadsHard, ReadsSoft, read}
 use Rattle.run_reader.proofs.Decisions as hard

@@ -16,7 +16,7 @@ use Rattle.convolutional_code.specs.Costs.{costFrom}
 use Rattle.puncturing.specs.Step.{patternLength, nextPlace}
 use Rattle.inner_code.specs.Step.{symbolsOf, coderAfter}
 use Rattle.inner_code.specs.declared.InnerCoder.{InnerCoder}
-use Rattle.depuncturing.specs.Steps.{width, kindCost, kindAt, first, puncturedCosts, pairCost}
+use Rattle.branch_metrics.specs.Steps.{width, kindCost, kindAt, first, puncturedCosts, pairCost}
 use Rattle.inner_code.specs.Encode.{coderAt}
 use Rattle.run_reader.specs.Cost.{totalCost, runCost, symbolCost, costsOf, Costed}
 use Rattle.viterbi_decoder.proofs.Order.{bits-head}

@@ -11,7 +11,7 @@ use Rattle.convolutional_code.specs.Costs.{costFrom}
 use Rattle.viterbi_decoder.proofs.Ends.{SomeDecoded, some-decoded}
 use Rattle.viterbi_decoder.proofs.Laws.{decoded-same}
 use Rattle.puncturing.specs.Step.{patternLength}
-use Rattle.depuncturing.specs.Steps.{kindCost, kindAt, first, puncturedCosts}
+use Rattle.branch_metrics.specs.Steps.{kindCost, kindAt, first, puncturedCosts}
 use Rattle.run_reader.specs.Cost.{runCost}
 use Rattle.run_reader.specs.Read.{symbolsPerPattern, runBits}
 use Rattle.run_reader.proofs.Patterns.{run-whole, run-symbols}

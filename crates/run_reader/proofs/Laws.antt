@@ -22,7 +22,7 @@ use Rattle.viterbi_decoder.proofs.Laws.{decoded-unique}
 use Rattle.puncturing.specs.Step.{patternLength}
 use Rattle.inner_code.specs.Step.{symbolsOf, coderAfter}
 use Rattle.inner_code.proofs.Coder.{coder-memory}
-use Rattle.soft_decision.specs.Cost.{receivedOf}
+use Rattle.branch_metrics.specs.Cost.{receivedOf}
 use Rattle.inner_code.specs.Encode.{coderAt}
 use Rattle.run_reader.specs.Cost.{differing, totalCost, hardCost, softCost}
 use Rattle.run_reader.specs.Read.{symbolsPerPattern, runBits, runLength, valid, sound, readNumber, softNumber, BestRead, AnswersRun, ReadsHard, refused, read}

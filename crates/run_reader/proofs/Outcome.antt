@@ -18,7 +18,7 @@ use Rattle.common.specs.Lists.{All, largest}
 use Rattle.common.proofs.Choice.{flag-false, flag-true}
 use Rattle.common.proofs.Lists.{All-of}
 use Rattle.common.proofs.Largest.{largest-least}
-use Rattle.depuncturing.specs.Steps.{kindAt, first, value, stepValue}
+use Rattle.branch_metrics.specs.Steps.{kindAt, first, value, stepValue}
 use Rattle.run_reader.specs.Read.{symbolsPerPattern, runBits, answerNumber, Readable, AnswersRun, refused}
 use Rattle.run_reader.specs.declared.Read.{Read}
 use Rattle.run_reader.proofs.Patterns.{some-symbols, symbols-few}

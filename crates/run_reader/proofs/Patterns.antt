@@ -17,7 +17,7 @@ use Rattle.puncturing.proofs.Parts.{place-after, none-held, whole-count}
 use Rattle.inner_code.specs.Step.{CoderInRange, symbolsOf, coderAfter}
 use Rattle.inner_code.specs.declared.InnerCoder.{InnerCoder}
 use Rattle.inner_code.proofs.Coder.{coder-rate, coder-memory, coder-place, coder-in-range, length-symbols}
-use Rattle.depuncturing.specs.Steps.{kind, first}
+use Rattle.branch_metrics.specs.Steps.{kind, first}
 use Rattle.inner_code.specs.Encode.{coderAt}
 use Rattle.run_reader.specs.Read.{symbolsPerPattern, runBits, runLength}
 

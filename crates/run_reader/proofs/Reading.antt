@@ -13,7 +13,7 @@ use Rattle.convolutional_code.specs.Costs.{costFrom, stepCosts}
 use Rattle.viterbi_decoder.specs.Best.{Decoded}
 use Rattle.viterbi_decoder.proofs.Laws.{decoded-same}
 use Rattle.puncturing.specs.Step.{patternLength}
-use Rattle.depuncturing.specs.Steps.{first, stepValue}
+use Rattle.branch_metrics.specs.Steps.{first, stepValue}
 use Rattle.run_reader.specs.Cost.{runCost, symbolCost, costsOf, Costed}
 use Rattle.run_reader.specs.Read.{symbolsPerPattern, runBits, Readable, BestRead}
 use Rattle.run_reader.proofs.Patterns.{run-whole, run-symbols, coded-bits, memory-in-range}

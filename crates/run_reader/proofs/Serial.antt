@@ -11,7 +11,7 @@ use Rattle.convolutional_code.specs.Code.{tapsX, tapsY, nextMemory, coded}
 use Rattle.convolutional_code.proofs.Bits.{bits-append, coded-lt}
 use Rattle.puncturing.specs.Mode.{modeOf}
 use Rattle.puncturing.specs.Step.{nextPlace, heldCount, symbolList, punctured, heldAfter, puncturedBy, heldBy, heldCountBy}
-use Rattle.depuncturing.specs.Steps.{kind}
+use Rattle.branch_metrics.specs.Steps.{kind}
 use Rattle.puncturing.proofs.Places.{end, _&_, Everywhere, everywhere}
 use Rattle.inner_code.specs.Step.{CoderInRange, coderStep, symbolStep, symbolsOf, coderAfter, symbolsBy, coderBy}
 use Rattle.inner_code.specs.declared.InnerCoder.{InnerCoder}

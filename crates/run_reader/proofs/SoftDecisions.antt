@@ -15,14 +15,14 @@ use Rattle.common.specs.Lists.{All, largest}
 use Rattle.common.proofs.Choice.{both-true}
 use Rattle.common.proofs.Lists.{getD-map-in}
 use Rattle.viterbi_decoder.proofs.Ends.{SomeDecoded}
-use Rattle.soft_decision.specs.Cost.{symbolCosts, decidedAs, softly, receivedOf}
-use Rattle.soft_decision.specs.Steps.{costAt, costsAlong, symbolAt}
-use Rattle.soft_decision.specs.declared.BitCosts.{BitCosts}
-use Rattle.soft_decision.specs.declared.Received.{Received}
-use Rattle.soft_decision.specs.declared.Received.the-variants.{Lost}
-use Rattle.soft_decision.specs.declared.SymbolCosts.{SymbolCosts}
-use Rattle.soft_decision.proofs.Numbers.{costs-small}
-use Rattle.soft_decision.proofs.Runs.{length-received, received-at, along-small}
+use Rattle.branch_metrics.specs.Cost.{symbolCosts, decidedAs, softly, receivedOf}
+use Rattle.branch_metrics.specs.PointCosts.{costAt, costsAlong, symbolAt}
+use Rattle.branch_metrics.specs.declared.soft_decision.BitCosts.{BitCosts}
+use Rattle.branch_metrics.specs.declared.soft_decision.Received.{Received}
+use Rattle.branch_metrics.specs.declared.soft_decision.Received.the-variants.{Lost}
+use Rattle.branch_metrics.specs.declared.soft_decision.SymbolCosts.{SymbolCosts}
+use Rattle.branch_metrics.proofs.Numbers.{costs-small}
+use Rattle.branch_metrics.proofs.Runs.{length-received, received-at, along-small}
 use Rattle.run_reader.specs.Cost.{softCost, Costed}
 use Rattle.run_reader.specs.Read.{symbolsPerPattern, runBits, sound}
 use Rattle.run_reader.proofs.Costs.{Splits}

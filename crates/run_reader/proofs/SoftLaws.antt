@@ -21,11 +21,11 @@ use Rattle.viterbi_decoder.proofs.Order.{bits-head}
 use Rattle.viterbi_decoder.proofs.Laws.{scale, unique, decoded-unique}
 use Rattle.inner_code.specs.Step.{symbolsOf}
 use Rattle.inner_code.specs.Encode.{coderAt}
-use Rattle.soft_decision.specs.Cost.{byLevel, numberCosts, symbolCosts, decidedAs, softly, receivedOf}
-use Rattle.soft_decision.specs.declared.Point.{Point}
-use Rattle.soft_decision.specs.declared.Received.{Received}
-use Rattle.soft_decision.specs.declared.Received.the-variants.{At, Lost}
-use Rattle.soft_decision.proofs.Numbers.{costs-nan, costs-one, costs-minus-one}
+use Rattle.branch_metrics.specs.Cost.{byLevel, numberCosts, symbolCosts, decidedAs, softly, receivedOf}
+use Rattle.branch_metrics.specs.declared.soft_decision.Point.{Point}
+use Rattle.branch_metrics.specs.declared.soft_decision.Received.{Received}
+use Rattle.branch_metrics.specs.declared.soft_decision.Received.the-variants.{At, Lost}
+use Rattle.branch_metrics.proofs.Numbers.{costs-nan, costs-one, costs-minus-one}
 use Rattle.run_reader.specs.Clear as clear
 use Rattle.run_reader.specs.Clear.{Clear, AllClear}
 use Rattle.run_reader.specs.Cost.{differing, totalCost, hardCost, softCost}

@@ -24,7 +24,7 @@ use Rattle.puncturing.specs.Mode.{modeOf}
 use Rattle.puncturing.specs.Step.{patternLength}
 use Rattle.puncturing.proofs.Places.{tested-at}
 use Rattle.puncturing.proofs.Steps.{some-bits}
-use Rattle.depuncturing.specs.Steps.{kind, kindCost, kindAt, first, puncturedCosts}
+use Rattle.branch_metrics.specs.Steps.{kind, kindCost, kindAt, first, puncturedCosts}
 use Rattle.inner_code.specs.Step.{symbolsOf}
 use Rattle.inner_code.specs.Encode.{coderAt}
 use Rattle.run_reader.specs.Clear.{Clear, AllClear, none, more}

@@ -10,8 +10,8 @@ use Rattle.convolutional_code.specs.Costs.{costFrom, stepCosts}
 use Rattle.viterbi_decoder.specs.Best.{Decoded}
 use Rattle.viterbi_decoder.proofs.Laws.{decoded-same}
 use Rattle.puncturing.specs.Step.{patternLength}
-use Rattle.depuncturing.specs.Steps.{puncturedCosts, pairCost, stepValue}
-use Rattle.depuncturing.proofs.Facts.{steps-are, cost-same}
+use Rattle.branch_metrics.specs.Steps.{puncturedCosts, pairCost, stepValue}
+use Rattle.branch_metrics.proofs.Facts.{steps-are, cost-same}
 use Rattle.inner_code.specs.Step.{symbolsOf}
 use Rattle.inner_code.specs.Encode.{coderAt}
 use Rattle.run_reader.specs.Cost.{runCost}

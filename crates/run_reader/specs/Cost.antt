@@ -9,8 +9,8 @@ use Rattle.common.specs.Choice.{unequal}
 use Rattle.common.specs.Lists.{listOf}
 use Rattle.inner_code.specs.Encode.{coderAt}
 use Rattle.inner_code.specs.Step.{symbolsOf}
-use Rattle.soft_decision.specs.Cost.{softly}
-use Rattle.soft_decision.specs.declared.Received.{Received}
+use Rattle.branch_metrics.specs.Cost.{softly}
+use Rattle.branch_metrics.specs.declared.soft_decision.Received.{Received}
 
 -- in how many of I and Q a received symbol differs from one that is sent
 abbrev pub differing : ℕ → ℕ → ℕ

@@ -15,7 +15,7 @@ use Rattle.common.specs.Lists.{All, largest}
 use Rattle.viterbi_decoder.specs.Best.{Decoded}
 use Rattle.puncturing.specs.Mode.{modeOf}
 use Rattle.puncturing.specs.Step.{patternLength}
-use Rattle.soft_decision.specs.Cost.{receivedOf}
+use Rattle.branch_metrics.specs.Cost.{receivedOf}
 use Rattle.run_reader.specs.Cost.{hardCost, softCost}
 
 -- how many symbols a rate's pattern has

@@ -8,9 +8,9 @@ ghost use Rattle.run_reader.specs.Cost.{runCost, costsOf};
 ghost use Rattle.run_reader.specs.Read.{symbolsPerPattern, runBits, sound, answerNumber, Readable, BestRead, ReadsHard, ReadsSoft};
 ghost use Rattle.run_reader.specs.Decisions.{decisionCost};
 use answer::Answer;
-use depuncturing::spread_costs;
+use branch_metrics::depuncturing::spread_costs;
+use branch_metrics::soft_decision::write_costs;
 use puncturing::pattern_length;
-use soft_decision::write_costs;
 use viterbi_decoder::Run;
 use viterbi_decoder::decode;
 

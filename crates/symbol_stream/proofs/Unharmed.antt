@@ -16,8 +16,8 @@ use Rattle.inner_code.specs.Step.{symbolsOf}
 use Rattle.inner_code.proofs.Coder.{length-symbols}
 use Rattle.inner_code.specs.Encode.{coderAt}
 use Rattle.viterbi_decoder.specs.Best.{Decoded}
-use Rattle.soft_decision.specs.Cost.{softly, receivedOf}
-use Rattle.soft_decision.specs.declared.Received.{Received}
+use Rattle.branch_metrics.specs.Cost.{softly, receivedOf}
+use Rattle.branch_metrics.specs.declared.soft_decision.Received.{Received}
 use Rattle.run_reader.specs.Clear.{AllClear}
 use Rattle.run_reader.specs.Cost.{differing, runCost, Costed}
 use Rattle.run_reader.specs.Read.{symbolsPerPattern, runBits, runLength}
