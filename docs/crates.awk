@@ -3,7 +3,7 @@
 
 BEGIN {
     # From packets to symbols: these are wanted in this order, from left to right, each list by itself.
-    ways = split("group_sync randomizer reed_solomon interleaver inner_code run_reader;report receiver sender;stream_receiver sending symbol_pass", way, ";")
+    ways = split("group_sync randomizer reed_solomon interleaver inner_code reader;report receiver sender;stream_receiver sending symbol_pass", way, ";")
     apart = 58; top = 92; margin = 20; high = 22
     fill["program"] = "#f6cf8f"; stroke["program"] = "#b3791f"; said["program"] = "program"
     fill["public"] = "#a9c8ec"; stroke["public"] = "#1f5fa8"; said["public"] = "library, for callers"

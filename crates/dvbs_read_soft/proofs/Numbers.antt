@@ -14,8 +14,8 @@ use Rattle.common.specs.Lists.{All, chunks, chunksOf, restOf}
 use Rattle.common.proofs.Choice.{false-true}
 use Rattle.common.proofs.Lists.{getD-map-in}
 use Rattle.common.proofs.Chunks.{length-chunks}
-use Rattle.run_reader.proofs.Outcome.{not-true}
-use Rattle.run_reader.proofs.SoftDecisions.{along-costed}
+use Rattle.reader.proofs.Outcome.{not-true}
+use Rattle.reader.proofs.SoftDecisions.{along-costed}
 use Rattle.branch_metrics.specs.PointCosts.{costsAlong}
 use Rattle.branch_metrics.specs.declared.soft_decision.Received.the-variants.{Lost}
 use Rattle.branch_metrics.proofs.Runs.{along-small}

@@ -31,8 +31,8 @@ use Rattle.puncturing.proofs.Steps.{some-bits}
 use Rattle.puncturing.proofs.Places.{up, length-le}
 use Rattle.inner_code.specs.Step.{symbolsOf}
 use Rattle.inner_code.specs.Encode.{coderAt}
-use Rattle.run_reader.specs.Read.{symbolsPerPattern, runBits, runLength}
-use Rattle.run_reader.proofs.Unharmed.{clear-length}
+use Rattle.reader.specs.Read.{symbolsPerPattern, runBits, runLength}
+use Rattle.reader.proofs.Unharmed.{clear-length}
 use Rattle.symbol_stream.proofs.Unharmed.{stream-whole, last-pattern}
 use Rattle.sender.specs.Input.{Input, packetFor, packetsFor}
 use Rattle.sender.proofs.Inputs.{packets-sent}

@@ -18,9 +18,9 @@ use Rattle.puncturing.proofs.WellFormed.{well-formed}
 use Rattle.inner_code.specs.Step.{symbolsOf}
 use Rattle.inner_code.proofs.Stream.{symbols-fresh, stream-qpsk}
 use Rattle.inner_code.specs.Encode.{coderAt}
-use Rattle.run_reader.specs.Read.{symbolsPerPattern, runLength}
-use Rattle.run_reader.specs.Runs.{Run, Readings}
-use Rattle.run_reader.proofs.Streams.{fits, stream-read, up-to-last}
+use Rattle.reader.specs.Read.{symbolsPerPattern, runLength}
+use Rattle.reader.specs.Runs.{Run, Readings}
+use Rattle.reader.proofs.Streams.{fits, stream-read, up-to-last}
 use Rattle.sender.specs.Standard.{onAir}
 use Rattle.sender.specs.Input.{Input, packetsFor}
 use Rattle.sender.specs.Send.{freshSender}

@@ -10,10 +10,10 @@ use Rattle.common.specs.Lists.{All, chunksOf}
 use Rattle.bit_packing.specs.Packing.{packedBytes, Packings}
 use Rattle.puncturing.specs.Mode.{modeOf}
 use Rattle.puncturing.specs.Step.{patternLength}
-use Rattle.run_reader.specs.Clear.{AllClear}
-use Rattle.run_reader.specs.Cost.{Costed}
-use Rattle.run_reader.specs.Read.{symbolsPerPattern}
-use Rattle.run_reader.specs.Runs.{Run, Readings}
+use Rattle.reader.specs.Clear.{AllClear}
+use Rattle.reader.specs.Cost.{Costed}
+use Rattle.reader.specs.Read.{symbolsPerPattern}
+use Rattle.reader.specs.Runs.{Run, Readings}
 use Rattle.symbol_stream.specs.Stream.{Closes}
 use Rattle.symbol_stream.specs.History.{SymbolFeedings}
 use Rattle.symbol_stream.specs.declared.SymbolStream.{SymbolStream}

@@ -23,8 +23,8 @@ use Rattle.inner_code.specs.Stream.{symbols}
 use Rattle.inner_code.specs.Step.{symbolsOf}
 use Rattle.inner_code.proofs.Stream.{symbols-fresh, stream-qpsk}
 use Rattle.inner_code.specs.Encode.{coderAt}
-use Rattle.run_reader.proofs.Patterns.{sent-whole}
-use Rattle.run_reader.proofs.Unharmed.{hard-decoded, own-best}
+use Rattle.reader.proofs.Patterns.{sent-whole}
+use Rattle.reader.proofs.Unharmed.{hard-decoded, own-best}
 use Rattle.sender.specs.Standard.{onAir}
 use Rattle.sender.specs.Input.{packetsFor}
 use Rattle.sender.proofs.Inputs.{packets-kept}

@@ -36,7 +36,7 @@ pub extern "C" fn dvbs_read_run(
     if result.len() < 6 {
         return 0;
     }
-    let read = run_reader::read_run(rate, memory, symbols, output);
+    let read = reader::read_run(rate, memory, symbols, output);
     let answer = read.answer;
     put_result(answer.number(), read.memory, read.cost, result);
     read.count as u64
@@ -60,7 +60,7 @@ pub extern "C" fn dvbs_read_soft_run(
     if result.len() < 6 {
         return 0;
     }
-    let read = run_reader::read_soft_run(rate, memory, i, q, lost, output);
+    let read = reader::read_soft_run(rate, memory, i, q, lost, output);
     let answer = read.answer;
     put_result(answer.number(), read.memory, read.cost, result);
     read.count as u64

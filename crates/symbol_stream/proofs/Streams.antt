@@ -1,8 +1,8 @@
 -- The numbers of a rate; a longest run; feeding a piece, and the end of a stream, in costs.
 -- Assumes nothing.
 use Rattle.symbol_stream.specs.declared.SymbolStream.{SymbolStream}
-use Rattle.run_reader.proofs.Streams.{take-bits, memory-append}
-use Rattle.run_reader.proofs.Patterns.{some-symbols, memory-in-range}
+use Rattle.reader.proofs.Streams.{take-bits, memory-append}
+use Rattle.reader.proofs.Patterns.{some-symbols, memory-in-range}
 use Rattle.common.specs.Lists.{All}
 use mathlib.Core.Path.{_≡_, refl, sym, _∙_, ap, subst}
 use mathlib.Core.List.{List, [], _∷_, _++_}
@@ -19,8 +19,8 @@ use Rattle.convolutional_code.specs.Bits.{Bits}
 use Rattle.convolutional_code.specs.Code.{nextMemory, memoryAfter}
 use Rattle.puncturing.specs.Mode.{modeOf}
 use Rattle.puncturing.specs.Step.{patternLength}
-use Rattle.run_reader.specs.Cost.{runCost, costsOf}
-use Rattle.run_reader.specs.Read.{symbolsPerPattern, runBits, Readable, BestRead}
+use Rattle.reader.specs.Cost.{runCost, costsOf}
+use Rattle.reader.specs.Read.{symbolsPerPattern, runBits, Readable, BestRead}
 use Rattle.symbol_stream.specs.Stream.{runPatterns, keptPatterns, fullSymbols, keptSymbols, keptBits, fullCosts, keptCosts, heldOf, FullRead, StreamReady, FeedsSymbols, gathered, read, Closes}
 
 -- ---- the memory after bits, one after the other

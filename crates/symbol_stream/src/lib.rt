@@ -11,8 +11,8 @@ ghost use Rattle.convolutional_code.specs.Bits.{Bits};
 ghost use Rattle.symbol_stream.specs.Stream.{fullCosts, keptCosts, keptBits, FullRead, StreamReady, StreamHolds, FeedsSymbols, Closes};
 use common::put;
 use convolutional_code::next_memory;
-use run_reader::read_costs;
-use run_reader::symbol_count;
+use reader::read_costs;
+use reader::symbol_count;
 
 // A stream in progress: the rate, the coder's memory before the first symbol that is held, the costs of the symbols that are held, and how many
 // costs these are.

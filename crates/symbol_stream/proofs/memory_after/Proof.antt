@@ -6,7 +6,7 @@ use native.Mathlib.Omega.{arith}
 use borrow.Author.Needs.{needs}
 use lib.ListN.{length}
 use Rattle.convolutional_code.specs.Bits.{Bits}
-use Rattle.run_reader.proofs.Streams.{drop-bits}
+use Rattle.reader.proofs.Streams.{drop-bits}
 use Rattle.symbol_stream.proofs.Streams.{back-whole, last-six}
 use Rattle.symbol_stream.proofs.memory_after.Statement.{statement}
 use Rattle.symbol_stream.proofs.memory_after.Tie as tie
