@@ -9,7 +9,7 @@ use lib.ListN.{length, getD, drop}
 use Rattle.common.specs.Choice.{pick}
 use Rattle.common.specs.Refusal.{unless, when, firstDue}
 use Rattle.answer.specs.Number.{numberOf}
-use Rattle.count_bytes.specs.Bytes.{toBytes, numbersOf}
+use Rattle.reception_counts.specs.Bytes.{toBytes, numbersOf}
 use Rattle.receiver.specs.Receive.{freshReceiver, receiverInRange, Receives}
 use Rattle.receiver.specs.Run.{takenBy}
 use Rattle.receiver.specs.declared.Receiver.{Receiver}

@@ -10,7 +10,7 @@ use Rattle.common.specs.Refusal.{Test, unless, when, firstDue}
 use Rattle.receiver.specs.Receive.{freshReceiver}
 use Rattle.receiver.specs.declared.Receiver.{Receiver}
 use Rattle.recording.specs.Recording.{TakesRecording, recordingTests, marksFor}
-use Rattle.count_bytes.specs.Bytes.{countBytes}
+use Rattle.reception_counts.specs.Bytes.{countBytes}
 
 -- the number of the answer: 4 where there are too few bytes for the counts, then what the run answers
 abbrev pub receiveRunTests : List ℕ → List ℕ → List ℕ → List Test

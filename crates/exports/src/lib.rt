@@ -10,12 +10,12 @@ ghost use lib.ListN.{length, drop, set};
 ghost use Rattle.common.specs.Choice.{pick};
 ghost use Rattle.answer.specs.Number.{numberOf};
 ghost use Rattle.reed_solomon.specs.Decode.{decodedNumber};
-ghost use Rattle.count_bytes.specs.Bytes.{countBytes};
+ghost use Rattle.reception_counts.specs.Bytes.{countBytes};
 ghost use Rattle.exports.specs.Decode.{countAfter, DecodeExported, DecodeMarkedExported};
 ghost use Rattle.exports.specs.SendRun.{sendRunCount, sendRunOutput, sendRunAnswer};
 ghost use Rattle.exports.specs.ReceiveRun.{ReceiveRunExported, ReceiveMarkedRunExported};
 ghost use Rattle.exports.specs.RecordingBlock.{RecordingBlockExported};
-use count_bytes::put_counts;
+use reception_counts::count_bytes::put_counts;
 use recording::Recorded;
 use reed_solomon::Decoded;
 

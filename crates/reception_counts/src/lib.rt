@@ -3,6 +3,9 @@
 ghost use mathlib.Core.Path.{_≡_};
 ghost use Prim.Native.Nat.{min};
 ghost use Rattle.reception_counts.specs.Counts.{CountsFit, zeroCounts, countsInRange, outcomeNumber, counted};
+
+pub mod count_bytes;
+
 use group_sync::Outcome;
 
 // How many blocks were taken, what each of them came to, and how many bytes and bits were changed in the accepted ones.

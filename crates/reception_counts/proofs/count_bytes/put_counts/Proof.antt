@@ -1,4 +1,4 @@
--- `count_bytes::put_counts` meets its contract.
+-- `reception_counts::count_bytes::put_counts` meets its contract.
 -- Assumes nothing.
 use mathlib.Core.Path.{_≡_, refl, sym, ap, ap₂, _∙_}
 use mathlib.Core.List.{List, _++_, map, flatten}
@@ -8,11 +8,11 @@ use lib.ListN.{length, getD, take, drop, length-append, length-take, length-drop
 use lib.Seq.{take-suc}
 use Rattle.common.specs.Lists.{placed}
 use Rattle.common.proofs.Lists.{put-after}
-use Rattle.count_bytes.specs.Bytes.{toBytes, numbersOf, countBytes}
-use Rattle.count_bytes.proofs.Numbers.{length-to, each-length, each-snoc}
+use Rattle.reception_counts.specs.Bytes.{toBytes, numbersOf, countBytes}
+use Rattle.reception_counts.proofs.Numbers.{length-to, each-length, each-snoc}
 use borrow.Author.Needs.{needs}
-use Rattle.count_bytes.proofs.put_counts.Statement.{statement}
-use Rattle.count_bytes.proofs.put_counts.Tie as tie
+use Rattle.reception_counts.proofs.count_bytes.put_counts.Statement.{statement}
+use Rattle.reception_counts.proofs.count_bytes.put_counts.Tie as tie
 
 -- the first i of eight numbers are written
 record Put (output₀ numbers output : List ℕ) (i : ℕ) : Type 0 where

@@ -1,4 +1,4 @@
--- `count_bytes::put_number` meets its contract.
+-- `reception_counts::count_bytes::put_number` meets its contract.
 -- Assumes nothing.
 use mathlib.Core.Path.{_≡_, refl, _∙_}
 use mathlib.Core.List.{List}
@@ -9,11 +9,11 @@ use Rattle.common.specs.Lists.{placed}
 use Rattle.common.proofs.Written.{Written, written-none, written-more, written-length}
 use Rattle.common.proofs.Outputs.{placed-all}
 use Rattle.common.specs.Bytes.{byteAt}
-use Rattle.count_bytes.specs.Bytes.{toBytes}
-use Rattle.count_bytes.proofs.Numbers.{length-to, byte-to}
+use Rattle.reception_counts.specs.Bytes.{toBytes}
+use Rattle.reception_counts.proofs.Numbers.{length-to, byte-to}
 use borrow.Author.Needs.{needs}
-use Rattle.count_bytes.proofs.put_number.Statement.{statement}
-use Rattle.count_bytes.proofs.put_number.Tie as tie
+use Rattle.reception_counts.proofs.count_bytes.put_number.Statement.{statement}
+use Rattle.reception_counts.proofs.count_bytes.put_number.Tie as tie
 
 abbrev Inv-loop : tie.InvT-loop
 Inv-loop number at output₀ k₀ output k = Written at output₀ (toBytes 8 number) output k

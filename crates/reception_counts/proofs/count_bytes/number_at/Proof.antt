@@ -1,4 +1,4 @@
--- `count_bytes::number_at` meets its contract.
+-- `reception_counts::count_bytes::number_at` meets its contract.
 -- Assumes nothing.
 use mathlib.Core.Path.{_≡_, refl, sym, ap, ap₂, subst, _∙_}
 use mathlib.Core.List.{List}
@@ -8,11 +8,11 @@ use lib.ListN.{length, getD, take, drop, length-take}
 use lib.Seq.{drop-cons}
 use Rattle.common.specs.Lists.{ByteEntries}
 use Rattle.common.proofs.Entries.{entries-take, entries-drop}
-use Rattle.count_bytes.specs.Bytes.{fromBytes}
-use Rattle.count_bytes.proofs.Numbers.{from-below-seven}
+use Rattle.reception_counts.specs.Bytes.{fromBytes}
+use Rattle.reception_counts.proofs.Numbers.{from-below-seven}
 use borrow.Author.Needs.{needs}
-use Rattle.count_bytes.proofs.number_at.Statement.{statement}
-use Rattle.count_bytes.proofs.number_at.Tie as tie
+use Rattle.reception_counts.proofs.count_bytes.number_at.Statement.{statement}
+use Rattle.reception_counts.proofs.count_bytes.number_at.Tie as tie
 
 -- the number of the bytes that are read, which are the last of eight
 record Joined (bytes : List ℕ) (at number left : ℕ) : Type 0 where

@@ -5,9 +5,9 @@ ghost use mathlib.Core.List.{_++_};
 ghost use Prim.Native.Nat.{_+_, _*_, _≤_, _<_};
 ghost use lib.ListN.{length, take, drop};
 ghost use Rattle.common.specs.Lists.{placed};
-ghost use Rattle.count_bytes.specs.Bytes.{toBytes, fromBytes, countBytes, countsAt};
+ghost use Rattle.reception_counts.specs.Bytes.{toBytes, fromBytes, countBytes, countsAt};
+use crate::Counts;
 use common::byte_at;
-use reception_counts::Counts;
 
 // Writes a number in eight bytes, from a place on.
 fn put_number(number: u64, at: usize, output: &mut [u8])

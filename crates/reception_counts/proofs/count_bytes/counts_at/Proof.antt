@@ -1,9 +1,9 @@
--- `count_bytes::counts_at` meets its contract.
+-- `reception_counts::count_bytes::counts_at` meets its contract.
 -- Assumes nothing.
 
 use borrow.Author.Needs.{needs}
-use Rattle.count_bytes.proofs.counts_at.Statement.{statement}
-use Rattle.count_bytes.proofs.counts_at.Tie as tie
+use Rattle.reception_counts.proofs.count_bytes.counts_at.Statement.{statement}
+use Rattle.reception_counts.proofs.count_bytes.counts_at.Tie as tie
 
 number-at-requires : tie.Need-number-at-requires
 number-at-requires c κs = search needs
