@@ -213,11 +213,11 @@ pub extern "C" fn dvbs_recording_block(
     if count.len() < 2 {
         // As with no room at all: 5 and 16 come before 4.
         let mut none = [0u8; 0];
-        let refused = recorded_block::decoded_block(recording, blocks, p, &mut none);
+        let refused = recording::block::decoded_block(recording, blocks, p, &mut none);
         let answer = refused.answer;
         return answer.number();
     }
-    let decoded = recorded_block::decoded_block(recording, blocks, p, output);
+    let decoded = recording::block::decoded_block(recording, blocks, p, output);
     let answer = decoded.answer;
     let number = answer.number();
     if number == 0 {

@@ -3,7 +3,7 @@ ghost use mathlib.Core.Path.{_≡_};
 ghost use Prim.Native.Nat.{_+_, _*_, _≤_, min};
 ghost use lib.ListN.{length};
 ghost use Rattle.interleaver.specs.Gathered.{gathered};
-ghost use Rattle.recorded_block.specs.Block.{blockCount, GivesBlock};
+ghost use Rattle.recording.specs.Block.{blockCount, GivesBlock};
 use answer::Answer;
 use reed_solomon::Changed;
 use reed_solomon::Decoded;

@@ -40,8 +40,8 @@ use Rattle.receiver.proofs.Calls.{state-range, ready-number, ready-state, chang
 use Rattle.receiver.proofs.Outcomes.{Unrefused, next-unrefused, branches-after, taken-after, unmarked-after}
 use Rattle.receiver.proofs.MarkDelays.{none-decodes}
 use Rattle.receiver.proofs.Reception.{blocks-count}
-use Rattle.recorded_block.specs.Block.{blockRefusal, outputWith, GivesBlock}
-use Rattle.recorded_block.specs.declared.DecodedBlock.{DecodedBlock}
+use Rattle.recording.specs.Block.{blockRefusal, outputWith, GivesBlock}
+use Rattle.recording.specs.declared.block.DecodedBlock.{DecodedBlock}
 
 -- the branches after calls that are not refused
 branches-calls : (cs : List Call) (s : Receiver) → Unrefused s cs

@@ -1,4 +1,4 @@
--- `recorded_block::RecordingView::new` meets its contract: a walk of its MIR, by hand. `whole_blocks` is called on the slice, and a `RecordingView` is made of the slice and the number it returns.
+-- `recording::block::RecordingView::new` meets its contract: a walk of its MIR, by hand. `whole_blocks` is called on the slice, and a `RecordingView` is made of the slice and the number it returns.
 -- A `&[u8]` is Copy, so what it owns is had twice: once for the call and the exit, and once inside the result.
 -- Assumes nothing.
 use mathlib.Core.Path.{_≡_, refl, ap}
@@ -38,17 +38,17 @@ use denote.Triple.Table.{entered, cited}
 use denote.Triple.Walked.{says, Stays, stay-none-slice, walkOf, goes-none-slice, Walks, ends-at, walked, walk-meets}
 use denote.Exit.{yes}
 use denote.Triple.Clauses.{ensured, lasts}
-use Rattle.recorded_block.specs.declared.RecordingView.{RecordingView}
-use Rattle.recorded_block.proofs.RecordingView as T
-use Rattle.recorded_block.proofs.RecordingView.Laws as T′
-use Rattle.recorded_block.proofs.whole_blocks as counted
-use Rattle.recorded_block.proofs.whole_blocks.Symbol as counted-def
-use Rattle.recorded_block.proofs.whole_blocks.Symbol.{name as #whole-blocks}
-use Rattle.recorded_block.proofs.whole_blocks.Met as counted-thm
-use Rattle.recorded_block.proofs.RecordingView.new.Key.{name as #new}
-use Rattle.recorded_block.proofs.RecordingView.new as new
-use Rattle.recorded_block.proofs.RecordingView.new.Statement as stated
-use Rattle.recorded_block.proofs.RecordingView.new.Code as code
+use Rattle.recording.specs.declared.block.RecordingView.{RecordingView}
+use Rattle.recording.proofs.block.RecordingView as T
+use Rattle.recording.proofs.block.RecordingView.Laws as T′
+use Rattle.recording.proofs.block.whole_blocks as counted
+use Rattle.recording.proofs.block.whole_blocks.Symbol as counted-def
+use Rattle.recording.proofs.block.whole_blocks.Symbol.{name as #whole-blocks}
+use Rattle.recording.proofs.block.whole_blocks.Met as counted-thm
+use Rattle.recording.proofs.block.RecordingView.new.Key.{name as #new}
+use Rattle.recording.proofs.block.RecordingView.new as new
+use Rattle.recording.proofs.block.RecordingView.new.Statement as stated
+use Rattle.recording.proofs.block.RecordingView.new.Code as code
 
 abbrev stayed : Stays (new.ended .signature .params) (new.ended .kept)
 stayed = (stay-none-slice (0 ∷ []) tt (plain (λ _. u8)) yes, tt)

@@ -23,8 +23,8 @@ use Rattle.reed_solomon.proofs.MarkedDistance.{without-marks}
 use Rattle.reed_solomon.proofs.Laws.{total, unique}
 use Rattle.interleaver.specs.Gathered.{placeIn, gathered}
 use Rattle.interleaver.proofs.Gathering.{gathered-same}
-use Rattle.recorded_block.specs.Block.{blockCount, blockRefusal, outputWith, GivesBlock, Agree, partAt, SameBlock}
-use Rattle.recorded_block.specs.declared.DecodedBlock.{DecodedBlock}
+use Rattle.recording.specs.Block.{blockCount, blockRefusal, outputWith, GivesBlock, Agree, partAt, SameBlock}
+use Rattle.recording.specs.declared.block.DecodedBlock.{DecodedBlock}
 
 -- ---- the tests
 

@@ -1,4 +1,4 @@
--- `recorded_block::decoded_block` meets its contract.
+-- `recording::block::decoded_block` meets its contract.
 -- Assumes nothing.
 use mathlib.Core.Path.{_≡_, refl, sym, ap, subst, _∙_}
 use mathlib.Core.List.{List}
@@ -7,11 +7,11 @@ use native.Mathlib.Omega.{arith}
 use Rattle.reed_solomon.specs.Decode.{Decodes, decodedNumber, changedBy}
 use Rattle.reed_solomon.specs.declared.Decoded.{Decoded}
 use Rattle.interleaver.specs.Gathered.{gathered}
-use Rattle.recorded_block.specs.Block.{blockCount, blockRefusal, outputWith}
-use Rattle.recorded_block.proofs.Blocks.{not-its-count, no-such-block, output-short, no-refusal, refused-with, given-block, put-front}
+use Rattle.recording.specs.Block.{blockCount, blockRefusal, outputWith}
+use Rattle.recording.proofs.Blocks.{not-its-count, no-such-block, output-short, no-refusal, refused-with, given-block, put-front}
 use borrow.Author.Needs.{needs}
-use Rattle.recorded_block.proofs.decoded_block.Statement.{statement}
-use Rattle.recorded_block.proofs.decoded_block.Tie as tie
+use Rattle.recording.proofs.block.decoded_block.Statement.{statement}
+use Rattle.recording.proofs.block.decoded_block.Tie as tie
 
 whole-blocks-requires : tie.Need-whole-blocks-requires
 whole-blocks-requires c κs = search needs

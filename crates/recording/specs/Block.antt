@@ -13,7 +13,7 @@ use Rattle.reed_solomon.specs.Decode.{Decodes, decodedNumber, changedBy}
 use Rattle.reed_solomon.specs.declared.Decoded.{Decoded}
 use Rattle.reed_solomon.specs.declared.Decoded.the-variants.{Corrected, Uncorrectable, BlockLength, MarkValue}
 use Rattle.interleaver.specs.Gathered.{placeIn, gathered}
-use Rattle.recorded_block.specs.declared.DecodedBlock.{DecodedBlock}
+use Rattle.recording.specs.declared.block.DecodedBlock.{DecodedBlock}
 
 -- how many whole blocks a recording has
 abbrev pub blockCount : List ℕ → ℕ

@@ -1,4 +1,4 @@
--- `recorded_block::RecordingView::block` meets its contract: a walk of its MIR, by hand. The struct is taken apart, and `decoded_block` is called on the slice, the number, p and the output.
+-- `recording::block::RecordingView::block` meets its contract: a walk of its MIR, by hand. The struct is taken apart, and `decoded_block` is called on the slice, the number, p and the output.
 -- The struct is Copy: what it owns is had twice, one copy is kept whole for the exit. The output goes to the callee at its own lifetime, share and ghost name, and is given up for good (`gave-slice`).
 -- Assumes nothing.
 use mathlib.Core.Path.{_≡_, refl}
@@ -42,21 +42,21 @@ use denote.Triple.Table.{entered, cited}
 use denote.Triple.Walked.{says, Stays, stay-none, gave-slice, walkOf, goes-none, goes-gave-slice, Walks, ends-at, walked, walk-meets}
 use denote.Exit.{yes}
 use denote.Triple.Clauses.{ensured, lasts}
-use Rattle.recorded_block.specs.Block.{GivesBlock}
-use Rattle.recorded_block.specs.declared.RecordingView.{RecordingView}
-use Rattle.recorded_block.specs.declared.DecodedBlock.{DecodedBlock}
-use Rattle.recorded_block.proofs.RecordingView as T
-use Rattle.recorded_block.proofs.RecordingView.Laws as T′
-use Rattle.recorded_block.proofs.DecodedBlock as S
-use Rattle.recorded_block.proofs.DecodedBlock.Laws as S′
-use Rattle.recorded_block.proofs.decoded_block as work
-use Rattle.recorded_block.proofs.decoded_block.Symbol as work-def
-use Rattle.recorded_block.proofs.decoded_block.Symbol.{name as #decoded-block}
-use Rattle.recorded_block.proofs.decoded_block.Met as work-thm
-use Rattle.recorded_block.proofs.RecordingView.block.Key.{name as #block}
-use Rattle.recorded_block.proofs.RecordingView.block as block
-use Rattle.recorded_block.proofs.RecordingView.block.Statement as stated
-use Rattle.recorded_block.proofs.RecordingView.block.Code as code
+use Rattle.recording.specs.Block.{GivesBlock}
+use Rattle.recording.specs.declared.block.RecordingView.{RecordingView}
+use Rattle.recording.specs.declared.block.DecodedBlock.{DecodedBlock}
+use Rattle.recording.proofs.block.RecordingView as T
+use Rattle.recording.proofs.block.RecordingView.Laws as T′
+use Rattle.recording.proofs.block.DecodedBlock as S
+use Rattle.recording.proofs.block.DecodedBlock.Laws as S′
+use Rattle.recording.proofs.block.decoded_block as work
+use Rattle.recording.proofs.block.decoded_block.Symbol as work-def
+use Rattle.recording.proofs.block.decoded_block.Symbol.{name as #decoded-block}
+use Rattle.recording.proofs.block.decoded_block.Met as work-thm
+use Rattle.recording.proofs.block.RecordingView.block.Key.{name as #block}
+use Rattle.recording.proofs.block.RecordingView.block as block
+use Rattle.recording.proofs.block.RecordingView.block.Statement as stated
+use Rattle.recording.proofs.block.RecordingView.block.Code as code
 
 -- the struct's type, over the signature's lifetimes
 abbrev B : Lfts 2 → RattleType

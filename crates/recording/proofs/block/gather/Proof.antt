@@ -1,4 +1,4 @@
--- `recorded_block::gather` meets its contract.
+-- `recording::block::gather` meets its contract.
 -- Assumes nothing.
 use mathlib.Core.Path.{_≡_, refl, sym, _∙_}
 use mathlib.Core.List.{List}
@@ -9,8 +9,8 @@ use Rattle.common.proofs.Written.{Written, written-none, written-next, written-
 use Rattle.interleaver.specs.Gathered.{placeIn, gathered}
 use Rattle.interleaver.proofs.Gathering.{length-gathered, gathered-at}
 use borrow.Author.Needs.{needs}
-use Rattle.recorded_block.proofs.gather.Statement.{statement}
-use Rattle.recorded_block.proofs.gather.Tie as tie
+use Rattle.recording.proofs.block.gather.Statement.{statement}
+use Rattle.recording.proofs.block.gather.Tie as tie
 
 abbrev Inv-loop : tie.InvT-loop
 Inv-loop bytes p block₀ n₀ block n = Written 0 block₀ (gathered bytes p) block n
