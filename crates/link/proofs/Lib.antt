@@ -1,3 +1,5 @@
+pub mod Link
+pub mod Sent
 pub mod Places
 pub mod Bursts
 pub mod OneByteMore

@@ -12,8 +12,8 @@ use Rattle.receiver.specs.Receive.{freshReceiver}
 use Rattle.receiver.specs.Run.{Call, DecodedCalls, lentBlocks, Plain, OutputFits}
 use Rattle.receiver.specs.Begun.{lefts}
 use Rattle.sent_blocks.specs.Blocks.{codedBlocks, sentBytes}
-use Rattle.burst_tolerance.specs.Places.{inside}
-use Rattle.burst_tolerance.specs.Burst.{receivedBytes, wrongIn}
+use Rattle.link.specs.Places.{inside}
+use Rattle.link.specs.Burst.{receivedBytes, wrongIn}
 
 -- forty packets of 47 hex and 187 zeros
 abbrev pub packets : List (List ℕ)

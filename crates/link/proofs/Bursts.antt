@@ -40,9 +40,9 @@ use Rattle.receiver.proofs.Reception.{blocks-count, came-gathered, coded-gather
 use Rattle.receiver.proofs.Promised.{kept-calls}
 use Rattle.sent_blocks.specs.Blocks.{codedBlocks, interleavedBlocks, sentBytes}
 use Rattle.sent_blocks.proofs.Lengths.{coded-count, interleaved-whole}
-use Rattle.burst_tolerance.specs.Places.{span, howMany}
-use Rattle.burst_tolerance.specs.Burst.{receivedBytes, Burst, Bursts, wrongIn, wrongBytes, Tolerated, Promised}
-use Rattle.burst_tolerance.proofs.Places.{count-burst, spread}
+use Rattle.link.specs.Places.{span, howMany}
+use Rattle.link.specs.Burst.{receivedBytes, Burst, Bursts, wrongIn, wrongBytes, Tolerated, Promised}
+use Rattle.link.proofs.Places.{count-burst, spread}
 
 -- ---- wrong bytes in a block
 

@@ -15,11 +15,11 @@ use Rattle.common.specs.Choice.{pick}
 use Rattle.common.proofs.Computed.{agree-at}
 use Rattle.common.proofs.Lists.{length-listOf, getD-listOf}
 use Rattle.interleaver.specs.Gathered.{placeIn}
-use Rattle.burst_tolerance.specs.Places.{howMany, inside}
-use Rattle.burst_tolerance.specs.Burst.{wrongIn}
-use Rattle.burst_tolerance.specs.Table.{otherByte, harmed}
-use Rattle.burst_tolerance.proofs.Places.{count-same, spread}
-use Rattle.burst_tolerance.proofs.Bursts.{wrong-count}
+use Rattle.link.specs.Places.{howMany, inside}
+use Rattle.link.specs.Burst.{wrongIn}
+use Rattle.link.specs.Table.{otherByte, harmed}
+use Rattle.link.proofs.Places.{count-same, spread}
+use Rattle.link.proofs.Bursts.{wrong-count}
 
 -- ---- the bytes of a burst
 

@@ -16,10 +16,10 @@ use Rattle.receiver.specs.Begun.{lefts}
 use Rattle.receiver.proofs.Reception.{blocks-count}
 use Rattle.sent_blocks.specs.Blocks.{codedBlocks, sentBytes}
 use Rattle.sent_blocks.proofs.Lengths.{sent-count}
-use Rattle.burst_tolerance.specs.Burst.{receivedBytes, wrongIn}
-use Rattle.burst_tolerance.specs.Table.{packets, harmed, Holds, cases}
-use Rattle.burst_tolerance.proofs.Bursts.{never-corrected}
-use Rattle.burst_tolerance.proofs.OneByteMore.{harmed-length, wrong-inside}
+use Rattle.link.specs.Burst.{receivedBytes, wrongIn}
+use Rattle.link.specs.Table.{packets, harmed, Holds, cases}
+use Rattle.link.proofs.Bursts.{never-corrected}
+use Rattle.link.proofs.OneByteMore.{harmed-length, wrong-inside}
 
 -- ---- the stream of the table
 

@@ -13,7 +13,7 @@ use Rattle.receiver.specs.Run.{Call, afterCalls, lentBlocks}
 use Rattle.receiver.specs.Begun.{BegunAt}
 use Rattle.receiver.specs.declared.Receiver.{Receiver}
 use Rattle.sent_blocks.specs.Blocks.{sentBytes}
-use Rattle.burst_tolerance.specs.Places.{burstLength, span}
+use Rattle.link.specs.Places.{burstLength, span}
 
 -- the bytes that a list of calls is lent
 abbrev pub receivedBytes : List Call → List ℕ

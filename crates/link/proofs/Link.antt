@@ -45,8 +45,8 @@ use Rattle.receiver.proofs.Promised.{kept-calls}
 use Rattle.sent_blocks.specs.Blocks.{codedBlocks, interleavedBlocks, sentBytes}
 use Rattle.sender.proofs.Counts.{block-bits}
 use Rattle.sent_blocks.proofs.Lengths.{interleaved-count, interleaved-whole}
-use Rattle.end_to_end.specs.Link.{Link, StreamLink, blocksInBits, BroughtBack, Arrived, StreamArrived}
-use Rattle.end_to_end.proofs.Sent.{sent-coded, sent-front, front-within, front-last}
+use Rattle.link.specs.Link.{Link, StreamLink, blocksInBits, BroughtBack, Arrived, StreamArrived}
+use Rattle.link.proofs.Sent.{sent-coded, sent-front, front-within, front-last}
 
 -- ---- the interleaved blocks are of bytes
 

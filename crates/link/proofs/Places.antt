@@ -11,7 +11,7 @@ use borrow.Author.Tests.{eq-eqb, ne-eqb, lt-ltb, le-ltb}
 use lib.Dec.{eqb}
 use Rattle.common.specs.Choice.{pick}
 use Rattle.interleaver.specs.Gathered.{placeIn}
-use Rattle.burst_tolerance.specs.Places.{burstLength, howMany, inside, Spread}
+use Rattle.link.specs.Places.{burstLength, howMany, inside, Spread}
 
 -- ---- counting
 
