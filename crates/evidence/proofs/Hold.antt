@@ -24,7 +24,7 @@ use Rattle.puncturing.specs.Step.{puncturedBy, heldBy}
 use Rattle.inner_code.specs.Converter.{encodedBits, uncodedNumbers, sequenced}
 use Rattle.inner_code.specs.Stream.{symbolsAfter, symbols, streamSymbols}
 use Rattle.inner_code.specs.Step.{coderBy}
-use Rattle.worked_cases.specs.Table.{Holds, unit, coefficients, damaged, cases}
+use Rattle.evidence.specs.Table.{Holds, unit, coefficients, damaged, cases}
 
 -- the check bytes of the message 1
 unit-coded : checkBytes unit ≡ coefficients

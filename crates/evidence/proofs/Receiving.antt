@@ -35,8 +35,8 @@ use Rattle.receiver.proofs.Reached.{sound-range, sound-fresh}
 use Rattle.receiver.proofs.Promised.{promised-received}
 use Rattle.recording.specs.Returned.{Returns}
 use Rattle.sent_blocks.specs.Blocks.{interleavedBlocks, sentBytes}
-use Rattle.idle_programs.proofs.Samples.{sample, sample-packet, samples, samples-packets, samples-length}
-use Rattle.idle_programs.proofs.Sending.{Left}
+use Rattle.evidence.proofs.Samples.{sample, sample-packet, samples, samples-packets, samples-length}
+use Rattle.evidence.proofs.Sending.{Left}
 
 -- one that refuses everything: a fresh receiver, a block of zeros and room for a packet is no refusal
 pub refusing : (r : Received) (exit : List ℕ) → Receives freshReceiver (replicate 204 0) (replicate 188 0) r exit

@@ -32,7 +32,7 @@ use Rattle.sender.proofs.Counts.{block-bits, length-on-air}
 use Rattle.sender.proofs.Distinct.{same-bits}
 use Rattle.transmission.specs.Run.{runSymbols, runRefusal, SendsRun}
 use Rattle.sent_blocks.specs.Blocks.{sentBytes}
-use Rattle.idle_programs.proofs.Samples.{samples, samples-packets, samples-length, samples-front, last-byte}
+use Rattle.evidence.proofs.Samples.{samples, samples-packets, samples-length, samples-front, last-byte}
 
 -- what a program leaves after a run
 pub record Left : Type 0 where

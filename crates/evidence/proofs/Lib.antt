@@ -1,3 +1,4 @@
+pub mod Hold
 pub mod Decoding
 mod Samples
 pub mod Sending
