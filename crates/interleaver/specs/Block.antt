@@ -1,14 +1,15 @@
 -- A block of 204 bytes goes into the branches, and one comes out.
 -- Clauses: EN 300 421, 4.4.2; document 01, "Delay branches".
 -- Assumes nothing.
+use mathlib.Core.Path.{_≡_}
 use mathlib.Core.List.{List, [], _++_}
 use Prim.Native.Nat.{ℕ, zero, suc, _+_, _-_, _%_, _/_}
 use lib.Dec.{ltb, eqb}
-use lib.ListN.{getD, take, drop, replicate}
+use lib.ListN.{length, getD, take, drop, replicate}
 use Rattle.common.specs.Choice.{pick}
 use Rattle.common.specs.Lists.{listOf}
 use Rattle.interleaver.specs.Branch.{sizeOf, turned, queue}
-use Rattle.interleaver.specs.Column.{column}
+use Rattle.interleaver.specs.Column.{column, scattered}
 use Rattle.interleaver.specs.declared.branches.Side.{Side}
 use Rattle.interleaver.specs.declared.branches.Branches.{Branches}
 
@@ -31,6 +32,14 @@ positionAdvanced size p k = pick (ltb (p + k) size) (p + k) (p + k - size)
 
 unfoldable pub positionAfter : ℕ → ℕ → ℕ
 positionAfter size p = pick (eqb size 0) p (positionAdvanced size p 17)
+
+-- What putting the bytes of branch j into its cells, from a position on, gives where `due` is the position after it: that position, in the cells the bytes
+-- that stay, from there on, and in the output the 17 that leave.
+abbrev pub Exchanged : ℕ → List ℕ → List ℕ → ℕ → List ℕ → ℕ → ℕ → List ℕ → List ℕ → Type 0
+Exchanged j block cells position output due next after exit =
+    (next ≡ due)
+    × (after ≡ turned (length cells - next) (drop 17 (turned position cells ++ column j block)))
+    × (exit ≡ scattered j (take 17 (turned position cells ++ column j block)) output)
 
 -- the block that leaves: byte n is the next one of branch n mod 12
 unfoldable pub blockOut : Side → Branches → List ℕ → List ℕ

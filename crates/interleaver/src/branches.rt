@@ -3,13 +3,13 @@
 ghost use mathlib.Core.Path.{_≡_};
 ghost use mathlib.Core.Bool.{true};
 ghost use mathlib.Core.List.{_++_};
-ghost use Prim.Native.Nat.{_+_, _-_, _<_, _≤_, max};
+ghost use Prim.Native.Nat.{_+_, _<_, _≤_, max};
 ghost use lib.Dec.{eqb};
-ghost use lib.ListN.{length, take, drop};
+ghost use lib.ListN.{length, drop};
 ghost use Rattle.common.specs.Choice.{pick};
-ghost use Rattle.interleaver.specs.Branch.{laid, delayOf, positionsWithin, branchesInRange, turned};
+ghost use Rattle.interleaver.specs.Branch.{laid, delayOf, positionsWithin, branchesInRange};
 ghost use Rattle.interleaver.specs.Column.{column, scattered};
-ghost use Rattle.interleaver.specs.Block.{fresh, blockOut, branchesAfter, positionAfter, positionAdvanced};
+ghost use Rattle.interleaver.specs.Block.{fresh, blockOut, branchesAfter, positionAfter, positionAdvanced, Exchanged};
 
 // The side of the line that the branches stand on.
 pub enum Side {
@@ -103,10 +103,7 @@ fn exchange_row(
     requires { ⌜
         (position + 17 ≤ length (now cells))
         × (j < 12) × (length (now block) ≡ 204) × (204 ≤ length (now output)) ⌝ }
-    ensures { λ r. ⌜
-        (r ≡ positionAdvanced (length (now (cells .entry))) position 17)
-        × (now (cells .exit) ≡ turned (length (now (cells .entry)) - r) (drop 17 (turned position (now (cells .entry)) ++ column j (now (block .entry)))))
-        × (now (output .exit) ≡ scattered j (take 17 (turned position (now (cells .entry)) ++ column j (now (block .entry)))) (now (output .entry))) ⌝ }
+    ensures { λ r. ⌜ Exchanged j (now (block .entry)) (now (cells .entry)) position (now (output .entry)) (positionAdvanced (length (now (cells .entry))) position 17) r (now (cells .exit)) (now (output .exit)) ⌝ }
 {
     let mut k: usize = 0;
     while k < 17 {
@@ -131,10 +128,7 @@ fn exchange_round(
     requires { ⌜
         (17 ≤ length (now cells)) × (position < length (now cells))
         × (j < 12) × (length (now block) ≡ 204) × (204 ≤ length (now output)) ⌝ }
-    ensures { λ r. ⌜
-        (r ≡ positionAdvanced (length (now (cells .entry))) position 17)
-        × (now (cells .exit) ≡ turned (length (now (cells .entry)) - r) (drop 17 (turned position (now (cells .entry)) ++ column j (now (block .entry)))))
-        × (now (output .exit) ≡ scattered j (take 17 (turned position (now (cells .entry)) ++ column j (now (block .entry)))) (now (output .entry))) ⌝ }
+    ensures { λ r. ⌜ Exchanged j (now (block .entry)) (now (cells .entry)) position (now (output .entry)) (positionAdvanced (length (now (cells .entry))) position 17) r (now (cells .exit)) (now (output .exit)) ⌝ }
 {
     let size = cells.len();
     let mut p = position;
@@ -161,10 +155,7 @@ fn exchange_column(
     requires { ⌜
         (17 ≤ length (now cells)) × (position < length (now cells))
         × (j < 12) × (length (now block) ≡ 204) × (204 ≤ length (now output)) ⌝ }
-    ensures { λ r. ⌜
-        (r ≡ positionAdvanced (length (now (cells .entry))) position 17)
-        × (now (cells .exit) ≡ turned (length (now (cells .entry)) - r) (drop 17 (turned position (now (cells .entry)) ++ column j (now (block .entry)))))
-        × (now (output .exit) ≡ scattered j (take 17 (turned position (now (cells .entry)) ++ column j (now (block .entry)))) (now (output .entry))) ⌝ }
+    ensures { λ r. ⌜ Exchanged j (now (block .entry)) (now (cells .entry)) position (now (output .entry)) (positionAdvanced (length (now (cells .entry))) position 17) r (now (cells .exit)) (now (output .exit)) ⌝ }
 {
     if cells.len() - position >= 17 {
         return exchange_row(cells, position, j, block, output);
@@ -177,10 +168,7 @@ fn pass_column(cells: &mut [u8], position: u8, j: usize, block: &[u8], output: &
     requires { ⌜
         ((length (now cells) ≡ 0 → ⊥) → 17 ≤ length (now cells)) × (length (now cells) ≤ 187) × (position < max 1 (length (now cells)))
         × (j < 12) × (length (now block) ≡ 204) × (204 ≤ length (now output)) ⌝ }
-    ensures { λ r. ⌜
-        (r ≡ positionAfter (length (now (cells .entry))) position)
-        × (now (cells .exit) ≡ turned (length (now (cells .entry)) - r) (drop 17 (turned position (now (cells .entry)) ++ column j (now (block .entry)))))
-        × (now (output .exit) ≡ scattered j (take 17 (turned position (now (cells .entry)) ++ column j (now (block .entry)))) (now (output .entry))) ⌝ }
+    ensures { λ r. ⌜ Exchanged j (now (block .entry)) (now (cells .entry)) position (now (output .entry)) (positionAfter (length (now (cells .entry))) position) r (now (cells .exit)) (now (output .exit)) ⌝ }
 {
     if cells.len() == 0 {
         copy_column(j, block, output);
