@@ -1,8 +1,8 @@
-// Shared helpers: lemmas, copying bytes, the bytes of a number, the maximum of a slice.
+// Shared helpers: lemmas, copying bytes, the bytes of a number, the smaller of two, the maximum of a slice.
 // Inner: its functions may require what the crates above have tested. docs/ARCHITECTURE.md names the public surface.
 ghost use mathlib.Core.Path.{_≡_};
 ghost use mathlib.Core.List.{_++_};
-ghost use Prim.Native.Nat.{_+_, _≤_, max};
+ghost use Prim.Native.Nat.{_+_, _≤_, min, max};
 ghost use lib.ListN.{length, take, drop};
 ghost use Rattle.common.specs.Bytes.{byteAt};
 ghost use Rattle.common.specs.Lists.{largest};
@@ -30,6 +30,13 @@ pub fn byte_at(n: u64, k: usize) -> u8
         j += 1;
     }
     (left % 256) as u8
+}
+
+// The smaller of two numbers.
+pub fn least(a: u64, b: u64) -> u64
+    ensures { λ r. ⌜ r ≡ min a b ⌝ }
+{
+    if a < b { a } else { b }
 }
 
 // The larger of two bytes.

@@ -1,10 +1,11 @@
 // One block of a recording, corrected: document 02, P5. Twelve blocks of the recording are looked at, however long it is.
 ghost use mathlib.Core.Path.{_≡_};
-ghost use Prim.Native.Nat.{_+_, _*_, _≤_, min};
+ghost use Prim.Native.Nat.{_+_, _*_, _≤_};
 ghost use lib.ListN.{length};
 ghost use Rattle.interleaver.specs.Gathered.{gathered};
 ghost use Rattle.recording.specs.Block.{blockCount, GivesBlock};
 use answer::Answer;
+use common::least;
 use reed_solomon::Changed;
 use reed_solomon::Decoded;
 
@@ -24,12 +25,6 @@ fn gather(bytes: &[u8], p: usize, block: &mut [u8])
         block[n] = bytes[204 * (p + n % 12) + n];
         n += 1;
     }
-}
-
-fn least(a: u64, b: u64) -> u64
-    ensures { λ r. ⌜ r ≡ min a b ⌝ }
-{
-    if a < b { a } else { b }
 }
 
 // How many whole blocks a recording has.
