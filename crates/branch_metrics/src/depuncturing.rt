@@ -7,7 +7,8 @@ ghost use Rattle.puncturing.specs.Step.{patternLength};
 ghost use Rattle.branch_metrics.specs.Steps.{width, first, value, stepValue};
 use common::put;
 
-const KINDS: [u8; 35] = [
+// For each rate, seven to a row, and each place of its pattern: which coded bits of a step are sent. 0 none, 1 Y, 2 X, 3 both.
+const SENT_KINDS: [u8; 35] = [
     3,
     0,
     0,
@@ -45,6 +46,7 @@ const KINDS: [u8; 35] = [
     2,
 ];
 
+// The costs of a step's coded bits, X as 0 and as 1 and then Y, of which the decoder makes its branch metrics; and the first coded bit after it.
 struct Four {
     x0: u8,
     x1: u8,
@@ -101,7 +103,7 @@ fn spread_places(costs: &[u8], rate: usize, pattern: usize, n: usize, output: &m
     requires { ⌜ (rate < 5) × (pattern ≡ patternLength rate) × (0 < pattern) × (pattern ≤ 7) × (2 * first rate n ≤ length (now costs)) × (4 * n ≤ length (now output)) ⌝ }
     ensures { λ _. ⌜ (length (now (output .exit)) ≡ length (now (output .entry))) × ((t : ℕ) → t < 4 * n → getD (now (output .exit)) t 0 ≡ stepValue (now (costs .entry)) rate t) ⌝ }
 {
-    let kinds = KINDS;
+    let kinds = SENT_KINDS;
     let mut k = 0;
     let mut place = 0;
     let mut j = 0;

@@ -48,7 +48,7 @@ fn reaches(threshold: f32, x: f32) -> u8
     (threshold <= x) as u8
 }
 
-// How many of the thresholds are at or below x. Each is held exactly: it is a multiple of a power of two.
+// The soft decision on a number, one of eight levels: how many of the thresholds are at or below x. Each is held exactly, as a multiple of a power of two.
 fn number_level(x: f32) -> u8
     ensures { λ r. ⌜ (r ≡ levelOf x) × (r ≤ 7) ⌝ }
 {

@@ -198,7 +198,8 @@ fn raised(p: [u8; 16]) -> [u8; 16]
     r
 }
 
-// The product of x + r over the places r, without its highest coefficient, which is 1 and may not find room.
+// The locator of errors and erasures: the product of x + r over their places r, without its highest coefficient, which is 1 and may not find room. Over the
+// places of erasures alone it is the erasure locator.
 pub fn root_product(places: [u8; 16], count: usize) -> [u8; 16]
     requires { ⌜ count ≤ 16 ⌝ }
     ensures { λ r. ⌜ RootProduct (take count places) r ⌝ }
@@ -214,7 +215,7 @@ pub fn root_product(places: [u8; 16], count: usize) -> [u8; 16]
     p
 }
 
-// For each of sixteen places y, with q = p / (x + y): the sum of q_i S_i, and q(y).
+// Numerators and denominators of Forney's formula. For each of sixteen places y, with q = p / (x + y): the sum of q_i S_i, and q(y).
 struct Fractions {
     numerators: [u8; 16],
     denominators: [u8; 16],
@@ -246,7 +247,7 @@ fn value_fractions(p: [u8; 16], degree: usize, s: [u8; 16], places: [u8; 16]) ->
     }
 }
 
-// The values of the errors at the places, which are roots of p, and zeros after them.
+// The values of the errors at the places, which are roots of p, by Forney's formula, and zeros after them.
 pub fn error_values(p: [u8; 16], s: [u8; 16], places: [u8; 16], count: usize) -> [u8; 16]
     requires { ⌜ count ≤ 16 ⌝ }
     ensures { λ r. ⌜ ErrorValues p s places count r ⌝ }
