@@ -22,8 +22,9 @@ use Rattle.algebra.specs.Polynomial.{eval}
 use Rattle.algebra.proofs.Ring.{zero-add as field-zero-add, add-zero as field-add-zero, mul-zero as field-mul-zero}
 use Rattle.galois.specs.Field256.{pow}
 use Rattle.galois.proofs.Instance.{bytes, byte, byte-val, byte-zero}
-use Rattle.byte_lanes.specs.Lanes.{elements, alpha, PowersFrom, ValuesAt}
-use Rattle.byte_lanes.proofs.Powers.{powers-at}
+use Rattle.galois.specs.Lanes.{PowersFrom, ValuesAt}
+use Rattle.galois.proofs.Elements.{elements, alpha}
+use Rattle.galois.proofs.LanePowers.{powers-at, values-bytes}
 use Rattle.error_correction.specs.Correction.{EndsAt, masked, Masked, valuesOf, zerosFrom, NoZero, Listed, rootsOf, onePolynomial, FoundRoots}
 
 -- ---- the degree
@@ -96,7 +97,7 @@ module _ (u q x v w : List ℕ) (i d : ℕ) (h : i ≤ 204) (p : PowersFrom i x)
   lane-value j l =
       sym (byte-val (getD v j 0) (g .small j l))
       ∙ ap (λ (u : Fin 256). u .0)
-      (g .each j l ∙ sym (eval-cut (d + 1) q (byte (getD x j 0)) (λ k b. z .zeros k (omega arith))) ∙ ap (eval (ops bytes) (elements q)) (powers-at i x p j l))
+      (values-bytes g j l ∙ sym (eval-cut (d + 1) q (byte (getD x j 0)) (λ k b. z .zeros k (omega arith))) ∙ ap (eval (ops bytes) (elements q)) (powers-at i x p j l))
 
   lane-mark : (j : ℕ) → j < 16 → getD (take 16 (drop i u)) j 0 ≡ getD u (i + j) 0
   lane-mark j l = getD-take 16 (drop i u) j 0 l ∙ getD-drop i u j 0

@@ -15,7 +15,7 @@ use Rattle.algebra.proofs.Polynomial.{quotient, fromRoots}
 use Rattle.algebra.proofs.Syndromes.{Term, dot, syndrome}
 use Rattle.galois.specs.Field256.{pow}
 use Rattle.galois.proofs.Instance.{bytes, byte}
-use Rattle.byte_lanes.specs.Lanes.{elements, alpha}
+use Rattle.galois.proofs.Elements.{elements, alpha}
 
 -- the coefficients above d are zero
 pub record EndsAt (q : List ℕ) (d : ℕ) : Type 0 where

@@ -63,7 +63,7 @@ fn with_erasures(u: &[u8], f: usize, i: usize, v: [u8; 16]) -> [u8; 16]
     if f == 0 {
         return v;
     }
-    masked_values(byte_lanes::sixteen(u, i), v)
+    masked_values(galois::lanes::sixteen(u, i), v)
 }
 
 // The degree of a polynomial of nine coefficients, and 0 of the zero polynomial.
@@ -151,17 +151,17 @@ pub fn find_roots(u: &[u8], f: usize, q: [u8; 9]) -> Roots
         places,
         count: 0,
     };
-    let mut x = byte_lanes::first_powers();
+    let mut x = galois::lanes::first_powers();
     let mut i: u8 = 0;
     while i < 208 {
-        let v = with_erasures(u, f, i as usize, byte_lanes::evaluate(&q[..end], x));
+        let v = with_erasures(u, f, i as usize, galois::lanes::evaluate(&q[..end], x));
         if zero_lanes(v) != 0 {
             let degrees = found.degrees;
             let places = found.places;
             let r = list_zeros(degrees, places, found.count, v, x, i);
             found = r;
         }
-        let y = byte_lanes::next_powers(x);
+        let y = galois::lanes::next_powers(x);
         x = y;
         i += 16;
     }
@@ -209,7 +209,7 @@ pub fn root_product(places: [u8; 16], count: usize) -> [u8; 16]
     let mut l: usize = count;
     while 0 < l {
         l -= 1;
-        let q = byte_lanes::sum(byte_lanes::scale(p, places[l]), raised(p));
+        let q = galois::lanes::sum(galois::lanes::scale(p, places[l]), raised(p));
         p = q;
     }
     p
@@ -233,9 +233,9 @@ fn value_fractions(p: [u8; 16], degree: usize, s: [u8; 16], places: [u8; 16]) ->
     let mut k = degree;
     while 0 < k {
         k -= 1;
-        let c = byte_lanes::sum(byte_lanes::products(places, coefficients), [top; 16]);
-        let n = byte_lanes::sum(byte_lanes::scale(c, s[k]), numerators);
-        let d = byte_lanes::sum(byte_lanes::products(places, denominators), c);
+        let c = galois::lanes::sum(galois::lanes::products(places, coefficients), [top; 16]);
+        let n = galois::lanes::sum(galois::lanes::scale(c, s[k]), numerators);
+        let d = galois::lanes::sum(galois::lanes::products(places, denominators), c);
         coefficients = c;
         numerators = n;
         denominators = d;
@@ -255,7 +255,7 @@ pub fn error_values(p: [u8; 16], s: [u8; 16], places: [u8; 16], count: usize) ->
     let f = value_fractions(p, count, s, places);
     let numerators = f.numerators;
     let denominators = f.denominators;
-    let values = byte_lanes::products(numerators, byte_lanes::inverses(denominators));
+    let values = galois::lanes::products(numerators, galois::lanes::inverses(denominators));
     let mut e = [0u8; 16];
     let mut l: usize = 0;
     while l < count {
@@ -289,7 +289,7 @@ pub fn explains(places: [u8; 16], values: [u8; 16], s: &[u8]) -> bool
         if total(w) != s[j] {
             return false;
         }
-        let next = byte_lanes::products(places, w);
+        let next = galois::lanes::products(places, w);
         w = next;
         j += 1;
     }

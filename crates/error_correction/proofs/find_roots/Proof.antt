@@ -5,8 +5,8 @@ use mathlib.Core.Logic.{⊎-elim}
 use Prim.Native.Nat.{_-_, _%_, _≤_}
 use native.Mathlib.Omega.{arith}
 use lib.ListN.{length, take, drop}
-use Rattle.byte_lanes.specs.Lanes.{PowersFrom}
-use Rattle.byte_lanes.proofs.Powers.{powers-next}
+use Rattle.galois.specs.Lanes.{PowersFrom}
+use Rattle.galois.proofs.LanePowers.{powers-next}
 use Rattle.error_correction.specs.Correction.{valuesOf}
 use Rattle.error_correction.proofs.RootSearch.{ends-of, length-prefix, lanes-next, Searched, searched-none, searched-fits, searched-more, searched-all, listed-nothing}
 use borrow.Author.Needs.{needs}

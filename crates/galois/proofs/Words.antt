@@ -13,12 +13,13 @@ use Rattle.common.specs.Lists.{Bytes}
 use Rattle.common.proofs.Lists.{getD-map-in}
 use Rattle.common.proofs.Written.{Written, written-none, written-next, written-whole}
 use Rattle.algebra.specs.Field.{ops}
-use Rattle.algebra.specs.Polynomial.{plus, scale, product}
+use Rattle.algebra.specs.Polynomial.{eval, plus, scale, product}
 use Rattle.algebra.proofs.Homomorphism as Hom
 use Rattle.galois.specs.Field256.{numbers, mul, scaled}
 use Rattle.galois.proofs.Laws.{mul-lt}
-use Rattle.byte_lanes.specs.Lanes.{elements, word, productsOf}
+use Rattle.galois.specs.Lanes.{productsOf}
+use Rattle.galois.proofs.Elements.{elements, word}
 use Rattle.galois.proofs.Instance.{bytes, byte, byte-inj, byte-of, byte-zero, byte-add, byte-mul}
 
 -- the numbers again
 abbrev pub values : List (Fin 256) → List ℕ
@@ -80,7 +81,7 @@ unfolding product
 bytes-product [] b = tt
 bytes-product (x ∷ a) b = bytes-plus (scale numbers x b) (0 ∷ product numbers a b) (bytes-scale x b) (lit< tt, bytes-product a b)
 
--- ---- sums and products
+-- ---- sums, products and values
 
 pub elements-plus : (a b : List ℕ) → elements (plus numbers a b) ≡ plus (ops bytes) (elements a) (elements b)
 elements-plus = Hom.map-plus numbers (ops bytes) byte byte-add byte-mul byte-zero
@@ -90,6 +91,9 @@ elements-scale = Hom.map-scale numbers (ops bytes) byte byte-add byte-mul byte-z
 
 pub elements-product : (a b : List ℕ) → elements (product numbers a b) ≡ product (ops bytes) (elements a) (elements b)
 elements-product = Hom.map-product numbers (ops bytes) byte byte-add byte-mul byte-zero
+
+pub elements-eval : (q : List ℕ) (x : ℕ) → byte (eval numbers q x) ≡ eval (ops bytes) (elements q) (byte x)
+elements-eval = Hom.keeps-eval numbers (ops bytes) byte byte-add byte-mul byte-zero
 
 pub length-scaled : (c : ℕ) (a : List ℕ) → length (scaled c a) ≡ length a
 unfolding scale

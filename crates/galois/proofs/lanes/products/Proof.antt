@@ -1,15 +1,15 @@
--- `byte_lanes::products` meets its contract: after l turns the first l products are written.
+-- `galois::lanes::products` meets its contract: after l turns the first l products are written.
 -- Assumes nothing.
 use mathlib.Core.Path.{_≡_, refl, sym, _∙_}
 use Prim.Native.Nat.{_-_}
 use native.Mathlib.Omega.{arith}
 use lib.ListN.{length}
 use Rattle.common.proofs.Written.{Written, written-none, written-next, written-whole}
-use Rattle.byte_lanes.specs.Lanes.{productsOf}
-use Rattle.byte_lanes.proofs.Words.{length-products, products-at}
+use Rattle.galois.specs.Lanes.{productsOf}
+use Rattle.galois.proofs.Words.{length-products, products-at}
 use borrow.Author.Needs.{needs}
-use Rattle.byte_lanes.proofs.products.Statement.{statement}
-use Rattle.byte_lanes.proofs.products.Tie as tie
+use Rattle.galois.proofs.lanes.products.Statement.{statement}
+use Rattle.galois.proofs.lanes.products.Tie as tie
 
 abbrev Inv-loop : tie.InvT-loop
 Inv-loop a b r₀ l₀ r l = Written 0 r₀ (productsOf a b) r l

@@ -1,4 +1,4 @@
--- `byte_lanes::sixteen` meets its contract: after j turns the first j bytes are written.
+-- `galois::lanes::sixteen` meets its contract: after j turns the first j bytes are written.
 -- Assumes nothing.
 use mathlib.Core.Path.{_≡_, refl, sym, _∙_}
 use mathlib.Core.List.{List}
@@ -8,8 +8,8 @@ use lib.ListN.{length, take, drop, length-drop}
 use lib.Seq.{length-take-le, getD-take, getD-drop}
 use Rattle.common.proofs.Written.{Written, written-none, written-next, written-whole}
 use borrow.Author.Needs.{needs}
-use Rattle.byte_lanes.proofs.sixteen.Statement.{statement}
-use Rattle.byte_lanes.proofs.sixteen.Tie as tie
+use Rattle.galois.proofs.lanes.sixteen.Statement.{statement}
+use Rattle.galois.proofs.lanes.sixteen.Tie as tie
 
 abbrev Inv-loop : tie.InvT-loop
 Inv-loop list at r₀ j₀ r j = Written 0 r₀ (take 16 (drop at list)) r j

@@ -6,7 +6,7 @@ use Prim.Native.Nat.{ℕ, zero, suc, _+_, _<_, Fin}
 use native.Mathlib.Nat.{zero-add}
 use native.Mathlib.Numerals.{add-one}
 use native.Mathlib.Omega.{arith}
-use lib.Bits.{bitXor, xor-lt}
+use lib.Bits.{bitXor, xor-comm, xor-zero-l, xor-lt}
 use lib.Dec.{T}
 use lib.ListN.{length, getD, drop, replicate, getD-replicate, drop-of-length-le}
 use lib.Seq.{drop-cons}
@@ -14,13 +14,13 @@ use Rattle.common.proofs.Computed.{agree, agree-at}
 use Rattle.common.proofs.Lists.{getD-map-in}
 use Rattle.algebra.specs.Field.{ops}
 use Rattle.algebra.specs.Polynomial.{power, eval, scale}
-use Rattle.algebra.proofs.Ring.{add-comm, add-zero, mul-zero}
-use Rattle.galois.specs.Field256.{timesX, rounds, mul, pow, scaled}
-use Rattle.galois.proofs.Laws.{mul-lt, mul-comm}
+use Rattle.galois.specs.Field256.{timesX, rounds, numbers, mul, pow, scaled}
+use Rattle.galois.proofs.Laws.{mul-lt, mul-comm, mul-zero-right}
 use Rattle.galois.proofs.Powers.{times-one, pow-add}
-use Rattle.galois.proofs.Instance.{bytes, byte, byte-add, byte-mul, byte-power}
-use Rattle.byte_lanes.specs.Lanes.{elements, alpha, productsOf, PowersFrom, hornerStep, ValuesAt}
-use Rattle.byte_lanes.proofs.Words.{length-sum, sum-at, length-products, products-at}
+use Rattle.galois.proofs.Instance.{bytes, byte, byte-power}
+use Rattle.galois.specs.Lanes.{productsOf, PowersFrom, hornerStep, ValuesAt}
+use Rattle.galois.proofs.Elements.{elements, alpha}
+use Rattle.galois.proofs.Words.{length-sum, sum-at, length-products, products-at, elements-eval}
 
 -- ---- sixteen powers of 02
 
@@ -77,12 +77,6 @@ module _ (x v : List ℕ) (c : ℕ) (n : length x ≡ 16) (m : length v ≡ 16) 
       sum-at (productsOf x v) (replicate 16 c) j products-length
       ∙ ap₂ bitXor (products-at x v j (n ∙ sym m) (omega arith)) (getD-replicate 16 j c 0 h)
 
-  -- the same, in the field
-  advanced-byte : (j : ℕ) → j < 16 → byte (getD (hornerStep x v c) j 0) ≡ bytes .add (bytes .mul (byte (getD x j 0)) (byte (getD v j 0))) (byte c)
-  advanced-byte j h =
-      ap byte (advanced-at j h) ∙ byte-add (mul (getD x j 0) (getD v j 0)) c
-      ∙ ap (λ (u : Fin 256). bytes .add u (byte c)) (byte-mul (getD x j 0) (getD v j 0))
-
 -- ---- Horner's rule from the highest coefficient down
 
 -- the value of the coefficients from k on
@@ -93,19 +87,25 @@ eval-from l k y h =
     ap (λ (m : List ℕ). eval (ops bytes) (elements m) y) (drop-cons l k 0 h)
     ∙ ap (λ (n : ℕ). bytes .add (byte (getD l k 0)) (bytes .mul y (eval (ops bytes) (elements (drop n l)) y))) (sym (add-one k))
 
+-- the same of numbers
+number-from : (l : List ℕ) (k y : ℕ) → k < length l → eval numbers (drop k l) y ≡ bitXor (getD l k 0) (mul y (eval numbers (drop (k + 1) l) y))
+unfolding eval
+number-from l k y h =
+    ap (λ (m : List ℕ). eval numbers m y) (drop-cons l k 0 h) ∙ ap (λ (n : ℕ). bitXor (getD l k 0) (mul y (eval numbers (drop n l) y))) (sym (add-one k))
+
 pub values-none : (q x : List ℕ) (k : ℕ) → k + 1 ≡ length q → getD q k 0 < 256 → ValuesAt (drop k q) x (replicate 16 (getD q k 0))
 unfolding eval
 values-none q x k n s =
     record {
       len = refl;
       each = λ j h.
-          let y : Fin 256 = byte (getD x j 0) in
-          ap byte (getD-replicate 16 j (getD q k 0) 0 h) ∙ sym (add-zero bytes (byte (getD q k 0)))
-          ∙ ap (bytes .add (byte (getD q k 0)))
-          (sym (ap (λ (l : List ℕ). bytes .mul y (eval (ops bytes) (elements l) y)) (drop-of-length-le q {i = k + 1} (omega arith)) ∙ mul-zero bytes y))
-          ∙ sym (eval-from q k y (omega arith));
+          getD-replicate 16 j (getD q k 0) 0 h
+          ∙ sym (number-from q k (getD x j 0) (omega arith) ∙ ap (bitXor (getD q k 0)) (last (getD x j 0)) ∙ xor-comm (getD q k 0) 0 ∙ xor-zero-l (getD q k 0));
       small = λ j h. subst (λ (i : ℕ). i < 256) (sym (getD-replicate 16 j (getD q k 0) 0 h)) s;
     }
+  where
+    last : (y : ℕ) → mul y (eval numbers (drop (k + 1) q) y) ≡ 0
+    last y = ap (λ (l : List ℕ). mul y (eval numbers l y)) (drop-of-length-le q {i = k + 1} (omega arith)) ∙ mul-zero-right y
 
 pub values-more : (q x : List ℕ) (k : ℕ) (v w : List ℕ) → k < length q → length x ≡ 16 → getD q k 0 < 256 → ValuesAt (drop (k + 1) q) x v → w ≡ hornerStep x v (getD q k 0)
     → ValuesAt (drop k q) x w
@@ -113,14 +113,18 @@ values-more q x k v w n l s e f =
     record {
       len = ap length f ∙ length-advanced x v (getD q k 0) l (e .len);
       each = λ j h.
-          ap (λ (r : List ℕ). byte (getD r j 0)) f ∙ advanced-byte x v (getD q k 0) l (e .len) j h
-          ∙ add-comm bytes (bytes .mul (byte (getD x j 0)) (byte (getD v j 0))) (byte (getD q k 0))
-          ∙ ap (λ (u : Fin 256). bytes .add (byte (getD q k 0)) (bytes .mul (byte (getD x j 0)) u)) (e .each j h)
-          ∙ sym (eval-from q k (byte (getD x j 0)) n);
+          ap (λ (r : List ℕ). getD r j 0) f ∙ advanced-at x v (getD q k 0) l (e .len) j h
+          ∙ xor-comm (mul (getD x j 0) (getD v j 0)) (getD q k 0)
+          ∙ ap (λ (u : ℕ). bitXor (getD q k 0) (mul (getD x j 0) u)) (e .each j h)
+          ∙ sym (number-from q k (getD x j 0) n);
       small = λ j h.
           subst (λ (i : ℕ). i < 256) (sym (ap (λ (r : List ℕ). getD r j 0) f ∙ advanced-at x v (getD q k 0) l (e .len) j h))
           (xor-lt 8 (mul (getD x j 0) (getD v j 0)) (getD q k 0) (mul-lt (getD x j 0) (getD v j 0)) s);
     }
+
+-- the values in the field
+pub values-bytes : {q x v : List ℕ} → ValuesAt q x v → (j : ℕ) → j < 16 → byte (getD v j 0) ≡ eval (ops bytes) (elements q) (byte (getD x j 0))
+values-bytes {q} {x} g j h = ap byte (g .each j h) ∙ elements-eval q (getD x j 0)
 
 -- ---- powers of every lane
 

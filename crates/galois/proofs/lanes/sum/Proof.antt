@@ -1,16 +1,16 @@
--- `byte_lanes::sum` meets its contract: after j turns the first j bytes are those of the sum.
+-- `galois::lanes::sum` meets its contract: after j turns the first j bytes are those of the sum.
 -- Assumes nothing.
 use mathlib.Core.Path.{_≡_, refl, sym, _∙_}
 use Prim.Native.Nat.{_-_}
 use native.Mathlib.Omega.{arith}
 use lib.ListN.{length}
 use Rattle.algebra.specs.Polynomial.{plus}
 use Rattle.galois.specs.Field256.{numbers}
 use Rattle.common.proofs.Written.{Written, written-none, written-next, written-whole}
-use Rattle.byte_lanes.proofs.Words.{length-sum, sum-at}
+use Rattle.galois.proofs.Words.{length-sum, sum-at}
 use borrow.Author.Needs.{needs}
-use Rattle.byte_lanes.proofs.sum.Statement.{statement}
-use Rattle.byte_lanes.proofs.sum.Tie as tie
+use Rattle.galois.proofs.lanes.sum.Statement.{statement}
+use Rattle.galois.proofs.lanes.sum.Tie as tie
 
 abbrev Inv-loop : tie.InvT-loop
 Inv-loop a b r₀ j₀ r j = Written 0 r₀ (plus numbers a b) r j

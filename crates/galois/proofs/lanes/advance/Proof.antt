@@ -1,4 +1,4 @@
--- `byte_lanes::advance` meets its contract: after j turns the first j values are written.
+-- `galois::lanes::advance` meets its contract: after j turns the first j values are written.
 -- Assumes nothing.
 use mathlib.Core.Path.{_≡_, refl, sym, ap, _∙_}
 use Prim.Native.Nat.{ℕ, _-_}
@@ -6,14 +6,14 @@ use native.Mathlib.Omega.{arith}
 use lib.Bits.{bitXor}
 use lib.ListN.{length}
 use Rattle.common.proofs.Written.{Written, written-none, written-next, written-whole}
-use Rattle.byte_lanes.specs.Lanes.{hornerStep}
-use Rattle.byte_lanes.proofs.Powers.{length-advanced, advanced-at}
+use Rattle.galois.specs.Lanes.{hornerStep}
+use Rattle.galois.proofs.LanePowers.{length-advanced, advanced-at}
 use borrow.Author.Needs.{needs}
-use Rattle.byte_lanes.proofs.advance.Statement.{statement}
-use Rattle.byte_lanes.proofs.advance.Tie as tie
-use Rattle.byte_lanes.proofs.advance.Reads as reads
-use Rattle.byte_lanes.proofs.advance.Lts as lts
+use Rattle.galois.proofs.lanes.advance.Statement.{statement}
+use Rattle.galois.proofs.lanes.advance.Tie as tie
+use Rattle.galois.proofs.lanes.advance.Reads as reads
+use Rattle.galois.proofs.lanes.advance.Lts as lts
 use Rattle.galois.proofs.mul.Reads as mul-reads
 
 abbrev Inv-loop : tie.InvT-loop
 Inv-loop c x v r₀ j₀ r j = Written 0 r₀ (hornerStep x v c) r j

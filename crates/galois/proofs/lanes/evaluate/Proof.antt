@@ -1,14 +1,14 @@
--- `byte_lanes::evaluate` meets its contract: v has the values of the coefficients from k on.
+-- `galois::lanes::evaluate` meets its contract: v has the values of the coefficients from k on.
 -- Assumes nothing.
 use mathlib.Core.Path.{_≡_, subst}
 use Prim.Native.Nat.{ℕ, _+_, _-_, _<_}
 use native.Mathlib.Omega.{arith}
 use lib.ListN.{length, drop}
-use Rattle.byte_lanes.specs.Lanes.{ValuesAt}
-use Rattle.byte_lanes.proofs.Powers.{values-none, values-more}
+use Rattle.galois.specs.Lanes.{ValuesAt}
+use Rattle.galois.proofs.LanePowers.{values-none, values-more}
 use borrow.Author.Needs.{needs}
-use Rattle.byte_lanes.proofs.evaluate.Statement.{statement}
-use Rattle.byte_lanes.proofs.evaluate.Tie as tie
+use Rattle.galois.proofs.lanes.evaluate.Statement.{statement}
+use Rattle.galois.proofs.lanes.evaluate.Tie as tie
 
 abbrev Inv-loop : tie.InvT-loop
 Inv-loop q x k₀ v₀ k v = (k < length q) × ValuesAt (drop k q) x v

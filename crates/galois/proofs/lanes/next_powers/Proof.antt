@@ -1,15 +1,15 @@
--- `byte_lanes::next_powers` meets its contract: after i turns the first i lanes are written.
+-- `galois::lanes::next_powers` meets its contract: after i turns the first i lanes are written.
 -- Assumes nothing.
 use mathlib.Core.Path.{refl, _∙_}
 use Prim.Native.Nat.{_-_}
 use Rattle.common.proofs.Written.{Written}
 use Rattle.algebra.specs.Polynomial.{scale}
 use Rattle.galois.specs.Field256.{mul, scaled}
 use Rattle.galois.proofs.Laws.{mul-comm}
-use Rattle.byte_lanes.proofs.Words.{mapped-none, mapped-more, mapped-all}
+use Rattle.galois.proofs.Words.{mapped-none, mapped-more, mapped-all}
 use borrow.Author.Needs.{needs}
-use Rattle.byte_lanes.proofs.next_powers.Statement.{statement}
-use Rattle.byte_lanes.proofs.next_powers.Tie as tie
+use Rattle.galois.proofs.lanes.next_powers.Statement.{statement}
+use Rattle.galois.proofs.lanes.next_powers.Tie as tie
 
 abbrev Inv-loop : tie.InvT-loop
 Inv-loop x r₀ i₀ r i = Written 0 r₀ (scaled 0x4C x) r i

@@ -1,13 +1,13 @@
--- `byte_lanes::inverses` meets its contract: the lanes of each product are the powers that its name says.
+-- `galois::lanes::inverses` meets its contract: the lanes of each product are the powers that its name says.
 -- Assumes nothing.
 use mathlib.Core.Path.{_∙_}
 use mathlib.Core.List.{List}
 use Prim.Native.Nat.{ℕ}
 use Rattle.galois.specs.Field256.{inv}
-use Rattle.byte_lanes.proofs.Powers.{first-products, one-more, times-powers}
+use Rattle.galois.proofs.LanePowers.{first-products, one-more, times-powers}
 use borrow.Author.Needs.{needs}
-use Rattle.byte_lanes.proofs.inverses.Statement.{statement}
-use Rattle.byte_lanes.proofs.inverses.Tie as tie
+use Rattle.galois.proofs.lanes.inverses.Statement.{statement}
+use Rattle.galois.proofs.lanes.inverses.Tie as tie
 
 products-requires : tie.Need-products-requires
 products-requires c κs = search needs

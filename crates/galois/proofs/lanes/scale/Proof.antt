@@ -1,10 +1,10 @@
--- `byte_lanes::scale` meets its contract.
+-- `galois::lanes::scale` meets its contract.
 -- Assumes nothing.
 use mathlib.Core.Path.{_∙_}
 use borrow.Author.Needs.{needs}
-use Rattle.byte_lanes.proofs.Powers.{products-scaled}
-use Rattle.byte_lanes.proofs.scale.Statement.{statement}
-use Rattle.byte_lanes.proofs.scale.Tie as tie
+use Rattle.galois.proofs.LanePowers.{products-scaled}
+use Rattle.galois.proofs.lanes.scale.Statement.{statement}
+use Rattle.galois.proofs.lanes.scale.Tie as tie
 
 products-requires : tie.Need-products-requires
 products-requires c κs = search needs
