@@ -271,13 +271,14 @@ fn write_costs(bits: &[u8; 64], rows: &mut [[u8; 64]; 64])
     }
 }
 
-struct Branches {
+// The branch metrics of a step for bit 0, out of the even memories and out of the odd ones.
+struct BranchMetrics {
     even: [u8; 32],
     odd: [u8; 32],
 }
 
-// The branch metrics of a step, for bit 0: out of each even memory, and out of each odd one. Each is the cost of X and that of Y.
-fn branch_costs(x: &[u8; 64], y: &[u8; 64]) -> Branches
+// They are, for each memory, the cost of X and that of Y.
+fn branch_costs(x: &[u8; 64], y: &[u8; 64]) -> BranchMetrics
     requires { ⌜ ((i : ℕ) → i < 64 → at (now x) i + at (now y) i < 256) ⌝ }
     ensures { λ r. ⌜
         ((i : ℕ) → i < 32 → at (r .even) i ≡ at (now (x .entry)) i + at (now (y .entry)) i)
@@ -291,7 +292,7 @@ fn branch_costs(x: &[u8; 64], y: &[u8; 64]) -> Branches
         odd[i] = x[i + 32] + y[i + 32];
         i += 1;
     }
-    Branches {
+    BranchMetrics {
         even: even,
         odd: odd,
     }
