@@ -62,9 +62,10 @@ in_reference=(--release --offline --manifest-path reference/Cargo.toml)
 quietly rt staticlib exports
 quietly rt staticlib reader_exports
 quietly rt staticlib bridge
-quietly cargo test "${in_reference[@]}" --lib --test programs --test vectors
-# The comparison of the library with the reference is the longest of what is left, and goes on beside the others.
+quietly rt staticlib kernels
 export EXPORTS_DIR=$PWD/target/staticlib
+quietly cargo test "${in_reference[@]}" --lib --test programs --test vectors --test library
+# The comparison of the library with the reference is the longest of what is left, and goes on beside the others.
 quietly cargo build "${in_reference[@]}"
 compared=target/cargo/release
 "$compared/compare" > "$work/compared" 2>&1 &

@@ -1,4 +1,4 @@
-/* The functions of crates/kernels, which the benchmark alone calls. A buffer is
+/* The functions of crates/kernels, which the benchmark and the tests alone call. A buffer is
  * a pointer and its length. */
 #ifndef KERNELS_H
 #define KERNELS_H

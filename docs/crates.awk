@@ -2,8 +2,8 @@
 # A line that passes a row has a place of its own in it, so that it goes through no box.
 
 BEGIN {
-    # From packets to symbols: these are wanted in this order, from left to right, each list by itself.
-    ways = split("group_sync randomizer reed_solomon interleaver inner_code run_reader;report receiver sender;stream_receiver sending symbol_pass", way, ";")
+    # From packets to symbols, left to right: lists of crates, each wanted in its order.
+    ways = split(wanted, way, ";")
     apart = 58; top = 92; margin = 20; high = 22
     fill["program"] = "#f6cf8f"; stroke["program"] = "#b3791f"; said["program"] = "program"
     fill["public"] = "#a9c8ec"; stroke["public"] = "#1f5fa8"; said["public"] = "library, for callers"
@@ -22,13 +22,15 @@ $2 == "test" {
     name[++n] = $1
     kind[n] = $2
     number[$1] = n
-    for (i = 3; i <= NF; i++)
+    for (i = 3; i <= NF; i++) {
         stands[n, $i] = 1
+        above[$i]++
+    }
 }
 
 # Nearly all stand on these.
 function left_out(i) {
-    return name[i] == "common" || name[i] == "answer"
+    return above[name[i]] > 0.6 * n
 }
 
 # join LOW HIGH: a line between them.
@@ -287,7 +289,8 @@ function cost(    r, i, j, k, sum, w, crate, count) {
         count = split(way[w], crate, " ")
         for (i = 1; i < count; i++)
             for (j = i + 1; j <= count; j++)
-                sum += 20 * (x[number[crate[i]]] > x[number[crate[j]]])
+                if (crate[i] in number && crate[j] in number)
+                    sum += 20 * (x[number[crate[i]]] > x[number[crate[j]]])
     }
     return sum
 }
@@ -377,7 +380,10 @@ END {
         box(x[i] - width_of(i) / 2, y_of(i), width_of(i), kind[i])
         text(x[i], y_of(i) + 15, "middle", name[i])
     }
-    text(margin, height - 28, "start", "Packets are on the left, symbols on the right. Lines to common and answer, on which nearly all stand, are left out.")
+    for (i = 1; i <= n; i++)
+        if (left_out(i))
+            most_used = most_used (most_used == "" ? "" : " and ") name[i]
+    text(margin, height - 28, "start", "Packets are on the left, symbols on the right. Lines to " most_used ", on which nearly all stand, are left out.")
     text(margin, height - 12, "start", "Of the tests and the benchmark: " tests)
     print "</svg>"
 }

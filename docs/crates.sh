@@ -23,6 +23,9 @@ kind() {
     fi
 }
 
+# The stages from packets to symbols, as the lines at the head of docs/ARCHITECTURE.md have them.
+ways=$(sed -n 's/^    packet [0-9]* //p' docs/ARCHITECTURE.md | sed 's/ symbols .*//; s/[<>-]*//g; s/  */ /g' | paste -sd ';')
+
 grep -v '^#' crates.txt | while IFS=: read -r name libraries; do
     echo "$name $(kind "$name") $libraries"
-done | awk -f docs/crates.awk
+done | awk -v wanted="$ways" -f docs/crates.awk

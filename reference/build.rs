@@ -1,6 +1,6 @@
-//! Links the project's static library `libexports.a`, and `libreader_exports.a` and
-//! `libbridge.a` where they are there, from the folder named by the environment
-//! variable EXPORTS_DIR.
+//! Links the project's static library `libexports.a`, and `libreader_exports.a`,
+//! `libbridge.a` and `libkernels.a` where they are there, from the folder named by
+//! the environment variable EXPORTS_DIR.
 //! Without it (or with the feature `self`) nothing is linked, and the tests of the
 //! reference still run.
 
@@ -21,6 +21,11 @@ fn main() {
             if std::path::Path::new(&folder).join("libbridge.a").exists() {
                 println!("cargo:rustc-link-lib=static=bridge");
                 println!("cargo:rustc-cfg=bridge_linked");
+            }
+            println!("cargo:rerun-if-changed={folder}/libkernels.a");
+            if std::path::Path::new(&folder).join("libkernels.a").exists() {
+                println!("cargo:rustc-link-lib=static=kernels");
+                println!("cargo:rustc-cfg=kernels_linked");
             }
         }
         _ => {}

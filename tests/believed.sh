@@ -5,7 +5,7 @@
 # and not the proof; of a definition all of it counts. A name with a hyphen is that of a lemma, which is proved and not believed.
 set -euo pipefail
 
-# surface: the crates that callers may use, and the functions of one where they are named in brackets behind it.
+# surface: the crates, and modules of them, that callers may use, and the functions of one where they are named in brackets behind it.
 surface() {
     awk '/^What a caller may use/ {
         n = split($0, token, "`")
@@ -18,7 +18,9 @@ surface() {
             } else if (inside)
                 print "function\t" crate "\t" token[i]
             else {
-                crate = "crates/" token[i] "/src/lib.rt"
+                crate = token[i] ~ /::/ ? token[i] : token[i] "::lib"
+                sub(/::/, "/src/", crate)
+                crate = "crates/" crate ".rt"
                 print "crate\t" crate
             }
     }' docs/ARCHITECTURE.md

@@ -25,14 +25,16 @@ for at in 5000 70001 70300 131072 200000; do
 done
 truncate -s -57 recording
 
-# report_of LENGTH: on so many bytes of the recording, from a file and through a pipe, the report is the reference's.
+# report_of LENGTH FILE: on so many bytes of the file, from a file and through a pipe, the report is the reference's.
 report_of() {
-    head -c "$1" recording > part
+    head -c "$1" "$2" > part
     "$reference/pass_report" < part > wanted
-    "$bin/pass_report" < part | cmp - wanted || fail "report of $1 bytes from a file"
-    cat part | "$bin/pass_report" | cmp - wanted || fail "report of $1 bytes through a pipe"
+    "$bin/pass_report" < part | cmp - wanted || fail "report of $1 bytes of $2 from a file"
+    cat part | "$bin/pass_report" | cmp - wanted || fail "report of $1 bytes of $2 through a pipe"
 }
-for n in 0 1 203 204 205 2244 65535 65536 65537 130559 130560 130561 131071 131072 131073 244743; do report_of "$n"; done
+for n in 0 1 203 204 205 2244 65535 65536 65537 130559 130560 130561 131071 131072 131073 244743; do report_of "$n" recording; done
+for n in 2448 2449 2651; do report_of "$n" /dev/zero; done
+report_of 8013 "$OLDPWD/reference/tests/data/recording"
 echo "reports at the ends of the buffers: as the reference's"
 
 "$reference/pieces" 1000 65536 "$bin/pass_report" < recording > report

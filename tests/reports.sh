@@ -7,7 +7,7 @@ bin=$PWD/target/bin
 reference=$PWD/target/cargo/release
 work=$(mktemp -d)
 trap 'rm -rf "$work"' EXIT
-"$bin/pass_report" < crates/pass_report_cases/data/recording > "$work/told"
+"$bin/pass_report" < reference/tests/data/recording > "$work/told"
 cd "$work"
 
 fail() {

@@ -3,7 +3,7 @@
 //! no code with the project and favours the shapes of the standard's figures
 //! (shift registers, queues, bit by bit) over speed.
 
-// build.rs sets the cfgs `exports_linked` and `bridge_linked`. Newer compilers want to be told of it, and older ones do not know the lint.
+// build.rs sets the cfgs `exports_linked`, `bridge_linked` and `kernels_linked`. Newer compilers want to be told of it, and older ones do not know the lint.
 #![allow(unknown_lints, unexpected_cfgs)]
 
 pub mod answer;
@@ -14,6 +14,7 @@ pub mod erasures;
 pub mod inner_code;
 pub mod inner_decoder;
 pub mod interleaver;
+pub mod kernels;
 pub mod randomizer;
 pub mod receiver;
 pub mod recording;

@@ -1,11 +1,11 @@
 //! The programs of the reference: the pass report on the inputs of document 01,
 //! and the interleaved blocks of a transport stream.
 
+mod outside;
+
+use outside::{INTERLEAVED, PACKETS};
 use std::io::Write;
 use std::process::{Command, Stdio};
-
-static PACKETS: &[u8] = include_bytes!("data/packets.ts");
-static INTERLEAVED: &[u8] = include_bytes!("data/interleaved.bin");
 
 fn output(program: &str, input: &[u8]) -> Vec<u8> {
     let mut child = Command::new(program).stdin(Stdio::piped()).stdout(Stdio::piped()).spawn().unwrap();
@@ -33,6 +33,21 @@ fn nothing_and_the_ends_of_rest() {
         let want = format!("form=2\ntaken={taken}\nfilling={taken}\ndelivered=0\nlost=0\nwaiting=0\noutofstep=0\nchanged=0\nbits=0\nrest={rest}\n");
         assert_eq!(report(&vec![0; length]), want);
     }
+}
+
+#[test]
+fn zeros_and_a_rest() {
+    for rest in [0, 1, 203] {
+        let want = format!("form=2\ntaken=12\nfilling=11\ndelivered=0\nlost=0\nwaiting=1\noutofstep=0\nchanged=0\nbits=0\nrest={rest}\n");
+        assert_eq!(report(&vec![0; 12 * 204 + rest]), want);
+    }
+}
+
+/// Harmed, and cut off inside a block.
+#[test]
+fn a_recording() {
+    let want = "form=2\ntaken=39\nfilling=11\ndelivered=16\nlost=12\nwaiting=0\noutofstep=0\nchanged=3\nbits=12\nrest=57\n";
+    assert_eq!(report(include_bytes!("data/recording")), want);
 }
 
 #[test]

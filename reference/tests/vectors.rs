@@ -1,24 +1,14 @@
-//! The stages against the outputs of an outside coder (GNU Radio 3.10,
-//! gr-dtv): 40 packets, five groups.
+//! The reference's own stages against the outputs of an outside coder.
 
+mod outside;
+
+use outside::{CODED, INTERLEAVED, PACKETS, RANDOMIZED, SYMBOLS};
 use reference::answer::Answer;
 use reference::inner_code::InnerCoder;
 use reference::interleaver::Branches;
 use reference::receiver::Receiver;
 use reference::sender::{interleaved_stream, Sender};
 use reference::{randomizer, reed_solomon};
-
-static PACKETS: &[u8] = include_bytes!("data/packets.ts");
-static RANDOMIZED: &[u8] = include_bytes!("data/randomized.bin");
-static CODED: &[u8] = include_bytes!("data/coded.bin");
-static INTERLEAVED: &[u8] = include_bytes!("data/interleaved.bin");
-static SYMBOLS: [&[u8]; 5] = [
-    include_bytes!("data/symbols_rate0.bin"),
-    include_bytes!("data/symbols_rate1.bin"),
-    include_bytes!("data/symbols_rate2.bin"),
-    include_bytes!("data/symbols_rate3.bin"),
-    include_bytes!("data/symbols_rate4.bin"),
-];
 
 #[test]
 fn randomizer_both_ways() {

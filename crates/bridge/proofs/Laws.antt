@@ -7,7 +7,7 @@ use Prim.Native.Nat.{ℕ, _≤_}
 use borrow.Author.Tests.{eq-eqb, le-ltb}
 use lib.ListN.{length, getD, drop}
 use Rattle.common.specs.Lists.{ByteEntries}
-use Rattle.count_bytes.specs.Bytes.{toBytes, numbersOf}
+use Rattle.reception_counts.specs.Bytes.{toBytes, numbersOf}
 use Rattle.receiver.specs.Receive.{receiverInRange}
 use Rattle.receiver.specs.declared.Receiver.{Receiver}
 use Rattle.bridge.specs.State.{stateOf, stateBytes, StandsFor}

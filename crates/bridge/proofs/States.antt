@@ -18,8 +18,8 @@ use Rattle.common.proofs.Choice.{both-true}
 use Rattle.group_sync.specs.Group.{placeInRange}
 use Rattle.group_sync.specs.declared.Place.{Place}
 use Rattle.group_sync.specs.declared.Place.the-variants.{NotKnown, Known}
-use Rattle.count_bytes.specs.Bytes.{toBytes, fromBytes, numbersOf, countBytes}
-use Rattle.count_bytes.proofs.Numbers.{to-from, from-to-eight, length-to}
+use Rattle.reception_counts.specs.Bytes.{toBytes, fromBytes, numbersOf, countBytes}
+use Rattle.reception_counts.proofs.Numbers.{to-from, from-to-eight, length-to}
 use Rattle.receiver.specs.Receive.{freshReceiver}
 use Rattle.receiver.specs.declared.Receiver.{Receiver}
 use Rattle.receiver.proofs.Reached.{Sound, sound-range, sound-fresh}

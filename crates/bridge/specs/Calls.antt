@@ -2,13 +2,14 @@
 -- Assumes nothing.
 use mathlib.Core.Path.{_≡_}
 use mathlib.Core.Bool.{Bool}
-use mathlib.Core.List.{List, _++_}
+use mathlib.Core.List.{List, [], _∷_, _++_}
 use Prim.Native.Nat.{ℕ}
 use lib.Dec.{eqb, ltb}
 use lib.ListN.{length, getD, drop}
 use Rattle.common.specs.Choice.{pick}
+use Rattle.common.specs.Refusal.{unless, when, firstDue}
 use Rattle.answer.specs.Number.{numberOf}
-use Rattle.count_bytes.specs.Bytes.{toBytes, numbersOf}
+use Rattle.reception_counts.specs.Bytes.{toBytes, numbersOf}
 use Rattle.receiver.specs.Receive.{freshReceiver, receiverInRange, Receives}
 use Rattle.receiver.specs.Run.{takenBy}
 use Rattle.receiver.specs.declared.Receiver.{Receiver}
@@ -41,13 +42,16 @@ pub data BridgeTakes (state block output : List ℕ) (r : ℕ) (after exit : Lis
 
 -- ---- a count
 
--- the tests of the state that is read, and of the output
-abbrev heldNumber : List ℕ → List ℕ → ℕ
-heldNumber state output = pick (receiverInRange (stateOf state)) (pick (ltb (length output) 8) 4 0) 5
-
--- all tests in their order: 22, 23, 5, 4
+-- the tests in their order
 abbrev pub countNumber : List ℕ → ℕ → List ℕ → ℕ
-countNumber state number output = pick (eqb (length state) stateLength) (pick (ltb 7 number) 23 (heldNumber state output)) 22
+countNumber state number output =
+    firstDue (
+    unless (eqb (length state) stateLength) 22
+    ∷ when (ltb 7 number) 23
+    ∷ unless (receiverInRange (stateOf state)) 5
+    ∷ when (ltb (length output) 8) 4
+    ∷ []
+    )
 
 -- the count of the receiver that the bytes stand for, in eight bytes at the front of the output
 abbrev pub countOutput : List ℕ → ℕ → List ℕ → List ℕ

@@ -11,7 +11,7 @@ use Rattle.common.specs.Choice.{pick}
 use Rattle.group_sync.specs.declared.Place.{Place}
 use Rattle.group_sync.specs.declared.Place.the-variants.{NotKnown, Known}
 use Rattle.reception_counts.specs.declared.Counts.{Counts}
-use Rattle.count_bytes.specs.Bytes.{toBytes, fromBytes, countsAt}
+use Rattle.reception_counts.specs.Bytes.{toBytes, fromBytes, countsAt}
 use Rattle.receiver.specs.Receive.{receiverInRange}
 use Rattle.receiver.specs.declared.Receiver.{Receiver}
 

@@ -5,13 +5,13 @@ ghost use mathlib.Core.List.{_++_};
 ghost use Prim.Native.Nat.{_+_, _≤_};
 ghost use lib.ListN.{length, take, drop};
 ghost use Rattle.bridge.specs.State.{placeOf, placeByte, stateOf, stateBytes};
-use count_bytes::counts_at;
-use count_bytes::put_counts;
-use delay_branches::Branches;
 use group_sync::GroupSync;
 use group_sync::Place;
 use interleaver::Deinterleaver;
+use interleaver::branches::Branches;
 use receiver::Receiver;
+use reception_counts::count_bytes::counts_at;
+use reception_counts::count_bytes::put_counts;
 
 // The first byte of each field, and the length of all of them. The counts are eight fields of eight bytes.
 const CELLS: usize = 0;

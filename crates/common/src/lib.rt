@@ -1,9 +1,10 @@
-// What several crates use and belongs to none of them: lemmas, the copying of bytes, and the largest of them.
+// Shared helpers: lemmas, copying bytes, the bytes of a number, the smaller of two, the maximum of a slice.
 // Inner: its functions may require what the crates above have tested. docs/ARCHITECTURE.md names the public surface.
 ghost use mathlib.Core.Path.{_≡_};
 ghost use mathlib.Core.List.{_++_};
-ghost use Prim.Native.Nat.{_+_, _≤_, max};
+ghost use Prim.Native.Nat.{_+_, _≤_, min, max};
 ghost use lib.ListN.{length, take, drop};
+ghost use Rattle.common.specs.Bytes.{byteAt};
 ghost use Rattle.common.specs.Lists.{largest};
 
 // Writes a list into the output, from a place on.
@@ -16,6 +17,26 @@ pub fn put(list: &[u8], at: usize, output: &mut [u8])
         output[at + i] = list[i];
         i += 1;
     }
+}
+
+// Byte k of a number, the lowest being byte 0.
+pub fn byte_at(n: u64, k: usize) -> u8
+    ensures { λ r. ⌜ r ≡ byteAt k n ⌝ }
+{
+    let mut left = n;
+    let mut j: usize = 0;
+    while j < k {
+        left = left / 256;
+        j += 1;
+    }
+    (left % 256) as u8
+}
+
+// The smaller of two numbers.
+pub fn least(a: u64, b: u64) -> u64
+    ensures { λ r. ⌜ r ≡ min a b ⌝ }
+{
+    if a < b { a } else { b }
 }
 
 // The larger of two bytes.

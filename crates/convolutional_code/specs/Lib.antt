@@ -1,3 +1,4 @@
 pub mod Bits
 pub mod Code
+pub mod Costs
 pub mod Sweep

@@ -7,8 +7,8 @@ use native.Mathlib.Omega.{arith}
 use lib.ListN.{length, getD, take}
 use lib.Seq.{take-suc, length-take-le}
 use Rattle.common.specs.Lists.{All}
-use Rattle.run_reader.specs.Cost.{differing}
-use Rattle.run_reader.proofs.Decisions.{Written, written-costed, written-small}
+use Rattle.reader.specs.Cost.{differing}
+use Rattle.reader.proofs.Decisions.{Written, written-costed, written-small}
 use Rattle.symbol_pass.specs.History.{FeedsCosts, FeedsReceived}
 use Rattle.symbol_pass.specs.declared.Reading.{Reading}
 use Rattle.dvbs_read.specs.Turn.{SymbolsAtFront}

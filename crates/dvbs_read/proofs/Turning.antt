@@ -12,7 +12,7 @@ use lib.Seq.{length-take-le, take-take, take-all, take-append-add, getD-append-a
 use Rattle.common.specs.Choice.{pick}
 use Rattle.common.specs.Lists.{All}
 use Rattle.common.proofs.Lists.{All-append}
-use Rattle.run_reader.specs.Cost.{differing}
+use Rattle.reader.specs.Cost.{differing}
 use Rattle.symbol_pass.specs.History.{Going, LastBytes, ReceivedSoFar}
 use Rattle.symbol_pass.specs.declared.Reading.{Reading}
 use Rattle.symbol_pass.specs.declared.Last.{Last}

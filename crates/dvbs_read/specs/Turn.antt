@@ -10,7 +10,7 @@ use lib.ListN.{length, getD, take}
 use Rattle.common.specs.Choice.{pick}
 use Rattle.common.specs.Lists.{All}
 use Rattle.input_pieces.specs.Read.{ReadsPiece}
-use Rattle.run_reader.specs.Cost.{differing}
+use Rattle.reader.specs.Cost.{differing}
 use Rattle.symbol_pass.specs.History.{Begun, Going, FeedsReceived, ReceivedSoFar, WholePass}
 use Rattle.symbol_pass.specs.declared.Reading.{Reading}
 use Rattle.dvbs_read.specs.declared.Turn.{Turn}

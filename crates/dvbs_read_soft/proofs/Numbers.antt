@@ -14,12 +14,12 @@ use Rattle.common.specs.Lists.{All, chunks, chunksOf, restOf}
 use Rattle.common.proofs.Choice.{false-true}
 use Rattle.common.proofs.Lists.{getD-map-in}
 use Rattle.common.proofs.Chunks.{length-chunks}
-use Rattle.run_reader.proofs.Outcome.{not-true}
-use Rattle.run_reader.proofs.SoftDecisions.{along-costed}
-use Rattle.soft_decision.specs.Steps.{costsAlong}
-use Rattle.soft_decision.specs.declared.Received.the-variants.{Lost}
-use Rattle.soft_decision.proofs.Runs.{along-small}
-use Rattle.soft_decision.specs.Cost.{softly}
+use Rattle.reader.proofs.Outcome.{not-true}
+use Rattle.reader.proofs.SoftDecisions.{along-costed}
+use Rattle.branch_metrics.specs.PointCosts.{costsAlong}
+use Rattle.branch_metrics.specs.declared.soft_decision.Received.the-variants.{Lost}
+use Rattle.branch_metrics.proofs.Runs.{along-small}
+use Rattle.branch_metrics.specs.Cost.{softly}
 use Rattle.symbol_pass.specs.History.{FeedsCosts, FeedsReceived}
 use Rattle.symbol_pass.specs.declared.Reading.{Reading}
 use Rattle.dvbs_read_soft.specs.Points.{pointOf, pointAt, pointsOf}

@@ -11,8 +11,8 @@ use Rattle.common.specs.Lists.{chunks, chunksOf, restOf}
 use Rattle.common.proofs.Chunks.{length-rest, cut}
 use Rattle.input_pieces.specs.Read.{ReadsPiece}
 use Rattle.input_pieces.specs.declared.Piece.{Piece}
-use Rattle.soft_decision.specs.Cost.{softly}
-use Rattle.soft_decision.specs.declared.Received.{Received}
+use Rattle.branch_metrics.specs.Cost.{softly}
+use Rattle.branch_metrics.specs.declared.soft_decision.Received.{Received}
 use Rattle.symbol_pass.specs.History.{Going, LastBytes, ReceivedSoFar}
 use Rattle.symbol_pass.specs.declared.Last.{Last}
 use Rattle.symbol_pass.proofs.Histories.{going-more, received-none, received-more, whole-pass}

@@ -7,8 +7,8 @@ use lib.Ieee.{Float, isNan, ofBits, binary32}
 use lib.ListN.{getD}
 use Rattle.common.specs.Choice.{pick}
 use Rattle.common.specs.Lists.{chunksOf}
-use Rattle.soft_decision.specs.declared.Received.{Received}
-use Rattle.soft_decision.specs.declared.Received.the-variants.{At, Lost}
+use Rattle.branch_metrics.specs.declared.soft_decision.Received.{Received}
+use Rattle.branch_metrics.specs.declared.soft_decision.Received.the-variants.{At, Lost}
 
 -- the number whose lowest byte is at a place
 abbrev pub wordAt : List ℕ → ℕ → ℕ

@@ -10,7 +10,7 @@ use lib.ListN.{length, take, drop}
 use Rattle.common.specs.Lists.{restOf}
 use Rattle.input_pieces.specs.Read.{ReadsPiece}
 use Rattle.input_pieces.specs.declared.Piece.{Piece}
-use Rattle.soft_decision.specs.Cost.{softly}
+use Rattle.branch_metrics.specs.Cost.{softly}
 use Rattle.symbol_pass.specs.History.{Begun, Going, FeedsReceived, WholePass}
 use Rattle.symbol_pass.specs.declared.Reading.{Reading}
 use Rattle.dvbs_read_soft.specs.Points.{pointsOf}

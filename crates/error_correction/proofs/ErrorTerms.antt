@@ -22,7 +22,7 @@ use Rattle.algebra.proofs.Syndromes.{syndrome}
 use Rattle.galois.specs.Field256.{mul}
 use Rattle.galois.proofs.Instance.{bytes, byte, byte-inj, byte-zero, byte-add, byte-mul}
 use Rattle.error_correction.specs.Correction.{sumOf, termsOf, Explained, correctedBy, changedIn}
-use Rattle.byte_lanes.specs.Lanes.{productsOf}
+use Rattle.galois.specs.Lanes.{productsOf}
 
 -- ---- the sum of a list
 

@@ -19,11 +19,12 @@ use Rattle.algebra.proofs.Syndromes.{dot, dot-ext}
 use Rattle.galois.specs.Field256.{numbers, mul, inv, scaled}
 use Rattle.galois.proofs.Laws.{mul-lt, mul-zero-right, mul-comm}
 use Rattle.galois.proofs.Instance.{bytes, byte, byte-zero, byte-one, byte-add, byte-mul, byte-inv}
-use Rattle.byte_lanes.specs.Lanes.{elements, productsOf, hornerStep}
+use Rattle.galois.specs.Lanes.{productsOf, hornerStep}
+use Rattle.galois.proofs.Elements.{elements}
 use Rattle.error_correction.specs.Correction.{monic, RootProduct, quotientBy, numeratorAt, denominatorAt, FractionsAt, errorValue}
-use Rattle.byte_lanes.proofs.Words.{elements-plus, elements-scale, length-sum, sum-at}
-use Rattle.byte_lanes.proofs.Powers.{length-advanced, advanced-at, eval-from}
-use Rattle.byte_lanes.proofs.Words.{length-products, products-at}
+use Rattle.galois.proofs.Words.{elements-plus, elements-scale, length-sum, sum-at}
+use Rattle.galois.proofs.LanePowers.{length-advanced, advanced-at, eval-from}
+use Rattle.galois.proofs.Words.{length-products, products-at}
 
 -- ---- identities
 

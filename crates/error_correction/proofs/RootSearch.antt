@@ -4,7 +4,7 @@ use mathlib.Core.Path.{_≡_, refl, sym, ap, ap₂, _∙_, subst}
 use mathlib.Core.List.{List, [], _∷_, _++_, map, append-assoc, append-nil}
 use Prim.Native.Nat.{ℕ, zero, suc, _+_, _-_, _≤_, _<_, Fin}
 use Prim.{tt}
-use native.Mathlib.Nat.{zero-add, add-zero}
+use native.Mathlib.Nat.{zero-add, add-zero, eq-or-lt-of-le}
 use native.Mathlib.Numerals.{add-one}
 use native.Mathlib.Decide.{ℕ-discrete}
 use native.Mathlib.Omega.{arith}
@@ -12,16 +12,20 @@ use borrow.Author.Tests.{eq-eqb, ne-eqb}
 use lib.Dec.{eqb, lit<}
 use lib.ListN.{length, getD, take, drop, set, replicate, length-append, length-take, length-drop, length-set, take-append-drop, List·getD-eq-default}
 use lib.Seq.{getD-take, getD-drop, take-suc, take-suc-set, take-all, take-add, length-take-le, ext-getD}
-use Rattle.common.specs.Choice.{pick}
+use mathlib.Core.Bool.{Bool, true, false}
+use mir.Val.{boolByte}
+use mathlib.Core.Logic.{⊎-elim}
+use Rattle.common.specs.Choice.{pick, indicator}
 use Rattle.common.proofs.Lists.{length-listOf, getD-listOf, zeros-at}
 use Rattle.algebra.specs.Field.{ops}
 use Rattle.algebra.specs.Polynomial.{eval}
 use Rattle.algebra.proofs.Ring.{zero-add as field-zero-add, add-zero as field-add-zero, mul-zero as field-mul-zero}
 use Rattle.galois.specs.Field256.{pow}
 use Rattle.galois.proofs.Instance.{bytes, byte, byte-val, byte-zero}
-use Rattle.byte_lanes.specs.Lanes.{elements, alpha, PowersFrom, ValuesAt}
-use Rattle.byte_lanes.proofs.Powers.{powers-at}
-use Rattle.error_correction.specs.Correction.{EndsAt, masked, Masked, valuesOf, zerosFrom, Listed, rootsOf, onePolynomial, FoundRoots}
+use Rattle.galois.specs.Lanes.{PowersFrom, ValuesAt}
+use Rattle.galois.proofs.Elements.{elements, alpha}
+use Rattle.galois.proofs.LanePowers.{powers-at, values-bytes}
+use Rattle.error_correction.specs.Correction.{EndsAt, masked, Masked, valuesOf, zerosFrom, NoZero, Listed, rootsOf, onePolynomial, FoundRoots}
 
 -- ---- the degree
 
@@ -93,7 +97,7 @@ module _ (u q x v w : List ℕ) (i d : ℕ) (h : i ≤ 204) (p : PowersFrom i x)
   lane-value j l =
       sym (byte-val (getD v j 0) (g .small j l))
       ∙ ap (λ (u : Fin 256). u .0)
-      (g .each j l ∙ sym (eval-cut (d + 1) q (byte (getD x j 0)) (λ k b. z .zeros k (omega arith))) ∙ ap (eval (ops bytes) (elements q)) (powers-at i x p j l))
+      (values-bytes g j l ∙ sym (eval-cut (d + 1) q (byte (getD x j 0)) (λ k b. z .zeros k (omega arith))) ∙ ap (eval (ops bytes) (elements q)) (powers-at i x p j l))
 
   lane-mark : (j : ℕ) → j < 16 → getD (take 16 (drop i u)) j 0 ≡ getD u (i + j) 0
   lane-mark j l = getD-take 16 (drop i u) j 0 l ∙ getD-drop i u j 0
@@ -296,3 +300,49 @@ found-none u q degrees places count n z =
     empty : (l : List ℕ) → length l ≡ 0 → l ≡ []
     empty [] h = refl
     empty (a ∷ l) h = absurd (omega arith)
+
+-- ---- sixteen lanes none of which is zero
+
+zeros-none : (i : ℕ) (l : List ℕ) → ((j : ℕ) → j < length l → getD l j 0 ≡ 0 → ⊥) → zerosFrom i l ≡ []
+unfolding zerosFrom
+zeros-none i [] h = refl
+zeros-none i (x ∷ l) h =
+    ap (λ (b : Bool). pick b (i ∷ []) [] ++ zerosFrom (i + 1) l) (ne-eqb x 0 (h 0 (omega arith)))
+    ∙ zeros-none (i + 1) l (λ j k. h (suc j) (omega arith))
+
+pub listed-nothing : (degrees places : List ℕ) (count : ℕ) (v x : List ℕ) (i : ℕ) → length v ≡ 16 → NoZero v → Listed degrees places count (take (204 - i) v) x i degrees places count
+listed-nothing degrees places count v x i n z =
+    let e : zerosFrom i (take (204 - i) v) ≡ [] = zeros-none i (take (204 - i) v) (λ j k q. z .each j (omega (arith, length-take (204 - i) v)) (sym (getD-take (204 - i) v j 0 (omega (arith, length-take (204 - i) v))) ∙ q)) in
+    record {
+      number = rw e (sym (add-zero count));
+      listed = rw e (sym (append-nil (take count degrees)));
+      placed = rw e (sym (append-nil (take count places)));
+    }
+
+-- a comparison as a byte
+pub byte-is : (b : Bool) → (boolByte b ≡ indicator b) × (boolByte b ≤ 1)
+byte-is true = (refl, omega arith)
+byte-is false = (refl, omega arith)
+
+-- the zeros among the first j lanes, counted
+pub record Counted (v : List ℕ) (n j : ℕ) : Type 0 where
+  pub most : j ≤ 16
+  pub few : n ≤ j
+  pub none : n ≡ 0 → (k : ℕ) → k < j → getD v k 0 ≡ 0 → ⊥
+
+pub counted-none : (v : List ℕ) → Counted v 0 0
+counted-none v = record { most = omega arith; few = omega arith; none = λ e k h. absurd (omega arith) }
+
+pub counted-more : (v : List ℕ) (n j r : ℕ) → Counted v n j → j < 16 → r ≡ indicator (eqb (getD v j 0) 0) → r ≤ 1 → Counted v (n + r) (j + 1)
+counted-more v n j r c h e s = record { most = omega arith; few = omega (arith, c .few); none = λ z k l q. ⊎-elim (own z k q) (earlier z k q) (eq-or-lt-of-le (le k l)) }
+  where
+    le : (k : ℕ) → k < j + 1 → k ≤ j
+    le k l = omega arith
+
+    own : n + r ≡ 0 → (k : ℕ) → getD v k 0 ≡ 0 → k ≡ j → ⊥
+    own z k q a =
+        let one : r ≡ 1 = e ∙ ap indicator (eq-eqb (getD v j 0) 0 (sym (ap (λ (m : ℕ). getD v m 0) a) ∙ q)) in
+        absurd (omega (arith, one, z))
+
+    earlier : n + r ≡ 0 → (k : ℕ) → getD v k 0 ≡ 0 → k < j → ⊥
+    earlier z k q l = c .none (omega (arith, z)) k l q

@@ -15,7 +15,7 @@ use Rattle.algebra.proofs.Polynomial.{quotient, fromRoots}
 use Rattle.algebra.proofs.Syndromes.{Term, dot, syndrome}
 use Rattle.galois.specs.Field256.{pow}
 use Rattle.galois.proofs.Instance.{bytes, byte}
-use Rattle.byte_lanes.specs.Lanes.{elements, alpha}
+use Rattle.galois.proofs.Elements.{elements, alpha}
 
 -- the coefficients above d are zero
 pub record EndsAt (q : List ℕ) (d : ℕ) : Type 0 where
@@ -51,6 +51,10 @@ valuesOf u q = listOf 204 (λ i. masked (getD u i 0) (eval (ops bytes) (elements
 unfoldable pub zerosFrom : ℕ → List ℕ → List ℕ
 zerosFrom n [] = []
 zerosFrom n (x ∷ l) = pick (eqb x 0) (n ∷ []) [] ++ zerosFrom (n + 1) l
+
+-- none of sixteen lanes is zero
+pub record NoZero (v : List ℕ) : Type 0 where
+  pub each : (j : ℕ) → j < 16 → getD v j 0 ≡ 0 → ⊥
 
 -- roots, and those among the first of sixteen places more: v has the values at the places x, of which the first is that of degree i
 pub record Listed (degrees places : List ℕ) (count : ℕ) (v x : List ℕ) (i : ℕ) (degrees' places' : List ℕ) (count' : ℕ) : Type 0 where

@@ -3,8 +3,10 @@
 ghost use mathlib.Core.Path.{_≡_};
 ghost use mathlib.Core.List.{_∷_};
 ghost use Prim.Native.Nat.{ℕ, _+_, _-_, _<_, _≤_};
+ghost use lib.Dec.{eqb};
 ghost use lib.ListN.{length, getD, take, drop};
-ghost use Rattle.error_correction.specs.Correction.{EndsAt, Unmarked, ByDegree, masked, Masked, zerosFrom, Listed, rootsOf, onePolynomial, FoundRoots, monic, RootProduct, FractionsAt, ErrorValues, sumOf, Explained, correctedBy, changedIn};
+ghost use Rattle.common.specs.Choice.{indicator};
+ghost use Rattle.error_correction.specs.Correction.{EndsAt, Unmarked, ByDegree, masked, Masked, zerosFrom, NoZero, Listed, rootsOf, onePolynomial, FoundRoots, monic, RootProduct, FractionsAt, ErrorValues, sumOf, Explained, correctedBy, changedIn};
 
 // The degrees of the erasures and those at which the locator vanishes, in order, their places, and how many they are. The places after them are zero.
 pub struct Roots {
@@ -61,7 +63,7 @@ fn with_erasures(u: &[u8], f: usize, i: usize, v: [u8; 16]) -> [u8; 16]
     if f == 0 {
         return v;
     }
-    masked_values(byte_lanes::sixteen(u, i), v)
+    masked_values(galois::lanes::sixteen(u, i), v)
 }
 
 // The degree of a polynomial of nine coefficients, and 0 of the zero polynomial.
@@ -115,8 +117,28 @@ fn list_zeros(
     }
 }
 
-// The degrees below 204 of the erasures and those at which the locator vanishes, sixteen places at a time; u has the marks by degree, and f says how many
-// bytes are marked.
+// 1 for a lane that is zero, else 0.
+fn is_zero(x: u8) -> u8
+    ensures { λ r. ⌜ (r ≡ indicator (eqb x 0)) × (r ≤ 1) ⌝ }
+{
+    (x == 0) as u8
+}
+
+// How many of sixteen lanes are zero. Only that 0 means none is used, and stated.
+fn zero_lanes(v: [u8; 16]) -> u8
+    ensures { λ r. ⌜ (r ≡ 0 → NoZero v) ⌝ }
+{
+    let mut n: u8 = 0;
+    let mut j: usize = 0;
+    while j < 16 {
+        n += is_zero(v[j]);
+        j += 1;
+    }
+    n
+}
+
+// The degrees below 204 of the erasures and those at which the locator vanishes, sixteen places at a time (Chien search); u has the marks by degree, and
+// f says how many bytes are marked. Most sixteens have no root, and are passed over.
 pub fn find_roots(u: &[u8], f: usize, q: [u8; 9]) -> Roots
     requires { ⌜ (length (now u) ≡ 208) × (f ≡ 0 → Unmarked (now u)) × (length (rootsOf (now u) q) ≤ 16) ⌝ }
     ensures { λ r. ⌜ FoundRoots (now (u .entry)) q (r .degrees) (r .places) (r .count) ⌝ }
@@ -129,15 +151,17 @@ pub fn find_roots(u: &[u8], f: usize, q: [u8; 9]) -> Roots
         places,
         count: 0,
     };
-    let mut x = byte_lanes::first_powers();
+    let mut x = galois::lanes::first_powers();
     let mut i: u8 = 0;
     while i < 208 {
-        let v = with_erasures(u, f, i as usize, byte_lanes::evaluate(&q[..end], x));
-        let degrees = found.degrees;
-        let places = found.places;
-        let r = list_zeros(degrees, places, found.count, v, x, i);
-        found = r;
-        let y = byte_lanes::next_powers(x);
+        let v = with_erasures(u, f, i as usize, galois::lanes::evaluate(&q[..end], x));
+        if zero_lanes(v) != 0 {
+            let degrees = found.degrees;
+            let places = found.places;
+            let r = list_zeros(degrees, places, found.count, v, x, i);
+            found = r;
+        }
+        let y = galois::lanes::next_powers(x);
         x = y;
         i += 16;
     }
@@ -174,7 +198,8 @@ fn raised(p: [u8; 16]) -> [u8; 16]
     r
 }
 
-// The product of x + r over the places r, without its highest coefficient, which is 1 and may not find room.
+// The locator of errors and erasures: the product of x + r over their places r, without its highest coefficient, which is 1 and may not find room. Over the
+// places of erasures alone it is the erasure locator.
 pub fn root_product(places: [u8; 16], count: usize) -> [u8; 16]
     requires { ⌜ count ≤ 16 ⌝ }
     ensures { λ r. ⌜ RootProduct (take count places) r ⌝ }
@@ -184,13 +209,13 @@ pub fn root_product(places: [u8; 16], count: usize) -> [u8; 16]
     let mut l: usize = count;
     while 0 < l {
         l -= 1;
-        let q = byte_lanes::sum(byte_lanes::scale(p, places[l]), raised(p));
+        let q = galois::lanes::sum(galois::lanes::scale(p, places[l]), raised(p));
         p = q;
     }
     p
 }
 
-// For each of sixteen places y, with q = p / (x + y): the sum of q_i S_i, and q(y).
+// Numerators and denominators of Forney's formula. For each of sixteen places y, with q = p / (x + y): the sum of q_i S_i, and q(y).
 struct Fractions {
     numerators: [u8; 16],
     denominators: [u8; 16],
@@ -208,9 +233,9 @@ fn value_fractions(p: [u8; 16], degree: usize, s: [u8; 16], places: [u8; 16]) ->
     let mut k = degree;
     while 0 < k {
         k -= 1;
-        let c = byte_lanes::sum(byte_lanes::products(places, coefficients), [top; 16]);
-        let n = byte_lanes::sum(byte_lanes::scale(c, s[k]), numerators);
-        let d = byte_lanes::sum(byte_lanes::products(places, denominators), c);
+        let c = galois::lanes::sum(galois::lanes::products(places, coefficients), [top; 16]);
+        let n = galois::lanes::sum(galois::lanes::scale(c, s[k]), numerators);
+        let d = galois::lanes::sum(galois::lanes::products(places, denominators), c);
         coefficients = c;
         numerators = n;
         denominators = d;
@@ -222,7 +247,7 @@ fn value_fractions(p: [u8; 16], degree: usize, s: [u8; 16], places: [u8; 16]) ->
     }
 }
 
-// The values of the errors at the places, which are roots of p, and zeros after them.
+// The values of the errors at the places, which are roots of p, by Forney's formula, and zeros after them.
 pub fn error_values(p: [u8; 16], s: [u8; 16], places: [u8; 16], count: usize) -> [u8; 16]
     requires { ⌜ count ≤ 16 ⌝ }
     ensures { λ r. ⌜ ErrorValues p s places count r ⌝ }
@@ -230,7 +255,7 @@ pub fn error_values(p: [u8; 16], s: [u8; 16], places: [u8; 16], count: usize) ->
     let f = value_fractions(p, count, s, places);
     let numerators = f.numerators;
     let denominators = f.denominators;
-    let values = byte_lanes::products(numerators, byte_lanes::inverses(denominators));
+    let values = galois::lanes::products(numerators, galois::lanes::inverses(denominators));
     let mut e = [0u8; 16];
     let mut l: usize = 0;
     while l < count {
@@ -264,7 +289,7 @@ pub fn explains(places: [u8; 16], values: [u8; 16], s: &[u8]) -> bool
         if total(w) != s[j] {
             return false;
         }
-        let next = byte_lanes::products(places, w);
+        let next = galois::lanes::products(places, w);
         w = next;
         j += 1;
     }

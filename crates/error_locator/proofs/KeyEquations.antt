@@ -18,8 +18,9 @@ use Rattle.algebra.proofs.Ring.{zero-add, one-mul, mul-comm, mul-ne}
 use Rattle.algebra.proofs.Elimination.{CombineRow, MulRow, Reach, Vector, Sol, solves, kernel-key, kernel-nonzero, sum-ext, reach-combine, reach-mul, diagonal-combine, diagonal-more, swept-none, swept-skip, swept-row, combine-fewer, mul-fewer}
 use Rattle.galois.specs.Field256.{numbers, mul, scaled}
 use Rattle.galois.proofs.Instance.{bytes, byte, byte-inj, byte-zero, byte-one, byte-add, byte-mul}
-use Rattle.byte_lanes.proofs.Words.{length-sum, sum-at, length-products, products-at, length-scaled}
-use Rattle.byte_lanes.specs.Lanes.{elements, productsOf}
+use Rattle.galois.proofs.Words.{length-sum, sum-at, length-products, products-at, length-scaled}
+use Rattle.galois.specs.Lanes.{productsOf}
+use Rattle.galois.proofs.Elements.{elements}
 use Rattle.error_locator.specs.Locator.{mat, FirstPivot, combinedOf, Reduced, Pivoted, Cleared, Eliminated, Filled, SolutionAt, Solution, Located}
 
 -- ---- a row written anew

@@ -15,8 +15,8 @@ use Rattle.algebra.proofs.Polynomial.{fromRoots}
 use Rattle.algebra.proofs.Syndromes.{dot, dot-ext, dot-timesLinear}
 use Rattle.galois.specs.Field256.{numbers, mul, scaled}
 use Rattle.galois.proofs.Instance.{bytes, byte, byte-add, byte-mul}
-use Rattle.byte_lanes.specs.Lanes.{elements}
-use Rattle.byte_lanes.proofs.Words.{length-sum, sum-at}
+use Rattle.galois.proofs.Elements.{elements}
+use Rattle.galois.proofs.Words.{length-sum, sum-at}
 use Rattle.error_locator.specs.Locator.{Lowered, Modified}
 
 module _ (K : Field) where

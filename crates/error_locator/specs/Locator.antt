@@ -11,7 +11,8 @@ use Rattle.algebra.proofs.Syndromes.{dot}
 use Rattle.algebra.proofs.Elimination.{Reach, Diagonal, Swept}
 use Rattle.galois.specs.Field256.{numbers}
 use Rattle.galois.proofs.Instance.{bytes, byte}
-use Rattle.byte_lanes.specs.Lanes.{elements, productsOf}
+use Rattle.galois.specs.Lanes.{productsOf}
+use Rattle.galois.proofs.Elements.{elements}
 
 -- eight rows of sixteen bytes as a matrix over the field
 abbrev pub mat : List ℕ → ℕ → ℕ → Fin 256

@@ -12,7 +12,7 @@ use Rattle.receiver.specs.Receive.{freshReceiver}
 use Rattle.receiver.specs.declared.Receiver.{Receiver}
 use Rattle.recording.specs.Recording.{AnswersRecording}
 use Rattle.recording.specs.Recording as recording
-use Rattle.count_bytes.specs.Bytes.{countBytes}
+use Rattle.reception_counts.specs.Bytes.{countBytes}
 use Rattle.exports.specs.ReceiveRun.{ReceiveExported, refused, taken}
 
 module _ (blocks marks output exit counts after answer told : List ℕ) (refusal r number count : ℕ) (last : Receiver) (one : 1 ≤ length answer)

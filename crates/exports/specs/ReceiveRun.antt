@@ -2,23 +2,26 @@
 -- Clauses: document 01, "Receiver"; document 02, P11.
 -- Assumes nothing.
 use mathlib.Core.Path.{_≡_}
-use mathlib.Core.List.{List, [], _++_}
+use mathlib.Core.List.{List, [], _∷_, _++_}
 use Prim.Native.Nat.{ℕ, _≤_, _<_}
 use lib.Dec.{ltb}
 use lib.ListN.{length, drop, set}
-use Rattle.common.specs.Choice.{pick}
+use Rattle.common.specs.Refusal.{Test, unless, when, firstDue}
 use Rattle.receiver.specs.Receive.{freshReceiver}
 use Rattle.receiver.specs.declared.Receiver.{Receiver}
-use Rattle.recording.specs.Recording.{TakesRecording, recordingNumber, marksFor}
-use Rattle.count_bytes.specs.Bytes.{countBytes}
+use Rattle.recording.specs.Recording.{TakesRecording, recordingTests, marksFor}
+use Rattle.reception_counts.specs.Bytes.{countBytes}
 
 -- the number of the answer: 4 where there are too few bytes for the counts, then what the run answers
+abbrev pub receiveRunTests : List ℕ → List ℕ → List ℕ → List Test
+receiveRunTests blocks output counts = when (ltb (length counts) 64) 4 ∷ recordingTests freshReceiver blocks output
+
 abbrev pub receiveRunNumber : List ℕ → List ℕ → List ℕ → ℕ
-receiveRunNumber blocks output counts = pick (ltb (length counts) 64) 4 (recordingNumber freshReceiver blocks output)
+receiveRunNumber blocks output counts = firstDue (receiveRunTests blocks output counts)
 
 -- with marks: 20 before it, where there is not a mark, 0 or 1, for each byte
 abbrev pub markedRunNumber : List ℕ → List ℕ → List ℕ → List ℕ → ℕ
-markedRunNumber blocks marks output counts = pick (marksFor blocks marks) (receiveRunNumber blocks output counts) 20
+markedRunNumber blocks marks output counts = firstDue (unless (marksFor blocks marks) 20 ∷ receiveRunTests blocks output counts)
 
 -- Where no byte is lent for the answer's number, nothing is done. Where the run is refused, its number alone is written. Else the packets,
 -- the counts and 0 are.

@@ -8,8 +8,8 @@ use lib.Dec.{eqb}
 use lib.ListN.{length, set}
 use Rattle.common.specs.Choice.{pick}
 use Rattle.answer.specs.Number.{numberOf}
-use Rattle.recorded_block.specs.Block.{blockRefusal, GivesBlock}
-use Rattle.recorded_block.specs.declared.DecodedBlock.{DecodedBlock}
+use Rattle.recording.specs.Block.{blockRefusal, GivesBlock}
+use Rattle.recording.specs.declared.block.DecodedBlock.{DecodedBlock}
 
 -- Where fewer than two bytes are lent for the counts, the call is refused as one with no room at all. Else it is that of
 -- `decoded_block`, and where the answer is 0 the numbers of changed bytes and bits go into the first two bytes.

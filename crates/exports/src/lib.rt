@@ -10,12 +10,12 @@ ghost use lib.ListN.{length, drop, set};
 ghost use Rattle.common.specs.Choice.{pick};
 ghost use Rattle.answer.specs.Number.{numberOf};
 ghost use Rattle.reed_solomon.specs.Decode.{decodedNumber};
-ghost use Rattle.count_bytes.specs.Bytes.{countBytes};
+ghost use Rattle.reception_counts.specs.Bytes.{countBytes};
 ghost use Rattle.exports.specs.Decode.{countAfter, DecodeExported, DecodeMarkedExported};
 ghost use Rattle.exports.specs.SendRun.{sendRunCount, sendRunOutput, sendRunAnswer};
 ghost use Rattle.exports.specs.ReceiveRun.{ReceiveRunExported, ReceiveMarkedRunExported};
 ghost use Rattle.exports.specs.RecordingBlock.{RecordingBlockExported};
-use count_bytes::put_counts;
+use reception_counts::count_bytes::put_counts;
 use recording::Recorded;
 use reed_solomon::Decoded;
 
@@ -213,11 +213,11 @@ pub extern "C" fn dvbs_recording_block(
     if count.len() < 2 {
         // As with no room at all: 5 and 16 come before 4.
         let mut none = [0u8; 0];
-        let refused = recorded_block::decoded_block(recording, blocks, p, &mut none);
+        let refused = recording::block::decoded_block(recording, blocks, p, &mut none);
         let answer = refused.answer;
         return answer.number();
     }
-    let decoded = recorded_block::decoded_block(recording, blocks, p, output);
+    let decoded = recording::block::decoded_block(recording, blocks, p, output);
     let answer = decoded.answer;
     let number = answer.number();
     if number == 0 {

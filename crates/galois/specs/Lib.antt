@@ -1,1 +1,2 @@
 pub mod Field256
+pub mod Lanes

@@ -2,6 +2,8 @@
 ghost use mathlib.Core.Path.{_≡_};
 ghost use Rattle.galois.specs.Field256.{timesX as timesXOf, mul as mulOf};
 
+pub mod lanes;
+
 // a times x.
 fn times_x(a: u8) -> u8
     ensures { λ r. ⌜ r ≡ timesXOf a ⌝ }

@@ -7,6 +7,7 @@ use Prim.Native.Nat.{ℕ}
 use lib.Dec.{ltb, eqb}
 use lib.ListN.{length, drop}
 use Rattle.common.specs.Choice.{pick, indicator}
+use Rattle.common.specs.Refusal.{unless, when, firstDue}
 use Rattle.puncturing.specs.Mode.{Mode, modeOf, blockBitsBy}
 use Rattle.puncturing.specs.Step.{countBy}
 use Rattle.puncturing.specs.declared.Symbol.{Symbol}
@@ -30,7 +31,7 @@ newNumber rate = pick (modeOf rate .sent) 0 6
 -- ---- one bit
 
 abbrev pub stepNumber : InnerCoder → ℕ
-stepNumber c = pick (coderInRange c) (pick (modeOf (c .rate) .sent) 0 6) 5
+stepNumber c = firstDue (unless (coderInRange c) 5 ∷ unless (modeOf (c .rate) .sent) 6 ∷ [])
 
 abbrev pub stepCoder : InnerCoder → Bool → InnerCoder
 stepCoder c bit = pick (eqb (stepNumber c) 0) (coderStep c (indicator bit)) c
@@ -68,8 +69,13 @@ symbolCount c = symbolCountBy (modeOf (c .rate)) c
 
 abbrev pub innerEncodeNumber : InnerCoder → List ℕ → List ℕ → ℕ
 innerEncodeNumber c block output =
-    pick (coderInRange c)
-    (pick (modeOf (c .rate) .sent) (pick (eqb (length block) 204) (pick (ltb (length output) (length (blockSymbols c block))) 4 0) 3) 6) 5
+    firstDue (
+    unless (coderInRange c) 5
+    ∷ unless (modeOf (c .rate) .sent) 6
+    ∷ unless (eqb (length block) 204) 3
+    ∷ when (ltb (length output) (length (blockSymbols c block))) 4
+    ∷ []
+    )
 
 abbrev pub encodeCoder : InnerCoder → List ℕ → List ℕ → InnerCoder
 encodeCoder c block output = pick (eqb (innerEncodeNumber c block output) 0) (blockCoder c block) c

@@ -5,10 +5,10 @@ use mathlib.Core.List.{List, _++_}
 use Prim.Native.Nat.{ℕ, _≤_}
 use borrow.Author.Tests.{eq-eqb, le-ltb}
 use lib.ListN.{length, drop}
-use Rattle.delay_branches.specs.Block.{blockOut, branchesAfter}
-use Rattle.delay_branches.specs.declared.Side.{Side}
-use Rattle.delay_branches.specs.declared.Branches.{Branches}
-use Rattle.delay_branches.proofs.Blocks.{Good}
+use Rattle.interleaver.specs.Block.{blockOut, branchesAfter}
+use Rattle.interleaver.specs.declared.branches.Side.{Side}
+use Rattle.interleaver.specs.declared.branches.Branches.{Branches}
+use Rattle.interleaver.proofs.Blocks.{Good}
 use Rattle.interleaver.specs.Call.{passBranches, passOutput}
 
 pub pass-done : (side : Side) (s : Branches) (block output : List ℕ) → Good side s → length block ≡ 204 → 204 ≤ length output

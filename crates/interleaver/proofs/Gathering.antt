@@ -9,10 +9,10 @@ use lib.ListN.{length, getD, drop, length-drop, List·getD-append}
 use lib.Seq.{getD-drop, ext-getD}
 use Rattle.common.specs.Lists.{All, Length}
 use Rattle.common.proofs.Lists.{length-listOf, getD-listOf, All-at}
-use Rattle.delay_branches.specs.Block.{fresh}
-use Rattle.delay_branches.specs.declared.Side.the-variants.{Sending, Receiving}
+use Rattle.interleaver.specs.Block.{fresh}
+use Rattle.interleaver.specs.declared.branches.Side.the-variants.{Sending, Receiving}
 use Rattle.interleaver.specs.Stream.{earlier, delayed, run, interleaved}
-use Rattle.interleaver.proofs.Blocks.{flatten-at, All-drop}
+use Rattle.interleaver.proofs.BlockLists.{flatten-at, All-drop}
 use Rattle.interleaver.proofs.Whole.{run-delayed}
 use Rattle.interleaver.proofs.Streams.{length-delayed, delayed-at, delayed-later, delayed-lengths}
 use Rattle.interleaver.specs.Gathered.{placeIn, gathered}

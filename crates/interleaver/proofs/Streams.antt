@@ -11,10 +11,10 @@ use lib.Seq.{getD-append-add, getD-take, ext-getD, length-take-le}
 use Rattle.common.specs.Lists.{All, Length, ByteEntries, listOf}
 use Rattle.common.proofs.Lists.{length-listOf, getD-listOf, All-at, all-listOf}
 use Rattle.common.proofs.Entries.{entries-listOf}
-use Rattle.delay_branches.specs.Branch.{delayOf}
-use Rattle.delay_branches.specs.Block.{fresh}
-use Rattle.delay_branches.specs.declared.Side.{Side}
-use Rattle.delay_branches.specs.declared.Side.the-variants.{Sending, Receiving}
+use Rattle.interleaver.specs.Branch.{delayOf}
+use Rattle.interleaver.specs.Block.{fresh}
+use Rattle.interleaver.specs.declared.branches.Side.{Side}
+use Rattle.interleaver.specs.declared.branches.Side.the-variants.{Sending, Receiving}
 use Rattle.interleaver.specs.Stream.{earlier, delayedByte, delayed, run, interleaved, deinterleaved, elevenLate}
 use Rattle.interleaver.proofs.Whole.{run-delayed}
 

@@ -12,14 +12,14 @@ use lib.Seq.{getD-append-add, ext-getD}
 use Rattle.common.specs.Lists.{Entries, listOf}
 use Rattle.common.proofs.Entries.{entries-below}
 use Rattle.common.proofs.Lists.{length-listOf, getD-listOf}
-use Rattle.delay_branches.specs.Branch.{delayOf, sizeOf, positionsWithin, queue}
-use Rattle.delay_branches.specs.Column.{column}
-use Rattle.delay_branches.specs.Block.{fresh, blockOut, branchesAfter}
-use Rattle.delay_branches.specs.declared.Side.{Side}
-use Rattle.delay_branches.specs.declared.Side.the-variants.{Sending, Receiving}
-use Rattle.delay_branches.specs.declared.Branches.{Branches}
-use Rattle.delay_branches.proofs.Columns.{length-column, getD-column}
-use Rattle.delay_branches.proofs.Blocks.{Good, length-queue, length-out, good-after, queue-law, entries-queue}
+use Rattle.interleaver.specs.Branch.{delayOf, sizeOf, positionsWithin, queue}
+use Rattle.interleaver.specs.Column.{column}
+use Rattle.interleaver.specs.Block.{fresh, blockOut, branchesAfter}
+use Rattle.interleaver.specs.declared.branches.Side.{Side}
+use Rattle.interleaver.specs.declared.branches.Side.the-variants.{Sending, Receiving}
+use Rattle.interleaver.specs.declared.branches.Branches.{Branches}
+use Rattle.interleaver.proofs.Columns.{length-column, getD-column}
+use Rattle.interleaver.proofs.Blocks.{Good, length-queue, length-out, good-after, queue-law, entries-queue}
 use Rattle.interleaver.specs.Stream.{earlier, delayedByte, delayed, run, runAfter}
 
 -- ---- the bytes of a branch, block after block

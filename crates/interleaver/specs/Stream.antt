@@ -6,11 +6,11 @@ use lib.Dec.{ltb}
 use lib.ListN.{length, getD, take, replicate}
 use Rattle.common.specs.Choice.{pick}
 use Rattle.common.specs.Lists.{listOf}
-use Rattle.delay_branches.specs.Branch.{delayOf}
-use Rattle.delay_branches.specs.Block.{blockOut, branchesAfter}
-use Rattle.delay_branches.specs.declared.Side.{Side}
-use Rattle.delay_branches.specs.declared.Side.the-variants.{Sending, Receiving}
-use Rattle.delay_branches.specs.declared.Branches.{Branches}
+use Rattle.interleaver.specs.Branch.{delayOf}
+use Rattle.interleaver.specs.Block.{blockOut, branchesAfter}
+use Rattle.interleaver.specs.declared.branches.Side.{Side}
+use Rattle.interleaver.specs.declared.branches.Side.the-variants.{Sending, Receiving}
+use Rattle.interleaver.specs.declared.branches.Branches.{Branches}
 
 -- byte n of the block d blocks before block b, and 0 where there is none
 unfoldable pub earlier : List (List ℕ) → ℕ → ℕ → ℕ → ℕ

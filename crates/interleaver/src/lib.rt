@@ -1,14 +1,17 @@
 // Convolutional interleaving and its removal: EN 300 421, 4.4.2.
 ghost use mathlib.Core.Path.{_≡_};
 ghost use Rattle.answer.specs.Number.{numberOf};
-ghost use Rattle.delay_branches.specs.Branch.{branchesInRange};
-ghost use Rattle.delay_branches.specs.Block.{fresh};
+ghost use Rattle.interleaver.specs.Branch.{branchesInRange};
+ghost use Rattle.interleaver.specs.Block.{fresh};
 ghost use Rattle.interleaver.specs.Call.{passNumber, passBranches, passOutput};
+
+pub mod branches;
+
 use answer::Answer;
-use delay_branches::Branches;
-use delay_branches::Side;
-use delay_branches::pass_block;
-use delay_branches::positions_within;
+use branches::Branches;
+use branches::Side;
+use branches::pass_block;
+use branches::positions_within;
 
 // An answer, and the branches after it.
 struct Passed {
@@ -27,15 +30,9 @@ pub struct Interleaved {
     pub interleaver: Interleaver,
 }
 
-// The receiving side.
+// The receiving side, as the receiver holds it: its blocks pass with their marks beside them.
 pub struct Deinterleaver {
     pub branches: Branches,
-}
-
-// An answer, and the receiving side after it.
-pub struct Deinterleaved {
-    pub answer: Answer,
-    pub deinterleaver: Deinterleaver,
 }
 
 // The tests, and the work.
@@ -124,23 +121,5 @@ impl Deinterleaver {
         let branches = self.branches;
         let positions = branches.positions;
         positions_within(Side::Receiving, positions)
-    }
-
-    // Puts a block in, and writes the block that leaves.
-    pub fn deinterleave(self, block: &[u8], output: &mut [u8]) -> Deinterleaved
-        ensures { λ r. ⌜
-            (numberOf (r .answer) ≡ passNumber Side.Receiving (self .branches) (now (block .entry)) (now (output .entry)))
-            × (r .deinterleaver .branches ≡ passBranches Side.Receiving (self .branches) (now (block .entry)) (now (output .entry)))
-            × (now (output .exit) ≡ passOutput Side.Receiving (self .branches) (now (block .entry)) (now (output .entry))) ⌝ }
-    {
-        let before = self.branches;
-        let passed = pass(Side::Receiving, before, block, output);
-        let answer = passed.answer;
-        let branches = passed.branches;
-        let deinterleaver = Deinterleaver { branches };
-        Deinterleaved {
-            answer,
-            deinterleaver,
-        }
     }
 }

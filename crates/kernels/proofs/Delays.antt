@@ -8,12 +8,12 @@ use borrow.Rule.Slice.PartMut.{putMid, midOf}
 use lib.ListN.{length, take, drop, length-append, length-drop}
 use lib.Seq.{length-take-le}
 use Rattle.common.specs.Lists.{chunksOf}
-use Rattle.delay_branches.specs.Block.{fresh, blockOut, branchesAfter}
+use Rattle.interleaver.specs.Block.{fresh, blockOut, branchesAfter}
 use Rattle.interleaver.specs.Call.{passBranches, passOutput}
 use Rattle.interleaver.specs.Stream.{run}
-use Rattle.delay_branches.specs.declared.Side.{Side}
-use Rattle.delay_branches.specs.declared.Branches.{Branches}
-use Rattle.delay_branches.proofs.Blocks.{Good, length-out, good-after}
+use Rattle.interleaver.specs.declared.branches.Side.{Side}
+use Rattle.interleaver.specs.declared.branches.Branches.{Branches}
+use Rattle.interleaver.proofs.Blocks.{Good, length-out, good-after}
 use Rattle.interleaver.proofs.Answered.{pass-done}
 use Rattle.interleaver.proofs.Whole.{good-fresh, run-delayed}
 use Rattle.kernels.specs.Delay.{delayedBytes}

@@ -7,7 +7,7 @@ use lib.ListN.{length, drop}
 use Rattle.common.specs.Choice.{pick}
 use Rattle.common.specs.Lists.{chunksOf}
 use Rattle.interleaver.specs.Stream.{delayed}
-use Rattle.delay_branches.specs.declared.Side.{Side}
+use Rattle.interleaver.specs.declared.branches.Side.{Side}
 
 -- the blocks that leave, one after the other
 unfoldable pub delayedBytes : Side → List ℕ → List ℕ

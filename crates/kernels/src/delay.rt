@@ -3,7 +3,7 @@ ghost use mathlib.Core.Path.{_≡_};
 ghost use mathlib.Core.List.{_++_};
 ghost use Prim.Native.Nat.{_*_, _/_, _≤_};
 ghost use lib.ListN.{length, drop};
-ghost use Rattle.delay_branches.specs.declared.Side.the-variants.{Sending};
+ghost use Rattle.interleaver.specs.declared.branches.Side.the-variants.{Sending};
 ghost use Rattle.kernels.specs.Delay.{delayedBytes};
 use interleaver::Interleaver;
 

@@ -9,7 +9,7 @@ pub fn scale_by(first: [u8; 16], factors: &[u8]) -> [u8; 16]
     let mut a = first;
     let mut i: usize = 0;
     while i < factors.len() {
-        let next = byte_lanes::scale(a, factors[i]);
+        let next = galois::lanes::scale(a, factors[i]);
         a = next;
         i += 1;
     }

@@ -1,7 +1,7 @@
-// Stages that the library does not export, for the benchmark alone. They are functions for C, and take whatever they are lent.
+// Stages that the library does not export, for the benchmark and the tests alone. They are functions for C, and take whatever they are lent.
 // A slice is a pointer and a length; slices of one call must not overlap.
 ghost use mathlib.Core.Path.{_≡_};
-ghost use Rattle.delay_branches.specs.declared.Side.the-variants.{Sending};
+ghost use Rattle.interleaver.specs.declared.branches.Side.the-variants.{Sending};
 ghost use Rattle.kernels.specs.Scale.{scaleOutput};
 ghost use Rattle.kernels.specs.Delay.{delayOutput};
 ghost use Rattle.kernels.specs.Code.{codeCount, codeOutput};
@@ -23,7 +23,7 @@ pub extern "C" fn kernel_scale(lanes: &mut [u8], factors: &[u8])
     if lanes.len() < 16 {
         return;
     }
-    let last = scale_by(byte_lanes::sixteen(lanes, 0), factors);
+    let last = scale_by(galois::lanes::sixteen(lanes, 0), factors);
     common::put(&last, 0, lanes);
 }
 

@@ -1,12 +1,13 @@
 -- What one call gives for a packet at a place of its group of eight: 0 to 7, document 01's group place.
 -- Clauses: document 01, "Randomizing" and "Answer numbers".
 -- Assumes nothing.
-use mathlib.Core.List.{List, _∷_, _++_, zipWith}
+use mathlib.Core.List.{List, [], _∷_, _++_, zipWith}
 use Prim.Native.Nat.{ℕ, _*_}
 use lib.Bits.{bitXor}
 use lib.Dec.{ltb, eqb}
 use lib.ListN.{length, getD, drop}
 use Rattle.common.specs.Choice.{pick}
+use Rattle.common.specs.Refusal.{unless, when, firstDue}
 use Rattle.randomizer.specs.Prbs.{masks}
 
 -- each byte of the packet xored with what its place in the group asks
@@ -22,14 +23,16 @@ derandomized place packet = 0x47 ∷ drop 1 (randomized place packet)
 -- the number of the answer, by the tests in the order of document 01
 abbrev pub randomizeNumber : ℕ → List ℕ → List ℕ → ℕ
 randomizeNumber place packet output =
-    pick (ltb 7 place) 5
-    (pick (eqb (length packet) 188)
-    (pick (eqb (getD packet 0 0) 0x47) (pick (ltb (length output) 188) 4 0) 2)
-    1)
+    firstDue (
+    when (ltb 7 place) 5
+    ∷ unless (eqb (length packet) 188) 1
+    ∷ unless (eqb (getD packet 0 0) 0x47) 2
+    ∷ when (ltb (length output) 188) 4
+    ∷ []
+    )
 
 abbrev pub derandomizeNumber : ℕ → List ℕ → List ℕ → ℕ
-derandomizeNumber place packet output =
-    pick (ltb 7 place) 5 (pick (eqb (length packet) 188) (pick (ltb (length output) 188) 4 0) 1)
+derandomizeNumber place packet output = firstDue (when (ltb 7 place) 5 ∷ unless (eqb (length packet) 188) 1 ∷ when (ltb (length output) 188) 4 ∷ [])
 
 -- the output after the call
 abbrev pub randomizeOutput : ℕ → List ℕ → List ℕ → List ℕ

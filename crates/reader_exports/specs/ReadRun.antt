@@ -6,8 +6,8 @@ use mathlib.Core.List.{List, [], _∷_, _++_}
 use Prim.Native.Nat.{ℕ, _≤_, _<_}
 use lib.Ieee.{Float}
 use lib.ListN.{length, drop}
-use Rattle.run_reader.specs.Read.{ReadsHard, ReadsSoft}
-use Rattle.count_bytes.specs.Bytes.{byteAt}
+use Rattle.reader.specs.Read.{ReadsHard, ReadsSoft}
+use Rattle.common.specs.Bytes.{byteAt}
 
 -- the number of the answer, the memory, and the cost in four bytes, the lowest first. A cost is at most 14 for each symbol, of which there are at most
 -- 1,632.

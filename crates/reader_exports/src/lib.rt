@@ -5,7 +5,7 @@ ghost use mathlib.Core.List.{_++_};
 ghost use Prim.Native.Nat.{_≤_};
 ghost use lib.ListN.{length, drop};
 ghost use Rattle.reader_exports.specs.ReadRun.{resultBytes, ReadRunExported, SoftRunExported};
-use count_bytes::byte_at;
+use common::byte_at;
 
 // Writes what reading a run came to: the number of the answer, the memory after it, and the cost in four bytes.
 fn put_result(number: u8, memory: u8, cost: u64, result: &mut [u8])
@@ -36,7 +36,7 @@ pub extern "C" fn dvbs_read_run(
     if result.len() < 6 {
         return 0;
     }
-    let read = run_reader::read_run(rate, memory, symbols, output);
+    let read = reader::read_run(rate, memory, symbols, output);
     let answer = read.answer;
     put_result(answer.number(), read.memory, read.cost, result);
     read.count as u64
@@ -60,7 +60,7 @@ pub extern "C" fn dvbs_read_soft_run(
     if result.len() < 6 {
         return 0;
     }
-    let read = run_reader::read_soft_run(rate, memory, i, q, lost, output);
+    let read = reader::read_soft_run(rate, memory, i, q, lost, output);
     let answer = read.answer;
     put_result(answer.number(), read.memory, read.cost, result);
     read.count as u64

@@ -22,10 +22,10 @@ use Rattle.reed_solomon.specs.declared.Decoded.{Decoded}
 use Rattle.reed_solomon.specs.declared.Decoded.the-variants.{Corrected, Uncorrectable, BlockLength, MarkValue}
 use Rattle.reed_solomon.proofs.Codewords.{codeword-length}
 use Rattle.reed_solomon.proofs.Laws.{FewChanges, total}
-use Rattle.delay_branches.specs.Branch as branch
-use Rattle.delay_branches.specs.Block.{branchesAfter}
-use Rattle.delay_branches.specs.declared.Branches.{Branches}
-use Rattle.delay_branches.specs.declared.Side.the-variants.{Receiving}
+use Rattle.interleaver.specs.Branch as branch
+use Rattle.interleaver.specs.Block.{branchesAfter}
+use Rattle.interleaver.specs.declared.branches.Branches.{Branches}
+use Rattle.interleaver.specs.declared.branches.Side.the-variants.{Receiving}
 use Rattle.interleaver.specs.declared.Deinterleaver.{Deinterleaver}
 use Rattle.group_sync.specs.Group.{syncInRange, groupStep}
 use Rattle.group_sync.specs.declared.BlockDecoding.the-variants as decoding

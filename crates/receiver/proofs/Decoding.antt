@@ -21,9 +21,9 @@ use Rattle.reed_solomon.proofs.Laws.{Same, decodes-near}
 use Rattle.randomizer.specs.Packet.{randomized, derandomized}
 use Rattle.randomizer.specs.Stream.{Packet, randomizedFrom}
 use Rattle.randomizer.proofs.Laws.{length-randomized, first-byte, bytes-randomized, back}
-use Rattle.delay_branches.specs.declared.Side.the-variants.{Receiving}
-use Rattle.delay_branches.specs.declared.Branches.{Branches}
-use Rattle.delay_branches.proofs.Blocks.{length-out}
+use Rattle.interleaver.specs.declared.branches.Side.the-variants.{Receiving}
+use Rattle.interleaver.specs.declared.branches.Branches.{Branches}
+use Rattle.interleaver.proofs.Blocks.{length-out}
 use Rattle.interleaver.specs.Stream.{run}
 use Rattle.group_sync.specs.Group.{dueByte}
 use Rattle.group_sync.specs.Stream.{sentFrom}

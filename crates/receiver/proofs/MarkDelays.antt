@@ -13,11 +13,11 @@ use Rattle.reed_solomon.specs.Decode.{Decodes}
 use Rattle.reed_solomon.specs.Marks.{Marks, noMarks, DecodesMarked}
 use Rattle.reed_solomon.specs.declared.Decoded.{Decoded}
 use Rattle.reed_solomon.proofs.MarkedDistance.{without-marks}
-use Rattle.delay_branches.specs.Branch.{laid}
-use Rattle.delay_branches.specs.Block.{blockOut, branchesAfter}
-use Rattle.delay_branches.specs.declared.Branches.{Branches}
-use Rattle.delay_branches.specs.declared.Side.the-variants.{Receiving}
-use Rattle.delay_branches.proofs.Blocks.{Good, good-after, length-out, entries-out, entries-after}
+use Rattle.interleaver.specs.Branch.{laid}
+use Rattle.interleaver.specs.Block.{blockOut, branchesAfter}
+use Rattle.interleaver.specs.declared.branches.Branches.{Branches}
+use Rattle.interleaver.specs.declared.branches.Side.the-variants.{Receiving}
+use Rattle.interleaver.proofs.Blocks.{Good, good-after, length-out, entries-out, entries-after}
 use Rattle.receiver.specs.Receive.{NoMarks, delayedMarks}
 use Rattle.receiver.specs.declared.Receiver.{Receiver}
 

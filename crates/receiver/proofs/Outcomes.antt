@@ -17,10 +17,10 @@ use Rattle.reed_solomon.specs.Marks.{areMarks}
 use Rattle.reed_solomon.proofs.Marks.{are-marks-none}
 use Rattle.randomizer.specs.Packet.{randomized, derandomized}
 use Rattle.randomizer.proofs.Laws.{length-randomized}
-use Rattle.delay_branches.specs.Branch.{laid}
-use Rattle.delay_branches.specs.Block as block
-use Rattle.delay_branches.specs.declared.Side.the-variants.{Receiving}
-use Rattle.delay_branches.proofs.Blocks.{length-out}
+use Rattle.interleaver.specs.Branch.{laid}
+use Rattle.interleaver.specs.Block as block
+use Rattle.interleaver.specs.declared.branches.Side.the-variants.{Receiving}
+use Rattle.interleaver.proofs.Blocks.{length-out}
 use Rattle.group_sync.specs.Group.{groupStep, PlaceOf}
 use Rattle.group_sync.specs.Stream.{outcomes}
 use Rattle.group_sync.specs.declared.Outcome.{Outcome}

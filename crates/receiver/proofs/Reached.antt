@@ -19,8 +19,8 @@ use Rattle.reed_solomon.proofs.Marks.{marks-of}
 use Rattle.reed_solomon.specs.declared.Decoded.{Decoded}
 use Rattle.reed_solomon.specs.declared.Decoded.the-variants.{Corrected, Uncorrectable, BlockLength, MarkValue}
 use Rattle.reed_solomon.proofs.Laws.{few-changes}
-use Rattle.delay_branches.specs.declared.Side.the-variants.{Receiving}
-use Rattle.delay_branches.proofs.Blocks.{Good, good-after}
+use Rattle.interleaver.specs.declared.branches.Side.the-variants.{Receiving}
+use Rattle.interleaver.proofs.Blocks.{Good, good-after}
 use Rattle.interleaver.proofs.Whole.{good-fresh}
 use Rattle.group_sync.specs.Group.{syncInRange, groupStep}
 use Rattle.group_sync.proofs.Synchronization.{accepted-outcome, sync-in-range}

@@ -18,12 +18,12 @@ use Rattle.reed_solomon.proofs.LongDivision.{encoded-length}
 use Rattle.randomizer.specs.Packet.{randomized}
 use Rattle.randomizer.specs.Stream.{Packet, randomizedFrom}
 use Rattle.randomizer.proofs.Whole.{packet-lengths, randomized-stream}
-use Rattle.delay_branches.specs.Block.{fresh}
-use Rattle.delay_branches.specs.declared.Side.the-variants.{Receiving}
+use Rattle.interleaver.specs.Block.{fresh}
+use Rattle.interleaver.specs.declared.branches.Side.the-variants.{Receiving}
 use Rattle.interleaver.specs.Stream.{run}
 use Rattle.interleaver.specs.Gathered.{gathered}
 use Rattle.interleaver.proofs.Whole.{length-run}
-use Rattle.interleaver.proofs.Blocks.{length-flatten, flatten-join, All-take, All-drop}
+use Rattle.interleaver.proofs.BlockLists.{length-flatten, flatten-join, All-take, All-drop}
 use Rattle.interleaver.proofs.Gathering.{gathered-front, run-gathered, sent-gathered}
 use Rattle.group_sync.specs.Group.{freshSync, knownSync}
 use Rattle.group_sync.specs.Stream.{outcomes, sentFrom, deliveredFrom, beforeGroup}

@@ -2,11 +2,12 @@
 -- Assumes nothing.
 use mathlib.Core.Path.{_≡_}
 use mathlib.Core.Bool.{Bool, true, false}
-use mathlib.Core.List.{List, _++_}
+use mathlib.Core.List.{List, [], _∷_, _++_}
 use Prim.Native.Nat.{ℕ, _≤_, _<_}
 use lib.Dec.{ltb, eqb}
 use lib.ListN.{length, getD, take, drop, replicate}
 use Rattle.common.specs.Choice.{pick}
+use Rattle.common.specs.Refusal.{unless, when, firstDue}
 use Rattle.common.specs.Lists.{largest}
 use Rattle.answer.specs.Number.{numberOf}
 use Rattle.reed_solomon.specs.Code.{differ, differBits}
@@ -14,10 +15,10 @@ use Rattle.reed_solomon.specs.Marks.{areMarks, noMarks, DecodesMarked}
 use Rattle.reed_solomon.specs.declared.Decoded.{Decoded}
 use Rattle.reed_solomon.specs.declared.Decoded.the-variants.{Corrected, Uncorrectable, BlockLength, MarkValue}
 use Rattle.randomizer.specs.Packet.{derandomized}
-use Rattle.delay_branches.specs.Block.{fresh, blockOut, branchesAfter}
-use Rattle.delay_branches.specs.Branch as branch
-use Rattle.delay_branches.specs.declared.Branches.{Branches}
-use Rattle.delay_branches.specs.declared.Side.the-variants.{Receiving}
+use Rattle.interleaver.specs.Block.{fresh, blockOut, branchesAfter}
+use Rattle.interleaver.specs.Branch as branch
+use Rattle.interleaver.specs.declared.branches.Branches.{Branches}
+use Rattle.interleaver.specs.declared.branches.Side.the-variants.{Receiving}
 use Rattle.group_sync.specs.Group.{syncInRange, freshSync, groupStep}
 use Rattle.group_sync.specs.declared.BlockDecoding.{BlockDecoding}
 use Rattle.group_sync.specs.declared.BlockDecoding.the-variants as decoding
@@ -110,13 +111,14 @@ outputAfter OutOfStep left output = output
 -- the tests before the work, in the order of documents 01 and 02; 0 where none refuses
 abbrev pub receiveRefusal : Receiver → List ℕ → List ℕ → List ℕ → ℕ
 receiveRefusal s block marks output =
-    pick (receiverInRange s)
-    (pick (eqb (length block) 204)
-    (pick (areMarks marks)
-    (pick (ltb (length output) 188) 4 (pick (ltb (s .counts .taken) 4294967295) 0 7))
-    20)
-    3)
-    5
+    firstDue (
+    unless (receiverInRange s) 5
+    ∷ unless (eqb (length block) 204) 3
+    ∷ unless (areMarks marks) 20
+    ∷ when (ltb (length output) 188) 4
+    ∷ unless (ltb (s .counts .taken) 4294967295) 7
+    ∷ []
+    )
 
 -- a call that no test refuses
 pub record Ready (s : Receiver) (block marks output : List ℕ) : Type 0 where

@@ -1,8 +1,11 @@
 // The counts of a receiver.
 // Inner: its functions may require what the crates above have tested. docs/ARCHITECTURE.md names the public surface.
 ghost use mathlib.Core.Path.{_≡_};
-ghost use Prim.Native.Nat.{min};
 ghost use Rattle.reception_counts.specs.Counts.{CountsFit, zeroCounts, countsInRange, outcomeNumber, counted};
+
+pub mod count_bytes;
+
+use common::least;
 use group_sync::Outcome;
 
 // How many blocks were taken, what each of them came to, and how many bytes and bits were changed in the accepted ones.
@@ -80,12 +83,6 @@ impl Counts {
         }
         bits <= 8 * changed
     }
-}
-
-fn least(a: u64, b: u64) -> u64
-    ensures { λ r. ⌜ r ≡ min a b ⌝ }
-{
-    if a < b { a } else { b }
 }
 
 // The counts after a block that came to this, with so many bytes and bits changed.

@@ -17,8 +17,8 @@ use Rattle.reed_solomon.specs.Marks.{areMarks, DecodesMarked}
 use Rattle.reed_solomon.specs.declared.Decoded.{Decoded}
 use Rattle.reed_solomon.proofs.Laws.{unique-marked, total}
 use Rattle.randomizer.specs.Packet.{derandomized}
-use Rattle.delay_branches.specs.declared.Side.the-variants.{Receiving}
-use Rattle.delay_branches.proofs.Blocks.{length-out}
+use Rattle.interleaver.specs.declared.branches.Side.the-variants.{Receiving}
+use Rattle.interleaver.proofs.Blocks.{length-out}
 use Rattle.group_sync.specs.Group.{PlaceOf}
 use Rattle.group_sync.specs.declared.Outcome.{Outcome}
 use Rattle.group_sync.specs.declared.Outcome.the-variants.{Filling, Delivered, Lost, Waiting, OutOfStep}

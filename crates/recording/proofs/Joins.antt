@@ -13,7 +13,7 @@ use Rattle.common.specs.Choice.{pick}
 use Rattle.common.specs.Lists.{restOf}
 use Rattle.common.proofs.Chunks.{length-chunks, cut}
 use Rattle.common.proofs.Lists.{All-append}
-use Rattle.interleaver.proofs.Blocks.{flatten-join}
+use Rattle.interleaver.proofs.BlockLists.{flatten-join}
 use Rattle.receiver.specs.Run.{Call, DecodedCalls, answerOf, outputOf, afterCall, afterCalls, OutputFits, packetsGiven}
 use Rattle.receiver.specs.declared.Receiver.{Receiver}
 use Rattle.receiver.proofs.Reception.{blocks-count}

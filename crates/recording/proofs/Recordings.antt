@@ -19,9 +19,9 @@ use Rattle.common.proofs.Chunks.{chunks-few, chunks-more}
 use Rattle.answer.specs.Number.{numberOf}
 use Rattle.reed_solomon.specs.Marks.{noMarks, DecodesMarked}
 use Rattle.randomizer.specs.Packet.{derandomized}
-use Rattle.delay_branches.specs.declared.Side.the-variants.{Receiving}
-use Rattle.delay_branches.proofs.Blocks.{length-out}
-use Rattle.interleaver.proofs.Blocks.{flatten-join}
+use Rattle.interleaver.specs.declared.branches.Side.the-variants.{Receiving}
+use Rattle.interleaver.proofs.Blocks.{length-out}
+use Rattle.interleaver.proofs.BlockLists.{flatten-join}
 use Rattle.group_sync.specs.Group.{PlaceOf}
 use Rattle.group_sync.specs.declared.Outcome.{Outcome}
 use Rattle.group_sync.specs.declared.Outcome.the-variants.{Filling, Delivered, Lost, Waiting, OutOfStep}

@@ -11,7 +11,7 @@ use Rattle.common.specs.Lists.{All, Length}
 use Rattle.common.proofs.Chunks.{chunks-joined}
 use Rattle.randomizer.specs.Stream.{Packet}
 use Rattle.randomizer.proofs.Whole.{packet-lengths}
-use Rattle.interleaver.proofs.Blocks.{length-flatten, All-take}
+use Rattle.interleaver.proofs.BlockLists.{length-flatten, All-take}
 use Rattle.receiver.specs.Receive.{freshReceiver}
 use Rattle.receiver.specs.Run.{Call, DecodedCalls, lentBlocks, Plain, OutputFits}
 use Rattle.receiver.specs.declared.Receiver.{Receiver}

@@ -9,6 +9,7 @@ use Prim.{Unit}
 use lib.Dec.{ltb, eqb}
 use lib.ListN.{length, take, drop}
 use Rattle.common.specs.Choice.{pick}
+use Rattle.common.specs.Refusal.{Test, unless, when, firstDue}
 use Rattle.common.specs.Lists.{All, largest, chunksOf}
 use Rattle.reed_solomon.specs.Marks.{noMarks}
 use Rattle.receiver.specs.Receive.{receiverInRange}
@@ -48,11 +49,15 @@ givenBytes number = pick (eqb number 0) 188 0
 
 -- The tests before the work, in the order of document 01, each for all the blocks: 5 for a state out of range, 4 where there is not room for
 -- a packet for each whole block, 7 where not all of them can be counted; 0 where none refuses.
+abbrev pub recordingTests : Receiver → List ℕ → List ℕ → List Test
+recordingTests s bytes output =
+    unless (receiverInRange s) 5
+    ∷ when (ltb (length output) (188 * (length bytes / 204))) 4
+    ∷ when (ltb (4294967295 - s .counts .taken) (length bytes / 204)) 7
+    ∷ []
+
 abbrev pub recordingNumber : Receiver → List ℕ → List ℕ → ℕ
-recordingNumber s bytes output =
-    pick (receiverInRange s)
-    (pick (ltb (length output) (188 * (length bytes / 204))) 4 (pick (ltb (4294967295 - s .counts .taken) (length bytes / 204)) 7 0))
-    5
+recordingNumber s bytes output = firstDue (recordingTests s bytes output)
 
 -- whether there is a mark, 0 or 1, for each byte
 abbrev pub marksFor : List ℕ → List ℕ → Bool
@@ -60,7 +65,7 @@ marksFor bytes marks = pick (eqb (length marks) (length bytes)) (ltb (largest ma
 
 -- with marks: 20 where they are not such, after 5
 abbrev pub markedNumber : Receiver → List ℕ → List ℕ → List ℕ → ℕ
-markedNumber s bytes marks output = pick (receiverInRange s) (pick (marksFor bytes marks) (recordingNumber s bytes output) 20) 5
+markedNumber s bytes marks output = firstDue (unless (receiverInRange s) 5 ∷ unless (marksFor bytes marks) 20 ∷ recordingTests s bytes output)
 
 -- what taking a recording promises, where its tests give the number refusal: all as before, or each whole block taken
 pub data AnswersRecording (s : Receiver) (bytes marks output : List ℕ) (refusal number count : ℕ) (last : Receiver) (exit : List ℕ) : Type 0 where

@@ -8,6 +8,9 @@ ghost use Rattle.answer.specs.Number.{numberOf};
 ghost use Rattle.receiver.specs.Receive.{freshReceiver, ReceivesMarked};
 ghost use Rattle.recording.specs.Recording.{givenBytes, blockMarks, marksFor, recordingNumber, TakesRecording, AnswersRecording, ReceivesRecording, ReceivesMarkedRecording};
 ghost use Rattle.recording.specs.Returned.{Returns};
+
+pub mod block;
+
 use answer::Answer;
 use receiver::Received;
 use receiver::Receiver;

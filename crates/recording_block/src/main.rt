@@ -1,7 +1,7 @@
 // recording_block FILE P > block
 // Writes block P of the recording in a file, corrected, to standard output; the first block is 0. The answer and the numbers of
 // bytes and bits changed go to standard error. Only the twelve blocks from block P on are read, wherever they lie in the file:
-// block P of a recording is block 0 of these (`by-seeking` in recorded_block/proofs/Blocks.antt).
+// block P of a recording is block 0 of these (`by-seeking` in recording/proofs/Blocks.antt).
 ghost use mathlib.Core.Path.{_≡_};
 ghost use Prim.Native.Nat.{_≤_};
 ghost use lib.ListN.{length};
@@ -107,8 +107,8 @@ fn tell(answer: u8, changed: Changed) {
 // Corrects the block that starts the part, and writes it where there is one.
 fn write_block(part: &[u8]) {
     let mut output = [0u8; 204];
-    let blocks = recorded_block::whole_blocks(part);
-    let decoded = recorded_block::decoded_block(part, blocks, 0, &mut output);
+    let blocks = recording::block::whole_blocks(part);
+    let decoded = recording::block::decoded_block(part, blocks, 0, &mut output);
     let answer = decoded.answer;
     let number = answer.number();
     if number == 0 {

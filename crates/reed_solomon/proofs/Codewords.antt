@@ -18,8 +18,8 @@ use Rattle.algebra.proofs.Terms.{terms, distinct-terms, length-terms}
 use Rattle.galois.specs.Field256.{numbers, mul, rounds, timesX, pow}
 use Rattle.galois.proofs.Instance.{bytes, byte, byte-one, byte-power, powers-differ}
 use Rattle.reed_solomon.specs.Code.{factors, generator, Codeword}
-use Rattle.byte_lanes.specs.Lanes.{elements, word, alpha}
-use Rattle.byte_lanes.proofs.Words.{values, length-word, elements-values, elements-inj, elements-product, bytes-reverse, bytes-values, bytes-product}
+use Rattle.galois.proofs.Elements.{elements, word, alpha}
+use Rattle.galois.proofs.Words.{values, length-word, elements-values, elements-inj, elements-product, bytes-reverse, bytes-values, bytes-product}
 
 -- the value of a block, as a polynomial, at root j
 abbrev pub blockSyndrome : List ℕ → ℕ → Fin 256

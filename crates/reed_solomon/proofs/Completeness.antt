@@ -25,7 +25,7 @@ use Rattle.galois.specs.Field256.{pow}
 use Rattle.galois.proofs.Instance.{bytes, byte, byte-power, powers-differ}
 use Rattle.reed_solomon.specs.Code.{Codeword}
 use Rattle.reed_solomon.specs.Marks.{marked, cost}
-use Rattle.byte_lanes.specs.Lanes.{elements, alpha}
+use Rattle.galois.proofs.Elements.{elements, alpha}
 use Rattle.error_locator.specs.Locator.{Located, Modified}
 use Rattle.error_correction.specs.Correction.{ByDegree, valuesOf, rootsOf, onePolynomial, monic, RootProduct, errorValue}
 use Rattle.error_correction.proofs.RootSearch.{length-values, value-erased, value-kept, value-one, map-join}

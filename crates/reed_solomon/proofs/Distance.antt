@@ -23,8 +23,8 @@ use Rattle.common.proofs.Choice.{unequal-le}
 use Rattle.reed_solomon.specs.Code.{Codeword, distance, differ, changes}
 use Rattle.reed_solomon.specs.Decode.{Accepted}
 use Rattle.reed_solomon.specs.declared.Changed.{Changed}
-use Rattle.byte_lanes.specs.Lanes.{elements, word, alpha}
-use Rattle.byte_lanes.proofs.Words.{length-word, elements-inj, bytes-reverse}
+use Rattle.galois.proofs.Elements.{elements, word, alpha}
+use Rattle.galois.proofs.Words.{length-word, elements-inj, bytes-reverse}
 use Rattle.reed_solomon.proofs.Codewords.{codeword-length, codeword-bytes, codeword-syndromes}
 
 -- ---- the distance

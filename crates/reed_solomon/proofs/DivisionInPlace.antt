@@ -13,9 +13,10 @@ use Rattle.algebra.proofs.Ring.{ring, mul-one}
 use Rattle.algebra.proofs.Syndromes.{power-add}
 use Rattle.galois.specs.Field256.{numbers, mul, rounds, timesX, scaled}
 use Rattle.galois.proofs.Instance.{bytes, byte, byte-zero, byte-one}
-use Rattle.byte_lanes.specs.Lanes.{alpha, productsOf}
-use Rattle.byte_lanes.proofs.Powers.{products-scaled}
-use Rattle.byte_lanes.proofs.Words.{length-sum, sum-at, length-products, products-at, length-scaled}
+use Rattle.galois.specs.Lanes.{productsOf}
+use Rattle.galois.proofs.Elements.{alpha}
+use Rattle.galois.proofs.LanePowers.{products-scaled}
+use Rattle.galois.proofs.Words.{length-sum, sum-at, length-products, products-at, length-scaled}
 use Rattle.reed_solomon.specs.Code.{factors, generator}
 use Rattle.reed_solomon.specs.Encode.{generatorTail, divided, remainderFrom, checkBytes}
 use Rattle.reed_solomon.specs.Steps.{reducedOf, SameValues}

@@ -17,8 +17,8 @@ use Rattle.galois.specs.Field256.{numbers, mul, rounds, timesX, scaled}
 use Rattle.galois.proofs.Instance.{bytes, byte, byte-zero, byte-one, byte-add, byte-mul}
 use Rattle.reed_solomon.specs.Code.{factors, generator, Codeword, differ}
 use Rattle.reed_solomon.specs.Encode.{generatorTail, divided, remainderFrom, checkBytes, encoded}
-use Rattle.byte_lanes.specs.Lanes.{elements, word, alpha}
-use Rattle.byte_lanes.proofs.Words.{length-sum, elements-append, length-word, bytes-append, bytes-drop, bytes-zeros, bytes-plus, bytes-scale, length-scaled}
+use Rattle.galois.proofs.Elements.{elements, word, alpha}
+use Rattle.galois.proofs.Words.{length-sum, elements-append, length-word, bytes-append, bytes-drop, bytes-zeros, bytes-plus, bytes-scale, length-scaled}
 use Rattle.reed_solomon.proofs.Codewords.{codeword-of, codeword-length, generator-root}
 use Rattle.reed_solomon.proofs.Distance.{same-codeword, differ-append, differ-none, differ-le}
 

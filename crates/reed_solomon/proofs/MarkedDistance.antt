@@ -24,7 +24,7 @@ use Rattle.reed_solomon.specs.Marks.{noMarks, marked, unmarked, cost, Ac
 use Rattle.reed_solomon.specs.declared.Decoded.{Decoded}
 use Rattle.reed_solomon.specs.declared.Decoded.the-variants.{Corrected, Uncorrectable, BlockLength, MarkValue}
 use Rattle.reed_solomon.specs.declared.Changed.{Changed}
-use Rattle.byte_lanes.specs.Lanes.{elements}
+use Rattle.galois.proofs.Elements.{elements}
 use Rattle.error_correction.specs.Correction.{zerosFrom}
 use Rattle.reed_solomon.proofs.Codewords.{codeword-length}
 use Rattle.reed_solomon.proofs.Marks.{mark, mark-marked, marked-append, no-marks}

@@ -23,7 +23,7 @@ use Rattle.galois.proofs.Instance.{bytes, byte, byte-zero}
 use Rattle.common.specs.Choice.{unequal}
 use Rattle.reed_solomon.specs.Code.{Codeword, unequalBits, distance, differ, differBits, noChange}
 use Rattle.reed_solomon.specs.Marks.{marked, unmarked, cost, AcceptedMarked, RejectedMarked}
-use Rattle.byte_lanes.specs.Lanes.{alpha}
+use Rattle.galois.proofs.Elements.{alpha}
 use Rattle.reed_solomon.specs.Steps.{residueOf, allZero, SyndromesOf, weighed}
 use Rattle.error_locator.specs.Locator.{Located, Modified}
 use Rattle.error_correction.specs.Correction.{ByDegree, valuesOf, rootsOf, onePolynomial, FoundRoots, monic, RootProduct, errorValue, ErrorValues, termsOf, Explained, correctedBy, changedIn}

@@ -15,9 +15,10 @@ use Rattle.algebra.specs.Field.{ops}
 use Rattle.algebra.specs.Polynomial.{power, eval}
 use Rattle.algebra.proofs.Ring.{add-comm, zero-add as field-zero-add}
 use Rattle.galois.proofs.Instance.{bytes}
-use Rattle.byte_lanes.specs.Lanes.{elements, alpha, PowersFrom, ValuesAt}
-use Rattle.byte_lanes.proofs.Powers.{powers-at}
-use Rattle.byte_lanes.proofs.Words.{length-sum, bytes-plus, bytes-drop}
+use Rattle.galois.specs.Lanes.{PowersFrom, ValuesAt}
+use Rattle.galois.proofs.Elements.{elements, alpha}
+use Rattle.galois.proofs.LanePowers.{powers-at, values-bytes}
+use Rattle.galois.proofs.Words.{length-sum, bytes-plus, bytes-drop}
 use Rattle.reed_solomon.specs.Encode.{checkBytes}
 use Rattle.reed_solomon.specs.Steps.{residueOf, allZero, SameValues, SyndromesOf}
 use Rattle.reed_solomon.proofs.Codewords.{blockSyndrome, generator-root, same-sixteen}
@@ -54,7 +55,7 @@ reverse-at (x ∷ l) i (suc k) h =
 pub syndromes-of : (l q x s : List ℕ) → q ≡ reverse l → PowersFrom 0 x → ValuesAt q x s → SyndromesOf l s
 syndromes-of l q x s e p v =
     record {
-      each = λ j h. v .each j h
+      each = λ j h. values-bytes v j h
           ∙ ap₂ (λ (r : List ℕ) (u : Fin 256). eval (ops bytes) (elements r) u) e (powers-at 0 x p j h ∙ ap alpha (zero-add j));
     }
 

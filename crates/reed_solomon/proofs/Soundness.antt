@@ -21,7 +21,7 @@ use Rattle.galois.specs.Field256.{pow}
 use Rattle.galois.proofs.Instance.{bytes, byte, byte-zero, byte-add, byte-power}
 use Rattle.reed_solomon.specs.Code.{distance}
 use Rattle.reed_solomon.specs.Steps.{weighed}
-use Rattle.byte_lanes.specs.Lanes.{alpha}
+use Rattle.galois.proofs.Elements.{alpha}
 use Rattle.error_correction.specs.Correction.{termsOf, correctedBy}
 use Rattle.reed_solomon.proofs.Distance.{distance-none}
 use Rattle.reed_solomon.proofs.LongDivision.{high, high-cons}

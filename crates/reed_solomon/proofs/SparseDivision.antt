@@ -22,8 +22,8 @@ use Rattle.algebra.specs.Polynomial.{power, eval, plus}
 use Rattle.algebra.proofs.Ring.{ring, add-zero, mul-zero, zero-mul, zero-add}
 use Rattle.galois.specs.Field256.{numbers}
 use Rattle.galois.proofs.Instance.{bytes, byte-one}
-use Rattle.byte_lanes.specs.Lanes.{elements, alpha}
-use Rattle.byte_lanes.proofs.Words.{length-sum, sum-at}
+use Rattle.galois.proofs.Elements.{elements, alpha}
+use Rattle.galois.proofs.Words.{length-sum, sum-at}
 use Rattle.reed_solomon.specs.Steps.{delays, delayedSum, DelayedSums, SparseQuotient, SparseRemainder, SameValues}
 use Rattle.reed_solomon.proofs.LongDivision.{high, high-one, high-append, high-plus, high-zeros}
 use Rattle.reed_solomon.proofs.SparseMultiple.{sparse, sparse-root}

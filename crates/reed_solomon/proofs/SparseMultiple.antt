@@ -9,8 +9,8 @@ use Rattle.algebra.proofs.Ring.{zero-mul}
 use Rattle.algebra.proofs.Polynomial.{eval-product}
 use Rattle.galois.specs.Field256.{numbers, mul, rounds, timesX}
 use Rattle.galois.proofs.Instance.{bytes}
-use Rattle.byte_lanes.specs.Lanes.{elements, alpha}
-use Rattle.byte_lanes.proofs.Words.{elements-product}
+use Rattle.galois.proofs.Elements.{elements, alpha}
+use Rattle.galois.proofs.Words.{elements-product}
 use Rattle.reed_solomon.specs.Code.{factors, generator}
 use Rattle.reed_solomon.proofs.Codewords.{generator-root}
 

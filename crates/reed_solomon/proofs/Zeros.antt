@@ -21,7 +21,7 @@ use Rattle.algebra.proofs.Ring.{mul-comm, zero-mul, zero-add}
 use Rattle.algebra.proofs.Syndromes.{syndrome}
 use Rattle.algebra.proofs.Terms.{terms}
 use Rattle.galois.proofs.Instance.{bytes, byte}
-use Rattle.byte_lanes.specs.Lanes.{alpha}
+use Rattle.galois.proofs.Elements.{alpha}
 use Rattle.error_correction.specs.Correction.{Unmarked, ByDegree, masked, valuesOf, zerosFrom, rootsOf, onePolynomial}
 use Rattle.error_correction.proofs.RootSearch.{length-values, value-one}
 use Rattle.reed_solomon.specs.Marks.{marked}

@@ -6,6 +6,7 @@ use lib.Bits.{bitXor}
 use lib.Dec.{ltb, eqb}
 use lib.ListN.{length, getD, take, drop, replicate}
 use Rattle.common.specs.Choice.{pick}
+use Rattle.common.specs.Refusal.{unless, when, firstDue}
 use Rattle.algebra.specs.Polynomial.{plus}
 use Rattle.galois.specs.Field256.{numbers, scaled}
 use Rattle.reed_solomon.specs.Code.{generator}
@@ -33,7 +34,7 @@ encoded message = message ++ checkBytes message
 
 -- the answer's number: 1 for data that is not 188 bytes, 4 for room under 204
 abbrev pub encodeNumber : List ℕ → List ℕ → ℕ
-encodeNumber message output = pick (eqb (length message) 188) (pick (ltb (length output) 204) 4 0) 1
+encodeNumber message output = firstDue (unless (eqb (length message) 188) 1 ∷ when (ltb (length output) 204) 4 ∷ [])
 
 -- the output after the call
 abbrev pub encodeOutput : List ℕ → List ℕ → List ℕ

@@ -13,7 +13,8 @@ use Rattle.algebra.specs.Field.{ops}
 use Rattle.algebra.specs.Polynomial.{eval, plus}
 use Rattle.galois.specs.Field256.{numbers}
 use Rattle.galois.proofs.Instance.{bytes, byte}
-use Rattle.byte_lanes.specs.Lanes.{word, alpha, productsOf}
+use Rattle.galois.specs.Lanes.{productsOf}
+use Rattle.galois.proofs.Elements.{word, alpha}
 use Rattle.reed_solomon.specs.Encode.{checkBytes}
 
 -- ---- the division

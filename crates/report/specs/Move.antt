@@ -1,14 +1,14 @@
 -- A report moved from one form to the other: document 02, P7.
 -- Assumes nothing.
 use mathlib.Core.Bool.{Bool, false}
-use mathlib.Core.List.{List}
+use mathlib.Core.List.{List, _∷_}
 use Prim.Native.Nat.{ℕ, _-_}
 use lib.Dec.{eqb}
-use Rattle.common.specs.Choice.{pick}
+use Rattle.common.specs.Refusal.{unless, firstDue}
 use Rattle.report.specs.declared.Bits.{Bits}
 use Rattle.report.specs.declared.Bits.the-variants.{Absent, Dash, Number}
 use Rattle.report.specs.declared.Report.{Report}
-use Rattle.report.specs.Text.{reportText, writeNumber, Writes}
+use Rattle.report.specs.Text.{reportText, writeTests, Writes}
 use Rattle.report.specs.Read.{ReadsWhole}
 
 -- Bits are absent and form 2 is wanted, or a dash and form 1 is. To any other number than 1 and 2 no report can be moved.
@@ -38,7 +38,7 @@ moved r = record {
 
 -- what moving answers where reading gives this number and report, in the order 17, 18, 19, 4
 abbrev pub moveNumber : ℕ → Report → ℕ → List ℕ → ℕ
-moveNumber read r form output = pick (eqb read 0) (pick (movable (r .bits) form) (writeNumber (moved r) output) 19) read
+moveNumber read r form output = firstDue (unless (eqb read 0) read ∷ unless (movable (r .bits) form) 19 ∷ writeTests (moved r) output)
 
 -- what moving the report of a text to a form promises
 pub record Moves (t : List ℕ) (form : ℕ) (output : List ℕ) (number size : ℕ) (exit : List ℕ) : Type 0 where

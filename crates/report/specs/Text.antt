@@ -7,6 +7,7 @@ use mathlib.Core.Bool.{Bool, true, false}
 use lib.Dec.{leb, ltb, eqb}
 use lib.ListN.{length, getD}
 use Rattle.common.specs.Choice.{pick}
+use Rattle.common.specs.Refusal.{Test, unless, when, firstDue}
 use Rattle.common.specs.Lists.{placed}
 use Rattle.report_lines.specs.Line.{lineText}
 use Rattle.report.specs.declared.Bits.{Bits}
@@ -89,8 +90,11 @@ abbrev pub textNumber : List ℕ → List ℕ → ℕ
 textNumber text output = pick (ltb (length output) (length text)) 4 0
 
 -- the answer to a report that is to be written, in the order 17, 18, 4
+abbrev pub writeTests : Report → List ℕ → List Test
+writeTests r output = unless (fits r) 17 ∷ unless (sums r) 18 ∷ when (ltb (length output) (length (reportText r))) 4 ∷ []
+
 abbrev pub writeNumber : Report → List ℕ → ℕ
-writeNumber r output = pick (fits r) (pick (sums r) (textNumber (reportText r) output) 18) 17
+writeNumber r output = firstDue (writeTests r output)
 
 -- What writing a text leaves, where `due` is the number of its answer: how many bytes are written, and the output after it; none, and as before, where
 -- that is not 0.

@@ -19,10 +19,10 @@ use Rattle.randomizer.specs.Stream.{randomizedFrom}
 use Rattle.randomizer.proofs.Xors.{getD-xors}
 use Rattle.randomizer.proofs.Laws.{length-masks, length-randomized}
 use Rattle.randomizer.proofs.Whole.{randomized-stream}
-use Rattle.delay_branches.specs.declared.Side.the-variants.{Sending}
+use Rattle.interleaver.specs.declared.branches.Side.the-variants.{Sending}
 use Rattle.interleaver.specs.Stream.{earlier, interleaved}
 use Rattle.interleaver.proofs.Streams.{delayed-at}
-use Rattle.interleaver.proofs.Blocks.{flatten-at}
+use Rattle.interleaver.proofs.BlockLists.{flatten-at}
 use Rattle.convolutional_code.specs.Bits.{bitsOf}
 use Rattle.sent_blocks.specs.Blocks.{codedBlocks, sentBytes, interleavedBlocks}
 use Rattle.sent_blocks.proofs.Lengths.{coded-count, interleaved-count, interleaved-whole}

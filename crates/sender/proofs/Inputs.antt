@@ -10,7 +10,9 @@ use borrow.Author.Tests.{eq-eqb, ne-eqb, eqb-true}
 use lib.Dec.{eqb}
 use lib.ListN.{length, getD, replicate}
 use Rattle.common.specs.Choice.{pick}
-use Rattle.common.specs.Lists.{All, Bytes, Length}
+use Rattle.common.specs.Lists.{All, Bytes, Length, chunksOf}
+use Rattle.common.proofs.Lists.{All-map}
+use Rattle.common.proofs.Chunks.{chunks-whole}
 use Rattle.randomizer.specs.Stream.{Packet}
 use Rattle.sender.specs.Input.{Input, isInput, isSynced, nullPacket, packetFor, packetsFor}
 
@@ -86,3 +88,7 @@ packets-sent (p ∷ ps) g h = (
   record { size = packet-size p (input-test p (g .0)); bytes = packet-bytes p (h .0); sync = packet-sync p },
   packets-sent ps (g .1) (h .1),
 )
+
+-- each packet of a buffer is an input of the sender
+pub packets-inputs : (l : List ℕ) → All Input (chunksOf 188 l)
+packets-inputs l = All-map (Length 188) Input (λ p e. inr e) (chunksOf 188 l) (chunks-whole 188 l)

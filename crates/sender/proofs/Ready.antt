@@ -5,8 +5,8 @@ use mathlib.Core.Bool.{true}
 use mathlib.Core.List.{List}
 use Prim.Native.Nat.{ℕ, _≤_}
 use native.Mathlib.Omega.{arith}
-use Rattle.delay_branches.specs.declared.Side.the-variants.{Sending}
-use Rattle.delay_branches.proofs.Blocks.{Good, good-after}
+use Rattle.interleaver.specs.declared.branches.Side.the-variants.{Sending}
+use Rattle.interleaver.proofs.Blocks.{Good, good-after}
 use Rattle.interleaver.proofs.Whole.{good-fresh}
 use Rattle.puncturing.specs.Mode.{Mode}
 use Rattle.puncturing.specs.WellFormed.{WellFormed}

@@ -14,11 +14,11 @@ use Rattle.reed_solomon.specs.Encode.{checkBytes, encodeOutput}
 use Rattle.reed_solomon.proofs.LongDivision.{check-remainder}
 use Rattle.randomizer.specs.Packet.{randomized, randomizeOutput}
 use Rattle.randomizer.proofs.Laws.{length-randomized, randomize-done}
-use Rattle.delay_branches.specs.Branch as branch
-use Rattle.delay_branches.specs.Block.{branchesAfter}
-use Rattle.delay_branches.specs.declared.Side.the-variants.{Sending}
-use Rattle.delay_branches.specs.declared.Branches.{Branches}
-use Rattle.delay_branches.proofs.Blocks.{length-out}
+use Rattle.interleaver.specs.Branch as branch
+use Rattle.interleaver.specs.Block.{branchesAfter}
+use Rattle.interleaver.specs.declared.branches.Side.the-variants.{Sending}
+use Rattle.interleaver.specs.declared.branches.Branches.{Branches}
+use Rattle.interleaver.proofs.Blocks.{length-out}
 use Rattle.interleaver.specs.Call.{passBranches, passOutput}
 use Rattle.puncturing.specs.Mode.{Mode, modeOf}
 use Rattle.puncturing.specs.WellFormed.{WellFormed}

@@ -11,11 +11,11 @@ use Rattle.reed_solomon.specs.Encode.{encoded}
 use Rattle.randomizer.specs.Packet.{randomized}
 use Rattle.randomizer.specs.Stream.{randomizedFrom}
 use Rattle.randomizer.proofs.Whole.{randomized-stream}
-use Rattle.delay_branches.specs.Block.{fresh, blockOut, branchesAfter}
-use Rattle.delay_branches.specs.declared.Side.the-variants.{Sending}
+use Rattle.interleaver.specs.Block.{fresh, blockOut, branchesAfter}
+use Rattle.interleaver.specs.declared.branches.Side.the-variants.{Sending}
 use Rattle.interleaver.specs.Stream.{interleaved, run, runAfter}
 use Rattle.interleaver.proofs.Whole.{run-delayed}
-use Rattle.delay_branches.proofs.Blocks.{length-out}
+use Rattle.interleaver.proofs.Blocks.{length-out}
 use Rattle.puncturing.specs.Mode.{Mode}
 use Rattle.puncturing.specs.WellFormed.{WellFormed}
 use Rattle.inner_code.specs.Step.{InRangeBy, coderBy}

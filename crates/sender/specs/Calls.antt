@@ -3,8 +3,8 @@
 use mathlib.Core.List.{List, [], _∷_, _++_}
 use Prim.Native.Nat.{ℕ, _%_, _≤_}
 use lib.ListN.{length, take}
-use Rattle.delay_branches.specs.Block.{fresh}
-use Rattle.delay_branches.specs.declared.Side.the-variants.{Sending}
+use Rattle.interleaver.specs.Block.{fresh}
+use Rattle.interleaver.specs.declared.branches.Side.the-variants.{Sending}
 use Rattle.interleaver.specs.Stream.{runAfter}
 use Rattle.puncturing.specs.Mode.{Mode}
 use Rattle.inner_code.specs.Encode.{freshCoder, blockCoderBy}

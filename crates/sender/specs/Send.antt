@@ -3,16 +3,17 @@
 -- Assumes nothing.
 use mathlib.Core.Path.{_≡_}
 use mathlib.Core.Bool.{Bool, false}
-use mathlib.Core.List.{List, _++_}
+use mathlib.Core.List.{List, [], _∷_, _++_}
 use Prim.Native.Nat.{ℕ, _+_, _%_}
 use lib.Dec.{ltb, eqb}
 use lib.ListN.{length, drop}
 use Rattle.common.specs.Choice.{pick}
+use Rattle.common.specs.Refusal.{unless, when, firstDue}
 use Rattle.reed_solomon.specs.Encode.{encoded}
 use Rattle.randomizer.specs.Packet.{randomized}
-use Rattle.delay_branches.specs.Branch as branch
-use Rattle.delay_branches.specs.Block.{fresh, blockOut, branchesAfter}
-use Rattle.delay_branches.specs.declared.Side.the-variants.{Sending}
+use Rattle.interleaver.specs.Branch as branch
+use Rattle.interleaver.specs.Block.{fresh, blockOut, branchesAfter}
+use Rattle.interleaver.specs.declared.branches.Side.the-variants.{Sending}
 use Rattle.puncturing.specs.Mode.{Mode}
 use Rattle.inner_code.specs.Step.{inRangeBy}
 use Rattle.inner_code.specs.Encode.{freshCoder, blockSymbolsBy, blockCoderBy, symbolCountBy}
@@ -58,7 +59,14 @@ isSent t s = t (s .coder .rate) .sent
 -- What is refused: 5 for a state out of range, 6 for one whose mode is not sent, 1 for an input that is neither no bytes nor 188, 4 for short room;
 -- 0 where nothing is.
 abbrev pub sendRefusal : (ℕ → Mode) → Sender → List ℕ → List ℕ → ℕ
-sendRefusal t s input output = pick (senderInRange t s) (pick (isSent t s) (pick (isInput input) (pick (ltb (length output) (sentCount t s)) 4 0) 1) 6) 5
+sendRefusal t s input output =
+    firstDue (
+    unless (senderInRange t s) 5
+    ∷ unless (isSent t s) 6
+    ∷ unless (isInput input) 1
+    ∷ when (ltb (length output) (sentCount t s)) 4
+    ∷ []
+    )
 
 -- the number of the answer: the refusal, or else which packet was sent
 abbrev pub sendNumber : (ℕ → Mode) → Sender → List ℕ → List ℕ → ℕ

@@ -9,8 +9,8 @@ use lib.ListN.{length, length-append, length-map, length-take}
 use lib.Seq.{length-take-le}
 use Rattle.common.specs.Lists.{All, Length}
 use Rattle.common.proofs.Chunks.{length-chunks}
-use Rattle.delay_branches.proofs.Blocks.{length-out}
-use Rattle.delay_branches.specs.declared.Side.the-variants.{Sending}
+use Rattle.interleaver.proofs.Blocks.{length-out}
+use Rattle.interleaver.specs.declared.branches.Side.the-variants.{Sending}
 use Rattle.puncturing.specs.Mode.{modeOf, blockBits}
 use Rattle.puncturing.specs.Step.{symbolsIn, countBy}
 use Rattle.puncturing.specs.Run.{patternPlaceAfter}

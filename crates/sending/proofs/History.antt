@@ -22,10 +22,9 @@ use Rattle.sender.specs.Input.{packetFor, packetsFor, sentNumber}
 use Rattle.inner_code.specs.Encode.{newNumber}
 use Rattle.sender.specs.Calls.{callsSymbols, callsSender, senderOf}
 use Rattle.sender.specs.declared.Sender.{Sender}
-use Rattle.sender.proofs.Inputs.{packet-lengths}
+use Rattle.sender.proofs.Inputs.{packet-lengths, packets-inputs}
 use Rattle.sender.proofs.Stream.{calls-on-air, calls-sender}
 use Rattle.sender.proofs.History.{history, ready-sent, sent-further}
-use Rattle.transmission.proofs.Buffers.{packets-inputs}
 use Rattle.sending.specs.Sending.{holding, heldBytes, freshSending, canSend, fedSymbols, fedAnswers, FeedsAll, FeedsSending, refused, fed}
 use Rattle.sending.specs.History.{SendingFeedings, none, feeding, Transmitted}
 use Rattle.sending.specs.declared.Sending.{Sending}

@@ -3,11 +3,12 @@
 -- Assumes nothing.
 use mathlib.Core.Path.{_≡_}
 use mathlib.Core.Bool.{Bool, true, false}
-use mathlib.Core.List.{List, _++_, map, flatten}
+use mathlib.Core.List.{List, [], _∷_, _++_, map, flatten}
 use Prim.Native.Nat.{ℕ, _+_, _/_, _≤_}
 use lib.Dec.{ltb}
 use lib.ListN.{length, take, drop, replicate}
 use Rattle.common.specs.Choice.{pick}
+use Rattle.common.specs.Refusal.{unless, when, firstDue}
 use Rattle.common.specs.Lists.{padded, chunksOf, restOf}
 use Rattle.puncturing.specs.Mode.{modeOf}
 use Rattle.sender.specs.Input.{packetsFor, sentNumber}
@@ -56,8 +57,13 @@ fedSending w piece = holding (callsSender modeOf (w .sender) (packetsFor (wholeP
 -- each packet that is whole; 0 where nothing is refused
 abbrev pub sendingFeedNumber : Sending → List ℕ → List ℕ → List ℕ → ℕ
 sendingFeedNumber w piece output answers =
-    pick (sendingInRange w)
-    (pick (isSent modeOf (w .sender)) (pick (ltb (length output) (length (fedSymbols w piece))) 4 (pick (ltb (length answers) (wholeCount w piece)) 4 0)) 6) 5
+    firstDue (
+    unless (sendingInRange w) 5
+    ∷ unless (isSent modeOf (w .sender)) 6
+    ∷ when (ltb (length output) (length (fedSymbols w piece))) 4
+    ∷ when (ltb (length answers) (wholeCount w piece)) 4
+    ∷ []
+    )
 
 -- what the tests tell
 pub record OutputsFit (w : Sending) (piece output answers : List ℕ) : Type 0 where

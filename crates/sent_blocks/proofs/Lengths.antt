@@ -8,8 +8,8 @@ use Rattle.common.specs.Lists.{All, Length}
 use Rattle.common.proofs.Chunks.{length-first}
 use Rattle.reed_solomon.specs.Encode.{encoded}
 use Rattle.randomizer.specs.Stream.{dispersed, randomizedStream}
-use Rattle.delay_branches.specs.declared.Side.the-variants.{Sending}
-use Rattle.interleaver.proofs.Blocks.{length-flatten}
+use Rattle.interleaver.specs.declared.branches.Side.the-variants.{Sending}
+use Rattle.interleaver.proofs.BlockLists.{length-flatten}
 use Rattle.interleaver.proofs.Streams.{length-delayed, delayed-lengths}
 use Rattle.sent_blocks.specs.Blocks.{codedBlocks, interleavedBlocks, sentBytes}
 

@@ -10,7 +10,7 @@ use lib.ListN.{length, take, drop, replicate, length-append}
 use lib.Seq.{take-at}
 use Rattle.common.specs.Lists.{restOf}
 use Rattle.common.proofs.Chunks.{length-rest, cut}
-use Rattle.interleaver.proofs.Blocks.{flatten-join}
+use Rattle.interleaver.proofs.BlockLists.{flatten-join}
 use Rattle.receiver.specs.Receive.{freshReceiver}
 use Rattle.receiver.specs.declared.Receiver.{Receiver}
 use Rattle.receiver.proofs.Reached.{Sound, sound-range, sound-fresh}

@@ -3,11 +3,12 @@
 -- Assumes nothing.
 use mathlib.Core.Path.{_≡_}
 use mathlib.Core.Bool.{Bool, false}
-use mathlib.Core.List.{List, [], _++_}
+use mathlib.Core.List.{List, [], _∷_, _++_}
 use Prim.Native.Nat.{ℕ, _+_, _-_, _*_, _/_, _<_}
 use lib.Dec.{ltb}
 use lib.ListN.{length, take, replicate}
 use Rattle.common.specs.Choice.{pick}
+use Rattle.common.specs.Refusal.{unless, when, firstDue}
 use Rattle.common.specs.Lists.{padded, restOf}
 use Rattle.receiver.specs.Receive.{freshReceiver, receiverInRange}
 use Rattle.receiver.specs.declared.Receiver.{Receiver}
@@ -42,9 +43,12 @@ pub record TakesPiece (i : StreamReceiver) (piece output : List ℕ) (count : �
 -- that is whole then, 7 where not all the bytes can be taken; 0 where none refuses.
 abbrev pub receiverFeedNumber : StreamReceiver → List ℕ → List ℕ → ℕ
 receiverFeedNumber i piece output =
-    pick (streamInRange i)
-    (pick (ltb (length output) (188 * ((i .held + length piece) / 204))) 4 (pick (ltb (capacityOf i) (length piece)) 7 0))
-    5
+    firstDue (
+    unless (streamInRange i) 5
+    ∷ when (ltb (length output) (188 * ((i .held + length piece) / 204))) 4
+    ∷ when (ltb (capacityOf i) (length piece)) 7
+    ∷ []
+    )
 
 -- what feeding promises: all as before, or the whole piece taken
 pub data FeedsReceiver (i : StreamReceiver) (piece output : List ℕ) (number count : ℕ) (next : StreamReceiver) (exit : List ℕ) : Type 0 where

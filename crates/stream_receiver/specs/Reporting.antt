@@ -2,17 +2,17 @@
 -- Clauses: document 01, "Receiver"; document 02, P7.
 -- Assumes nothing.
 use mathlib.Core.Path.{_≡_}
-use mathlib.Core.List.{List, []}
+use mathlib.Core.List.{List, [], _∷_}
 use Prim.Native.Nat.{ℕ, _%_}
 use lib.ListN.{length}
-use Rattle.common.specs.Choice.{pick}
+use Rattle.common.specs.Refusal.{unless, firstDue}
 use Rattle.reception_counts.specs.declared.Counts.{Counts}
 use Rattle.receiver.specs.Receive.{freshReceiver}
 use Rattle.receiver.specs.declared.Receiver.{Receiver}
 use Rattle.recording.specs.Recording.{Recording}
 use Rattle.report.specs.declared.Bits.the-variants.{Number}
 use Rattle.report.specs.declared.Report.{Report}
-use Rattle.report.specs.Text.{reportText, textNumber, writeNumber, Writes}
+use Rattle.report.specs.Text.{reportText, textNumber, writeTests, Writes}
 use Rattle.stream_receiver.specs.Feed.{streamInRange}
 use Rattle.stream_receiver.specs.History.{Reception}
 use Rattle.stream_receiver.specs.declared.StreamReceiver.{StreamReceiver}
@@ -36,7 +36,7 @@ streamReport i = reportOf (i .receiver .counts) (i .held)
 
 -- what writing the report of all that came answers: 5 for a state out of range, and else what the writer does
 abbrev pub streamReportNumber : StreamReceiver → List ℕ → ℕ
-streamReportNumber i output = pick (streamInRange i) (writeNumber (streamReport i) output) 5
+streamReportNumber i output = firstDue (unless (streamInRange i) 5 ∷ writeTests (streamReport i) output)
 
 -- the text of the report on bytes as one recording
 pub record PassReport (bytes text : List ℕ) : Type 0 where

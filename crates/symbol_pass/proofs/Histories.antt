@@ -12,8 +12,8 @@ use Rattle.bit_packing.proofs.Pieces.{carried-length, every-packing}
 use Rattle.convolutional_code.specs.Bits.{Bits}
 use Rattle.inner_code.specs.Encode.{coderAt}
 use Rattle.inner_code.specs.Step.{symbolsOf}
-use Rattle.run_reader.specs.Clear.{AllClear}
-use Rattle.run_reader.specs.Read.{symbolsPerPattern, runBits}
+use Rattle.reader.specs.Clear.{AllClear}
+use Rattle.reader.specs.Read.{symbolsPerPattern, runBits}
 use Rattle.symbol_stream.specs.Stream.{StreamReady}
 use Rattle.symbol_stream.specs.History.{fresh, Ended}
 use Rattle.symbol_stream.proofs.Costs.{costed-append}

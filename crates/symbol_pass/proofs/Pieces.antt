@@ -15,8 +15,8 @@ use Rattle.symbol_stream.specs.History.{Took}
 use Rattle.symbol_stream.specs.declared.SymbolStream.{SymbolStream}
 use Rattle.symbol_stream.proofs.Streams.{numbers, short-run, kept-le}
 use Rattle.symbol_stream.proofs.Histories.{held-length, took-none, took-more, taken-fours}
-use Rattle.run_reader.specs.Read.{symbolsPerPattern, runBits}
-use Rattle.run_reader.proofs.Streams.{take-bits}
+use Rattle.reader.specs.Read.{symbolsPerPattern, runBits}
+use Rattle.reader.proofs.Streams.{take-bits}
 use Rattle.symbol_pass.specs.History.{Going, FeedsCosts}
 use Rattle.symbol_pass.specs.declared.Reading.{Reading}
 use Rattle.symbol_pass.proofs.Histories.{going-ready, going-few}

@@ -6,7 +6,7 @@ use mathlib.Core.List.{List, [], _++_}
 use Prim.Native.Nat.{ℕ, _+_, _/_, _%_, _^_}
 use lib.ListN.{length, take}
 use Rattle.bit_packing.specs.Packing.{packedBytes, carriedBits, Packs, Packings}
-use Rattle.run_reader.specs.Cost.{Costed}
+use Rattle.reader.specs.Cost.{Costed}
 use Rattle.symbol_stream.specs.Stream.{Decided, StreamReady, StreamHolds, Closes}
 use Rattle.symbol_stream.specs.History.{SymbolFeedings, Ended, Took}
 use Rattle.symbol_pass.specs.declared.Reading.{Reading}

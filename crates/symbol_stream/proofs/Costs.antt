@@ -7,7 +7,7 @@ use native.Mathlib.Decide.{decLt}
 use native.Mathlib.Omega.{arith}
 use lib.ListN.{length, getD, take, drop, length-append, length-take, length-drop, length-map, List·getD-append}
 use lib.Seq.{getD-take, getD-drop, getD-append-add, take-at, drop-at}
-use Rattle.run_reader.specs.Cost.{symbolCost, Costed}
+use Rattle.reader.specs.Cost.{symbolCost, Costed}
 
 module _ {R : Type 0} (cost : R → ℕ → ℕ) where
   -- members of a list that is mapped

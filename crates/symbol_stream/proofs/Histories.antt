@@ -8,11 +8,11 @@ use native.Mathlib.Omega.{arith}
 use lib.ListN.{length, take, drop, length-append, length-drop, take-append-drop}
 use lib.Seq.{take-length, take-append-le, drop-append-le, length-take-le}
 use Rattle.convolutional_code.specs.Code.{memoryAfter}
-use Rattle.trellis.specs.Best.{Decoded}
-use Rattle.trellis.proofs.Laws.{decoded-unique}
-use Rattle.run_reader.specs.Cost.{runCost, costsOf, Costed}
-use Rattle.run_reader.specs.Read.{symbolsPerPattern, runBits, BestRead}
-use Rattle.run_reader.proofs.Reading.{decoded-as, read-as}
+use Rattle.viterbi_decoder.specs.Best.{Decoded}
+use Rattle.viterbi_decoder.proofs.Laws.{decoded-unique}
+use Rattle.reader.specs.Cost.{runCost, costsOf, Costed}
+use Rattle.reader.specs.Read.{symbolsPerPattern, runBits, BestRead}
+use Rattle.reader.proofs.Reading.{decoded-as, read-as}
 use Rattle.symbol_stream.specs.Stream.{fullSymbols, keptSymbols, keptBits, Decided, few, run, heldOf, StreamReady, FeedsSymbols, gathered, read, Closes}
 use Rattle.symbol_stream.specs.History.{SymbolFeedings, fresh, feeding, SymbolsCame, Ended, Took}
 use Rattle.symbol_stream.specs.declared.SymbolStream.{SymbolStream}

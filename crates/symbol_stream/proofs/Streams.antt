@@ -1,8 +1,8 @@
 -- The numbers of a rate; a longest run; feeding a piece, and the end of a stream, in costs.
 -- Assumes nothing.
 use Rattle.symbol_stream.specs.declared.SymbolStream.{SymbolStream}
-use Rattle.run_reader.proofs.Streams.{take-bits}
-use Rattle.run_reader.proofs.Patterns.{some-symbols, memory-in-range}
+use Rattle.reader.proofs.Streams.{take-bits, memory-append}
+use Rattle.reader.proofs.Patterns.{some-symbols, memory-in-range}
 use Rattle.common.specs.Lists.{All}
 use mathlib.Core.Path.{_≡_, refl, sym, _∙_, ap, subst}
 use mathlib.Core.List.{List, [], _∷_, _++_}
@@ -10,7 +10,7 @@ use Prim.Native.Nat.{ℕ, zero, suc, _+_, _-_, _*_, _%_, _<_, _≤_, _/_}
 use native.Mathlib.Nat.{mul-mod-right, mul-div-right, div-le-of-le-mul, mul-le-mul-left, mul-div-le, zero-add, suc-add, mod-add-div, mod-lt}
 use native.Mathlib.Omega.{arith}
 use lib.Dec.{leb, leb→le}
-use lib.ListN.{length, getD, take, drop, length-append, length-drop, length-take}
+use lib.ListN.{length, getD, take, drop, length-append, length-drop, length-take, take-append-drop}
 use lib.Seq.{take-append-le, take-suc, take-length, take-take, length-take-le, take-nil, take-at}
 use Rattle.common.proofs.Computed as computed
 use Rattle.common.proofs.Lists.{All-append}
@@ -19,8 +19,8 @@ use Rattle.convolutional_code.specs.Bits.{Bits}
 use Rattle.convolutional_code.specs.Code.{nextMemory, memoryAfter}
 use Rattle.puncturing.specs.Mode.{modeOf}
 use Rattle.puncturing.specs.Step.{patternLength}
-use Rattle.run_reader.specs.Cost.{runCost, costsOf}
-use Rattle.run_reader.specs.Read.{symbolsPerPattern, runBits, Readable, BestRead}
+use Rattle.reader.specs.Cost.{runCost, costsOf}
+use Rattle.reader.specs.Read.{symbolsPerPattern, runBits, Readable, BestRead}
 use Rattle.symbol_stream.specs.Stream.{runPatterns, keptPatterns, fullSymbols, keptSymbols, keptBits, fullCosts, keptCosts, heldOf, FullRead, StreamReady, FeedsSymbols, gathered, read, Closes}
 
 -- ---- the memory after bits, one after the other
@@ -48,6 +48,54 @@ pub passing-all : {memory : ℕ} {bits : List ℕ} {m k : ℕ} → Passing memor
 passing-all {memory} {bits} {m} {k} p h =
     let e : k ≡ length bits = omega (arith, p .most) in
     p .is ∙ ap (memoryAfter memory) (ap (λ (j : ℕ). take j bits) e ∙ take-length bits)
+
+-- ---- the last six bits
+
+-- each bit that comes moves what two memories have in common one place up
+module _ (x y b : ℕ) where
+  flush6 : x < 64 → y < 64 → nextMemory x b / 32 ≡ nextMemory y b / 32
+  flush6 h k = omega arith
+
+  flush5 : x / 32 ≡ y / 32 → nextMemory x b / 16 ≡ nextMemory y b / 16
+  flush5 e = omega arith
+
+  flush4 : x / 16 ≡ y / 16 → nextMemory x b / 8 ≡ nextMemory y b / 8
+  flush4 e = omega arith
+
+  flush3 : x / 8 ≡ y / 8 → nextMemory x b / 4 ≡ nextMemory y b / 4
+  flush3 e = omega arith
+
+  flush2 : x / 4 ≡ y / 4 → nextMemory x b / 2 ≡ nextMemory y b / 2
+  flush2 e = omega arith
+
+  flush1 : x / 2 ≡ y / 2 → nextMemory x b ≡ nextMemory y b
+  flush1 e = omega arith
+
+-- six bits flush the memory: nothing of what it held is left
+flushed : (x y : ℕ) (l : List ℕ) → x < 64 → y < 64 → length l ≡ 6 → memoryAfter x l ≡ memoryAfter y l
+unfolding memoryAfter
+flushed x y [] h k n = absurd (omega arith)
+flushed x y (a ∷ []) h k n = absurd (omega arith)
+flushed x y (a ∷ b ∷ []) h k n = absurd (omega arith)
+flushed x y (a ∷ b ∷ c ∷ []) h k n = absurd (omega arith)
+flushed x y (a ∷ b ∷ c ∷ d ∷ []) h k n = absurd (omega arith)
+flushed x y (a ∷ b ∷ c ∷ d ∷ e ∷ []) h k n = absurd (omega arith)
+flushed x y (a ∷ b ∷ c ∷ d ∷ e ∷ f ∷ []) h k n = flush1 _ _ f (flush2 _ _ e (flush3 _ _ d (flush4 _ _ c (flush5 _ _ b (flush6 x y a h k)))))
+flushed x y (a ∷ b ∷ c ∷ d ∷ e ∷ f ∷ g ∷ l) h k n = absurd (omega arith)
+
+-- so only the last six of some bits count
+after-six : (m : ℕ) (bits : List ℕ) (n : ℕ) → m < 64 → Bits bits → n + 6 ≡ length bits → memoryAfter m (drop n bits) ≡ memoryAfter m bits
+after-six m bits n h w e =
+    flushed m (memoryAfter m (take n bits)) (drop n bits) h (memory-in-range 0 m (omega arith) h (take-bits n w)) (length-drop n bits ∙ omega arith)
+    ∙ (sym (memory-append m (take n bits) (drop n bits)) ∙ ap (memoryAfter m) (take-append-drop n bits))
+
+-- a part that ends where the list does
+pub back-whole : (bits : List ℕ) (n : ℕ) → take (length bits - n) (drop n bits) ≡ drop n bits
+back-whole bits n = ap (λ (k : ℕ). take k (drop n bits)) (sym (length-drop n bits)) ∙ take-length (drop n bits)
+
+pub last-six : (m : ℕ) (bits : List ℕ) → m < 64 → Bits bits → 6 ≤ length bits
+    → memoryAfter m (take (length bits - (length bits - 6)) (drop (length bits - 6) bits)) ≡ memoryAfter m bits
+last-six m bits h w l = ap (memoryAfter m) (back-whole bits (length bits - 6)) ∙ after-six m bits (length bits - 6) h w (omega arith)
 
 -- ---- the numbers of a rate
 

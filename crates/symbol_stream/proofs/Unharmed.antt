@@ -15,17 +15,17 @@ use Rattle.puncturing.specs.Step.{patternLength, symbolsIn}
 use Rattle.inner_code.specs.Step.{symbolsOf}
 use Rattle.inner_code.proofs.Coder.{length-symbols}
 use Rattle.inner_code.specs.Encode.{coderAt}
-use Rattle.trellis.specs.Best.{Decoded}
-use Rattle.soft_decision.specs.Cost.{softly, receivedOf}
-use Rattle.soft_decision.specs.declared.Received.{Received}
-use Rattle.run_reader.specs.Clear.{AllClear}
-use Rattle.run_reader.specs.Cost.{differing, runCost, Costed}
-use Rattle.run_reader.specs.Read.{symbolsPerPattern, runBits, runLength}
-use Rattle.run_reader.proofs.Patterns.{at-start, some-symbols, memory-in-range, run-whole}
-use Rattle.run_reader.proofs.Costs.{sent-small}
-use Rattle.run_reader.proofs.Unharmed.{clear-length, clear-take, clear-drop, hard-clear, clear-best}
-use Rattle.run_reader.proofs.SoftLaws.{signalsI, signalsQ, noneLost, signals-clear}
-use Rattle.run_reader.proofs.Streams.{take-bits, drop-bits, symbols-divided, rest-few, fits, front-is, back-is, memory-append}
+use Rattle.viterbi_decoder.specs.Best.{Decoded}
+use Rattle.branch_metrics.specs.Cost.{softly, receivedOf}
+use Rattle.branch_metrics.specs.declared.soft_decision.Received.{Received}
+use Rattle.reader.specs.Clear.{AllClear}
+use Rattle.reader.specs.Cost.{differing, runCost, Costed}
+use Rattle.reader.specs.Read.{symbolsPerPattern, runBits, runLength}
+use Rattle.reader.proofs.Patterns.{at-start, some-symbols, memory-in-range, run-whole}
+use Rattle.reader.proofs.Costs.{sent-small}
+use Rattle.reader.proofs.Unharmed.{clear-length, clear-take, clear-drop, hard-clear, clear-best}
+use Rattle.reader.proofs.SoftLaws.{signalsI, signalsQ, noneLost, signals-clear}
+use Rattle.reader.proofs.Streams.{take-bits, drop-bits, symbols-divided, rest-few, fits, front-is, back-is, memory-append}
 use Rattle.symbol_stream.specs.Stream.{keptPatterns, fullSymbols, keptSymbols, keptBits, Decided, few, run, Closes}
 use Rattle.symbol_stream.specs.History.{SymbolFeedings, Ended}
 use Rattle.symbol_stream.specs.declared.SymbolStream.{SymbolStream}

@@ -5,8 +5,8 @@ use mathlib.Core.Path.{_≡_}
 use mathlib.Core.List.{List, [], _++_, map}
 use Prim.Native.Nat.{ℕ, _+_, _*_, _%_, _<_, _≤_}
 use lib.ListN.{length, take}
-use Rattle.run_reader.specs.Cost.{runCost, Costed}
-use Rattle.run_reader.specs.Read.{symbolsPerPattern, runBits, BestRead}
+use Rattle.reader.specs.Cost.{runCost, Costed}
+use Rattle.reader.specs.Read.{symbolsPerPattern, runBits, BestRead}
 use Rattle.symbol_stream.specs.Stream.{Decided, heldOf, StreamReady, StreamHolds, FeedsSymbols}
 use Rattle.symbol_stream.specs.declared.SymbolStream.{SymbolStream}
 

@@ -8,10 +8,10 @@ use Prim.Native.Nat.{ℕ, _+_, _-_, _*_, _/_, _%_, _<_, _≤_}
 use lib.ListN.{length, take, drop}
 use Rattle.common.specs.Lists.{All}
 use Rattle.convolutional_code.specs.Code.{memoryAfter}
-use Rattle.trellis.specs.Best.{Decoded}
+use Rattle.viterbi_decoder.specs.Best.{Decoded}
 use Rattle.puncturing.specs.Step.{patternLength}
-use Rattle.run_reader.specs.Cost.{runCost, costsOf}
-use Rattle.run_reader.specs.Read.{symbolsPerPattern, runBits, BestRead}
+use Rattle.reader.specs.Cost.{runCost, costsOf}
+use Rattle.reader.specs.Read.{symbolsPerPattern, runBits, BestRead}
 use Rattle.symbol_stream.specs.declared.SymbolStream.{SymbolStream}
 
 -- the patterns of a longest run, and those that are kept

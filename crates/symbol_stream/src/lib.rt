@@ -11,8 +11,8 @@ ghost use Rattle.convolutional_code.specs.Bits.{Bits};
 ghost use Rattle.symbol_stream.specs.Stream.{fullCosts, keptCosts, keptBits, FullRead, StreamReady, StreamHolds, FeedsSymbols, Closes};
 use common::put;
 use convolutional_code::next_memory;
-use run_reader::read_costs;
-use run_reader::symbol_count;
+use reader::read_costs;
+use reader::symbol_count;
 
 // A stream in progress: the rate, the coder's memory before the first symbol that is held, the costs of the symbols that are held, and how many
 // costs these are.
@@ -65,8 +65,8 @@ fn kept_bits(rate: u8) -> usize
     KEPT_BITS[rate as usize]
 }
 
-// The coder's memory after bits.
-fn memory_after(memory: u8, bits: &[u8]) -> u8
+// The coder's memory after bits, taken one by one.
+fn memory_through(memory: u8, bits: &[u8]) -> u8
     requires { ⌜ (memory < 64) × (Bits (now bits)) ⌝ }
     ensures { λ r. ⌜ r ≡ memoryAfter memory (now (bits .entry)) ⌝ }
 {
@@ -77,6 +77,18 @@ fn memory_after(memory: u8, bits: &[u8]) -> u8
         k += 1;
     }
     m
+}
+
+// The same. The memory is the last six bits, so no earlier ones are looked at.
+fn memory_after(memory: u8, bits: &[u8]) -> u8
+    requires { ⌜ (memory < 64) × (Bits (now bits)) ⌝ }
+    ensures { λ r. ⌜ r ≡ memoryAfter memory (now (bits .entry)) ⌝ }
+{
+    if bits.len() < 6 {
+        return memory_through(memory, bits);
+    }
+    let from = bits.len() - 6;
+    memory_through(memory, &bits[from..])
 }
 
 // Reads a longest run into the output: the memory after the bits of it that are kept.

@@ -2,7 +2,6 @@
 -- Assumes nothing.
 use mathlib.Core.Path.{_≡_, refl, ap, sym, _∙_}
 use mathlib.Core.Bool.{true, false}
-use mathlib.Core.Logic.{inr}
 use mathlib.Core.List.{List, [], _∷_}
 use Prim.Native.Nat.{ℕ, _+_, _-_, _%_, _≤_, _<_}
 use native.Mathlib.Nat.{add-zero}
@@ -10,15 +9,9 @@ use native.Mathlib.Omega.{arith}
 use borrow.Author.Tests.{eq-eqb, ne-eqb}
 use lib.ListN.{length, getD, take, drop, length-drop}
 use lib.Seq.{drop-drop, getD-take, getD-drop, length-take-le}
-use Rattle.common.specs.Lists.{All, Length, chunksOf}
-use Rattle.common.proofs.Lists.{All-map}
-use Rattle.common.proofs.Chunks.{chunks-whole, chunks-few, chunks-more}
-use Rattle.sender.specs.Input.{Input}
+use Rattle.common.specs.Lists.{chunksOf}
+use Rattle.common.proofs.Chunks.{chunks-few, chunks-more}
 use Rattle.transmission.specs.Run.{synced}
-
--- each packet of a buffer is an input of the sender
-pub packets-inputs : (l : List ℕ) → All Input (chunksOf 188 l)
-packets-inputs l = All-map (Length 188) Input (λ p e. inr e) (chunksOf 188 l) (chunks-whole 188 l)
 
 -- a packet begins at at, or the bytes end there
 pub record Scanning (bytes : List ℕ) (at : ℕ) : Type 0 where

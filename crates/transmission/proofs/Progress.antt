@@ -17,13 +17,13 @@ use Rattle.sender.specs.Input.{isInput, packetFor, packetsFor}
 use Rattle.sender.specs.Send.{freshSender, sentSymbols, sentCount, senderAfter, Sends}
 use Rattle.sender.specs.Calls.{callsSymbols}
 use Rattle.sender.specs.declared.Sender.{Sender}
-use Rattle.sender.proofs.Inputs.{input-test, packet-size, packet-lengths}
+use Rattle.sender.proofs.Inputs.{input-test, packet-size, packet-lengths, packets-inputs}
 use Rattle.sender.proofs.Stages.{symbol-count}
 use Rattle.sender.proofs.Ready.{Ready, ready-range, ready-fresh, ready-after}
 use Rattle.sender.proofs.Stream.{calls-on-air}
 use Rattle.sender.proofs.History.{Answered, input-sent}
 use Rattle.transmission.specs.Run.{runSymbols, Sendable}
-use Rattle.transmission.proofs.Buffers.{packets-inputs, Scanning, scanning-start, scanning-end, scanning-packet, scanning-size, scanning-more}
+use Rattle.transmission.proofs.Buffers.{Scanning, scanning-start, scanning-end, scanning-packet, scanning-size, scanning-more}
 
 -- the symbols in front are in the output, those of the packets from at on are still to be sent, and together they are those of the run
 pub record Progress (rate : ℕ) (bytes output₀ output : List ℕ) (s : Sender) (at count : ℕ) : Type 0 where

@@ -8,6 +8,7 @@ use Prim.Native.Nat.{ℕ, _%_, _≤_}
 use lib.Dec.{ltb, eqb}
 use lib.ListN.{length, drop}
 use Rattle.common.specs.Choice.{pick}
+use Rattle.common.specs.Refusal.{unless, when, firstDue}
 use Rattle.common.specs.Lists.{chunksOf}
 use Rattle.puncturing.specs.Mode.{modeOf}
 use Rattle.sender.specs.Standard.{onAir}
@@ -32,7 +33,12 @@ pub record Sendable (rate : ℕ) (bytes output : List ℕ) : Type 0 where
 -- 4 where the output is too short for all the symbols; 0 where nothing is.
 abbrev pub runRefusal : ℕ → List ℕ → List ℕ → ℕ
 runRefusal rate bytes output =
-    pick (modeOf rate .sent) (pick (eqb (length bytes % 188) 0) (pick (ltb (length output) (length (runSymbols rate bytes))) 4 0) 1) 6
+    firstDue (
+    unless (modeOf rate .sent) 6
+    ∷ unless (eqb (length bytes % 188) 0) 1
+    ∷ when (ltb (length output) (length (runSymbols rate bytes))) 4
+    ∷ []
+    )
 
 -- the number of the answer: the refusal, or else 15 where a null packet was put in
 abbrev pub runNumber : ℕ → List ℕ → List ℕ → ℕ

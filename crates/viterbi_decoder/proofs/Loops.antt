@@ -8,7 +8,7 @@ use native.Mathlib.Omega.{arith}
 use native.Mathlib.Nat.{eq-or-lt-of-le}
 use lib.ListN.{length, set, length-set}
 use lib.Seq.{getD-set-same, getD-set-other}
-use Rattle.viterbi_decoder.specs.Step.{at}
+use Rattle.convolutional_code.specs.Costs.{at}
 
 -- ---- two lists woven
 

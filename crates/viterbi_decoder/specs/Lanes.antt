@@ -1,14 +1,14 @@
--- What the steps of the decoder give: metrics less an offset, one to a byte, and sixteen bytes of choices for each step.
+-- What the steps of the decoder give: metrics less an offset, one to a byte, and the lanes that they come from, a row of 64 for each block of six steps.
 -- Assumes nothing.
 use mathlib.Core.Path.{_≡_}
-use mathlib.Core.List.{List, []}
-use Prim.Native.Nat.{ℕ, _+_, _*_, _/_, _%_, _^_, _≤_, _<_}
-use lib.Dec.{eqb, ltb}
+use mathlib.Core.List.{List, [], _∷_, _++_}
+use Prim.Native.Nat.{ℕ, zero, suc, _+_, _*_, _/_, _%_, _≤_, _<_}
+use lib.Dec.{ltb}
 use lib.ListN.{length, getD}
 use Rattle.common.specs.Choice.{pick}
 use Rattle.convolutional_code.specs.Code.{tapsX, tapsY, coded}
-use Rattle.trellis.specs.Metric.{Costs, via, choice, metric, choices}
-use Rattle.viterbi_decoder.specs.Step.{at, decided}
+use Rattle.convolutional_code.specs.Costs.{Costs, at, decided}
+use Rattle.viterbi_decoder.specs.Metric.{from, via, choice, metric, choices}
 
 -- the lane of a memory: its six bits in the other order, so that the newest one counts 1
 unfoldable pub lane : ℕ → ℕ
@@ -18,51 +18,57 @@ lane s = s % 2 * 32 + s / 2 % 2 * 16 + s / 4 % 2 * 8 + s / 8 % 2 * 4 + s / 16 % 
 abbrev pub held : List ℕ → ℕ → ℕ
 held l s = at l (lane s)
 
--- row 8 zero + one of a table has what the coded bits of 32 lanes cost, where deciding one as 0 costs zero, and as 1 one
+-- row 8 zero + one of a table has what the coded bits of 64 lanes cost, where deciding one as 0 costs zero, and as 1 one
 pub record CostRows (bit : ℕ → ℕ) (rows : List (List ℕ)) : Type 0 where
   pub size : length rows ≡ 64
-  pub cost : (zero one : ℕ) → zero ≤ 7 → one ≤ 7 → (i : ℕ) → i < 32 → at (getD rows (8 * zero + one) []) i ≡ decided zero one (bit i)
+  pub cost : (zero one : ℕ) → zero ≤ 7 → one ≤ 7 → (i : ℕ) → i < 64 → at (getD rows (8 * zero + one) []) i ≡ decided zero one (bit i)
 
--- those of X and of Y that bit 0 gives out of the memories of the first 32 lanes, whose oldest bit is 0
+-- those of X and of Y that bit 0 gives out of the memories
 pub record Tables (xs ys : List (List ℕ)) : Type 0 where
   pub x : CostRows (λ i. coded tapsX (lane i) 0) xs
   pub y : CostRows (λ i. coded tapsY (lane i) 0) ys
 
--- the lesser of two numbers, and whether it is the second
+-- the lesser of two numbers, and what belongs to it
 abbrev pub lesser : ℕ → ℕ → ℕ
 lesser a b = pick (ltb b a) b a
 
-abbrev pub second : ℕ → ℕ → ℕ
-second a b = pick (ltb b a) 1 0
+abbrev pub chosen : ℕ → ℕ → ℕ → ℕ → ℕ
+chosen a b p q = pick (ltb b a) q p
 
--- a weight where a choice is not 0, and a byte of four choices with weights
-abbrev pub weightOf : ℕ → ℕ → ℕ
-weightOf chosen weight = pick (eqb chosen 0) 0 weight
-
-abbrev pub packedByte : ℕ → ℕ → ℕ → ℕ → ℕ → ℕ
-packedByte weight a b c d = weightOf a weight + weightOf b (4 * weight) + weightOf c (16 * weight) + weightOf d (64 * weight)
-
--- eight bytes of a row, from byte j on, as one number, the first counting least
-abbrev pub wordOf : List ℕ → ℕ → ℕ
-wordOf row j =
-    at row j + 256 * at row (j + 1) + 65536 * at row (j + 2) + 16777216 * at row (j + 3) + 4294967296 * at row (j + 4) + 1099511627776 * at row (j + 5)
-    + 281474976710656 * at row (j + 6) + 72057594037927936 * at row (j + 7)
-
--- the choice of lane r in a row, whose two halves together have one bit for each lane
-unfoldable pub decision : List ℕ → ℕ → ℕ
-decision row r = (wordOf row 0 + wordOf row 8) % 18446744073709551616 / 2 ^ (4 * (r % 16) + r / 16) % 2
-
--- the metrics and the choices after a step
-pub record Stepped (M : ℕ → ℕ) (f : ℕ → ℕ → ℕ) (next row : List ℕ) : Type 0 where
+-- the metrics after a step, and what each lane takes over from the lane that it comes from
+pub record Stepped (M : ℕ → ℕ) (f : ℕ → ℕ → ℕ) (before next after : List ℕ) : Type 0 where
   pub metrics : (s : ℕ) → s < 64 → held next s ≡ via M f s (choice M f s)
-  pub choices : (s : ℕ) → s < 64 → decision row (lane s) ≡ choice M f s
+  pub taken : (s : ℕ) → s < 64 → held after s ≡ held before (from s (choice M f s))
 
--- the choices that a table of rows holds
-abbrev pub table : List (List ℕ) → ℕ → ℕ → ℕ
-table rows k s = decision (getD rows k []) (lane s)
+-- the memory before the first j of some steps of the path that is in s after them, where `D i s` is the choice of step i
+unfoldable pub origin : (ℕ → ℕ → ℕ) → ℕ → ℕ → ℕ
+origin D zero s = s
+origin D (suc j) s = origin D j (from s (D j s))
 
--- after k steps: the metrics less the offset, and a row of choices for each step
-pub record Forward (F : Costs) (m k : ℕ) (metrics : List ℕ) (offset : ℕ) (rows : List (List ℕ)) : Type 0 where
-  pub size : length rows ≡ 1632
-  pub metrics-are : (s : ℕ) → s < 64 → held metrics s + offset ≡ metric F m k s
-  pub choices-are : (j : ℕ) → j < k → (s : ℕ) → s < 64 → table rows j s ≡ choices F m j s
+-- the metrics after k steps less an offset
+abbrev pub Metrics : Costs → ℕ → ℕ → ℕ → List ℕ → Type 0
+Metrics F m k offset metrics = (s : ℕ) → s < 64 → held metrics s + offset ≡ metric F m k s
+
+-- the lane of each memory's origin, n steps before step k + n
+abbrev pub Origins : Costs → ℕ → ℕ → ℕ → (ℕ → ℕ) → Type 0
+Origins F m k n row = (s : ℕ) → s < 64 → row (lane s) ≡ lane (origin (λ i. choices F m (k + i)) n s)
+
+-- n steps from step k on take the metrics of any run from what they are before these steps to what they are after them, and give the origins
+pub record Carried (F : Costs) (k n : ℕ) (before after origins : List ℕ) : Type 0 where
+  pub metrics-are : (m offset : ℕ) → Metrics F m k offset before → Metrics F m (k + n) offset after
+  pub origins-are : (m offset : ℕ) → Metrics F m k offset before → Origins F m k n (at origins)
+
+-- after n steps: the metrics less the offset, and a row of origins for each whole block of six steps, the last of which ends there
+pub record Forward (F : Costs) (m n : ℕ) (metrics : List ℕ) (offset : ℕ) (rows : List ℕ) : Type 0 where
+  pub metrics-are : Metrics F m n offset metrics
+  pub origins-are : (b : ℕ) → b < n / 6 → Origins F m (n % 6 + 6 * b) 6 (λ r. at rows (64 * b + r))
+
+-- the n low bits of a number, the lowest first
+unfoldable pub low : ℕ → ℕ → List ℕ
+low zero r = []
+low (suc n) r = r % 2 ∷ low n (r / 2)
+
+-- the bits, newest first, that b rows of origins and the bits before them give from lane r back
+unfoldable pub traced : List ℕ → ℕ → ℕ → ℕ → List ℕ
+traced rows rest zero r = low rest r
+traced rows rest (suc b) r = low 6 r ++ traced rows rest b (at rows (64 * b + r))

@@ -1,17 +1,18 @@
 // The Viterbi decoder of the mother code, on 64 metrics of a byte each.
 // Inner: its functions may require what the crates above have tested. docs/ARCHITECTURE.md names the public surface.
 ghost use mathlib.Core.Path.{_≡_};
-ghost use mathlib.Core.List.{reverse};
-ghost use Prim.Native.Nat.{ℕ, _+_, _-_, _*_, _<_, _≤_};
+ghost use mathlib.Core.List.{_++_, reverse};
+ghost use Prim.Native.Nat.{ℕ, _+_, _-_, _*_, _/_, _%_, _<_, _≤_};
 ghost use lib.Dec.{eqb};
-ghost use lib.ListN.{length};
+ghost use lib.ListN.{length, take, drop};
 ghost use Rattle.common.specs.Choice.{pick};
-ghost use Rattle.trellis.specs.Best.{Decoded};
-ghost use Rattle.trellis.specs.Metric.{far, costFrom, path, FirstLeast};
-ghost use Rattle.viterbi_decoder.specs.Step.{at, decided, stepCost, stepCosts, Small};
-ghost use Rattle.viterbi_decoder.specs.Lanes.{lane, held, Tables, CostRows, lesser as lesserOf, second as secondOf, weightOf, packedByte, wordOf, decision as decisionOf, Stepped, Forward, table};
+ghost use Rattle.viterbi_decoder.specs.Best.{Decoded};
+ghost use Rattle.convolutional_code.specs.Costs.{costFrom, at, decided, stepCost, stepCosts, Small};
+ghost use Rattle.viterbi_decoder.specs.Metric.{far, FirstLeast};
+ghost use Rattle.viterbi_decoder.specs.Lanes.{lane, held, Tables, CostRows, lesser as lesserOf, chosen as chosenOf, Stepped, Carried, Forward, low, traced};
 
-const XS: [u8; 32] = [
+// X of the mother code for a bit 0, out of the memory of each lane.
+const CODED_X: [u8; 64] = [
     0,
     1,
     1,
@@ -44,9 +45,42 @@ const XS: [u8; 32] = [
     0,
     0,
     1,
+    1,
+    0,
+    0,
+    1,
+    0,
+    1,
+    1,
+    0,
+    1,
+    0,
+    0,
+    1,
+    0,
+    1,
+    1,
+    0,
+    1,
+    0,
+    0,
+    1,
+    0,
+    1,
+    1,
+    0,
+    1,
+    0,
+    0,
+    1,
+    0,
+    1,
+    1,
+    0,
 ];
 
-const YS: [u8; 32] = [
+// Y of it.
+const CODED_Y: [u8; 64] = [
     0,
     0,
     1,
@@ -79,10 +113,107 @@ const YS: [u8; 32] = [
     0,
     1,
     1,
+    1,
+    1,
+    0,
+    0,
+    0,
+    0,
+    1,
+    1,
+    1,
+    1,
+    0,
+    0,
+    0,
+    0,
+    1,
+    1,
+    0,
+    0,
+    1,
+    1,
+    1,
+    1,
+    0,
+    0,
+    0,
+    0,
+    1,
+    1,
+    1,
+    1,
+    0,
+    0,
 ];
 
-// What a choice counts in each byte of a row.
-const WEIGHTS: [u8; 16] = [1, 1, 1, 1, 1, 1, 1, 1, 2, 2, 2, 2, 2, 2, 2, 2];
+// The number of each lane: before the first step of a block each path is at its origin.
+const LANES: [u8; 64] = [
+    0,
+    1,
+    2,
+    3,
+    4,
+    5,
+    6,
+    7,
+    8,
+    9,
+    10,
+    11,
+    12,
+    13,
+    14,
+    15,
+    16,
+    17,
+    18,
+    19,
+    20,
+    21,
+    22,
+    23,
+    24,
+    25,
+    26,
+    27,
+    28,
+    29,
+    30,
+    31,
+    32,
+    33,
+    34,
+    35,
+    36,
+    37,
+    38,
+    39,
+    40,
+    41,
+    42,
+    43,
+    44,
+    45,
+    46,
+    47,
+    48,
+    49,
+    50,
+    51,
+    52,
+    53,
+    54,
+    55,
+    56,
+    57,
+    58,
+    59,
+    60,
+    61,
+    62,
+    63,
+];
 
 // What a coded bit costs.
 fn decide(bit: u8, zero: u8, one: u8) -> u8
@@ -98,11 +229,11 @@ fn lesser(a: u8, b: u8) -> u8
     if b < a { b } else { a }
 }
 
-// Whether the lesser is the second. Asked of the lesser, since that is there already.
-fn second(a: u8, b: u8) -> u8
-    ensures { λ r. ⌜ r ≡ secondOf a b ⌝ }
+// p if a wins, and q if b does. Compared with the minimum, which is computed already.
+fn chosen(a: u8, b: u8, p: u8, q: u8) -> u8
+    ensures { λ r. ⌜ r ≡ chosenOf a b p q ⌝ }
 {
-    if lesser(a, b) == a { 0 } else { 1 }
+    if lesser(a, b) == a { p } else { q }
 }
 
 // The lane of a memory, and the memory of a lane.
@@ -114,21 +245,21 @@ fn lane_of(s: usize) -> usize
 }
 
 // What a coded bit costs in each lane, where deciding it as 0 costs zero, and as 1 one.
-fn coded_costs(bits: &[u8; 32], zero: u8, one: u8) -> [u8; 32]
+fn coded_costs(bits: &[u8; 64], zero: u8, one: u8) -> [u8; 64]
     requires { ⌜ (zero ≤ 7) × (one ≤ 7) ⌝ }
-    ensures { λ r. ⌜ ((i : ℕ) → i < 32 → at r i ≡ decided zero one (at (now (bits .entry)) i)) ⌝ }
+    ensures { λ r. ⌜ ((i : ℕ) → i < 64 → at r i ≡ decided zero one (at (now (bits .entry)) i)) ⌝ }
 {
-    let mut r = [0u8; 32];
+    let mut r = [0u8; 64];
     let mut i = 0;
-    while i < 32 {
+    while i < 64 {
         r[i] = decide(bits[i], zero, one);
         i += 1;
     }
     r
 }
 
-// That for every two costs, so that a step has only to look it up: row 8 zero + one.
-fn write_costs(bits: &[u8; 32], rows: &mut [[u8; 32]; 64])
+// Tabulates `coded_costs` for all 64 pairs of costs; row 8 zero + one.
+fn write_costs(bits: &[u8; 64], rows: &mut [[u8; 64]; 64])
     requires { ⌜ length (now rows) ≡ 64 ⌝ }
     ensures { λ _. ⌜ CostRows (at (now (bits .entry))) (now (rows .exit)) ⌝ }
 {
@@ -140,33 +271,34 @@ fn write_costs(bits: &[u8; 32], rows: &mut [[u8; 32]; 64])
     }
 }
 
-struct Branches {
+// The branch metrics of a step for bit 0, out of the even memories and out of the odd ones.
+struct BranchMetrics {
     even: [u8; 32],
     odd: [u8; 32],
 }
 
-// What bit 0 costs out of each even memory, and out of each odd one: the costs of X and of Y.
-fn branch_costs(x: &[u8; 32], y: &[u8; 32], v: &[u8; 32], w: &[u8; 32]) -> Branches
-    requires { ⌜ ((i : ℕ) → i < 32 → (at (now x) i + at (now y) i < 256) × (at (now v) i + at (now w) i < 256)) ⌝ }
+// They are, for each memory, the cost of X and that of Y.
+fn branch_costs(x: &[u8; 64], y: &[u8; 64]) -> BranchMetrics
+    requires { ⌜ ((i : ℕ) → i < 64 → at (now x) i + at (now y) i < 256) ⌝ }
     ensures { λ r. ⌜
         ((i : ℕ) → i < 32 → at (r .even) i ≡ at (now (x .entry)) i + at (now (y .entry)) i)
-        × ((i : ℕ) → i < 32 → at (r .odd) i ≡ at (now (v .entry)) i + at (now (w .entry)) i) ⌝ }
+        × ((i : ℕ) → i < 32 → at (r .odd) i ≡ at (now (x .entry)) (i + 32) + at (now (y .entry)) (i + 32)) ⌝ }
 {
     let mut even = [0u8; 32];
     let mut odd = [0u8; 32];
     let mut i = 0;
     while i < 32 {
         even[i] = x[i] + y[i];
-        odd[i] = v[i] + w[i];
+        odd[i] = x[i + 32] + y[i + 32];
         i += 1;
     }
-    Branches {
+    BranchMetrics {
         even: even,
         odd: odd,
     }
 }
 
-// The lesser of two ways into each of 32 memories: from lane i, and from lane i + 32, each at its cost.
+// Add, compare, select: the path metric of each of 32 memories, which is the lesser of the ways into it, from lane i and from lane i + 32.
 fn lesser_ways(metrics: &[u8; 64], costs: &[u8; 32], others: &[u8; 32]) -> [u8; 32]
     requires { ⌜ ((i : ℕ) → i < 32 → (at (now metrics) i + at (now costs) i < 256) × (at (now metrics) (i + 32) + at (now others) i < 256)) ⌝ }
     ensures { λ r. ⌜ ((i : ℕ) → i < 32 → at r i ≡ lesserOf (at (now (metrics .entry)) i + at (now (costs .entry)) i) (at (now (metrics .entry)) (i + 32) + at (now (others .entry)) i)) ⌝ }
@@ -180,49 +312,31 @@ fn lesser_ways(metrics: &[u8; 64], costs: &[u8; 32], others: &[u8; 32]) -> [u8; 
     r
 }
 
-// Which way that is.
-fn ways_chosen(metrics: &[u8; 64], costs: &[u8; 32], others: &[u8; 32]) -> [u8; 32]
+// The origins that go with the ways selected.
+fn ways_chosen(
+    metrics: &[u8; 64],
+    costs: &[u8; 32],
+    others: &[u8; 32],
+    origins: &[u8; 64],
+) -> [u8; 32]
     requires { ⌜ ((i : ℕ) → i < 32 → (at (now metrics) i + at (now costs) i < 256) × (at (now metrics) (i + 32) + at (now others) i < 256)) ⌝ }
-    ensures { λ r. ⌜ ((i : ℕ) → i < 32 → at r i ≡ secondOf (at (now (metrics .entry)) i + at (now (costs .entry)) i) (at (now (metrics .entry)) (i + 32) + at (now (others .entry)) i)) ⌝ }
+    ensures { λ r. ⌜ ((i : ℕ) → i < 32 → at r i ≡ chosenOf (at (now (metrics .entry)) i + at (now (costs .entry)) i) (at (now (metrics .entry)) (i + 32) + at (now (others .entry)) i) (at (now (origins .entry)) i) (at (now (origins .entry)) (i + 32))) ⌝ }
 {
     let mut r = [0u8; 32];
     let mut i = 0;
     while i < 32 {
-        r[i] = second(metrics[i] + costs[i], metrics[i + 32] + others[i]);
+        r[i] = chosen(
+            metrics[i] + costs[i],
+            metrics[i + 32] + others[i],
+            origins[i],
+            origins[i + 32],
+        );
         i += 1;
     }
     r
 }
 
-// A weight where a way was chosen.
-fn weighed(chosen: u8, weight: u8) -> u8
-    ensures { λ r. ⌜ (r ≡ weightOf chosen weight) × (r ≤ weight) ⌝ }
-{
-    if chosen == 0 { 0 } else { weight }
-}
-
-fn four_bits(a: u8, b: u8, c: u8, d: u8, weight: u8) -> u8
-    requires { ⌜ weight ≤ 2 ⌝ }
-    ensures { λ r. ⌜ r ≡ packedByte weight a b c d ⌝ }
-{
-    weighed(a, weight) + weighed(b, 4 * weight) + weighed(c, 16 * weight) + weighed(d, 64 * weight)
-}
-
-// The choices of the 64 memories, four to a byte. Those of the last eight bytes stand one bit higher, so that no bit of theirs is one of the first eight.
-fn packed(low: &[u8; 32], high: &[u8; 32], weights: &[u8; 16]) -> [u8; 16]
-    requires { ⌜ ((j : ℕ) → j < 16 → at (now weights) j ≤ 2) ⌝ }
-    ensures { λ r. ⌜ ((j : ℕ) → j < 16 → at r j ≡ packedByte (at (now (weights .entry)) j) (at (now (low .entry)) j) (at (now (low .entry)) (j + 16)) (at (now (high .entry)) j) (at (now (high .entry)) (j + 16))) ⌝ }
-{
-    let mut r = [0u8; 16];
-    let mut j = 0;
-    while j < 16 {
-        r[j] = four_bits(low[j], low[j + 16], high[j], high[j + 16], weights[j]);
-        j += 1;
-    }
-    r
-}
-
-// The metrics of the memories with newest bit 0 in the even lanes, and those with 1 in the odd ones.
+// The values of the memories with newest bit 0 in the even lanes, and of those with newest bit 1 in the odd ones.
 fn woven(low: &[u8; 32], high: &[u8; 32]) -> [u8; 64]
     ensures { λ r. ⌜ ((i : ℕ) → i < 32 → (at r (2 * i) ≡ at (now (low .entry)) i) × (at r (2 * i + 1) ≡ at (now (high .entry)) i)) ⌝ }
 {
@@ -257,39 +371,37 @@ fn lowered(metrics: &[u8; 64], by: u8) -> [u8; 64]
 
 struct Row {
     metrics: [u8; 64],
-    choices: [u8; 16],
+    origins: [u8; 64],
 }
 
-// One step: the metrics and the choices of all memories.
+// One step of the trellis: the path metrics of all memories, and the origins of their paths.
 fn step(
-    xs: &[[u8; 32]; 64],
-    ys: &[[u8; 32]; 64],
+    xs: &[[u8; 64]; 64],
+    ys: &[[u8; 64]; 64],
     metrics: &[u8; 64],
+    origins: &[u8; 64],
     x0: u8,
     x1: u8,
     y0: u8,
     y1: u8,
 ) -> Row
     requires { ⌜ (Tables (now xs) (now ys)) × ((t : ℕ) → t < 64 → at (now metrics) t ≤ 241) × (x0 ≤ 7) × (x1 ≤ 7) × (y0 ≤ 7) × (y1 ≤ 7) ⌝ }
-    ensures { λ r. ⌜ Stepped (held (now (metrics .entry))) (stepCost x0 x1 y0 y1) (r .metrics) (r .choices) ⌝ }
+    ensures { λ r. ⌜ Stepped (held (now (metrics .entry))) (stepCost x0 x1 y0 y1) (now (origins .entry)) (r .metrics) (r .origins) ⌝ }
 {
     let x = xs[(8 * x0 + x1) as usize];
     let y = ys[(8 * y0 + y1) as usize];
-    let v = xs[(8 * x1 + x0) as usize];
-    let w = ys[(8 * y1 + y0) as usize];
-    let costs = branch_costs(&x, &y, &v, &w);
+    let costs = branch_costs(&x, &y);
     let a = costs.even;
     let c = costs.odd;
     let low = lesser_ways(metrics, &a, &c);
     let high = lesser_ways(metrics, &c, &a);
-    let low_chosen = ways_chosen(metrics, &a, &c);
-    let high_chosen = ways_chosen(metrics, &c, &a);
+    let low_from = ways_chosen(metrics, &a, &c, origins);
+    let high_from = ways_chosen(metrics, &c, &a, origins);
     let next = woven(&low, &high);
-    let weights = WEIGHTS;
-    let choices = packed(&low_chosen, &high_chosen, &weights);
+    let from = woven(&low_from, &high_from);
     Row {
         metrics: next,
-        choices: choices,
+        origins: from,
     }
 }
 
@@ -336,7 +448,7 @@ struct Survivors {
     offset: usize,
 }
 
-// The metrics with that of lane 0 brought down to 84.
+// Normalization of the metrics: all are lowered alike, so that lane 0 has at most 84.
 fn levelled(metrics: &[u8; 64], offset: usize) -> Survivors
     requires { ⌜ (offset ≤ 30000) × ((s t : ℕ) → s < 64 → t < 64 → at (now metrics) s ≤ at (now metrics) t + 84) ⌝ }
     ensures { λ r. ⌜ ((t : ℕ) → t < 64 → at (r .metrics) t + r .offset ≡ at (now (metrics .entry)) t + offset) × ((t : ℕ) → t < 64 → at (r .metrics) t ≤ 168) ⌝ }
@@ -349,45 +461,76 @@ fn levelled(metrics: &[u8; 64], offset: usize) -> Survivors
     }
 }
 
-// All n steps: the metrics after them, and a row of choices for each.
-fn forward(steps: &[u8], memory: usize, n: usize, rows: &mut [[u8; 16]; 1632]) -> Survivors
-    requires { ⌜ (4 * n ≤ length (now steps)) × (n ≤ 1632) × (memory < 64) × Small (now steps) × (length (now rows) ≡ 1632) ⌝ }
+// At most six steps, from step k on: the path metrics after them, and for each lane its origin, the lane that its path was in before them.
+fn block(
+    xs: &[[u8; 64]; 64],
+    ys: &[[u8; 64]; 64],
+    steps: &[u8],
+    k: usize,
+    n: usize,
+    before: &[u8; 64],
+) -> Row
+    requires { ⌜ (Tables (now xs) (now ys)) × (4 * (k + n) ≤ length (now steps)) × Small (now steps) × (n ≤ 6) × ((t : ℕ) → t < 64 → at (now before) t ≤ 168) ⌝ }
+    ensures { λ r. ⌜ Carried (stepCosts (now (steps .entry))) k n (now (before .entry)) (r .metrics) (r .origins) ⌝ }
+{
+    let mut metrics = *before;
+    let mut origins = LANES;
+    let mut j = 0;
+    while j < n {
+        let i = k + j;
+        let row = step(
+            xs,
+            ys,
+            &metrics,
+            &origins,
+            steps[4 * i],
+            steps[4 * i + 1],
+            steps[4 * i + 2],
+            steps[4 * i + 3],
+        );
+        let next = row.metrics;
+        let from = row.origins;
+        metrics = next;
+        origins = from;
+        j += 1;
+    }
+    Row {
+        metrics: metrics,
+        origins: origins,
+    }
+}
+
+// All n steps: the metrics after them, and a row of 64 origins for each block of six. The steps that are left over make a shorter block, which comes first
+// and needs no row.
+fn forward(steps: &[u8], memory: usize, n: usize, rows: &mut [u8]) -> Survivors
+    requires { ⌜ (4 * n ≤ length (now steps)) × (n ≤ 1632) × (memory < 64) × Small (now steps) × (64 * (n / 6) ≤ length (now rows)) ⌝ }
     ensures { λ r. ⌜ Forward (stepCosts (now (steps .entry))) memory n (r .metrics) (r .offset) (now (rows .exit)) ⌝ }
 {
-    let xs = XS;
-    let mut x_costs = [[0u8; 32]; 64];
+    let xs = CODED_X;
+    let mut x_costs = [[0u8; 64]; 64];
     write_costs(&xs, &mut x_costs);
-    let ys = YS;
-    let mut y_costs = [[0u8; 32]; 64];
+    let ys = CODED_Y;
+    let mut y_costs = [[0u8; 64]; 64];
     write_costs(&ys, &mut y_costs);
     let mut metrics = start(memory);
     let mut offset = 0;
-    let mut left: usize = 5;
     let mut k = 0;
-    while k < n {
-        let row = step(
-            &x_costs,
-            &y_costs,
-            &metrics,
-            steps[4 * k],
-            steps[4 * k + 1],
-            steps[4 * k + 2],
-            steps[4 * k + 3],
-        );
+    let mut end = n % 6;
+    while end <= n {
+        let row = block(&x_costs, &y_costs, steps, k, end - k, &metrics);
         let next = row.metrics;
-        let choices = row.choices;
-        rows[k] = choices;
-        if left == 0 {
-            left = 5;
+        let origins = row.origins;
+        if end < 6 {
+            metrics = next;
+        } else {
+            common::put(&origins, 64 * (end / 6 - 1), rows);
             let level = levelled(&next, offset);
             let lower = level.metrics;
             metrics = lower;
             offset = level.offset;
-        } else {
-            left -= 1;
-            metrics = next;
         }
-        k += 1;
+        k = end;
+        end += 6;
     }
     Survivors {
         metrics: metrics,
@@ -395,59 +538,35 @@ fn forward(steps: &[u8], memory: usize, n: usize, rows: &mut [[u8; 16]; 1632]) -
     }
 }
 
-fn eight_bytes(a: u8, b: u8, c: u8, d: u8, e: u8, f: u8, g: u8, h: u8) -> u64
-    ensures { λ r. ⌜ r ≡ a + 256 * b + 65536 * c + 16777216 * d + 4294967296 * e + 1099511627776 * f + 281474976710656 * g + 72057594037927936 * h ⌝ }
+// Writes the n low bits of a lane into the output from a place on, the lowest last.
+fn write_low(lane: usize, n: usize, place: usize, output: &mut [u8])
+    requires { ⌜ place + n ≤ length (now output) ⌝ }
+    ensures { λ _. ⌜ now (output .exit) ≡ take place (now (output .entry)) ++ reverse (low n lane) ++ drop (place + n) (now (output .entry)) ⌝ }
 {
-    a as u64
-        + 256 * b as u64
-        + 65536 * c as u64
-        + 16777216 * d as u64
-        + 4294967296 * e as u64
-        + 1099511627776 * f as u64
-        + 281474976710656 * g as u64
-        + 72057594037927936 * h as u64
-}
-
-// Eight bytes of a row, from byte j on, as one number.
-fn word(row: &[u8; 16], j: usize) -> u64
-    requires { ⌜ j ≤ 8 ⌝ }
-    ensures { λ r. ⌜ r ≡ wordOf (now (row .entry)) j ⌝ }
-{
-    eight_bytes(
-        row[j],
-        row[j + 1],
-        row[j + 2],
-        row[j + 3],
-        row[j + 4],
-        row[j + 5],
-        row[j + 6],
-        row[j + 7],
-    )
-}
-
-// The choice of a lane in a row. The row is taken as one number, so that no byte of it is waited for.
-fn decision(row: &[u8; 16], lane: usize) -> usize
-    requires { ⌜ lane < 64 ⌝ }
-    ensures { λ r. ⌜ r ≡ decisionOf (now (row .entry)) lane ⌝ }
-{
-    let all = std::num::wrapping_add_u64(word(row, 0), word(row, 8));
-    let t = 4 * (lane % 16) + lane / 16;
-    ((all >> t) % 2) as usize
-}
-
-// The path that ends in a lane, written from its last bit back.
-fn trace(rows: &[[u8; 16]; 1632], end: usize, output: &mut [u8])
-    requires { ⌜ (length (now output) ≤ 1632) × (end < 64) ⌝ }
-    ensures { λ _. ⌜ now (output .exit) ≡ reverse (path (table (now (rows .entry))) (length (now (output .entry))) (lane end)) ⌝ }
-{
-    let mut r = end;
-    let mut k = output.len();
-    while 0 < k {
-        k -= 1;
-        output[k] = (r % 2) as u8;
-        let row = rows[k];
-        r = r / 2 + 32 * decision(&row, r);
+    let mut r = lane;
+    let mut i = n;
+    while 0 < i {
+        i -= 1;
+        output[place + i] = (r % 2) as u8;
+        r = r / 2;
     }
+}
+
+// Traceback: the path that ends in a lane, written from its last bits back. A lane's number is the six newest bits of its path.
+fn trace(rows: &[u8], end: usize, output: &mut [u8])
+    requires { ⌜ (64 * (length (now output) / 6) ≤ length (now rows)) × (end < 64) × ((i : ℕ) → i < 64 * (length (now output) / 6) → at (now rows) i < 64) ⌝ }
+    ensures { λ _. ⌜ now (output .exit) ≡ reverse (traced (now (rows .entry)) (length (now (output .entry)) % 6) (length (now (output .entry)) / 6) end) ⌝ }
+{
+    let n = output.len();
+    let rest = n % 6;
+    let mut r = end;
+    let mut b = n / 6;
+    while 0 < b {
+        b -= 1;
+        write_low(r, 6, rest + 6 * b, output);
+        r = rows[64 * b + r] as usize;
+    }
+    write_low(r, rest, 0, output);
 }
 
 pub struct Run {
@@ -460,7 +579,7 @@ pub fn decode(steps: &[u8], memory: usize, output: &mut [u8]) -> Run
     requires { ⌜ (4 * length (now output) ≤ length (now steps)) × (length (now output) ≤ 1632) × (memory < 64) × Small (now steps) ⌝ }
     ensures { λ r. ⌜ Decoded (costFrom (stepCosts (now (steps .entry))) 0 memory) (length (now (output .entry))) memory (now (output .exit)) (r .cost) (r .memory) ⌝ }
 {
-    let mut rows = [[0u8; 16]; 1632];
+    let mut rows = [0u8; 17408];
     let last = forward(steps, memory, output.len(), &mut rows);
     let lanes = last.metrics;
     let offset = last.offset;

@@ -1,6 +1,6 @@
 -- `dvbs_read_soft::is_nan` meets its contract.
 -- Assumes nothing.
-use Rattle.soft_decision.proofs.Numbers.{ne-nan}
+use Rattle.branch_metrics.proofs.Numbers.{ne-nan}
 use Rattle.dvbs_read_soft.proofs.is_nan.Statement.{statement}
 use Rattle.dvbs_read_soft.proofs.is_nan.Tie as tie
 

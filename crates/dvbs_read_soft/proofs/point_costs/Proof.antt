@@ -5,7 +5,7 @@ use Prim.Native.Nat.{_-_, _*_, _≤_}
 use native.Mathlib.Omega.{arith}
 use lib.ListN.{length}
 use Rattle.common.proofs.Each.{Each, each-none}
-use Rattle.soft_decision.proofs.Runs.{Holds, four-more}
+use Rattle.branch_metrics.proofs.Runs.{Holds, four-more}
 use Rattle.dvbs_read_soft.specs.Points.{pointAt}
 use Rattle.dvbs_read_soft.proofs.point_costs.Statement.{statement}
 use Rattle.dvbs_read_soft.proofs.point_costs.Tie as tie

@@ -1,7 +1,7 @@
 -- `dvbs_read_soft::point_of` meets its contract.
 -- Assumes nothing.
 use mathlib.Core.Path.{sym, _∙_}
-use Rattle.run_reader.proofs.Outcome.{not-true, not-false}
+use Rattle.reader.proofs.Outcome.{not-true, not-false}
 use borrow.Author.Needs.{needs}
 use Rattle.dvbs_read_soft.proofs.point_of.Statement.{statement}
 use Rattle.dvbs_read_soft.proofs.point_of.Tie as tie

@@ -1,13 +1,14 @@
 -- `error_correction::find_roots` meets its contract: the roots among the first i degrees are listed, and x has the next sixteen places.
 -- Assumes nothing.
 use mathlib.Core.Path.{_≡_, sym}
+use mathlib.Core.Logic.{⊎-elim}
 use Prim.Native.Nat.{_-_, _%_, _≤_}
 use native.Mathlib.Omega.{arith}
 use lib.ListN.{length, take, drop}
-use Rattle.byte_lanes.specs.Lanes.{PowersFrom}
-use Rattle.byte_lanes.proofs.Powers.{powers-next}
+use Rattle.galois.specs.Lanes.{PowersFrom}
+use Rattle.galois.proofs.LanePowers.{powers-next}
 use Rattle.error_correction.specs.Correction.{valuesOf}
-use Rattle.error_correction.proofs.RootSearch.{ends-of, length-prefix, lanes-next, Searched, searched-none, searched-fits, searched-more, searched-all}
+use Rattle.error_correction.proofs.RootSearch.{ends-of, length-prefix, lanes-next, Searched, searched-none, searched-fits, searched-more, searched-all, listed-nothing}
 use borrow.Author.Needs.{needs}
 use Rattle.error_correction.proofs.find_roots.Statement.{statement}
 use Rattle.error_correction.proofs.find_roots.Tie as tie
@@ -58,10 +59,13 @@ evaluate-requires c κs = omega (arith, length-prefix (c .before .before .before
 with-erasures-requires : tie.Need-with-erasures-requires Inv-loop μ-loop
 with-erasures-requires c κs = (omega (arith, c .before .before .before .loop .inv .1, c .before .before .before .before .before .before .before .before .pre .0), c .before .before .before .before .before .before .before .before .pre .1)
 
+zero-lanes-requires : tie.Need-zero-lanes-requires Inv-loop μ-loop
+zero-lanes-requires c κs = search needs
+
 list-zeros-requires : tie.Need-list-zeros-requires Inv-loop μ-loop
 list-zeros-requires c κs =
-    let l = c .before .before .before .before .before .before .loop in
-    (omega (arith, l .inv .1), searched-fits _ _ _ _ _ _ (l .inv .4) _ _ (omega (arith, l .inv .1)) (l .inv .3) (next (c .before .before)) (c .before .before .before .before .before .before .before .before .before .before .before .pre .2))
+    let l = c .before .before .before .before .before .before .before .before .loop in
+    (omega (arith, l .inv .1), searched-fits _ _ _ _ _ _ (l .inv .4) _ _ (omega (arith, l .inv .1)) (l .inv .3) (next (c .before .before .before .before)) (c .before .before .before .before .before .before .before .before .before .before .before .before .before .pre .2))
 
 next-powers-requires : tie.Need-next-powers-requires Inv-loop μ-loop
 next-powers-requires c κs = search needs
@@ -74,12 +78,16 @@ loop-less c = search needs
 
 loop-again : tie.Need-loop-again Inv-loop μ-loop
 loop-again c =
-    let l = c .before .before .before .before .before .before .before .before .loop in (
+    let l = c .before .before .before .before .before .before .before .loop in
+    let e = c .before .before .before in (
       omega (arith, l .inv .1),
       omega (arith, l .inv .1),
       c .next-powers .ok .1 .0 .1,
       powers-next _ _ _ (l .inv .2) (c .next-powers .ensures) (l .inv .3),
-      searched-more _ _ _ _ _ _ (l .inv .4) _ _ (omega (arith, l .inv .1)) (l .inv .3) (next (c .before .before .before .before)) _ _ _ (c .before .list-zeros .ensures),
+      ⊎-elim
+          (λ w. rw (w .4) (searched-more _ _ _ _ _ _ (l .inv .4) _ _ (omega (arith, l .inv .1)) (l .inv .3) (next e) _ _ _ (w .3 .ensures)))
+          (λ w. rw (w .1) (searched-more _ _ _ _ _ _ (l .inv .4) _ _ (omega (arith, l .inv .1)) (l .inv .3) (next e) _ _ _ (listed-nothing _ _ _ _ _ _ (e .with-erasures .ok .1 .0 .1) (c .before .before .zero-lanes .ensures (w .0 .left)))))
+          (c .before .if1 .came),
     )
 
 returns : tie.Need-returns Inv-loop μ-loop
@@ -101,6 +109,7 @@ find-roots-spec =
     slice-aggregate-evaluate
     evaluate-requires
     with-erasures-requires
+    zero-lanes-requires
     list-zeros-requires
     next-powers-requires
     add-i

@@ -9,7 +9,7 @@ use lib.Seq.{length-take-le, getD-take, getD-at}
 use lib.ListN.{List·getD-append}
 use Rattle.algebra.specs.Polynomial.{plus}
 use Rattle.galois.specs.Field256.{numbers}
-use Rattle.byte_lanes.specs.Lanes.{hornerStep}
+use Rattle.galois.specs.Lanes.{hornerStep}
 use Rattle.error_correction.specs.Correction.{monic}
 use Rattle.error_correction.proofs.ErrorValues.{SummedLanes, lanes-none, lanes-more, lanes-all}
 use borrow.Author.Needs.{needs}

@@ -6,7 +6,7 @@ use Prim.Native.Nat.{ℕ, _+_, min}
 use borrow.Author.Tests.{eq-eqb, ne-eqb}
 use lib.Dec.{eqb, ltb}
 use Rattle.common.specs.Choice.{pick}
-use Rattle.recorded_block.specs.Block.{blockCount}
+use Rattle.recording.specs.Block.{blockCount}
 use Rattle.exports.specs.RecordingBlock.{no-count, called}
 use borrow.Author.Needs.{needs}
 use Rattle.exports.proofs.dvbs_recording_block.Statement.{statement}

@@ -3,7 +3,7 @@
 use mathlib.Core.Path.{_≡_, refl, sym, _∙_}
 use mathlib.Core.Bool.{true}
 use borrow.Author.Tests.{eq-eqb, ne-eqb, lt-ltb, le-ltb, not-true, not-false}
-use Rattle.delay_branches.specs.Branch.{branchesInRange}
+use Rattle.interleaver.specs.Branch.{branchesInRange}
 use borrow.Author.Needs.{needs}
 use Rattle.interleaver.proofs.pass.Statement.{statement}
 use Rattle.interleaver.proofs.pass.Tie as tie

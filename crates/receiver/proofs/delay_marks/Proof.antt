@@ -5,9 +5,9 @@ use mathlib.Core.List.{List}
 use Prim.Native.Nat.{ℕ}
 use native.Mathlib.Omega.{arith}
 use lib.ListN.{length, length-replicate}
-use Rattle.delay_branches.specs.Branch.{laid}
-use Rattle.delay_branches.specs.Block.{blockOut, branchesAfter}
-use Rattle.delay_branches.specs.declared.Side.the-variants.{Receiving}
+use Rattle.interleaver.specs.Branch.{laid}
+use Rattle.interleaver.specs.Block.{blockOut, branchesAfter}
+use Rattle.interleaver.specs.declared.branches.Side.the-variants.{Receiving}
 use Rattle.receiver.proofs.Calls.{output-filled}
 use Rattle.receiver.proofs.MarkDelays.{none-leaves, none-stays}
 use borrow.Author.Needs.{needs}

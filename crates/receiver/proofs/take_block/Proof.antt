@@ -10,10 +10,10 @@ use Rattle.reed_solomon.specs.Marks.{DecodesMarked}
 use Rattle.reed_solomon.specs.declared.Changed.{Changed}
 use Rattle.reed_solomon.proofs.Laws.{tells-changes, FewChanges, few-changes}
 use Rattle.reed_solomon.proofs.Marks.{marks-of}
-use Rattle.delay_branches.specs.Branch.{laid}
-use Rattle.delay_branches.specs.Block.{blockOut}
-use Rattle.delay_branches.specs.declared.Side.the-variants.{Receiving}
-use Rattle.delay_branches.proofs.Blocks.{length-out}
+use Rattle.interleaver.specs.Branch.{laid}
+use Rattle.interleaver.specs.Block.{blockOut}
+use Rattle.interleaver.specs.declared.branches.Side.the-variants.{Receiving}
+use Rattle.interleaver.proofs.Blocks.{length-out}
 use Rattle.group_sync.specs.Group.{groupStep, PlaceOf}
 use Rattle.group_sync.specs.declared.GroupStep.{GroupStep}
 use Rattle.group_sync.proofs.Synchronization.{outcome-place}

@@ -1,7 +1,7 @@
 -- `symbol_stream::close` meets its contract.
 -- Assumes nothing.
 use native.Mathlib.Omega.{arith}
-use Rattle.run_reader.proofs.Patterns.{some-symbols}
+use Rattle.reader.proofs.Patterns.{some-symbols}
 use Rattle.symbol_stream.proofs.Streams.{mod-le, end-le, end-readable, closes}
 use borrow.Author.Needs.{needs}
 use Rattle.symbol_stream.proofs.close.Statement.{statement}

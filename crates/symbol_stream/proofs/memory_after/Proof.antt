@@ -1,51 +1,54 @@
 -- `symbol_stream::memory_after` meets its contract.
 -- Assumes nothing.
-use Prim.Native.Nat.{_-_}
+use mathlib.Core.Path.{sym, _∙_, subst}
+use Prim.Native.Nat.{ℕ, _-_}
 use native.Mathlib.Omega.{arith}
 use borrow.Author.Needs.{needs}
 use lib.ListN.{length}
-use Rattle.convolutional_code.proofs.Bits.{bits-at}
-use Rattle.symbol_stream.proofs.Streams.{Passing, passing-none, passing-more, passing-all}
+use Rattle.convolutional_code.specs.Bits.{Bits}
+use Rattle.reader.proofs.Streams.{drop-bits}
+use Rattle.symbol_stream.proofs.Streams.{back-whole, last-six}
 use Rattle.symbol_stream.proofs.memory_after.Statement.{statement}
 use Rattle.symbol_stream.proofs.memory_after.Tie as tie
 
-abbrev Inv-loop : tie.InvT-loop
-Inv-loop memory bits m₀ k₀ m k = Passing memory bits m k
+memory-through-requires : tie.Need-memory-through-requires
+memory-through-requires c κs = search needs
 
-abbrev μ-loop : tie.MeasureT-loop
-μ-loop memory bits m₀ k₀ m k = length bits - k
+returns : tie.Need-returns
+returns c = search needs
 
-loop-holds : tie.Need-loop-holds Inv-loop μ-loop
-loop-holds c = passing-none _ _ (c .before .pre .0)
+sub-from : tie.Need-sub-from
+sub-from c = search needs
 
-shared-slice-read-next-memory : tie.Need-shared-slice-read-next-memory Inv-loop μ-loop
-shared-slice-read-next-memory c = search needs
+sub-memory-through : tie.Need-sub-memory-through
+sub-memory-through c = search needs
 
-next-memory-requires : tie.Need-next-memory-requires Inv-loop μ-loop
-next-memory-requires c κs = (c .before .before .loop .inv .small, bits-at (c .before .before .before .before .pre .1) (c .before .before .loop .k))
+part-memory-through-start : tie.Need-part-memory-through-start
+part-memory-through-start c = search needs
 
-add-k : tie.Need-add-k Inv-loop μ-loop
-add-k c = omega arith
+part-memory-through-end : tie.Need-part-memory-through-end
+part-memory-through-end c = search needs
 
-loop-less : tie.Need-loop-less Inv-loop μ-loop
-loop-less c = omega arith
+memory-through-requires-2 : tie.Need-memory-through-requires-2
+memory-through-requires-2 c κs =
+    let s = c .before .before .before in
+    let n : ℕ = length (s .args .bits .now) - 6 in
+    (s .pre .0, subst Bits (sym (back-whole (s .args .bits .now) n)) (drop-bits n (s .pre .1)))
 
-loop-again : tie.Need-loop-again Inv-loop μ-loop
-loop-again c = passing-more (c .before .before .before .loop .inv) (c .before .before .loop-test .taken) (bits-at (c .before .before .before .before .before .pre .1) (c .before .before .before .loop .k)) (c .next-memory .ensures)
-
-returns : tie.Need-returns Inv-loop μ-loop
-returns c = passing-all (c .before .loop .inv) (c .loop-test .left)
+returns-2 : tie.Need-returns-2
+returns-2 c =
+    let s = c .before .before .before .before in
+    c .memory-through2 .ensures ∙ last-six (s .args .memory) (s .args .bits .now) (s .pre .0) (s .pre .1) (omega arith)
 
 pub memory-after-spec : {M : Type 1} → statement M
 memory-after-spec =
     tie.close
     (tie.spec
-    Inv-loop
-    μ-loop
-    loop-holds
-    shared-slice-read-next-memory
-    next-memory-requires
-    add-k
-    loop-less
-    loop-again
-    returns)
+    memory-through-requires
+    returns
+    sub-from
+    sub-memory-through
+    part-memory-through-start
+    part-memory-through-end
+    memory-through-requires-2
+    returns-2)

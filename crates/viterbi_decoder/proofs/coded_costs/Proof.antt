@@ -4,15 +4,15 @@ use mathlib.Core.Path.{_≡_, refl}
 use Prim.Native.Nat.{_-_}
 use native.Mathlib.Omega.{arith}
 use Rattle.common.proofs.Each.{Each, each-none, each-more, each-all}
-use Rattle.viterbi_decoder.specs.Step.{at, decided}
+use Rattle.convolutional_code.specs.Costs.{at, decided}
 use Rattle.viterbi_decoder.proofs.coded_costs.Statement.{statement}
 use Rattle.viterbi_decoder.proofs.coded_costs.Tie as tie
 
 abbrev Inv-loop : tie.InvT-loop
-Inv-loop bits zero one r₀ i₀ r i = Each (λ k v. v ≡ decided zero one (at bits k)) 32 r i
+Inv-loop bits zero one r₀ i₀ r i = Each (λ k v. v ≡ decided zero one (at bits k)) 64 r i
 
 abbrev μ-loop : tie.MeasureT-loop
-μ-loop bits zero one r₀ i₀ r i = 32 - i
+μ-loop bits zero one r₀ i₀ r i = 64 - i
 
 loop-holds : tie.Need-loop-holds Inv-loop μ-loop
 loop-holds c = each-none refl

@@ -1,12 +1,15 @@
 -- `viterbi_decoder::decode` meets its contract.
 -- Assumes nothing.
-use borrow.Author.Needs.{needs}
 use Prim.Native.Nat.{_<_}
 use native.Mathlib.Omega.{arith}
 use Rattle.viterbi_decoder.proofs.Butterfly.{lane-lt}
-use Rattle.viterbi_decoder.proofs.Sweeps.{small-costs, decoded, total-le}
+use Rattle.viterbi_decoder.proofs.Sweeps.{small-costs, decoded, rows-small, total-le}
+use borrow.Author.Needs.{needs}
 use Rattle.viterbi_decoder.proofs.decode.Statement.{statement}
 use Rattle.viterbi_decoder.proofs.decode.Tie as tie
+
+slice-aggregate-forward : tie.Need-slice-aggregate-forward
+slice-aggregate-forward c = search needs
 
 forward-requires : tie.Need-forward-requires
 forward-requires c κs = search needs
@@ -17,38 +20,57 @@ ordered-requires c κs = search needs
 first-least-requires : tie.Need-first-least-requires
 first-least-requires c κs = search needs
 
+slice-aggregate-trace : tie.Need-slice-aggregate-trace
+slice-aggregate-trace c = search needs
+
 lane-of-requires : tie.Need-lane-of-requires
 lane-of-requires c κs = search needs
 
 trace-requires : tie.Need-trace-requires
-trace-requires c κs = let h : c .before .lane-of .result < 64 = rw (c .before .lane-of .ensures) (lane-lt (c .before .before .before .first-least .result)) in (omega arith, h)
+trace-requires c κs =
+    let f = c .before .before .before .before .before .before .before .before .before in
+    let h : c .before .lane-of .result < 64 = rw (c .before .lane-of .ensures) (lane-lt (c .before .before .before .first-least .result)) in
+    (omega (arith, f .forward .kept .1 .1 .1 .0), h, rows-small (f .forward .ensures))
 
-array-read-t22 : tie.Need-array-read-t22
-array-read-t22 c = search needs
+array-read-t23 : tie.Need-array-read-t23
+array-read-t23 c = search needs
 
-cast-t11 : tie.Need-cast-t11
-cast-t11 c = search needs
+cast-t10 : tie.Need-cast-t10
+cast-t10 c = search needs
 
-add-t23 : tie.Need-add-t23
-add-t23 c = let s = c .before .before .before .before .before .before .before .before .before .before .before .before .before .before .before in omega (arith, total-le (c .before .before .before .before .before .before .before .before .before .before .before .forward .ensures) (small-costs (s .args .steps .now) (s .pre .3)) (s .pre .1) (c .before .before .before .before .before .before .first-least .result) _ (c .before .before .before .before .before .before .first-least .ensures .small) (c .before .before .before .before .before .before .before .before .ordered .ensures (c .before .before .before .before .before .before .first-least .result) (c .before .before .before .before .before .before .first-least .ensures .small)))
+add-t24 : tie.Need-add-t24
+add-t24 c =
+    let s = c .before .before .before .before .before .before .before .before .before .before .before .before .before .before .before .before in
+    let e = c .before .before .before .before .before .before .first-least in
+    omega (
+      arith,
+      total-le (c .before .before .before .before .before .before .before .before .before .before .before .before .forward .ensures) (small-costs (s .args .steps .now) (s .pre .3)) (s .pre .1) (e .result) _ (e .ensures .small) (c .before .before .before .before .before .before .before .before .ordered .ensures (e .result) (e .ensures .small)),
+    )
 
 same-length : tie.Need-same-length
 same-length c = search needs
 
 returns : tie.Need-returns
-returns c = let s = c .before .before .before .before .before .before .before .before .before .before .before .before .before .before .before in rw (c .before .before .trace .ensures) (decoded (c .before .before .before .before .before .before .before .before .before .before .before .forward .ensures) (small-costs (s .args .steps .now) (s .pre .3)) (s .pre .2) (c .before .before .before .before .before .before .before .before .ordered .result) (c .before .before .before .before .before .before .before .before .ordered .ensures) (c .before .before .before .before .before .before .first-least .ensures) (c .before .before .before .before .lane-of .result) (c .before .before .before .before .lane-of .ensures))
+returns c =
+    let s = c .before .before .before .before .before .before .before .before .before .before .before .before .before .before .before .before in
+    let l = c .before .before .before .before .lane-of in
+    let o = c .before .before .before .before .before .before .before .before .ordered in
+    rw (c .before .before .trace .ensures)
+    (decoded (c .before .before .before .before .before .before .before .before .before .before .before .before .forward .ensures) (small-costs (s .args .steps .now) (s .pre .3)) (s .pre .2) (o .result) (o .ensures) (c .before .before .before .before .before .before .first-least .ensures) (l .result) (l .ensures))
 
 pub decode-spec : {M : Type 1} → statement M
 decode-spec =
     tie.close
     (tie.spec
+    slice-aggregate-forward
     forward-requires
     ordered-requires
     first-least-requires
+    slice-aggregate-trace
     lane-of-requires
     trace-requires
-    array-read-t22
-    cast-t11
-    add-t23
+    array-read-t23
+    cast-t10
+    add-t24
     same-length
     returns)

@@ -3,10 +3,10 @@
 use mathlib.Core.Path.{_≡_}
 use Prim.Native.Nat.{_-_, _≤_}
 use native.Mathlib.Omega.{arith}
-use Rattle.viterbi_decoder.specs.Step.{at}
+use Rattle.convolutional_code.specs.Costs.{at}
 use mathlib.Core.Logic.{⊎-elim}
-use Rattle.trellis.specs.Metric.{FirstLeast}
-use Rattle.trellis.proofs.Ends.{ends-one, ends-new, ends-old}
+use Rattle.viterbi_decoder.specs.Metric.{FirstLeast}
+use Rattle.viterbi_decoder.proofs.Ends.{ends-one, ends-new, ends-old}
 use Rattle.viterbi_decoder.proofs.first_least.Statement.{statement}
 use Rattle.viterbi_decoder.proofs.first_least.Tie as tie
 

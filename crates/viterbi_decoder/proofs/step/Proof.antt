@@ -1,8 +1,8 @@
 -- `viterbi_decoder::step` meets its contract: proofs/Butterfly.antt says why the lanes are the ways into the memories.
 -- Assumes nothing.
 use Prim.Native.Nat.{ℕ, _+_, _<_, _≤_}
-use Rattle.viterbi_decoder.specs.Step.{at, stepCost}
-use Rattle.viterbi_decoder.proofs.Butterfly.{stepCost-le, Costed, row-fits, costed, Lanes, weight-le, stepped, fits}
+use Rattle.convolutional_code.specs.Costs.{at, stepCost}
+use Rattle.viterbi_decoder.proofs.Butterfly.{stepCost-le, Costed, row-fits, costed, Lanes, stepped, fits}
 use borrow.Author.Needs.{needs}
 use Rattle.viterbi_decoder.proofs.step.Statement.{statement}
 use Rattle.viterbi_decoder.proofs.step.Tie as tie
@@ -37,45 +37,15 @@ mul-y-2 c = search needs
 element-copy-out-y : tie.Need-element-copy-out-y
 element-copy-out-y c = search needs
 
-mul-v : tie.Need-mul-v
-mul-v c = search needs
-
-add-v : tie.Need-add-v
-add-v c = search needs
-
-cast-v : tie.Need-cast-v
-cast-v c = search needs
-
-mul-v-2 : tie.Need-mul-v-2
-mul-v-2 c = search needs
-
-element-copy-out-v : tie.Need-element-copy-out-v
-element-copy-out-v c = search needs
-
-mul-w : tie.Need-mul-w
-mul-w c = search needs
-
-add-w : tie.Need-add-w
-add-w c = search needs
-
-cast-w : tie.Need-cast-w
-cast-w c = search needs
-
-mul-w-2 : tie.Need-mul-w-2
-mul-w-2 c = search needs
-
-element-copy-out-w : tie.Need-element-copy-out-w
-element-copy-out-w c = search needs
-
 branch-costs-requires : tie.Need-branch-costs-requires
 branch-costs-requires c κs =
-    let p = c .before .before .before .before .before .before .before .before .pre in
-    λ i h. (row-fits _ _ (p .0) _ _ _ _ (p .2) (p .3) (p .4) (p .5) i h, row-fits _ _ (p .0) _ _ _ _ (p .3) (p .2) (p .5) (p .4) i h)
+    let p = c .before .before .before .before .pre in
+    λ i h. row-fits _ _ (p .0) _ _ _ _ (p .2) (p .3) (p .4) (p .5) i h
 
 -- ---- what the branches cost
 
 abbrev start : tie.After-branch-costs → tie.Start
-start c = c .before .before .before .before .before .before .before .before .before
+start c = c .before .before .before .before .before
 
 small : (c : tie.After-branch-costs) (m b : ℕ) → stepCost (start c .args .x0) (start c .args .x1) (start c .args .y0) (start c .args .y1) m b ≤ 14
 small c m b = let p = start c .pre in stepCost-le _ _ _ _ m b (p .2) (p .3) (p .4) (p .5)
@@ -92,7 +62,7 @@ abbrev costs-of : tie.After-ways-chosen2 → tie.After-branch-costs
 costs-of c = c .before .before .before .before .before .before .before .before .before .before .before .before .before .before
 
 lanes : (c : tie.After-ways-chosen2) → let e = costs-of c in
-    Lanes (start e .args .metrics .now) (at (e .branch-costs .result .even)) (at (e .branch-costs .result .odd))
+    Lanes (start e .args .metrics .now) (start e .args .origins .now) (at (e .branch-costs .result .even)) (at (e .branch-costs .result .odd))
     (c .before .before .before .before .before .before .before .before .before .lesser-ways .result) (c .before .before .before .before .before .before .lesser-ways2 .result) (c .before .before .before .ways-chosen .result) (c .ways-chosen2 .result)
 lanes c = record {
   low-is = c .before .before .before .before .before .before .before .before .before .lesser-ways .ensures;
@@ -118,11 +88,11 @@ ways-chosen-requires-2 c κs = λ i h. sums (c .before .before .before .before .
 woven-requires : tie.Need-woven-requires
 woven-requires c κs = search needs
 
-packed-requires : tie.Need-packed-requires
-packed-requires c κs = weight-le
+woven-requires-2 : tie.Need-woven-requires-2
+woven-requires-2 c κs = search needs
 
 returns : tie.Need-returns
-returns c = let l = c .before .before .before .before .before .before .before in stepped _ (lanes l) (costs (costs-of l)) _ _ (c .before .before .before .before .woven .ensures) (c .packed .ensures)
+returns c = let l = c .before .before .before .before .before .before in stepped _ (lanes l) (costs (costs-of l)) _ _ (c .before .before .before .woven .ensures) (c .woven2 .ensures)
 
 pub step-spec : {M : Type 1} → statement M
 step-spec =
@@ -138,21 +108,11 @@ step-spec =
     cast-y
     mul-y-2
     element-copy-out-y
-    mul-v
-    add-v
-    cast-v
-    mul-v-2
-    element-copy-out-v
-    mul-w
-    add-w
-    cast-w
-    mul-w-2
-    element-copy-out-w
     branch-costs-requires
     lesser-ways-requires
     lesser-ways-requires-2
     ways-chosen-requires
     ways-chosen-requires-2
     woven-requires
-    packed-requires
+    woven-requires-2
     returns)

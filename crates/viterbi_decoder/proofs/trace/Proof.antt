@@ -1,60 +1,64 @@
--- `viterbi_decoder::trace` meets its contract: what is still to be written, then what is written, is the whole path.
+-- `viterbi_decoder::trace` meets its contract.
 -- Assumes nothing.
 use mathlib.Core.Path.{_≡_, refl, _∙_}
-use Prim.Native.Nat.{_<_, _≤_}
-use native.Mathlib.Omega.{arith}
-use lib.ListN.{length, length-set}
-use Rattle.viterbi_decoder.specs.Lanes.{lane, table}
 use mathlib.Core.List.{reverse}
-use Rattle.trellis.specs.Metric.{path}
-use Rattle.viterbi_decoder.proofs.Sweeps.{Whole, trace-none, trace-all, trace-lane, decision-lt}
+use Prim.Native.Nat.{_+_, _-_, _*_, _/_, _%_, _≤_, _<_}
+use native.Mathlib.Omega.{arith}
+use lib.ListN.{length}
+use Rattle.viterbi_decoder.specs.Lanes.{traced}
+use Rattle.viterbi_decoder.proofs.Sweeps.{Whole, trace-none, trace-more, trace-all}
 use Rattle.viterbi_decoder.proofs.trace.Statement.{statement}
 use Rattle.viterbi_decoder.proofs.trace.Tie as tie
 
 abbrev Inv-loop : tie.InvT-loop
-Inv-loop rows end output₀ r₀ k₀ output r k = (length output ≡ length output₀) × (k ≤ length output₀) × (r < 64) × Whole (table rows) k (lane r) output (reverse (path (table rows) (length output₀) (lane end)))
+Inv-loop rows end output₀ n rest r₀ b₀ output r b = (length output ≡ length output₀) × (b ≤ length output₀ / 6) × (r < 64) × Whole rows (length output₀ % 6) b r output (reverse (traced rows (length output₀ % 6) (length output₀ / 6) end))
 
 abbrev μ-loop : tie.MeasureT-loop
-μ-loop rows end output₀ r₀ k₀ output r k = k
+μ-loop rows end output₀ n rest r₀ b₀ output r b = b
 
 loop-holds : tie.Need-loop-holds Inv-loop μ-loop
-loop-holds c = (refl, omega arith, omega arith, trace-none _ (lane (c .before .args .end)) (c .before .args .output .now))
+loop-holds c = (refl, omega arith, omega arith, trace-none _ _ (c .before .before .args .output .now))
 
-sub-k : tie.Need-sub-k Inv-loop μ-loop
-sub-k c = omega arith
+sub-b : tie.Need-sub-b Inv-loop μ-loop
+sub-b c = omega arith
 
-cast-output : tie.Need-cast-output Inv-loop μ-loop
-cast-output c = omega arith
+mul-write-low : tie.Need-mul-write-low Inv-loop μ-loop
+mul-write-low c = omega arith
 
-slice-write-output : tie.Need-slice-write-output Inv-loop μ-loop
-slice-write-output c = omega arith
+add-write-low : tie.Need-add-write-low Inv-loop μ-loop
+add-write-low c = omega arith
 
-mul-row : tie.Need-mul-row Inv-loop μ-loop
-mul-row c = omega arith
-
-element-copy-out-row : tie.Need-element-copy-out-row Inv-loop μ-loop
-element-copy-out-row c = omega arith
-
-decision-requires : tie.Need-decision-requires Inv-loop μ-loop
-decision-requires c κs = omega arith
+write-low-requires : tie.Need-write-low-requires Inv-loop μ-loop
+write-low-requires c κs = omega arith
 
 mul-r : tie.Need-mul-r Inv-loop μ-loop
-mul-r c = omega (arith, decision-lt _ _ _ (c .decision .ensures))
+mul-r c = omega arith
 
 add-r : tie.Need-add-r Inv-loop μ-loop
-add-r c = omega (arith, decision-lt _ _ _ (c .decision .ensures))
+add-r c = omega arith
+
+shared-slice-read-r : tie.Need-shared-slice-read-r Inv-loop μ-loop
+shared-slice-read-r c = omega arith
+
+cast-r : tie.Need-cast-r Inv-loop μ-loop
+cast-r c = let l = c .before .before .before .before .before .before .loop in omega (arith, c .before .before .before .before .before .before .before .before .before .pre .2 (64 * (l .b - 1) + l .r) (omega arith))
 
 loop-less : tie.Need-loop-less Inv-loop μ-loop
 loop-less c = omega arith
 
 loop-again : tie.Need-loop-again Inv-loop μ-loop
-loop-again c = let l = c .before .before .before .before .loop in let hk : l .k ≤ length (l .output) = omega arith in (length-set (l .output) _ _ ∙ l .inv .0, omega arith, omega (arith, decision-lt _ _ _ (c .decision .ensures)), trace-lane (c .before .before .before .before .before .before .args .rows .now) (l .k) (l .r) (c .decision .result) (l .output) _ (c .before .before .before .loop-test .taken) hk (l .inv .2) (l .inv .3) (c .decision .ensures))
+loop-again c =
+    let l = c .before .before .before .before .before .before .loop in
+    (c .before .before .before .write-low .kept .1 .1 .1 .0 ∙ l .inv .0, omega arith, c .before .before .before .before .before .before .before .before .before .pre .2 (64 * (l .b - 1) + l .r) (omega arith), trace-more _ _ _ _ _ _ _ (omega arith) (omega arith) (l .inv .3) (c .before .before .before .write-low .ensures))
+
+write-low-requires-2 : tie.Need-write-low-requires-2 Inv-loop μ-loop
+write-low-requires-2 c κs = omega arith
 
 same-length : tie.Need-same-length Inv-loop μ-loop
-same-length c = c .before .loop .inv .0
+same-length c = omega arith
 
 returns : tie.Need-returns Inv-loop μ-loop
-returns c = trace-all _ _ _ _ _ (omega arith) (c .before .loop .inv .3)
+returns c = trace-all _ _ _ _ _ _ _ (omega arith) (c .before .before .before .before .before .loop .inv .3) (c .before .before .write-low2 .ensures)
 
 pub trace-spec : {M : Type 1} → statement M
 trace-spec =
@@ -63,15 +67,16 @@ trace-spec =
     Inv-loop
     μ-loop
     loop-holds
-    sub-k
-    cast-output
-    slice-write-output
-    mul-row
-    element-copy-out-row
-    decision-requires
+    sub-b
+    mul-write-low
+    add-write-low
+    write-low-requires
     mul-r
     add-r
+    shared-slice-read-r
+    cast-r
     loop-less
     loop-again
+    write-low-requires-2
     same-length
     returns)

@@ -4,43 +4,52 @@ use mathlib.Core.Path.{_≡_, refl}
 use Prim.Native.Nat.{_+_, _-_}
 use native.Mathlib.Omega.{arith}
 use Rattle.common.proofs.Each.{Each, each-none, each-more, each-all}
-use Rattle.viterbi_decoder.specs.Step.{at}
-use Rattle.viterbi_decoder.specs.Lanes.{second}
+use Rattle.convolutional_code.specs.Costs.{at}
+use Rattle.viterbi_decoder.specs.Lanes.{chosen}
 use Rattle.viterbi_decoder.proofs.ways_chosen.Statement.{statement}
 use Rattle.viterbi_decoder.proofs.ways_chosen.Tie as tie
 
 abbrev Inv-loop : tie.InvT-loop
-Inv-loop metrics costs others r₀ i₀ r i = Each (λ k v. v ≡ second (at metrics k + at costs k) (at metrics (k + 32) + at others k)) 32 r i
+Inv-loop metrics costs others origins r₀ i₀ r i = Each (λ k v. v ≡ chosen (at metrics k + at costs k) (at metrics (k + 32) + at others k) (at origins k) (at origins (k + 32))) 32 r i
 
 abbrev μ-loop : tie.MeasureT-loop
-μ-loop metrics costs others r₀ i₀ r i = 32 - i
+μ-loop metrics costs others origins r₀ i₀ r i = 32 - i
 
 loop-holds : tie.Need-loop-holds Inv-loop μ-loop
 loop-holds c = each-none refl
 
-element-copy-out-second : tie.Need-element-copy-out-second Inv-loop μ-loop
-element-copy-out-second c = omega arith
+element-copy-out-chosen : tie.Need-element-copy-out-chosen Inv-loop μ-loop
+element-copy-out-chosen c = omega arith
 
-element-copy-out-second-2 : tie.Need-element-copy-out-second-2 Inv-loop μ-loop
-element-copy-out-second-2 c = omega arith
+element-copy-out-chosen-2 : tie.Need-element-copy-out-chosen-2 Inv-loop μ-loop
+element-copy-out-chosen-2 c = omega arith
 
-add-second : tie.Need-add-second Inv-loop μ-loop
-add-second c = omega (arith, c .before .before .before .before .pre (c .before .before .before .loop .i) (omega arith) .0)
+add-chosen : tie.Need-add-chosen Inv-loop μ-loop
+add-chosen c = omega (arith, c .before .before .before .before .pre (c .before .before .before .loop .i) (omega arith) .0)
 
-add-second-2 : tie.Need-add-second-2 Inv-loop μ-loop
-add-second-2 c = omega arith
+add-chosen-2 : tie.Need-add-chosen-2 Inv-loop μ-loop
+add-chosen-2 c = omega arith
 
-element-copy-out-second-3 : tie.Need-element-copy-out-second-3 Inv-loop μ-loop
-element-copy-out-second-3 c = omega arith
+element-copy-out-chosen-3 : tie.Need-element-copy-out-chosen-3 Inv-loop μ-loop
+element-copy-out-chosen-3 c = omega arith
 
-element-copy-out-second-4 : tie.Need-element-copy-out-second-4 Inv-loop μ-loop
-element-copy-out-second-4 c = omega arith
+element-copy-out-chosen-4 : tie.Need-element-copy-out-chosen-4 Inv-loop μ-loop
+element-copy-out-chosen-4 c = omega arith
 
-add-second-3 : tie.Need-add-second-3 Inv-loop μ-loop
-add-second-3 c = omega (arith, c .before .before .before .before .before .before .pre (c .before .before .before .before .before .loop .i) (omega arith) .1)
+add-chosen-3 : tie.Need-add-chosen-3 Inv-loop μ-loop
+add-chosen-3 c = omega (arith, c .before .before .before .before .before .before .pre (c .before .before .before .before .before .loop .i) (omega arith) .1)
 
-second-requires : tie.Need-second-requires Inv-loop μ-loop
-second-requires c κs = omega arith
+element-copy-out-chosen-5 : tie.Need-element-copy-out-chosen-5 Inv-loop μ-loop
+element-copy-out-chosen-5 c = omega arith
+
+add-chosen-4 : tie.Need-add-chosen-4 Inv-loop μ-loop
+add-chosen-4 c = omega arith
+
+element-copy-out-chosen-6 : tie.Need-element-copy-out-chosen-6 Inv-loop μ-loop
+element-copy-out-chosen-6 c = omega arith
+
+chosen-requires : tie.Need-chosen-requires Inv-loop μ-loop
+chosen-requires c κs = omega arith
 
 array-write-r : tie.Need-array-write-r Inv-loop μ-loop
 array-write-r c = omega arith
@@ -52,7 +61,7 @@ loop-less : tie.Need-loop-less Inv-loop μ-loop
 loop-less c = omega arith
 
 loop-again : tie.Need-loop-again Inv-loop μ-loop
-loop-again c = each-more _ (omega arith) (c .second .ensures) (c .before .before .before .before .before .before .loop .inv)
+loop-again c = each-more _ (omega arith) (c .chosen .ensures) (c .before .before .before .before .before .before .before .before .loop .inv)
 
 returns : tie.Need-returns Inv-loop μ-loop
 returns c = each-all (omega arith) (c .before .loop .inv)
@@ -64,14 +73,17 @@ ways-chosen-spec =
     Inv-loop
     μ-loop
     loop-holds
-    element-copy-out-second
-    element-copy-out-second-2
-    add-second
-    add-second-2
-    element-copy-out-second-3
-    element-copy-out-second-4
-    add-second-3
-    second-requires
+    element-copy-out-chosen
+    element-copy-out-chosen-2
+    add-chosen
+    add-chosen-2
+    element-copy-out-chosen-3
+    element-copy-out-chosen-4
+    add-chosen-3
+    element-copy-out-chosen-5
+    add-chosen-4
+    element-copy-out-chosen-6
+    chosen-requires
     array-write-r
     add-i
     loop-less

@@ -2,7 +2,7 @@
 -- Assumes nothing.
 use Prim.Native.Nat.{_-_}
 use native.Mathlib.Omega.{arith}
-use Rattle.viterbi_decoder.specs.Step.{at}
+use Rattle.convolutional_code.specs.Costs.{at}
 use Rattle.viterbi_decoder.proofs.Butterfly.{Written, written-none, written-more, written-all}
 use Rattle.viterbi_decoder.proofs.write_costs.Statement.{statement}
 use Rattle.viterbi_decoder.proofs.write_costs.Tie as tie

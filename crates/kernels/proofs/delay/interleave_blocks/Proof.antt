@@ -3,7 +3,7 @@
 use Prim.Native.Nat.{_-_}
 use native.Mathlib.Omega.{arith}
 use lib.ListN.{length}
-use Rattle.delay_branches.specs.declared.Side.the-variants.{Sending}
+use Rattle.interleaver.specs.declared.branches.Side.the-variants.{Sending}
 use Rattle.kernels.proofs.Delays.{Passing, passing-start, passing-length, passing-end, passing-more}
 use borrow.Author.Needs.{needs}
 use Rattle.kernels.proofs.delay.interleave_blocks.Statement.{statement}

@@ -2,8 +2,8 @@
 -- Assumes nothing.
 use mathlib.Core.Path.{ap, _∙_}
 use lib.ListN.{replicate}
-use Rattle.delay_branches.specs.Block.{fresh}
-use Rattle.delay_branches.specs.declared.Branches.{Branches}
+use Rattle.interleaver.specs.Block.{fresh}
+use Rattle.interleaver.specs.declared.branches.Branches.{Branches}
 use Rattle.group_sync.specs.Group.{freshSync}
 use Rattle.group_sync.specs.declared.GroupSync.{GroupSync}
 use Rattle.reception_counts.specs.declared.Counts.{Counts}

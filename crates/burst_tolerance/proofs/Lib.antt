@@ -1,4 +1,0 @@
-pub mod Places
-pub mod Bursts
-pub mod OneByteMore
-pub mod Hold

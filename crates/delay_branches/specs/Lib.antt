@@ -1,3 +1,0 @@
-pub mod Branch
-pub mod Column
-pub mod Block

@@ -1,0 +1,5 @@
+pub mod Hold
+pub mod Decoding
+mod Samples
+pub mod Sending
+pub mod Receiving

@@ -1,4 +1,0 @@
-pub mod Decoding
-mod Samples
-pub mod Sending
-pub mod Receiving

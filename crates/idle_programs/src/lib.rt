@@ -1,2 +1,0 @@
-// Idle programs do not fit the promises: one that refuses everything, one answer for all, one that writes nothing, one that codes or gives
-// the first packets and pretends after, one that invents its count. Each is a contradiction from a promise. There is no code here.

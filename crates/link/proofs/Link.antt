@@ -1,0 +1,176 @@
+-- Demand 2 from end to end, as one statement: packets, symbols, runs or a stream, bits, bytes, blocks, packets.
+-- Assumes nothing.
+use mathlib.Core.Path.{_≡_, sym, ap, _∙_, subst}
+use mathlib.Core.Bool.{true}
+use mathlib.Core.List.{List, [], _∷_, _++_, map, flatten}
+use Prim.Native.Nat.{ℕ, zero, suc, _+_, _-_, _*_, _/_, _%_, _≤_, _<_}
+use Prim.{tt}
+use native.Mathlib.Nat.{div-add-mod, mod-lt}
+use native.Mathlib.Omega.{arith}
+use lib.ListN.{length, take, replicate, length-map, length-append}
+use lib.Seq.{length-take-le}
+use Rattle.common.specs.Lists.{All, Bytes, ByteEntries, chunksOf}
+use Rattle.common.proofs.Lists.{All-map}
+use Rattle.common.proofs.Entries.{bytes-of, bytes-entries}
+use Rattle.common.proofs.Chunks.{chunks-back}
+use Rattle.reed_solomon.specs.Encode.{encoded}
+use Rattle.reed_solomon.proofs.LongDivision.{encoded-bytes}
+use Rattle.randomizer.specs.Packet.{randomized}
+use Rattle.randomizer.specs.Stream.{Packet, randomizedFrom}
+use Rattle.randomizer.proofs.Whole.{packet-lengths, randomized-stream}
+use Rattle.interleaver.specs.declared.branches.Side.the-variants.{Sending}
+use Rattle.interleaver.proofs.Streams.{delayed-bytes}
+use Rattle.convolutional_code.specs.Bits.{bitsOf}
+use Rattle.convolutional_code.proofs.Bits.{length-bits, bits-bits}
+use Rattle.bit_packing.specs.Packing.{packedBytes}
+use Rattle.bit_packing.proofs.Bytes.{bytes-back}
+use Rattle.bit_packing.proofs.Pieces.{every-packing}
+use Rattle.puncturing.specs.Mode.{modeOf}
+use Rattle.puncturing.specs.Step.{patternLength}
+use Rattle.puncturing.proofs.Steps.{some-bits}
+use Rattle.puncturing.proofs.Places.{up, length-le}
+use Rattle.inner_code.specs.Step.{symbolsOf}
+use Rattle.inner_code.specs.Encode.{coderAt}
+use Rattle.reader.specs.Read.{symbolsPerPattern, runBits, runLength}
+use Rattle.reader.proofs.Unharmed.{clear-length}
+use Rattle.symbol_stream.proofs.Unharmed.{stream-whole, last-pattern}
+use Rattle.sender.specs.Input.{Input, packetFor, packetsFor}
+use Rattle.sender.proofs.Inputs.{packets-sent}
+use Rattle.receiver.specs.Receive.{freshReceiver}
+use Rattle.receiver.specs.Kept.{Kept}
+use Rattle.receiver.specs.declared.Receiver.{Receiver}
+use Rattle.receiver.proofs.Decoding.{sent-length, sent-bytes}
+use Rattle.receiver.proofs.Reception.{blocks-count, begun-anywhere}
+use Rattle.receiver.proofs.Promised.{kept-calls}
+use Rattle.sent_blocks.specs.Blocks.{codedBlocks, interleavedBlocks, sentBytes}
+use Rattle.sender.proofs.Counts.{block-bits}
+use Rattle.sent_blocks.proofs.Lengths.{interleaved-count, interleaved-whole}
+use Rattle.link.specs.Link.{Link, StreamLink, blocksInBits, BroughtBack, Arrived, StreamArrived}
+use Rattle.link.proofs.Sent.{sent-coded, sent-front, front-within, front-last}
+
+-- ---- the interleaved blocks are of bytes
+
+coded-bytes : (n : ℕ) (ps : List (List ℕ)) → All Packet ps → All ByteEntries (map encoded (randomizedFrom n ps))
+unfolding randomizedFrom
+coded-bytes n [] ws = tt
+coded-bytes n (p ∷ ps) ws = (
+  bytes-entries (encoded (randomized (n % 8) p)) (encoded-bytes (randomized (n % 8) p) (sent-length n p (ws .0)) (sent-bytes n p (ws .0))),
+  coded-bytes (n + 1) ps (ws .1),
+)
+
+flat-bytes : (blocks : List (List ℕ)) → All Bytes blocks → Bytes (flatten blocks)
+unfolding flatten
+flat-bytes [] g = tt
+flat-bytes (b ∷ bs) g = joined b (flatten bs) (g .0) (flat-bytes bs (g .1))
+  where
+    joined : (x y : List ℕ) → Bytes x → Bytes y → Bytes (x ++ y)
+    joined [] y h k = k
+    joined (b ∷ x) y h k = (h .0, joined x y (h .1) k)
+
+module _ (packets : List (List ℕ)) (ws : All Packet packets) where
+  abbrev sent : List (List ℕ)
+  sent = interleavedBlocks packets
+
+  interleaved-bytes : Bytes (flatten sent)
+  interleaved-bytes =
+      flat-bytes sent
+      (All-map ByteEntries Bytes bytes-of sent
+      (delayed-bytes Sending (codedBlocks packets)
+      (subst (λ (x : List (List ℕ)). All ByteEntries (map encoded x)) (randomized-stream packets (packet-lengths packets ws)) (coded-bytes 0 packets ws))))
+
+  -- the first n bits that are sent make the blocks that are whole in them
+  front-blocks : (n : ℕ) → n ≤ length (bitsOf (sentBytes packets)) → chunksOf 204 (packedBytes (take n (bitsOf (sentBytes packets)))) ≡ take (blocksInBits n) sent
+  front-blocks n h =
+      let e : n / 8 / 204 ≡ n / 1632 = omega arith in
+      ap (chunksOf 204) (bytes-back (flatten sent) interleaved-bytes n h)
+      ∙ chunks-back 204 (omega arith) sent (interleaved-whole packets) (n / 8) (omega (arith, length-bits (flatten sent)))
+      ∙ ap (λ (k : ℕ). take k sent) e
+
+-- ---- the theorem
+
+-- whatever was read, where it is the bits that were sent as far as it goes
+module _ (inputs : List (List ℕ)) (g : All Input inputs) (bs : All Bytes inputs) (limit : length inputs ≤ 4294967295) where
+  abbrev packets : List (List ℕ)
+  packets = packetsFor inputs
+
+  ws : All Packet packets
+  ws = packets-sent inputs g bs
+
+  sent-length-is : length (bitsOf (sentBytes packets)) ≡ 1632 * length inputs
+  sent-length-is = block-bits packets ∙ ap (λ (k : ℕ). 1632 * k) (length-map inputs packetFor)
+
+  brought-back : (bits : List ℕ) (far : ℕ) → bits ≡ take far (bitsOf (sentBytes packets)) → far ≤ length (bitsOf (sentBytes packets)) → {numbers : List ℕ} {given : List (List ℕ)} {receiver : Receiver}
+      → Kept freshReceiver (chunksOf 204 (packedBytes bits)) numbers given receiver → BroughtBack inputs (length bits) (chunksOf 204 (packedBytes bits)) numbers given
+  brought-back bits far front within received =
+      let count : length packets ≡ length inputs = length-map inputs packetFor in
+      let read : length bits ≡ far = ap length front ∙ length-take-le far (bitsOf (sentBytes packets)) within in
+      let n = blocksInBits (length bits) in
+      let blocks : chunksOf 204 (packedBytes bits) ≡ take n (interleavedBlocks packets) =
+      ap (λ (x : List ℕ). chunksOf 204 (packedBytes x)) front ∙ front-blocks packets ws far within
+      ∙ ap (λ (k : ℕ). take (blocksInBits k) (interleavedBlocks packets)) (sym read) in
+      let few : n ≤ length packets = omega (arith, read, within, block-bits packets) in
+      let m = kept-calls received in
+      let calls : length (m .calls) ≡ n =
+      sym (blocks-count (m .calls)) ∙ ap length (m .lent ∙ blocks) ∙ length-take-le n (interleavedBlocks packets) (omega (arith, interleaved-count packets)) in
+      let r = begun-anywhere packets ws 0 (m .calls) (omega arith) (omega arith)
+      (m .lent ∙ blocks ∙ ap (λ (k : ℕ). take k (interleavedBlocks packets)) (sym calls)) (m .plain) (m .output-fits) (m .decodes) in
+      let e : length (m .calls) - 11 - 0 ≡ n - 11 = omega arith in
+      record {
+        blocks-sent = blocks;
+        within = omega arith;
+        answered = sym (m .answered) ∙ r .answered ∙ ap (λ (k : ℕ). take k (replicate 11 9 ++ replicate k 0)) calls;
+        packets = sym (m .given) ∙ r .given ∙ ap (λ (k : ℕ). take k packets) e;
+      }
+
+  module _ (rate : ℕ) (hr : rate < 5) (q : modeOf rate .sent ≡ true) where
+    -- by runs
+    pub arrived : (l : Link rate inputs) → Arrived rate inputs l
+    arrived l =
+        let far = runLength rate (flatten (l .runs)) in
+        let front = sent-front rate hr q g (l .sent) (l .runs) (l .whole) (l .unread) (l .cut) (l .read) in
+        let within = front-within rate hr q g (l .sent) (l .runs) (l .whole) (l .unread) (l .cut) in
+        record {
+          no-cost = front .1;
+          back = brought-back (l .bits) far (front .0) within (l .received);
+          to-the-last = λ short.
+              ap length (front .0) ∙ length-take-le far (bitsOf (sentBytes packets)) within
+              ∙ front-last rate hr q g (l .sent) (l .runs) (l .whole) (l .unread) (l .cut) short
+              ∙ ap (λ (k : ℕ). patternLength rate * (k / patternLength rate)) sent-length-is;
+        }
+
+    -- by a stream
+    pub stream-arrived : {R : Type 0} (cost : R → ℕ → ℕ) (l : StreamLink cost rate inputs) → StreamArrived cost rate inputs l
+    stream-arrived cost l =
+        let coded = sent-coded rate hr q g (l .sent) in
+        let w = stream-whole cost rate (bitsOf (sentBytes packets)) (bits-bits (sentBytes packets)) (l .points) (l .came) (l .unread) (l .clear) (l .cut ∙ coded) (l .fed) (l .costed) (l .closed) in
+        let bits : List ℕ = l .decided ++ take (l .count) (l .exit) in
+        let n : length (l .points) ≡ length (l .came) = clear-length (l .clear) in
+        let p : packedBytes bits ≡ l .bytes = sym (every-packing (l .packed) .0) in
+        record {
+          back =
+              subst (λ (x : List ℕ). BroughtBack inputs (length bits) (chunksOf 204 x) (l .numbers) (l .given)) p
+              (brought-back bits (runBits rate (length (l .points))) (w .given) (w .within)
+              (subst (λ (x : List ℕ). Kept freshReceiver (chunksOf 204 x) (l .numbers) (l .given) (l .receiver)) (sym p) (l .received)));
+          behind = w .behind ∙ ap (λ (k : ℕ). k % symbolsPerPattern rate) n;
+          to-the-last = λ all-came.
+              let all : length (l .came) ≡ length (symbolsOf (coderAt rate 0) (bitsOf (sentBytes packets))) = omega (arith, length-append (l .came) (l .unread), ap length (l .cut ∙ coded)) in
+              ap length (w .given) ∙ length-take-le (runBits rate (length (l .points))) (bitsOf (sentBytes packets)) (w .within)
+              ∙ ap (runBits rate) (n ∙ all) ∙ last-pattern rate hr (bitsOf (sentBytes packets)) (bits-bits (sentBytes packets))
+              ∙ ap (λ (k : ℕ). patternLength rate * (k / patternLength rate)) sent-length-is;
+        }
+
+-- ---- how many blocks that is
+
+-- where less than a pattern is left unread, at most one block is not whole
+pub all-but-one : (rate n : ℕ) → rate < 5 → n ≤ blocksInBits (patternLength rate * (1632 * n / patternLength rate)) + 1
+all-but-one rate n hr =
+    let p = patternLength rate in
+    omega (arith, div-add-mod (1632 * n) p, mod-lt (1632 * n) (some-bits rate hr), length-le rate (up rate hr))
+
+-- and at rates 1/2, 2/3 and 3/4, whose patterns fill a block, every one is
+pub every-block : (rate n : ℕ) → rate < 3 → blocksInBits (patternLength rate * (1632 * n / patternLength rate)) ≡ n
+unfolding modeOf
+every-block zero n h = omega arith
+every-block (suc zero) n h = omega arith
+every-block (suc (suc zero)) n h = omega arith
+every-block (suc (suc (suc rate))) n h = absurd (omega arith)

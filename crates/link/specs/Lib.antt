@@ -1,0 +1,4 @@
+pub mod Link
+pub mod Places
+pub mod Burst
+pub mod Table

@@ -1,0 +1,111 @@
+-- A whole link, from packets to packets: sent, read, put together to blocks, received; read run after run, or as a stream. Each step is one by the
+-- promises of its calls. And what an unharmed link brings back.
+-- Clauses: document 01, "What the board carries"; document 02, P1 and P2.
+-- Assumes nothing.
+use mathlib.Core.Path.{_≡_}
+use mathlib.Core.List.{List, _++_, flatten}
+use Prim.Native.Nat.{ℕ, _-_, _*_, _/_, _%_, _≤_, _<_}
+use lib.ListN.{length, take, replicate}
+use Rattle.common.specs.Lists.{All, chunksOf}
+use Rattle.bit_packing.specs.Packing.{packedBytes, Packings}
+use Rattle.puncturing.specs.Mode.{modeOf}
+use Rattle.puncturing.specs.Step.{patternLength}
+use Rattle.reader.specs.Clear.{AllClear}
+use Rattle.reader.specs.Cost.{Costed}
+use Rattle.reader.specs.Read.{symbolsPerPattern}
+use Rattle.reader.specs.Runs.{Run, Readings}
+use Rattle.symbol_stream.specs.Stream.{Closes}
+use Rattle.symbol_stream.specs.History.{SymbolFeedings}
+use Rattle.symbol_stream.specs.declared.SymbolStream.{SymbolStream}
+use Rattle.sender.specs.Input.{packetsFor}
+use Rattle.sender.specs.Send.{freshSender}
+use Rattle.sender.specs.Calls.{SendCalls}
+use Rattle.sender.specs.declared.Sender.{Sender}
+use Rattle.receiver.specs.Receive.{freshReceiver}
+use Rattle.receiver.specs.Kept.{Kept}
+use Rattle.receiver.specs.declared.Receiver.{Receiver}
+use Rattle.sent_blocks.specs.Blocks.{interleavedBlocks}
+
+pub record Link (rate : ℕ) (inputs : List (List ℕ)) : Type 0 where
+  -- a fresh sender is given the inputs, call after call, and these are its symbols
+  pub symbols : List ℕ
+  pub sender : Sender
+  pub sent : SendCalls modeOf (freshSender rate) inputs symbols sender
+  -- they are cut into runs of whole patterns, in any way; any number of them may be left unread at the end
+  pub runs : List (List ℕ)
+  pub unread : List ℕ
+  pub whole : All (Run rate) runs
+  pub cut : flatten runs ++ unread ≡ symbols
+  -- the runs are read one after the other, each with the memory that the one before gave, the first with a fresh coder's
+  pub bits : List ℕ
+  pub cost : ℕ
+  pub memory : ℕ
+  pub read : Readings rate 0 runs bits cost memory
+  -- a fresh receiver is given the whole blocks of those bits, call after call: the numbers of its answers, and its packets
+  pub numbers : List ℕ
+  pub given : List (List ℕ)
+  pub receiver : Receiver
+  pub received : Kept freshReceiver (chunksOf 204 (packedBytes bits)) numbers given receiver
+
+-- The same where the symbols are read as a stream, as the programs do. `cost r` says what a received symbol, of whatever kind, makes each sent one cost.
+pub record StreamLink {R : Type 0} (cost : R → ℕ → ℕ) (rate : ℕ) (inputs : List (List ℕ)) : Type 0 where
+  -- a fresh sender is given the inputs, call after call, and these are its symbols
+  pub symbols : List ℕ
+  pub sender : Sender
+  pub sent : SendCalls modeOf (freshSender rate) inputs symbols sender
+  -- so far they came, and what was received is clear about them; any number of them may be left unread at the end
+  pub came : List ℕ
+  pub unread : List ℕ
+  pub cut : came ++ unread ≡ symbols
+  pub points : List R
+  pub clear : AllClear cost points came
+  -- a fresh stream is fed with their costs, in any pieces, and closed
+  pub costs : List ℕ
+  pub costed : Costed cost points costs
+  pub decided : List ℕ
+  pub stream : SymbolStream
+  pub fed : SymbolFeedings rate costs decided stream
+  pub output : List ℕ
+  pub exit : List ℕ
+  pub count : ℕ
+  pub rest : ℕ
+  pub closed : Closes stream output count rest exit
+  -- the bits that it gave are packed, in any pieces
+  pub bytes : List ℕ
+  pub carry : ℕ
+  pub held : ℕ
+  pub packed : Packings (decided ++ take count exit) bytes carry held
+  -- a fresh receiver is given the whole blocks of those bytes, call after call: the numbers of its answers, and its packets
+  pub numbers : List ℕ
+  pub given : List (List ℕ)
+  pub receiver : Receiver
+  pub received : Kept freshReceiver (chunksOf 204 bytes) numbers given receiver
+
+-- the whole blocks in so many bits
+abbrev pub blocksInBits : ℕ → ℕ
+blocksInBits bits = bits / 1632
+
+-- What comes back by so many bits, of the packets with null packets put in. Every block that is whole is the one that was sent, and the packets of all
+-- but the last eleven of these blocks are given, in order.
+pub record BroughtBack (inputs : List (List ℕ)) (bits : ℕ) (blocks : List (List ℕ)) (numbers : List ℕ) (given : List (List ℕ)) : Type 0 where
+  pub blocks-sent : blocks ≡ take (blocksInBits bits) (interleavedBlocks (packetsFor inputs))
+  pub within : blocksInBits bits ≤ length inputs
+  pub answered : numbers ≡ take (blocksInBits bits) (replicate 11 9 ++ replicate (blocksInBits bits) 0)
+  pub packets : given ≡ take (blocksInBits bits - 11) (packetsFor inputs)
+
+-- so many bits are those of all the inputs up to the last whole pattern
+abbrev pub ToTheLast : ℕ → List (List ℕ) → ℕ → Type 0
+ToTheLast rate inputs bits = bits ≡ patternLength rate * (1632 * length inputs / patternLength rate)
+
+-- Read run after run. Where less than a pattern is left unread, the blocks are those up to the last whole pattern.
+pub record Arrived (rate : ℕ) (inputs : List (List ℕ)) (l : Link rate inputs) : Type 0 where
+  pub no-cost : l .cost ≡ 0
+  pub back : BroughtBack inputs (length (l .bits)) (chunksOf 204 (packedBytes (l .bits))) (l .numbers) (l .given)
+  pub to-the-last : length (l .unread) < symbolsPerPattern rate → ToTheLast rate inputs (length (l .bits))
+
+-- Read as a stream. The symbols behind the last whole pattern that came are told as the rest; where all of them came, the blocks are those up to the last
+-- whole pattern.
+pub record StreamArrived {R : Type 0} (cost : R → ℕ → ℕ) (rate : ℕ) (inputs : List (List ℕ)) (l : StreamLink cost rate inputs) : Type 0 where
+  pub back : BroughtBack inputs (length (l .decided ++ take (l .count) (l .exit))) (chunksOf 204 (l .bytes)) (l .numbers) (l .given)
+  pub behind : l .rest ≡ length (l .came) % symbolsPerPattern rate
+  pub to-the-last : length (l .unread) ≡ 0 → ToTheLast rate inputs (length (l .decided ++ take (l .count) (l .exit)))

@@ -1,0 +1,157 @@
+-- The cost of a run of symbols is the sum of the costs of the steps.
+-- Assumes nothing.
+use mathlib.Core.Path.{_≡_, refl, sym, _∙_, ap, ap₂, subst}
+use mathlib.Core.List.{List, [], _∷_, _++_, map, append-nil}
+use Prim.Native.Nat.{ℕ, zero, suc, _+_, _*_, _/_, _%_, _<_}
+use Prim.{tt}
+use native.Mathlib.Omega.{arith}
+use native.Mathlib.Nat.{mod-add-mod, zero-mod}
+use native.Mathlib.Numerals.{add-one}
+use lib.ListN.{length, getD, length-map}
+use Rattle.common.specs.Lists.{All}
+use Rattle.common.proofs.Lists.{length-listOf, getD-listOf}
+use Rattle.convolutional_code.specs.Bits.{Bits, none, more}
+use Rattle.convolutional_code.specs.Code.{tapsX, tapsY, nextMemory, coded}
+use Rattle.convolutional_code.specs.Costs.{costFrom}
+use Rattle.puncturing.specs.Step.{patternLength, nextPlace}
+use Rattle.inner_code.specs.Step.{symbolsOf, coderAfter}
+use Rattle.inner_code.specs.declared.InnerCoder.{InnerCoder}
+use Rattle.branch_metrics.specs.Steps.{width, kindCost, kindAt, first, puncturedCosts, pairCost}
+use Rattle.inner_code.specs.Encode.{coderAt}
+use Rattle.reader.specs.Cost.{totalCost, runCost, symbolCost, costsOf, Costed}
+use Rattle.viterbi_decoder.proofs.Order.{bits-head}
+use Rattle.convolutional_code.proofs.Bits.{bits-tail}
+use Rattle.puncturing.proofs.Parts.{none-held}
+use Rattle.reader.proofs.Serial.{put, flat, holding, stream, stream-symbols, stream-bits}
+use Rattle.reader.proofs.Patterns.{at-start, coder-whole}
+
+-- ---- the places
+
+none-holding : (r h : ℕ) → r < 5 → holding r 0 h ≡ []
+unfolding holding
+none-holding r h l = rw (none-held r l)
+
+bits-front : (a b : List ℕ) → Bits (a ++ b) → Bits a
+bits-front [] b w = none
+bits-front (x ∷ a) b (more h w) = more h (bits-front a b w)
+
+-- the I and Q bits of the symbols of whole patterns are the stream
+whole-stream : (rate m : ℕ) {bits : List ℕ} → rate < 5 → m < 64 → Bits bits → length bits % patternLength rate ≡ 0
+    → stream rate 0 m bits ≡ flat (symbolsOf (coderAt rate m) bits)
+whole-stream rate m {bits} hr hm w e =
+    let c : InnerCoder = coderAt rate m in
+    let q : holding rate (coderAfter c bits .place) (coderAfter c bits .held) ≡ [] =
+    ap (λ (d : InnerCoder). holding rate (d .place) (d .held)) (coder-whole rate m hr hm w e) ∙ none-holding rate 0 hr in
+    sym (ap (λ (l : List ℕ). l ++ stream rate 0 m bits) (none-holding rate 0 hr))
+    ∙ (stream-symbols c (at-start rate m hr hm) hr w ∙ (ap (λ (l : List ℕ). flat (symbolsOf c bits) ++ l) q ∙ append-nil (flat (symbolsOf c bits))))
+
+-- I and Q of every symbol are bits, also behind the last whole pattern
+pub sent-bits : (rate m : ℕ) {bits : List ℕ} → rate < 5 → m < 64 → Bits bits → Bits (flat (symbolsOf (coderAt rate m) bits))
+sent-bits rate m {bits} hr hm w =
+    let c : InnerCoder = coderAt rate m in
+    bits-front (flat (symbolsOf c bits)) (holding rate (coderAfter c bits .place) (coderAfter c bits .held))
+    (subst Bits (sym (ap (λ (l : List ℕ). l ++ stream rate 0 m bits) (none-holding rate 0 hr)) ∙ stream-symbols c (at-start rate m hr hm) hr w) (stream-bits rate 0 m bits))
+
+-- so each symbol is one of four
+pub sent-small : (rate m : ℕ) {bits : List ℕ} → rate < 5 → m < 64 → Bits bits → All (λ s. s < 4) (symbolsOf (coderAt rate m) bits)
+sent-small rate m {bits} hr hm w = small (symbolsOf (coderAt rate m) bits) (sent-bits rate m hr hm w)
+  where
+    four : (s : ℕ) → s / 2 < 2 → s < 4
+    four s h = omega arith
+
+    small : (ss : List ℕ) → Bits (flat ss) → All (λ s. s < 4) ss
+    small [] v = tt
+    small (s ∷ ss) v = (four s (bits-head v), small ss (bits-tail (bits-tail v)))
+
+-- ---- the costs
+
+-- what a stream costs from place j on, where `c j v` is what deciding place j as v costs
+abbrev total : (ℕ → ℕ → ℕ) → ℕ → List ℕ → ℕ
+total c j [] = 0
+total c j (v ∷ vs) = c j v + total c (suc j) vs
+
+-- a cost for each symbol, by the costs of its I and its Q
+pub record Splits (costs : List (ℕ → ℕ)) (c : ℕ → ℕ → ℕ) (j : ℕ) : Type 0 where
+  pub at : (i s : ℕ) → i < length costs → s < 4 → getD costs i (λ s. 0) s ≡ c (j + 2 * i) (s / 2) + c (j + 2 * i + 1) (s % 2)
+
+tail-splits : (f : ℕ → ℕ) (fs : List (ℕ → ℕ)) (c : ℕ → ℕ → ℕ) (j : ℕ) → Splits (f ∷ fs) c j → Splits fs c (suc (suc j))
+tail-splits f fs c j h = record {
+  at = λ i s l four.
+      let a : j + 2 * suc i ≡ suc (suc j) + 2 * i = omega arith in
+      let b : j + 2 * suc i + 1 ≡ suc (suc j) + 2 * i + 1 = omega arith in
+      h .at (suc i) s (omega arith) four ∙ ap₂ (λ (x y : ℕ). c x (s / 2) + c y (s % 2)) a b;
+}
+
+total-symbols : (costs : List (ℕ → ℕ)) (c : ℕ → ℕ → ℕ) (j : ℕ) (ss : List ℕ) → Splits costs c j → Bits (flat ss) → length ss ≡ length costs
+    → totalCost costs ss ≡ total c j (flat ss)
+unfolding totalCost
+total-symbols [] c j [] h w l = refl
+total-symbols [] c j (s ∷ ss) h w l = absurd (omega arith)
+total-symbols (f ∷ fs) c j [] h w l = absurd (omega arith)
+total-symbols (f ∷ fs) c j (s ∷ ss) h w l =
+    let a : j + 2 * 0 ≡ j = omega arith in
+    let b : j + 2 * 0 + 1 ≡ suc j = omega arith in
+    let i : s / 2 < 2 = bits-head w in
+    let e : f s ≡ c j (s / 2) + c (suc j) (s % 2) = h .at 0 s (omega arith) (omega arith) ∙ ap₂ (λ (x y : ℕ). c x (s / 2) + c y (s % 2)) a b in
+    omega (arith, total-symbols fs c (suc (suc j)) ss (tail-splits f fs c j h) (bits-tail (bits-tail w)) (omega arith))
+
+-- ---- the steps
+
+total-put : (c : ℕ → ℕ → ℕ) (q j x y : ℕ) (r : List ℕ) → total c j (put q x y ++ r) ≡ kindCost c q j x y + total c (j + width q) r
+total-put c zero j x y r = let e : j + 0 ≡ j = omega arith in rw e (omega arith)
+total-put c (suc zero) j x y r = rw add-one
+total-put c (suc (suc zero)) j x y r = rw add-one
+total-put c (suc (suc (suc q))) j x y r = let e : j + 2 ≡ suc (suc j) = omega arith in rw (e, add-one) (omega arith)
+
+next-mod : (rate k : ℕ) → nextPlace rate (k % patternLength rate) ≡ suc k % patternLength rate
+next-mod rate k = mod-add-mod k (patternLength rate) 1 ∙ ap (λ (n : ℕ). n % patternLength rate) (add-one k)
+
+bridge : (rate : ℕ) (c : ℕ → ℕ → ℕ) (k m : ℕ) (bs : List ℕ)
+    → total c (first rate k) (stream rate (k % patternLength rate) m bs) ≡ costFrom (puncturedCosts rate c) k m bs
+unfolding puncturedCosts first stream costFrom
+bridge rate c k m [] = refl
+bridge rate c k m (b ∷ bs) =
+    ap (λ (p : ℕ). total c (first rate k) (put (kindAt rate k) (coded tapsX m b) (coded tapsY m b) ++ stream rate p (nextMemory m b) bs)) (next-mod rate k)
+    ∙ (total-put c (kindAt rate k) (first rate k) (coded tapsX m b) (coded tapsY m b) (stream rate (suc k % patternLength rate) (nextMemory m b) bs)
+    ∙ ap (λ (t : ℕ). puncturedCosts rate c k m b + t) (bridge rate c (suc k) (nextMemory m b) bs))
+
+-- what a run costs, by the coder's definition, is the sum of the steps of the trellis
+pub run-is : (costs : List (ℕ → ℕ)) (c : ℕ → ℕ → ℕ) → Splits costs c 0 → (rate m : ℕ) {bits : List ℕ} → rate < 5 → m < 64 → Bits bits
+    → length bits % patternLength rate ≡ 0 → length (symbolsOf (coderAt rate m) bits) ≡ length costs
+    → runCost costs rate m bits ≡ costFrom (puncturedCosts rate c) 0 m bits
+unfolding first
+run-is costs c h rate m {bits} hr hm w e l =
+    total-symbols costs c 0 (symbolsOf (coderAt rate m) bits) h (sent-bits rate m hr hm w) l
+    ∙ (ap (total c 0) (sym (whole-stream rate m hr hm w e))
+    ∙ (ap (λ (p : ℕ). total c 0 (stream rate p m bits)) (sym (zero-mod (patternLength rate))) ∙ bridge rate c 0 m bits))
+
+-- ---- four costs for each symbol
+
+pub own-splits : (l : List ℕ) → Splits (costsOf l) (pairCost l) 0
+unfolding costsOf
+own-splits l = record {
+  at = λ i s h four.
+      let k : i < length l / 4 = rw (length-listOf (length l / 4) (symbolCost l)) at h in
+      let a : 4 * i + s / 2 ≡ 2 * (0 + 2 * i) + s / 2 = omega arith in
+      let b : 4 * i + 2 + s % 2 ≡ 2 * (0 + 2 * i + 1) + s % 2 = omega arith in
+      ap (λ (f : ℕ → ℕ). f s) (getD-listOf (length l / 4) (symbolCost l) (λ s. 0) i k) ∙ ap₂ (λ (x y : ℕ). getD l x 0 + getD l y 0) a b;
+}
+
+costed-splits : {R : Type 0} {cost : R → ℕ → ℕ} {rs : List R} {l : List ℕ} → Costed cost rs l → Splits (map cost rs) (pairCost l) 0
+costed-splits {rs = rs} {l} c = record {
+  at = λ i s h four.
+      let a : 4 * i + s / 2 ≡ 2 * (0 + 2 * i) + s / 2 = omega arith in
+      let b : 4 * i + 2 + s % 2 ≡ 2 * (0 + 2 * i + 1) + s % 2 = omega arith in
+      c .each i s (rw length-map at h) four ∙ ap₂ (λ (x y : ℕ). getD l x 0 + getD l y 0) a b;
+}
+
+-- what the list makes a sequence cost is what the symbols do
+pub costs-same : {R : Type 0} (cost : R → ℕ → ℕ) (rs : List R) (l : List ℕ) → Costed cost rs l → (rate m : ℕ) → rate < 5 → m < 64 → (bits : List ℕ) → Bits bits
+    → length bits % patternLength rate ≡ 0 → length (symbolsOf (coderAt rate m) bits) ≡ length rs → runCost (costsOf l) rate m bits ≡ runCost (map cost rs) rate m bits
+unfolding costsOf
+costs-same cost rs l c rate m hr hm bits w e n =
+    run-is (costsOf l) (pairCost l) (own-splits l) rate m hr hm w e (n ∙ sym (length-listOf (length l / 4) (symbolCost l) ∙ quarter (c .size)))
+    ∙ sym (run-is (map cost rs) (pairCost l) (costed-splits c) rate m hr hm w e (n ∙ sym (length-map rs cost)))
+  where
+    quarter : {a b : ℕ} → a ≡ 4 * b → a / 4 ≡ b
+    quarter e = omega arith

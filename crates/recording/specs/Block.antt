@@ -1,0 +1,61 @@
+-- One block of a recording, corrected: document 02, P5.
+-- Assumes nothing.
+use mathlib.Core.Path.{_≡_}
+use mathlib.Core.List.{List, [], _∷_, _++_}
+use Prim.Native.Nat.{ℕ, _+_, _*_, _/_, _<_, min}
+use lib.Dec.{ltb, eqb}
+use lib.ListN.{length, getD, take, drop}
+use Rattle.common.specs.Choice.{pick}
+use Rattle.common.specs.Refusal.{unless, when, firstDue}
+use Rattle.answer.specs.Number.{numberOf}
+use Rattle.reed_solomon.specs.Code.{noChange}
+use Rattle.reed_solomon.specs.Decode.{Decodes, decodedNumber, changedBy}
+use Rattle.reed_solomon.specs.declared.Decoded.{Decoded}
+use Rattle.reed_solomon.specs.declared.Decoded.the-variants.{Corrected, Uncorrectable, BlockLength, MarkValue}
+use Rattle.interleaver.specs.Gathered.{placeIn, gathered}
+use Rattle.recording.specs.declared.block.DecodedBlock.{DecodedBlock}
+
+-- how many whole blocks a recording has
+abbrev pub blockCount : List ℕ → ℕ
+blockCount bytes = length bytes / 204
+
+-- the tests before the work, in the order of document 02; 0 where none refuses
+abbrev pub blockRefusal : List ℕ → ℕ → ℕ → List ℕ → ℕ
+blockRefusal bytes blocks p output =
+    firstDue (
+    unless (eqb blocks (blockCount bytes)) 5
+    ∷ when (ltb (min blocks 4294967295) (p + 12)) 16
+    ∷ when (ltb (length output) 204) 4
+    ∷ []
+    )
+
+-- the output after the work: a codeword is written to its front
+abbrev pub outputWith : Decoded → List ℕ → List ℕ → List ℕ
+outputWith (Corrected changed) left output = left ++ drop 204 output
+outputWith Uncorrectable left output = output
+outputWith BlockLength left output = output
+outputWith MarkValue left output = output
+
+-- The 204 bytes gathered decode to an outcome, and the call is this function of it.
+-- Decoding is total and unique, so the call is decided.
+pub record GivesBlock (bytes : List ℕ) (blocks p : ℕ) (output : List ℕ) (r : DecodedBlock) (exit : List ℕ) : Type 0 where
+  pub left : List ℕ
+  pub decoded : Decoded
+  pub decodes : Decodes (gathered bytes p) left decoded
+  pub number : numberOf (r .answer) ≡ pick (eqb (blockRefusal bytes blocks p output) 0) (decodedNumber decoded) (blockRefusal bytes blocks p output)
+  pub changed : r .changed ≡ pick (eqb (blockRefusal bytes blocks p output) 0) (changedBy decoded) noChange
+  pub written : exit ≡ pick (eqb (blockRefusal bytes blocks p output) 0) (outputWith decoded left output) output
+
+-- two recordings agree in the 204 bytes that block p depends on
+abbrev pub Agree : List ℕ → List ℕ → ℕ → Type 0
+Agree a b p = (n : ℕ) → n < 204 → getD a (placeIn p n) 0 ≡ getD b (placeIn p n) 0
+
+-- the twelve blocks from block p on
+abbrev pub partAt : List ℕ → ℕ → List ℕ
+partAt bytes p = take 2448 (drop (204 * p) bytes)
+
+-- two calls give the same answer, counts and output
+pub record SameBlock (r s : DecodedBlock) (x y : List ℕ) : Type 0 where
+  pub number : numberOf (r .answer) ≡ numberOf (s .answer)
+  pub changed : r .changed ≡ s .changed
+  pub written : x ≡ y
