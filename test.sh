@@ -59,9 +59,7 @@ last=$(tail -n 1 "$work/gate")
 # Nothing is written to a home folder.
 export CARGO_HOME=$PWD/target/cargo-home CARGO_TARGET_DIR=$PWD/target/cargo
 in_reference=(--release --offline --manifest-path reference/Cargo.toml)
-quietly rt staticlib exports
-quietly rt staticlib reader_exports
-quietly rt staticlib bridge
+quietly ./build.sh libdvbs libdvbs_bridge
 quietly rt staticlib kernels
 export EXPORTS_DIR=$PWD/target/staticlib
 quietly cargo test "${in_reference[@]}" --lib --test programs --test vectors --test library
@@ -87,7 +85,7 @@ bash -eu -o pipefail "$work/commands" 2>&1 | diff examples/expected.txt - || fai
 echo "the commands of README.md and docs/PROGRAMS.md: as expected"
 
 # The firmware loop as C++: the same packets and counts as in C, of a stream with bytes behind its last block.
-quietly c++ -std=c++11 -Wall -Wextra -Werror -Iinclude -x c++ examples/bridge_pass.c -x none -Ltarget/staticlib -lbridge -o "$work/bridge_pass"
+quietly c++ -std=c++11 -Wall -Wextra -Werror -Iinclude -x c++ examples/bridge_pass.c -x none -Ltarget/staticlib -ldvbs_bridge -o "$work/bridge_pass"
 { cat target/try/blocks; echo rest; } > "$work/blocks"
 for side in target/try/bridge_pass "$work/bridge_pass"; do
     "$side" "$work/state" < "$work/blocks" > "$work/packets" 2> "$work/counts"
@@ -97,8 +95,8 @@ cmp "$work"/bridged_by_* && grep -q '^rest=5$' "$work/counts" || fail "bridge_pa
 # A saved state that cannot be written ends the pass.
 ! target/try/bridge_pass "$work/none/state" < "$work/blocks" > "$work/packets" 2> "$work/err" && grep -q "not saved" "$work/err" || fail "bridge_pass: no file"
 # Nothing of the sender is in the part for the bridge.
-nm target/staticlib/libbridge.a > "$work/names"
-! grep -E "send|inner_code|convolutional|puncturing|encode" "$work/names" || fail "libbridge.a has a part of the sender"
+nm target/staticlib/libdvbs_bridge.a > "$work/names"
+! grep -E "send|inner_code|convolutional|puncturing|encode" "$work/names" || fail "libdvbs_bridge.a has a part of the sender"
 echo "bridge_pass: as expected"
 
 # usage PROGRAM WORD..: with these words it gives its usage line on standard error, and does nothing else.

@@ -5,9 +5,7 @@ set -euo pipefail
 cd "$(dirname "$0")/.."
 build=target/bench
 mkdir -p "$build"
-for library in exports reader_exports; do
-    rt staticlib "$library" > "$build/$library.log" 2>&1 || { cat "$build/$library.log"; exit 1; }
-done
+./build.sh libdvbs > "$build/libdvbs.log" 2>&1 || { cat "$build/libdvbs.log"; exit 1; }
 export CARGO_HOME=$PWD/target/cargo-home CARGO_TARGET_DIR=$PWD/target/cargo EXPORTS_DIR=$PWD/target/staticlib
 cargo run --release --offline --quiet --manifest-path reference/Cargo.toml --bin ber "$build/ber.svg" | tee "$build/ber"
 mv "$build/ber.svg" docs/ber.svg

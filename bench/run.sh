@@ -25,9 +25,7 @@ has_volk() {
 }
 
 mkdir -p "$build"
-for library in exports reader_exports bridge kernels; do
-    rt staticlib "$library" > "$build/$library.log" 2>&1 || { cat "$build/$library.log"; exit 1; }
-done
+{ ./build.sh libdvbs libdvbs_bridge && rt staticlib kernels; } > "$build/libraries.log" 2>&1 || { cat "$build/libraries.log"; exit 1; }
 peers=() flags=()
 has_libfec || install libfec-dev
 if has_libfec; then
@@ -42,7 +40,7 @@ else
     echo "VOLK is missing (Debian: libvolk2-dev); its columns are skipped"
 fi
 "$cc" -std=gnu11 -O3 -Wall -Wextra -c bench/plain.c -o "$build/plain.o"
-"$cc" -std=gnu11 -O3 -Wall -Wextra "${flags[@]}" bench/bench.c "$build/plain.o" -Ltarget/staticlib -lexports -lreader_exports -lbridge -lkernels "${peers[@]}" -o "$build/bench"
+"$cc" -std=gnu11 -O3 -Wall -Wextra "${flags[@]}" bench/bench.c "$build/plain.o" -Ltarget/staticlib -ldvbs -ldvbs_bridge -lkernels "${peers[@]}" -o "$build/bench"
 
 # Instructions of one block: the difference of two runs that differ only in how many calls they make, so that the
 # preparation falls out.

@@ -1,7 +1,5 @@
-/* The C functions of the library: target/staticlib/libexports.a, which
- * `rt staticlib exports` writes. examples/link_from_c.c uses two of them. Those
- * that read symbols, dvbs_read_run and dvbs_read_soft_run, are in
- * libreader_exports.a, by `rt staticlib reader_exports`.
+/* The C functions of the library: target/staticlib/libdvbs.a, which
+ * `./build.sh libdvbs` writes; -ldvbs. examples/link_from_c.c uses two of them.
  *
  * A buffer is a pointer and its length. The functions test what they are lent,
  * so any length and any bytes may come; what the caller owes is that lengths are

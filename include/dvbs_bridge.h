@@ -1,5 +1,5 @@
-/* The C functions of the part for the bridge: target/staticlib/libbridge.a,
- * which `rt staticlib bridge` writes. examples/bridge_pass.c uses all three.
+/* The C functions of the part for the bridge: target/staticlib/libdvbs_bridge.a,
+ * which `./build.sh libdvbs_bridge` writes. examples/bridge_pass.c uses all three.
  *
  * A block receiver whose state is bytes that the firmware keeps. It may copy,
  * save and load them between any two calls: a call reads all that it needs from

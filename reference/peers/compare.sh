@@ -3,7 +3,7 @@
 # GNU Radio (gr-dtv). Installs them from Debian where they are missing; one that
 # cannot be had is said and skipped. Not needed by the tests.
 #
-#   EXPORTS_DIR=folder-of-libexports.a peers/compare.sh
+#   EXPORTS_DIR=folder-of-libdvbs.a peers/compare.sh
 #
 # EXPORTS_LIBS may name further link arguments that the library needs.
 set -eu
@@ -13,7 +13,7 @@ here=$(cd "$(dirname "$0")" && pwd)
 status=0 compared= failed=
 
 with_libfec() {
-    $cc -O2 "$here/libfec.c" -o "$build/libfec" -L"$EXPORTS_DIR" -lexports ${EXPORTS_LIBS:-} -lfec 2> "$build/libfec.log"
+    $cc -O2 "$here/libfec.c" -o "$build/libfec" -L"$EXPORTS_DIR" -ldvbs ${EXPORTS_LIBS:-} -lfec 2> "$build/libfec.log"
 }
 [ -f /usr/include/fec.h ] || install libfec-dev || true
 if with_libfec; then
@@ -24,7 +24,7 @@ else
 fi
 
 if with_gnuradio || { install gnuradio && with_gnuradio; }; then
-    $cc -O2 "$here/stages.c" -o "$build/stages" -L"$EXPORTS_DIR" -lexports ${EXPORTS_LIBS:-}
+    $cc -O2 "$here/stages.c" -o "$build/stages" -L"$EXPORTS_DIR" -ldvbs ${EXPORTS_LIBS:-}
     # GNU Radio's remarks on its own buffers go to a log.
     "$python" "$here/gnuradio_chain.py" "$build/stages" > "$build/gnuradio.out" 2> "$build/gnuradio.log" || failed=1
     grep -v '^buffer_double_mapped' "$build/gnuradio.out" || failed=1

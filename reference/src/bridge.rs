@@ -274,6 +274,6 @@ mod tests {
     fn document_header_and_specification_have_the_same_table() {
         assert_eq!(rows(include_str!("../../docs/BRIDGE.md")), table());
         assert_eq!(rows(include_str!("../../include/dvbs_bridge.h")), table());
-        assert_eq!(specified(include_str!("../../crates/bridge/specs/State.antt")), table());
+        assert_eq!(specified(include_str!("../../crates/dvbs_bridge/specs/State.antt")), table());
     }
 }

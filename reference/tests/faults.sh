@@ -12,8 +12,8 @@ missed=0 found=0
 
 build() {
     cc -std=gnu11 -O2 -w -DPLAIN_AS_LIBRARY -I"$peer" -c "$work/plain.c" -o "$work/plain.o"
-    rm -f "$work/lib/libexports.a"
-    ar rcs "$work/lib/libexports.a" "$work/plain.o"
+    rm -f "$work/lib/libdvbs.a"
+    ar rcs "$work/lib/libdvbs.a" "$work/plain.o"
     (cd "$here" && EXPORTS_DIR=$work/lib CARGO_TARGET_DIR=$work/target cargo build -q --release --offline --bin compare)
 }
 

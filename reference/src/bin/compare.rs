@@ -1475,7 +1475,7 @@ fn histories_from_every_state(s: &mut Score, add: &mut impl FnMut([u64; 8])) {
 fn main() {
     let own = cfg!(feature = "self");
     if !own && !library::LINKED {
-        eprintln!("compare: no library linked; set EXPORTS_DIR to the folder of libexports.a and build again");
+        eprintln!("compare: no library linked; set EXPORTS_DIR to the folder of libdvbs.a and build again");
         eprintln!("(or build with --features self to try the harness on the reference itself)");
         std::process::exit(2);
     }

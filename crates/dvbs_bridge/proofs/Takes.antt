@@ -1,0 +1,111 @@
+-- A call of the receiver on the state that is read, and its bytes after it, are what a call of the bridge promises.
+-- Assumes nothing.
+use mathlib.Core.Path.{_≡_, refl, sym, ap, subst, _∙_}
+use mathlib.Core.Bool.{Bool, true, false}
+use mathlib.Core.List.{List}
+use mathlib.Core.Logic.{_⊎_, inl, inr}
+use Prim.Native.Nat.{ℕ, _<_}
+use native.Mathlib.Omega.{arith}
+use borrow.Author.Tests.{ne-eqb}
+use lib.Dec.{eqb}
+use lib.ListN.{length}
+use Rattle.common.specs.Choice.{pick}
+use Rattle.common.specs.Lists.{ByteEntries}
+use Rattle.common.proofs.Choice.{false-true}
+use Rattle.answer.specs.Number.{numberOf}
+use Rattle.reed_solomon.specs.Marks.{noMarks}
+use Rattle.group_sync.specs.declared.Outcome.{Outcome}
+use Rattle.group_sync.specs.declared.Outcome.the-variants.{Filling, Delivered, Lost, Waiting, OutOfStep}
+use Rattle.reception_counts.specs.Counts.{outcomeNumber}
+use Rattle.reception_counts.proofs.Ranges.{counts-range}
+use Rattle.receiver.specs.Receive.{receiverInRange, stepOf, outputAfter, receiveRefusal, Ready, Receives}
+use Rattle.receiver.specs.Run.{Call}
+use Rattle.receiver.specs.declared.Receiver.{Receiver}
+use Rattle.receiver.specs.declared.Received.{Received}
+use Rattle.receiver.proofs.Calls.{state-range, ready-number}
+use Rattle.receiver.proofs.Reached.{Sound, sound-call, Refused, ready-or-refused, refused-state}
+use Rattle.dvbs_bridge.specs.State.{stateLength, stateOf, stateBytes, StandsFor}
+use Rattle.dvbs_bridge.specs.State as field
+use Rattle.dvbs_bridge.specs.Calls.{refuses, BridgeTakes, no-state, as-receiver}
+use Rattle.dvbs_bridge.proofs.States.{part-length, written-read, stands-written}
+
+-- ---- the receiver that is read
+
+sound-read : (bytes : List ℕ) → length bytes ≡ stateLength → receiverInRange (stateOf bytes) ≡ true → Sound (stateOf bytes)
+unfolding stateOf
+sound-read bytes n e =
+    let r = state-range (stateOf bytes) e in
+    record {
+      branches = record { cells = part-length bytes n field.cells (omega arith); positions = part-length bytes n field.positions (omega arith); range = r .branches };
+      marks = part-length bytes n field.marks (omega arith);
+      small = r .marks;
+      sync = r .sync;
+      counts = counts-range (stateOf bytes .counts) (r .counts);
+    }
+
+-- ---- refusals
+
+-- a block that comes to something is taken
+outcome-taken : (o : Outcome) → refuses (outcomeNumber o) ≡ false
+outcome-taken Filling = refl
+outcome-taken (Delivered place) = refl
+outcome-taken Lost = refl
+outcome-taken Waiting = refl
+outcome-taken OutOfStep = refl
+
+-- a refusal of the receiver leaves it and the output as they were
+pub refused-same : (s : Receiver) (block output : List ℕ) (received : Received) (exit : List ℕ) → Receives s block output received exit
+    → refuses (numberOf (received .answer)) ≡ true → (received .receiver ≡ s) × (exit ≡ output)
+refused-same s block output received exit g h = by (ready-or-refused s block noMarks output)
+  where
+    unpicked : (n : ℕ) (a b : List ℕ) → 0 < n → pick (eqb n 0) a b ≡ b
+    unpicked n a b h = simp (ne-eqb n 0 (λ e. omega arith))
+
+    by : Ready s block noMarks output ⊎ Refused s block noMarks output → (received .receiver ≡ s) × (exit ≡ output)
+    by (inl y) =
+        let o = stepOf s (g .left) (g .decoded) .outcome in
+        let e = g .number ∙ ready-number s block noMarks output y (g .left) (g .decoded) in
+        false-true (sym (outcome-taken o) ∙ sym (ap refuses e) ∙ h)
+    by (inr f) = (
+      g .state ∙ refused-state s block noMarks output (g .left) (g .decoded) f,
+      g .written ∙ unpicked (receiveRefusal s block noMarks output) (outputAfter (stepOf s (g .left) (g .decoded) .outcome) (g .left) output) output (f .some),
+    )
+
+-- ---- the call
+
+module _ (state block output : List ℕ) (n : length state ≡ stateLength) (e : ByteEntries state) (received : Received) (exit : List ℕ)
+    (g : Receives (stateOf state) block output received exit) (r : ℕ) (q : r ≡ numberOf (received .answer)) where
+  -- a state out of range is answered 5
+  five : receiverInRange (stateOf state) ≡ false → r ≡ 5
+  five f = q ∙ g .number ∙ simp f
+
+  none : receiverInRange (stateOf state) ≡ false → (s : Receiver) → StandsFor state s → ⊥
+  none f s h = false-true (sym f ∙ ap receiverInRange (h .read) ∙ h .range)
+
+  same-output : receiverInRange (stateOf state) ≡ false → exit ≡ output
+  same-output f = g .written ∙ simp f
+
+  stands : receiverInRange (stateOf state) ≡ true → StandsFor state (stateOf state)
+  stands t = record { size = n; read = refl; range = t }
+
+  -- a call that is refused, where the bytes of the state are left alone
+  pub refused-takes : refuses r ≡ true → BridgeTakes state block output r state exit
+  refused-takes h = by (receiverInRange (stateOf state)) refl
+    where
+      by : (t : Bool) → receiverInRange (stateOf state) ≡ t → BridgeTakes state block output r state exit
+      by false f = no-state n (none f) (five f) refl (same-output f)
+      by true t =
+          let k = refused-same (stateOf state) block output received exit g (sym (ap refuses q) ∙ h) .0 in
+          as-receiver (stateOf state) (stands t) received g q (sym (written-read state n e) ∙ ap stateBytes (sym k))
+          (subst (StandsFor state) (sym k) (stands t))
+
+  -- a call that is not, where the bytes of the receiver after it are written
+  pub taken-takes : refuses r ≡ false → BridgeTakes state block output r (stateBytes (received .receiver)) exit
+  taken-takes h = by (receiverInRange (stateOf state)) refl
+    where
+      by : (t : Bool) → receiverInRange (stateOf state) ≡ t → BridgeTakes state block output r (stateBytes (received .receiver)) exit
+      by false f = absurd (false-true (sym h ∙ ap refuses (five f)))
+      by true t =
+          let c : Call = record { block = block; marks = noMarks; output = output; left = g .left; decoded = g .decoded } in
+          let sound = subst Sound (sym (g .state)) (sound-call (stateOf state) c (sound-read state n t) (g .decodes)) in
+          as-receiver (stateOf state) (stands t) received g q refl (stands-written (received .receiver) sound)

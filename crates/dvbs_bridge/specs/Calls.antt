@@ -1,0 +1,59 @@
+-- What the functions for the bridge give: document 02, P14. Of a block this is said by the promise of the receiver's own call.
+-- Assumes nothing.
+use mathlib.Core.Path.{_≡_}
+use mathlib.Core.Bool.{Bool}
+use mathlib.Core.List.{List, [], _∷_, _++_}
+use Prim.Native.Nat.{ℕ}
+use lib.Dec.{eqb, ltb}
+use lib.ListN.{length, getD, drop}
+use Rattle.common.specs.Choice.{pick}
+use Rattle.common.specs.Refusal.{unless, when, firstDue}
+use Rattle.answer.specs.Number.{numberOf}
+use Rattle.reception_counts.specs.Bytes.{toBytes, numbersOf}
+use Rattle.receiver.specs.Receive.{freshReceiver, receiverInRange, Receives}
+use Rattle.receiver.specs.Run.{takenBy}
+use Rattle.receiver.specs.declared.Receiver.{Receiver}
+use Rattle.receiver.specs.declared.Received.{Received}
+use Rattle.dvbs_bridge.specs.State.{stateLength, stateOf, stateBytes, StandsFor}
+
+-- ---- a fresh state
+
+abbrev pub freshNumber : List ℕ → ℕ
+freshNumber state = pick (eqb (length state) stateLength) 0 22
+
+abbrev pub freshBytes : List ℕ → List ℕ
+freshBytes state = pick (eqb (length state) stateLength) (stateBytes freshReceiver) state
+
+-- ---- a block
+
+-- the answers of the receiver with which no block is taken
+abbrev pub refuses : ℕ → Bool
+refuses number = eqb (takenBy number) 0
+
+-- Bytes that stand for a receiver: its own call, and the bytes after it are those of the receiver after it, for which they stand.
+-- Any other bytes are refused, by their length or as out of range, and all is as it was.
+pub data BridgeTakes (state block output : List ℕ) (r : ℕ) (after exit : List ℕ) : Type 0 where
+  wrong-length : (length state ≡ stateLength → ⊥) → r ≡ 22 → after ≡ state → exit ≡ output → BridgeTakes state block output r after exit
+  no-state : length state ≡ stateLength → ((s : Receiver) → StandsFor state s → ⊥) → r ≡ 5 → after ≡ state → exit ≡ output
+      → BridgeTakes state block output r after exit
+  as-receiver : (s : Receiver) → StandsFor state s → (received : Received) → Receives s block output received exit
+      → r ≡ numberOf (received .answer) → after ≡ stateBytes (received .receiver) → StandsFor after (received .receiver)
+      → BridgeTakes state block output r after exit
+
+-- ---- a count
+
+-- the tests in their order
+abbrev pub countNumber : List ℕ → ℕ → List ℕ → ℕ
+countNumber state number output =
+    firstDue (
+    unless (eqb (length state) stateLength) 22
+    ∷ when (ltb 7 number) 23
+    ∷ unless (receiverInRange (stateOf state)) 5
+    ∷ when (ltb (length output) 8) 4
+    ∷ []
+    )
+
+-- the count of the receiver that the bytes stand for, in eight bytes at the front of the output
+abbrev pub countOutput : List ℕ → ℕ → List ℕ → List ℕ
+countOutput state number output =
+    pick (eqb (countNumber state number output) 0) (toBytes 8 (getD (numbersOf (stateOf state .counts)) number 0) ++ drop 8 output) output
