@@ -7,7 +7,7 @@
  * functions test what they are lent, so any length and any bytes may come; what
  * the caller owes is that lengths are true and that buffers of one call do not
  * overlap. Output beyond what is given is never written. The functions bring no
- * marks of doubtful bytes; marks that a state holds act.
+ * marks of doubtful bytes. Marks that are already in the state are honoured.
  *
  * Answers:
  *   0  done; of a block: a packet was given

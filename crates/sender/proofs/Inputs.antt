@@ -68,7 +68,7 @@ pub packet-lengths : (inputs : List (List ℕ)) → All Input inputs → All (Le
 packet-lengths [] g = tt
 packet-lengths (p ∷ ps) g = (packet-size p (input-test p (g .0)), packet-lengths ps (g .1))
 
--- no bytes do not begin with the sync byte
+-- an empty input does not begin with the sync byte
 pub nothing-synced : (input : List ℕ) → length input ≡ 0 → isSynced input ≡ false
 nothing-synced [] e = refl
 nothing-synced (b ∷ bs) e = absurd (omega arith)

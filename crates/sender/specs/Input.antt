@@ -19,7 +19,7 @@ Input input = (length input ≡ 0) ⊎ (length input ≡ 188)
 abbrev pub isInput : List ℕ → Bool
 isInput input = pick (eqb (length input) 0) true (eqb (length input) 188)
 
--- whether it begins with the sync byte; no bytes do not
+-- whether it begins with the sync byte; false for an empty input
 abbrev pub isSynced : List ℕ → Bool
 isSynced input = eqb (getD input 0 0) 0x47
 

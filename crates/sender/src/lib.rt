@@ -138,7 +138,7 @@ fn is_input(input: &[u8]) -> bool
     input.len() == Sender::PACKET_LENGTH
 }
 
-// Whether it begins with the sync byte; no bytes do not.
+// Whether it begins with the sync byte. False for an empty input.
 fn is_synced(input: &[u8]) -> bool
     ensures { λ r. ⌜ r ≡ isSynced (now (input .entry)) ⌝ }
 {
