@@ -39,7 +39,9 @@ tool rustc rustc
 quietly bash tests/unused.sh
 bash docs/crates.sh | quietly cmp - docs/crates.svg
 bash tests/believed.sh | quietly diff docs/BELIEVED.md -
-grep -qF "$(grep -o '[0-9,]* definitions in [0-9]* files, [0-9,]* lines' docs/BELIEVED.md)" docs/TRUST.md || fail "docs/TRUST.md: the sum of docs/BELIEVED.md"
+# README.md and docs/TRUST.md name the lines of the three tiers.
+tiers=$(awk -F ' *[|] *' '$2 ~ /^(Sending|All|These)/ { n[++k] = $4 } END { print n[1] ", " n[2] " and " n[3] " lines" }' docs/BELIEVED.md)
+for document in README.md docs/TRUST.md; do grep -qF "$tiers" "$document" || fail "$document: $tiers of docs/BELIEVED.md"; done
 
 # The prover copies what a crate stands on to a temporary folder, some 300 MB for each crate and each edit. Where memory can hold it, and programs run
 # from there, the disk is spared.

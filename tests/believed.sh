@@ -1,7 +1,8 @@
 #!/bin/bash
 # What must be believed: every definition that a public contract or a theorem of docs/TRUST.md rests on, by file, with the clauses that the file names.
 #   bash tests/believed.sh > docs/BELIEVED.md      from the top of the repository
-# The public contracts are those of the functions that docs/ARCHITECTURE.md names under "Public surface". Of a theorem the signature counts
+# Three tiers: the contracts of send_run, receive_run and decode; all public contracts, those of the functions that docs/ARCHITECTURE.md names under
+# "Public surface"; and the theorems of docs/TRUST.md beside them. Of a theorem the signature counts
 # and not the proof; of a definition all of it counts. A name with a hyphen is that of a lemma, which is proved and not believed.
 set -euo pipefail
 
@@ -67,6 +68,19 @@ clauses() {
         sub(/\/.*/, "", item)
         return item
     }
+    # reach TIER: what the items in the queue rest on is in this tier, where it is in none before.
+    function reach(tier,    n, to, i) {
+        while (at < last) {
+            at++
+            if (!(queue[at] in roots)) {
+                tier_of[queue[at]] = tier
+            }
+            n = split(signature[queue[at]] (queue[at] in roots ? "" : body[queue[at]]), to, "\n")
+            for (i = 1; i < n; i++)
+                if (name_of(to[i]) !~ /-/)
+                    live(to[i])
+        }
+    }
     # clauses_of FILE: a document or a standard alone only where no part of it is named.
     function clauses_of(file,    list, n, i, said) {
         n = split(clause[file], list, "; ")
@@ -94,8 +108,7 @@ clauses() {
             contract[crate_of($2), name] = $2
         }
         if ($2 in some || $2 ~ /:pub fn / && file_of($2) in all) {
-            root($2)
-            contracts++
+            public[++contracts] = $2
             delete some[$2]
         }
     }
@@ -104,12 +117,7 @@ clauses() {
     $1 == "cited" {
         if (!($2 in lines))
             $2 = contract[crate_of($2), name_of($2)]
-        if ($2 ~ /\/specs\//)
-            live($2)
-        else if ($2 != "" && !($2 in roots)) {
-            root($2)
-            theorems += $2 ~ /\/proofs\//
-        }
+        named[++names] = $2
     }
 
     END {
@@ -117,26 +125,48 @@ clauses() {
             print "docs/ARCHITECTURE.md names " item ", which has no contract" > "/dev/stderr"
             exit 1
         }
-        for (at = 1; at <= last; at++) {
-            n = split(signature[queue[at]] (queue[at] in roots ? "" : body[queue[at]]), to, "\n")
-            for (i = 1; i < n; i++)
-                if (name_of(to[i]) !~ /-/)
-                    live(to[i])
+        for (i = 1; i <= contracts; i++)
+            if (public[i] ~ / (send_run|receive_run|decode)$/) {
+                root(public[i])
+                mains++
+            }
+        if (mains != 3) {
+            print "send_run, receive_run and decode are not three public functions" > "/dev/stderr"
+            exit 1
         }
+        reach(1)
+        for (i = 1; i <= contracts; i++)
+            root(public[i])
+        reach(2)
+        for (i = 1; i <= names; i++)
+            if (named[i] ~ /\/specs\//)
+                live(named[i])
+            else if (named[i] != "" && !(named[i] in roots)) {
+                root(named[i])
+                theorems += named[i] ~ /\/proofs\//
+            }
+        reach(3)
         for (i = 1; i <= items; i++)
             if (order[i] in reached && !(order[i] in roots)) {
                 file = file_of(order[i])
                 sum[file] += lines[order[i]]
-                total += lines[order[i]]
+                for (tier = tier_of[order[i]]; tier <= 3; tier++)
+                    total[tier] += lines[order[i]]
                 if (name_of(order[i]) !~ /^module@/) {
                     definitions[file] = definitions[file] ", `" name_of(order[i]) "` " lines[order[i]]
-                    count++
+                    for (tier = tier_of[order[i]]; tier <= 3; tier++)
+                        count[tier]++
                 }
             }
         for (file in sum)
             files++
         print "# What must be believed\n"
-        printf "The %d contracts of the public surface and the %d theorems that `docs/TRUST.md` names rest on %s definitions in %d files, %s lines without comments. ", contracts, theorems, thousands(count), files, thousands(total)
+        print "| What is promised | Definitions | Lines without comments |"
+        print "|---|---|---|"
+        printf "| Sending, receiving and decoding: `send_run`, `receive_run`, `decode` | %s | %s |\n", thousands(count[1]), thousands(total[1])
+        printf "| All %d contracts of the public surface | %s | %s |\n", contracts, thousands(count[2]), thousands(total[2])
+        printf "| These, and the %d theorems that `docs/TRUST.md` names | %s | %s |\n\n", theorems, thousands(count[3]), thousands(total[3])
+        printf "The definitions stand in %d files. ", files
         print "`tests/believed.sh` makes this list, and the tests compare. Behind each definition is how many lines it has; the lines of a file count the headers of its modules too. A file that names no clause has general terms, or the form in which a theorem is stated.\n"
         print "| File, in `crates/` | Clauses that it names | Definitions | Lines |"
         print "|---|---|---|---|"
