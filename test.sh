@@ -1,5 +1,5 @@
 #!/bin/bash
-# The tests: that nothing is unused, and that the docs are in step; the Rattle gate; then what stands beside the crates: the exported functions
+# The tests: that nothing is unused or stands twice, and that the docs are in step; the Rattle gate; then what stands beside the crates: the exported functions
 # against the second coder and decoder of reference/, the programs on inputs in pieces, on pass reports, with marks and where something fails, the commands of README.md and docs/PROGRAMS.md,
 # and the usage lines of the programs.
 # The gate's line `N passed, 0 failed` comes last, and only where all of it passed.
@@ -37,6 +37,7 @@ tool rustc rustc
 
 # What takes seconds comes first.
 quietly bash tests/unused.sh
+quietly bash tests/repeated.sh
 bash docs/crates.sh | quietly cmp - docs/crates.svg
 bash tests/believed.sh | quietly diff docs/BELIEVED.md -
 # README.md and docs/TRUST.md name the lines of the three tiers.

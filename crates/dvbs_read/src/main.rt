@@ -18,7 +18,7 @@ use reader::decision_costs;
 use symbol_pass::Fed;
 use symbol_pass::Reading;
 use symbol_pass::feed_costs;
-use symbol_pass::report;
+use text_output::report;
 
 struct Turn {
     // The piece that was read, and how many of its bytes were taken.

@@ -226,7 +226,7 @@ fn read_all(reading: Reading)
     let held = points.held;
     let last = points.reading;
     if symbol_pass::finish(last, &mut bits, &mut output) {
-        symbol_pass::report(b"bytes=", held as u64, b"\n");
+        text_output::report(b"bytes=", held as u64, b"\n");
     }
 }
 

@@ -12,6 +12,7 @@ use libc::STDERR_FILENO;
 use libc::STDIN_FILENO;
 use libc::STDOUT_FILENO;
 use sending::Sending;
+use text_output::report;
 
 // The piece that was read, how many symbols and packets came of it, and the sending after it.
 struct Turn {
@@ -19,13 +20,6 @@ struct Turn {
     count: usize,
     packets: usize,
     sending: Sending,
-}
-
-// Writes a key and its number to standard error.
-fn report(key: &[u8], n: u64, end: &[u8]) {
-    io::write_all(STDERR_FILENO, key);
-    io::print_decimal(STDERR_FILENO, n);
-    io::write_all(STDERR_FILENO, end);
 }
 
 // Says what became of a packet that was not sent as it came.

@@ -8,6 +8,7 @@ ghost use lib.ListN.{length};
 use libc::STDERR_FILENO;
 use libc::STDOUT_FILENO;
 use reed_solomon::Changed;
+use text_output::report;
 
 // What a word says.
 enum Parsed {
@@ -82,13 +83,6 @@ fn read_at(fd: i32, start: u64, buffer: &mut [u8]) -> Part
         length: done,
         failed: false,
     }
-}
-
-// Writes a key and its number to standard error.
-fn report(key: &[u8], n: u64, end: &[u8]) {
-    io::write_all(STDERR_FILENO, key);
-    io::print_decimal(STDERR_FILENO, n);
-    io::write_all(STDERR_FILENO, end);
 }
 
 fn report_block(answer: u8, changed: Changed) {

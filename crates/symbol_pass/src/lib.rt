@@ -7,9 +7,9 @@ ghost use lib.ListN.{length};
 ghost use Rattle.common.specs.Lists.{All};
 ghost use Rattle.symbol_pass.specs.History.{Begun, Going, FeedsCosts, LastBytes};
 use bit_packing::pack;
-use libc::STDERR_FILENO;
 use libc::STDOUT_FILENO;
 use symbol_stream::SymbolStream;
+use text_output::report;
 
 // What is carried from one read to the next: the stream, how many symbols it was fed with, and the bits that fill no byte yet, which are the last
 // `held` of `carry`.
@@ -45,13 +45,6 @@ pub fn rate_argument() -> u8 {
         return 5;
     }
     digit - b'0'
-}
-
-// Writes a key and its number to standard error.
-pub fn report(key: &[u8], n: u64, end: &[u8]) {
-    io::write_all(STDERR_FILENO, key);
-    io::print_decimal(STDERR_FILENO, n);
-    io::write_all(STDERR_FILENO, end);
 }
 
 // Writes the first so many bytes to standard output: whether that did not fail. If it did, that is said.

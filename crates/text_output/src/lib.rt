@@ -1,5 +1,5 @@
-// What a program gives: a text, a stream of bytes, and the end of standard output. Each answers whether it succeeded. A failure is said on
-// standard error, after the name of what was to be written.
+// What a program gives: a text, a stream of bytes, and the end of standard output. Each of these answers whether it succeeded. A failure is said on
+// standard error, after the name of what was to be written. And a key with its number, which is told on standard error.
 // Inner: a part of the programs. docs/ARCHITECTURE.md names the public surface.
 use libc::STDERR_FILENO;
 use libc::STDOUT_FILENO;
@@ -41,6 +41,13 @@ pub fn write_stream(fd: i32, name: &[u8], bytes: &[u8]) -> bool {
         done += n;
     }
     true
+}
+
+// Writes a key and its number to standard error.
+pub fn report(key: &[u8], n: u64, end: &[u8]) {
+    io::write_all(STDERR_FILENO, key);
+    io::print_decimal(STDERR_FILENO, n);
+    io::write_all(STDERR_FILENO, end);
 }
 
 // Closes standard output. A file system may tell only then that what was written is lost.
