@@ -6,7 +6,7 @@ use Prim.Native.Nat.{ℕ}
 use lib.Dec.{ltb}
 use lib.ListN.{length, set}
 use Rattle.common.specs.Choice.{pick}
-use Rattle.transmission.specs.Run.{runNumber, runCount, runOutput}
+use Rattle.sender_stream.specs.Run.{runNumber, runCount, runOutput}
 
 -- the number of symbols written
 abbrev pub sendRunCount : ℕ → List ℕ → List ℕ → List ℕ → ℕ

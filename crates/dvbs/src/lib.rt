@@ -120,7 +120,7 @@ pub extern "C" fn dvbs_send_run(
     if answer.len() < 1 {
         return 0;
     }
-    let run = transmission::send_run(rate, packets, output);
+    let run = sender_stream::run::send_run(rate, packets, output);
     let number = run.answer;
     answer[0] = number.number();
     run.count as u64

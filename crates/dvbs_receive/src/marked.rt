@@ -8,8 +8,8 @@ use libc::STDERR_FILENO;
 use libc::STDOUT_FILENO;
 use pass::Pass;
 use receiver::Receiver;
+use receiver_stream::ReceiverStream;
 use reception_counts::Counts;
-use stream_receiver::StreamReceiver;
 
 // What so many blocks, and the bytes after them, came to.
 fn pass_of(receiver: Receiver, blocks: u64, rest: usize, failed: bool) -> Pass
@@ -17,7 +17,7 @@ fn pass_of(receiver: Receiver, blocks: u64, rest: usize, failed: bool) -> Pass
     ensures { λ r. ⌜ (r .stream .receiver ≡ receiver) × (r .stream .held ≡ rest) × (r .failed ≡ failed) ⌝ }
 {
     let pending = [0u8; 204];
-    let stream = StreamReceiver {
+    let stream = ReceiverStream {
         receiver,
         pending,
         held: rest,

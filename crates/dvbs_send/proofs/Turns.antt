@@ -8,15 +8,15 @@ use native.Mathlib.Omega.{arith}
 use lib.ListN.{length, take, drop, length-take, length-append}
 use Rattle.input_pieces.specs.Read.{ReadsPiece}
 use Rattle.input_pieces.specs.declared.Piece.{Piece}
-use Rattle.sending.specs.Sending.{canSend, fedSymbols, OutputsFit, FeedsSending}
-use Rattle.sending.specs.declared.Sending.{Sending}
-use Rattle.sending.proofs.Laws.{most-fits, feeds-all, fed-range, sending-range, sending-sent}
+use Rattle.sender_stream.specs.Feed.{canSend, fedSymbols, OutputsFit, FeedsSender}
+use Rattle.sender_stream.specs.declared.SenderStream.{SenderStream}
+use Rattle.sender_stream.proofs.Laws.{most-fits, feeds-all, fed-range, sending-range, sending-sent}
 use Rattle.dvbs_send.specs.Turn.{Turns}
 
-pub turns : (w : Sending) (before buffer symbols answers : List ℕ) {piece : Piece} {number count packets : ℕ} {next : Sending} {left told : List ℕ}
+pub turns : (w : SenderStream) (before buffer symbols answers : List ℕ) {piece : Piece} {number count packets : ℕ} {next : SenderStream} {left told : List ℕ}
     → length (w .sender .interleaver .branches .cells) ≡ 1122 → length (w .sender .interleaver .branches .positions) ≡ 12 → canSend w ≡ true
     → length buffer ≡ 12032 → length symbols ≡ 104448 → length answers ≡ 64 → ReadsPiece (length before) before buffer piece
-    → FeedsSending w (take (piece .length) buffer) symbols answers number count packets next left told
+    → FeedsSender w (take (piece .length) buffer) symbols answers number count packets next left told
     → Turns w before buffer symbols answers (record { piece = piece; count = count; packets = packets; sending = next }) left told
 turns w before buffer symbols answers {piece} {number} {count} {packets} {next} {left} {told} cells positions range b r a e f =
     let n = piece .length in

@@ -5,13 +5,13 @@ ghost use mathlib.Core.Path.{_≡_};
 ghost use mathlib.Core.Bool.{true};
 ghost use Prim.Native.Nat.{_≤_};
 ghost use lib.ListN.{length};
-ghost use Rattle.sending.specs.Sending.{canSend};
+ghost use Rattle.sender_stream.specs.Feed.{canSend};
 ghost use Rattle.dvbs_send.specs.Turn.{Buffers, Turns};
 use input_pieces::Piece;
 use libc::STDERR_FILENO;
 use libc::STDIN_FILENO;
 use libc::STDOUT_FILENO;
-use sending::Sending;
+use sender_stream::SenderStream;
 use text_output::report;
 
 // The piece that was read, how many symbols and packets came of it, and the sending after it.
@@ -19,7 +19,7 @@ struct Turn {
     piece: Piece,
     count: usize,
     packets: usize,
-    sending: Sending,
+    sending: SenderStream,
 }
 
 // Says what became of a packet that was not sent as it came.
@@ -47,7 +47,12 @@ fn report_rest(rest: usize) {
 }
 
 // Reads once, and feeds what came: from the front of the buffer, as many bytes as `read` answered.
-fn next_turn(sending: Sending, buffer: &mut [u8], symbols: &mut [u8], answers: &mut [u8]) -> Turn
+fn next_turn(
+    sending: SenderStream,
+    buffer: &mut [u8],
+    symbols: &mut [u8],
+    answers: &mut [u8],
+) -> Turn
     requires { ⌜ Buffers sending (now buffer) (now symbols) (now answers) ⌝ }
     ensures { λ r. ⌜
         Turns sending (now (buffer .entry)) (now (buffer .exit)) (now (symbols .entry)) (now (answers .entry)) r (now (symbols .exit)) (now (answers .exit)) ⌝ }
@@ -74,7 +79,7 @@ fn write_symbols(symbols: &[u8], count: usize) -> bool
 
 // Sends until the input ends, or a read or a write fails. A proved loop has to end, and nothing says that an input does: the
 // loop counts its turns down, from a number that no run uses up.
-fn send_all(sending: Sending, buffer: &mut [u8], symbols: &mut [u8], answers: &mut [u8])
+fn send_all(sending: SenderStream, buffer: &mut [u8], symbols: &mut [u8], answers: &mut [u8])
     requires { ⌜ Buffers sending (now buffer) (now symbols) (now answers) ⌝ }
 {
     let mut sending = sending;
@@ -106,7 +111,7 @@ fn send_all(sending: Sending, buffer: &mut [u8], symbols: &mut [u8], answers: &m
 }
 
 // The buffers are for a piece of 64 packets, for the symbols that they give at most, and for an answer for each.
-fn send(sending: Sending)
+fn send(sending: SenderStream)
     requires { ⌜ canSend sending ≡ true ⌝ }
 {
     let mut buffer = [0u8; 12032];
@@ -134,7 +139,7 @@ fn main() {
         usage();
         return;
     }
-    let begun = Sending::new(digit - b'0');
+    let begun = SenderStream::new(digit - b'0');
     let answer = begun.answer;
     if answer.number() != 0 {
         usage();

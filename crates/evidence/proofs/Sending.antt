@@ -32,7 +32,7 @@ use Rattle.sender.specs.Input.{packetsFor}
 use Rattle.sender.proofs.Inputs.{packets-kept}
 use Rattle.sender.proofs.Counts.{block-bits, length-on-air}
 use Rattle.sender.proofs.Distinct.{low-bit, same-low}
-use Rattle.transmission.specs.Run.{runSymbols, runRefusal, SendsRun}
+use Rattle.sender_stream.specs.Run.{runSymbols, runRefusal, SendsRun}
 use Rattle.sent_blocks.specs.Blocks.{sentBytes}
 use Rattle.evidence.proofs.Samples.{samples, samples-packets, samples-length, samples-front, last-byte}
 

@@ -14,20 +14,20 @@ use Rattle.common.specs.Choice.{pick}
 use Rattle.input_pieces.specs.Read.{ReadsPiece}
 use Rattle.input_pieces.specs.declared.Piece.{Piece}
 use Rattle.input_pieces.proofs.Laws.{read-most}
-use Rattle.stream_receiver.specs.Feed.{freshStream, capacityOf, streamInRange, receiverFeedNumber, FeedsReceiver, refused, fed}
-use Rattle.stream_receiver.specs.History.{Reception, ReceiverCame}
-use Rattle.stream_receiver.specs.declared.StreamReceiver.{StreamReceiver}
-use Rattle.stream_receiver.proofs.Laws.{reception-none, reception-range, reception-capacity}
-use Rattle.stream_receiver.proofs.Histories.{reception-number, reception-feeds}
+use Rattle.receiver_stream.specs.Feed.{freshReceiverStream, capacityOf, receiverStreamInRange, receiverFeedNumber, FeedsReceiver, refused, fed}
+use Rattle.receiver_stream.specs.History.{Reception, ReceiverCame}
+use Rattle.receiver_stream.specs.declared.ReceiverStream.{ReceiverStream}
+use Rattle.receiver_stream.proofs.Laws.{reception-none, reception-range, reception-capacity}
+use Rattle.receiver_stream.proofs.Histories.{reception-number, reception-feeds}
 use Rattle.pass.specs.Turn.{Turns, Passes}
 use Rattle.pass.specs.declared.Turn.{Turn}
 
 -- ---- a turn
 
-pub capacity-is : {s : StreamReceiver} → ReceiverCame s → {n : ℕ} → n ≡ pick (streamInRange s) (capacityOf s) 0 → n ≡ capacityOf s
+pub capacity-is : {s : ReceiverStream} → ReceiverCame s → {n : ℕ} → n ≡ pick (receiverStreamInRange s) (capacityOf s) 0 → n ≡ capacityOf s
 capacity-is {s} k e = e ∙ ap (λ (t : Bool). pick t (capacityOf s) 0) (reception-range (k .reception))
 
-module _ {s : StreamReceiver} (k : ReceiverCame s) (piece output : List ℕ) (fits : length piece ≤ capacityOf s) (few : length piece ≤ 65536) (enough : length output ≡ 65536) where
+module _ {s : ReceiverStream} (k : ReceiverCame s) (piece output : List ℕ) (fits : length piece ≤ capacityOf s) (few : length piece ≤ 65536) (enough : length output ≡ 65536) where
   none-refuses : receiverFeedNumber s piece output ≡ 0
   none-refuses =
       let r = k .reception in
@@ -36,11 +36,11 @@ module _ {s : StreamReceiver} (k : ReceiverCame s) (piece output : List ℕ) (fi
       let q : length piece ≤ 204 * 4294967295 - length b = omega (arith, reception-capacity r) in
       reception-number r piece output ∙ simp (le-ltb _ _ p, le-ltb _ _ q)
 
-  done : {number count : ℕ} {next : StreamReceiver} {exit : List ℕ} → FeedsReceiver s piece output number count next exit → number ≡ 0
+  done : {number count : ℕ} {next : ReceiverStream} {exit : List ℕ} → FeedsReceiver s piece output number count next exit → number ≡ 0
   done (refused n h c t w) = absurd (omega (arith, n, none-refuses))
   done (fed z n t) = n
 
-pub turns : {s : StreamReceiver} → ReceiverCame s → (before buffer output exit : List ℕ) (piece : Piece) (most number count : ℕ) (next : StreamReceiver)
+pub turns : {s : ReceiverStream} → ReceiverCame s → (before buffer output exit : List ℕ) (piece : Piece) (most number count : ℕ) (next : ReceiverStream)
     → length before ≡ 65536 → length buffer ≡ 65536 → length output ≡ 65536 → most ≡ min (capacityOf s) (length before)
     → ReadsPiece most before buffer piece → FeedsReceiver s (take (piece .length) buffer) output number count next exit
     → Turns s before buffer output exit (record { piece = piece; count = count; stream = next })
@@ -57,19 +57,19 @@ turns {s} k before buffer output exit piece most number count next a b o m r f =
 -- ---- the loop
 
 -- so many bytes came, and this is what they come to
-pub record Passing (s : StreamReceiver) (came : ℕ) : Type 0 where
+pub record Passing (s : ReceiverStream) (came : ℕ) : Type 0 where
   pub bytes : List ℕ
   pub written : List ℕ
   pub reception : Reception bytes written s
   pub all : length bytes ≡ came
 
-pub passing-none : {s : StreamReceiver} → s ≡ freshStream → Passing s 0
+pub passing-none : {s : ReceiverStream} → s ≡ freshReceiverStream → Passing s 0
 passing-none {s} e = record { bytes = []; written = []; reception = subst (Reception [] []) (sym e) reception-none; all = refl }
 
-pub passing-came : {s : StreamReceiver} {came : ℕ} → Passing s came → ReceiverCame s
+pub passing-came : {s : ReceiverStream} {came : ℕ} → Passing s came → ReceiverCame s
 passing-came p = record { bytes = p .bytes; written = p .written; reception = p .reception }
 
-written-fits : {s : StreamReceiver} {piece output exit : List ℕ} {number count : ℕ} {next : StreamReceiver} → FeedsReceiver s piece output number count next exit
+written-fits : {s : ReceiverStream} {piece output exit : List ℕ} {number count : ℕ} {next : ReceiverStream} → FeedsReceiver s piece output number count next exit
     → count ≤ length exit
 written-fits (refused n h c t w) = omega arith
 written-fits {output = output} {count = count} (fed z n t) =
@@ -79,7 +79,7 @@ written-fits {output = output} {count = count} (fed z n t) =
 less : (m a b n : ℕ) → b ≡ a + n → b ≤ m → (n ≡ 0 → ⊥) → m - b < m - a
 less m a b n e h z = omega arith
 
-module _ {s : StreamReceiver} {came : ℕ} (p : Passing s came) {before buffer output packets : List ℕ} {r : Turn} (t : Turns s before buffer output packets r)
+module _ {s : ReceiverStream} {came : ℕ} (p : Passing s came) {before buffer output packets : List ℕ} {r : Turn} (t : Turns s before buffer output packets r)
     (size : length buffer ≡ length before) where
   pub given-within : r .count ≤ length packets
   given-within = written-fits (t .fed)
@@ -106,10 +106,10 @@ module _ {s : StreamReceiver} {came : ℕ} (p : Passing s came) {before buffer o
       (passing-more .all ∙ ap (λ (n : ℕ). n + r .piece .length) (sym (p .all))) (passing-more .reception .few) h)
 
 -- a read or a write failed
-pub passes-part : {s : StreamReceiver} {came : ℕ} {last : ℤ} → Passing s came → Passes (record { stream = s; came = came; last = last; failed = true })
+pub passes-part : {s : ReceiverStream} {came : ℕ} {last : ℤ} → Passing s came → Passes (record { stream = s; came = came; last = last; failed = true })
 passes-part p = record { bytes = p .bytes; written = p .written; reception = p .reception; all = p .all; ended = λ e. absurd (true≢false e) }
 
 -- the last read answered 0
-pub passes-whole : {s : StreamReceiver} {came : ℕ} {last : ℤ} → Passing s came → last ≡ pos 0
+pub passes-whole : {s : ReceiverStream} {came : ℕ} {last : ℤ} → Passing s came → last ≡ pos 0
     → Passes (record { stream = s; came = came; last = last; failed = false })
 passes-whole p z = record { bytes = p .bytes; written = p .written; reception = p .reception; all = p .all; ended = λ e. z }

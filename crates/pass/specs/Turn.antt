@@ -8,17 +8,17 @@ use Prim.Native.Nat.{ℕ, min}
 use lib.IntN.{pos}
 use lib.ListN.{length, take, replicate}
 use Rattle.input_pieces.specs.Read.{ReadsPiece}
-use Rattle.stream_receiver.specs.Feed.{capacityOf, FeedsReceiver}
-use Rattle.stream_receiver.specs.History.{Reception}
-use Rattle.stream_receiver.specs.Reporting.{Reports}
-use Rattle.stream_receiver.specs.declared.StreamReceiver.{StreamReceiver}
+use Rattle.receiver_stream.specs.Feed.{capacityOf, FeedsReceiver}
+use Rattle.receiver_stream.specs.History.{Reception}
+use Rattle.receiver_stream.specs.Reporting.{Reports}
+use Rattle.receiver_stream.specs.declared.ReceiverStream.{ReceiverStream}
 use Rattle.pass.specs.declared.Turn.{Turn}
 use Rattle.pass.specs.declared.Pass.{Pass}
 use Rattle.pass.specs.declared.Told.{Told}
 
 -- One read of at most as many bytes as the buffer has and as can still come; the bytes that came, at the front of the buffer, are fed and
 -- not refused. What is given stands at the front of the packets.
-pub record Turns (s : StreamReceiver) (before buffer output packets : List ℕ) (r : Turn) : Type 0 where
+pub record Turns (s : ReceiverStream) (before buffer output packets : List ℕ) (r : Turn) : Type 0 where
   pub read : ReadsPiece (min (capacityOf s) (length before)) before buffer (r .piece)
   pub fed : FeedsReceiver s (take (r .piece .length) buffer) output 0 (r .count) (r .stream) packets
 

@@ -5,14 +5,14 @@ ghost use mathlib.Core.Path.{_≡_};
 ghost use Prim.Native.Nat.{_≤_, min};
 ghost use lib.ListN.{length};
 ghost use Rattle.pass.specs.Turn.{Turns, Passes, Tells};
-ghost use Rattle.stream_receiver.specs.History.{ReceiverCame};
+ghost use Rattle.receiver_stream.specs.History.{ReceiverCame};
 use input_pieces::Piece;
 use libc::STDOUT_FILENO;
-use stream_receiver::StreamReceiver;
+use receiver_stream::ReceiverStream;
 
 // What a pass came to.
 pub struct Pass {
-    pub stream: StreamReceiver,
+    pub stream: ReceiverStream,
     // How many bytes came in all.
     pub came: u64,
     // What the last read answered.
@@ -31,7 +31,7 @@ pub struct Told {
 struct Turn {
     piece: Piece,
     count: usize,
-    stream: StreamReceiver,
+    stream: ReceiverStream,
 }
 
 // The smaller of two numbers.
@@ -46,7 +46,7 @@ fn smaller(capacity: u64, length: usize) -> usize
 }
 
 // Reads once and takes what came. Nothing is read past the blocks that can be counted.
-fn receive_piece(fd: i32, stream: StreamReceiver, buffer: &mut [u8], packets: &mut [u8]) -> Turn
+fn receive_piece(fd: i32, stream: ReceiverStream, buffer: &mut [u8], packets: &mut [u8]) -> Turn
     requires { ⌜ (ReceiverCame stream) × (length (now buffer) ≡ 65536) × (length (now packets) ≡ 65536) ⌝ }
     ensures { λ r. ⌜ Turns stream (now (buffer .entry)) (now (buffer .exit)) (now (packets .entry)) (now (packets .exit)) r ⌝ }
 {
@@ -79,7 +79,7 @@ fn receive_all(fd: i32, wanted: bool, buffer: &mut [u8], packets: &mut [u8]) -> 
     requires { ⌜ (length (now buffer) ≡ 65536) × (length (now packets) ≡ 65536) ⌝ }
     ensures { λ r. ⌜ Passes r ⌝ }
 {
-    let mut stream = StreamReceiver::new();
+    let mut stream = ReceiverStream::new();
     let mut came: u64 = 0;
     loop {
         let turn = receive_piece(fd, stream, buffer, packets);

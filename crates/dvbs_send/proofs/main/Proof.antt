@@ -1,8 +1,8 @@
 -- `dvbs_send::main` is safe.
 -- Assumes nothing.
 use mathlib.Core.Path.{ap, sym, _∙_}
-use Rattle.sending.specs.Sending.{canSend}
-use Rattle.sending.proofs.History.{fresh-range}
+use Rattle.sender_stream.specs.Feed.{canSend}
+use Rattle.sender_stream.proofs.History.{fresh-range}
 use borrow.Author.Needs.{needs}
 use Rattle.dvbs_send.proofs.main.Statement.{statement}
 use Rattle.dvbs_send.proofs.main.Tie as tie

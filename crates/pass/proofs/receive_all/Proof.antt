@@ -9,7 +9,7 @@ use lib.ListN.{length}
 use lib.Signed.{ltZ}
 use mir.Syntax.{w64}
 use mir.Val.{toZ, ofZ}
-use Rattle.stream_receiver.specs.Feed.{capacityOf}
+use Rattle.receiver_stream.specs.Feed.{capacityOf}
 use Rattle.input_pieces.proofs.Laws.{nothing-read}
 use Rattle.pass.proofs.Turns.{Passing, passing-none, passing-came, given-within, passing-more, passing-few, fewer, passes-part, passes-whole}
 use borrow.Author.Needs.{needs}

@@ -4,7 +4,7 @@ use mathlib.Core.Path.{refl}
 use Prim.Native.Nat.{_≤_}
 use native.Mathlib.Omega.{arith}
 use lib.ListN.{length}
-use Rattle.stream_receiver.proofs.Reporting.{reports-within}
+use Rattle.receiver_stream.proofs.Reporting.{reports-within}
 use Rattle.pass.specs.Turn.{part, whole}
 use borrow.Author.Needs.{needs}
 use Rattle.pass.proofs.told_of.Statement.{statement}

@@ -1,4 +1,0 @@
-mod Counts
-mod Progress
-pub mod Laws
-pub mod History

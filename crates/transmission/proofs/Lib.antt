@@ -1,4 +1,0 @@
-mod Counting
-pub mod Buffers
-mod Progress
-mod Outcome
