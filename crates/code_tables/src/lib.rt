@@ -46,7 +46,7 @@ pub const I_7_8: [usize; 4] = [X1, Y2, Y4, Y6];
 
 pub const Q_7_8: [usize; 4] = [Y1, Y3, X5, X7];
 
-// At 16QAM 3/4 the two coded bits of the one symbol, beside two that are not coded.
+// At 16QAM 3/4 the two coded bits of the one symbol, beside two that are not coded. Its blocks have fewer coded bits: what counts is whether each is X or Y.
 pub const C2_16QAM: [usize; 1] = [Y1];
 
 pub const C1_16QAM: [usize; 1] = [X1];
