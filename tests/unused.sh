@@ -63,8 +63,18 @@ sed 's/^/have\t/' "$work/files" | cat - "$work/items" "$work/cited" | awk -F '\t
         exit found
     }' || found=1
 
-# The code: a name is used where it stands in more places than those that declare it. What C calls is used from there.
-grep '\.rt$' "$work/files" | xargs awk '
+# The code: a name is used where it stands in more places than those that declare it. What C calls is used from there, and a public function of a crate
+# that docs/ARCHITECTURE.md names under "Public surface" by whoever calls it.
+surface=$(sed -n '/^What a caller may use/p' docs/ARCHITECTURE.md | grep -o '`[a-z_0-9:]*`' | tr -d '`' | tr '\n' ' ')
+grep '\.rt$' "$work/files" | xargs awk -v surface="$surface" '
+    BEGIN {
+        n = split(surface, crate, " ")
+        for (i = 1; i <= n; i++) {
+            file = crate[i] ~ /::/ ? crate[i] : crate[i] "::lib"
+            sub(/::/, "/src/", file)
+            public["crates/" file ".rt"] = 1
+        }
+    }
     { sub(/ *\/\/.*/, "") }
     /^use / {
         sub(/;$/, "")
@@ -76,6 +86,8 @@ grep '\.rt$' "$work/files" | xargs awk '
         n = split(substr($0, RSTART, RLENGTH), word, " ")
         declared[word[n]]++
         place[word[n]] = FILENAME ":" FNR
+        if (FILENAME in public && $0 ~ /^ *pub fn /)
+            said[word[n]]++
     }
     {
         n = split($0, word, /[^A-Za-z_0-9]+/)

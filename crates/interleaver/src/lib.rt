@@ -30,9 +30,15 @@ pub struct Interleaved {
     pub interleaver: Interleaver,
 }
 
-// The receiving side, as the receiver holds it: its blocks pass with their marks beside them.
+// The receiving side.
 pub struct Deinterleaver {
     pub branches: Branches,
+}
+
+// An answer, and the receiving side after it.
+pub struct Deinterleaved {
+    pub answer: Answer,
+    pub deinterleaver: Deinterleaver,
 }
 
 // The tests, and the work.
@@ -121,5 +127,23 @@ impl Deinterleaver {
         let branches = self.branches;
         let positions = branches.positions;
         positions_within(Side::Receiving, positions)
+    }
+
+    // Puts a block in, and writes the block that leaves.
+    pub fn deinterleave(self, block: &[u8], output: &mut [u8]) -> Deinterleaved
+        ensures { λ r. ⌜
+            (numberOf (r .answer) ≡ passNumber Side.Receiving (self .branches) (now (block .entry)) (now (output .entry)))
+            × (r .deinterleaver .branches ≡ passBranches Side.Receiving (self .branches) (now (block .entry)) (now (output .entry)))
+            × (now (output .exit) ≡ passOutput Side.Receiving (self .branches) (now (block .entry)) (now (output .entry))) ⌝ }
+    {
+        let before = self.branches;
+        let passed = pass(Side::Receiving, before, block, output);
+        let answer = passed.answer;
+        let branches = passed.branches;
+        let deinterleaver = Deinterleaver { branches };
+        Deinterleaved {
+            answer,
+            deinterleaver,
+        }
     }
 }
