@@ -1,0 +1,15 @@
+pub mod Difference
+pub mod SparseSteps
+pub mod Linear
+pub mod Exchange
+pub mod Tables
+pub mod Weights
+pub mod Runs
+pub mod Windows
+pub mod Received
+pub mod Streams
+pub mod Ends
+pub mod Numbers
+pub mod Noise
+pub mod Sharp
+pub mod Distance
