@@ -58,7 +58,7 @@ free-distance rate m hr hm xs ys vx vy l whole one n =
     let d = run-is (map hardDoubt ss) g (spread-splits hardDoubt (k .part-doubt) (k .some) (k .doubt-splits) ss) rate m hr hm vx whole (sym (length-map ss hardDoubt)) in
     let f = distant (puncturedCosts rate c) (puncturedCosts rate g) (λ k d z. 1 * weight rate k d z)
     (steps-tell 1 c g (λ j v o hv ho. k .tells (getD ss (j / 2) (k .some)) (j % 2) v o hv ho) rate) (λ k d. 1 * home rate k d) (λ k d. 1 * growth rate k d)
-    (1 * free rate) (slope rate) (1 * rise rate) (1 * lead rate) (1 * lag rate) (potentials 1 rate hr) 0 m xs ys hm vx vy l one n in
+    (1 * free rate) (slope rate) (λ k. 1 * rise rate) (1 * lead rate) (1 * lag rate) (potentials 1 rate hr) 0 m xs ys hm vx vy l one n in
     omega (arith, f, a, b, d, twice ss ss, own-free ss, free-is rate hr)
 
 -- and two are as near as that

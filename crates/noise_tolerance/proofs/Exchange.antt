@@ -23,11 +23,11 @@ use Rattle.noise_tolerance.proofs.Linear.{difference-next, difference-s
 
 -- ---- parts of a list of bits
 
-bits-back : (a b : List ℕ) → Bits (a ++ b) → Bits b
+pub bits-back : (a b : List ℕ) → Bits (a ++ b) → Bits b
 bits-back [] b w = w
 bits-back (x ∷ a) b (more h w) = bits-back a b w
 
-memory-lt : (m : ℕ) → m < 64 → {xs : List ℕ} → Bits xs → memoryAfter m xs < 64
+pub memory-lt : (m : ℕ) → m < 64 → {xs : List ℕ} → Bits xs → memoryAfter m xs < 64
 unfolding memoryAfter
 memory-lt m h none = h
 memory-lt m h (more {b} q w) = memory-lt (nextMemory m b) (next-lt m b h q) w
@@ -88,35 +88,48 @@ sparse-windows F w t (suc q) l k m xs h le =
 
 -- ---- weights, and their potentials
 
+-- the sum of what n steps from step k on rise by
+abbrev pub climb : (ℕ → ℕ) → ℕ → ℕ → ℕ
+climb rise k zero = 0
+climb rise k (suc n) = rise k + climb rise (suc k) n
+
+pub climb-even : (r k n : ℕ) → climb (λ j. r) k n ≡ r * n
+climb-even r k zero = omega arith
+climb-even r k (suc n) = omega (arith, climb-even r (suc k) n)
+
 -- What is asked of the weights of differences: on the way home to no difference there is at least `home` of weight left, and from leaving it to being back
--- at least `free`; and a path of n steps that does not come home has weight v with rise * n + lead ≤ slope * v + lag.
-pub record Potentials (w : Costs) (home growth : ℕ → ℕ → ℕ) (free slope rise lead lag : ℕ) : Type 0 where
+-- at least `free`; and a path of n steps that does not come home, of which step k rises by `rise k`, has weight v with climb + lead ≤ slope * v + lag.
+pub record Potentials (w : Costs) (home growth : ℕ → ℕ → ℕ) (free slope : ℕ) (rise : ℕ → ℕ) (lead lag : ℕ) : Type 0 where
   pub at-home : (k : ℕ) → home k 0 ≡ 0
   pub homeward : (k d z : ℕ) → 0 < d → d < 64 → z < 2 → home k d ≤ w k d z + home (suc k) (nextMemory d z)
-  pub growing : (k d z : ℕ) → 0 < d → d < 64 → z < 2 → rise + growth (suc k) (nextMemory d z) ≤ slope * w k d z + growth k d
+  pub growing : (k d z : ℕ) → 0 < d → d < 64 → z < 2 → rise k + growth (suc k) (nextMemory d z) ≤ slope * w k d z + growth k d
   pub leaving : (k : ℕ) → free ≤ w k 0 1 + home (suc k) 32
-  pub starting : (k : ℕ) → rise + lead + growth (suc k) 32 ≤ slope * w k 0 1 + lag
+  pub starting : (k : ℕ) → rise k + lead + growth (suc k) 32 ≤ slope * w k 0 1 + lag
 
 -- what is received tells two bits apart: against the sent bit, another one costs at least the weight of the difference more, but for the doubt
 abbrev pub Tells : Costs → Costs → Costs → Type 0
 Tells F G w = (k s t x y : ℕ) → s < 64 → t < 64 → x < 2 → y < 2 → w k (difference s t) (unlike x y) + F k s x ≤ F k t y + G k s x
 
-module _ (F G w : Costs) (tells : Tells F G w) (home growth : ℕ → ℕ → ℕ) (free slope rise lead lag : ℕ)
+-- two sequences from two memories on are never at one memory in their first n steps
+abbrev pub Apart : ℕ → ℕ → List ℕ → List ℕ → ℕ → Type 0
+Apart s t xs ys n = (i : ℕ) → i < n → memoryAfter s (take i xs) ≡ memoryAfter t (take i ys) → ⊥
+
+module _ (F G w : Costs) (tells : Tells F G w) (home growth : ℕ → ℕ → ℕ) (free slope : ℕ) (rise : ℕ → ℕ) (lead lag : ℕ)
     (p : Potentials w home growth free slope rise lead lag) where
   -- two sequences from two memories on: they meet, or they never do; the weight v of their difference so far
-  data Scan (k s t : ℕ) (xs ys : List ℕ) : Type 0 where
+  pub data Scan (k s t : ℕ) (xs ys : List ℕ) : Type 0 where
     meets : (a b c d : List ℕ) (v : ℕ) → xs ≡ a ++ c → ys ≡ b ++ d → length a ≡ length b → memoryAfter s a ≡ memoryAfter t b
-        → home k (difference s t) ≤ v → rise * length a ≤ slope * v + growth k (difference s t)
-        → v + costFrom F k s a ≤ costFrom F k t b + costFrom G k s a → Scan k s t xs ys
-    parts : (v : ℕ) → rise * length xs ≤ slope * v + growth k (difference s t) → v + costFrom F k s xs ≤ costFrom F k t ys + costFrom G k s xs
-        → (memoryAfter s xs ≡ memoryAfter t ys → ⊥) → Scan k s t xs ys
+        → home k (difference s t) ≤ v → climb rise k (length a) ≤ slope * v + growth k (difference s t)
+        → v + costFrom F k s a ≤ costFrom F k t b + costFrom G k s a → Apart s t xs ys (length a) → Scan k s t xs ys
+    parts : (v : ℕ) → climb rise k (length xs) ≤ slope * v + growth k (difference s t) → v + costFrom F k s xs ≤ costFrom F k t ys + costFrom G k s xs
+        → (memoryAfter s xs ≡ memoryAfter t ys → ⊥) → Apart s t xs ys (length xs) → Scan k s t xs ys
 
   met : (k s t : ℕ) (xs ys : List ℕ) → s ≡ t → Scan k s t xs ys
   unfolding costFrom memoryAfter
   met k s t xs ys e =
       let z : difference s t ≡ 0 = ap (difference s) (sym e) ∙ difference-same s in
       let h : home k (difference s t) ≡ 0 = ap (home k) z ∙ p .at-home k in
-      meets [] [] xs ys 0 refl refl refl e (omega arith) (omega arith) (omega arith)
+      meets [] [] xs ys 0 refl refl refl e (omega arith) (omega arith) (omega arith) (λ i l. absurd (omega arith))
 
   apart : (s t : ℕ) → s < 64 → t < 64 → (s ≡ t → ⊥) → 0 < difference s t
   apart s t hs ht n = by (difference s t) refl
@@ -125,10 +138,15 @@ module _ (F G w : Costs) (tells : Tells F G w) (home growth : ℕ → ℕ → �
       by zero e = absurd (n (difference-none s t hs ht e))
       by (suc d) e = omega arith
 
+  apart-more : (s t x y : ℕ) (xs ys : List ℕ) (n : ℕ) → (s ≡ t → ⊥) → Apart (nextMemory s x) (nextMemory t y) xs ys n → Apart s t (x ∷ xs) (y ∷ ys) (suc n)
+  unfolding memoryAfter
+  apart-more s t x y xs ys n d h zero l = d
+  apart-more s t x y xs ys n d h (suc i) l = h i (omega arith)
+
   one-more : (k s t x y : ℕ) (xs ys : List ℕ) → s < 64 → t < 64 → x < 2 → y < 2 → (s ≡ t → ⊥) → Scan (suc k) (nextMemory s x) (nextMemory t y) xs ys
       → Scan k s t (x ∷ xs) (y ∷ ys)
   unfolding costFrom memoryAfter
-  one-more k s t x y xs ys hs ht hx hy n (meets a b c d v e f l q h g r) =
+  one-more k s t x y xs ys hs ht hx hy n (meets a b c d v e f l q h g r o) =
       let u : ℕ = w k (difference s t) (unlike x y) in
       let next = difference-next s t x y hs ht hx hy in
       let pos = apart s t hs ht n in
@@ -139,8 +157,8 @@ module _ (F G w : Costs) (tells : Tells F G w) (home growth : ℕ → ℕ → �
       let g″ = rw next at g in
       let r′ = tells k s t x y hs ht hx hy in
       meets (x ∷ a) (y ∷ b) c d (u + v) (ap (λ (o : List ℕ). x ∷ o) e) (ap (λ (o : List ℕ). y ∷ o) f) (omega arith) q
-      (omega (arith, h′, h″)) (omega (arith, g′, g″)) (omega (arith, r, r′))
-  one-more k s t x y xs ys hs ht hx hy n (parts v g r o) =
+      (omega (arith, h′, h″)) (omega (arith, g′, g″)) (omega (arith, r, r′)) (apart-more s t x y xs ys (length a) n o)
+  one-more k s t x y xs ys hs ht hx hy n (parts v g r o far) =
       let u : ℕ = w k (difference s t) (unlike x y) in
       let next = difference-next s t x y hs ht hx hy in
       let pos = apart s t hs ht n in
@@ -148,15 +166,15 @@ module _ (F G w : Costs) (tells : Tells F G w) (home growth : ℕ → ℕ → �
       let g′ = p .growing k (difference s t) (unlike x y) pos (difference-lt s t) z in
       let g″ = rw next at g in
       let r′ = tells k s t x y hs ht hx hy in
-      parts (u + v) (omega (arith, g′, g″)) (omega (arith, r, r′)) o
+      parts (u + v) (omega (arith, g′, g″)) (omega (arith, r, r′)) o (apart-more s t x y xs ys (length xs) n far)
 
-  scan : (k s t : ℕ) (xs ys : List ℕ) → s < 64 → t < 64 → Bits xs → Bits ys → length xs ≡ length ys → Scan k s t xs ys
+  pub scan : (k s t : ℕ) (xs ys : List ℕ) → s < 64 → t < 64 → Bits xs → Bits ys → length xs ≡ length ys → Scan k s t xs ys
   unfolding costFrom memoryAfter
   scan k s t [] [] hs ht v u l = by (ℕ-discrete s t)
     where
       by : Dec (s ≡ t) → Scan k s t [] []
       by (yes e) = met k s t [] [] e
-      by (no n) = parts 0 (omega arith) (omega arith) n
+      by (no n) = parts 0 (omega arith) (omega arith) n (λ i l. absurd (omega arith))
   scan k s t [] (y ∷ ys) hs ht v u l = absurd (omega arith)
   scan k s t (x ∷ xs) [] hs ht v u l = absurd (omega arith)
   scan k s t (x ∷ xs) (y ∷ ys) hs ht v u l =
@@ -186,8 +204,8 @@ module _ (F G w : Costs) (tells : Tells F G w) (home growth : ℕ → ℕ → �
       (one : memoryAfter (nextMemory m x) xs ≡ memoryAfter (nextMemory m y) ys) where
     parted-far : Scan (suc k) (nextMemory m x) (nextMemory m y) xs ys → free + costFrom F k m (x ∷ xs) ≤ costFrom F k m (y ∷ ys) + costFrom G k m (x ∷ xs)
     unfolding costFrom memoryAfter
-    parted-far (parts v g r o) = absurd (o one)
-    parted-far (meets a b c d v e f o q h g r) =
+    parted-far (parts v g r o far) = absurd (o one)
+    parted-far (meets a b c d v e f o q h g r far) =
         let h′ : home (suc k) 32 ≤ v = rw (difference-parted m x y hm hx hy n) at h in
         let first : w k 0 1 + F k m x ≤ F k m y + G k m x = rw (difference-same m, unlike-parted x y hx hy n) at (tells k m m x y hm hm hx hy) in
         let i : ℕ = suc k + length a in
@@ -241,17 +259,18 @@ module _ (F G w : Costs) (tells : Tells F G w) (home growth : ℕ → ℕ → �
     pub long : ℕ
     pub within : long ≤ length xs
     pub seen : w k 0 1 ≤ costFrom G k m (take (suc long) (x ∷ xs))
-    pub enough : rise * suc long + lead ≤ slope * costFrom G k m (take (suc long) (x ∷ xs)) + lag
+    pub enough : climb rise k (suc long) + lead ≤ slope * costFrom G k m (take (suc long) (x ∷ xs)) + lag
+    pub apart : Apart (nextMemory m x) (nextMemory m y) xs ys long
     pub meeting : long < length xs → (memoryAfter (nextMemory m x) (take long xs) ≡ memoryAfter (nextMemory m y) (take long ys)) × (free ≤ costFrom G k m (take (suc long) (x ∷ xs)))
 
   module _ (k m x y : ℕ) (xs ys : List ℕ) (hm : m < 64) (hx : x < 2) (hy : y < 2) (n : x ≡ y → ⊥) (vx : Bits xs) (vy : Bits ys) (l : length xs ≡ length ys)
       (least : (zs : List ℕ) → Bits zs → length zs ≡ length (y ∷ ys) → costFrom F k m (y ∷ ys) ≤ costFrom F k m zs) where
     stretched : Scan (suc k) (nextMemory m x) (nextMemory m y) xs ys → Stretch k m x y xs ys
     unfolding costFrom memoryAfter
-    stretched (meets a b c d v e f o q h g r) =
+    stretched (meets a b c d v e f o q h g r far) =
         let dif = difference-parted m x y hm hx hy n in
         let h′ : home (suc k) 32 ≤ v = rw dif at h in
-        let g′ : rise * length a ≤ slope * v + growth (suc k) 32 = rw dif at g in
+        let g′ : climb rise (suc k) (length a) ≤ slope * v + growth (suc k) 32 = rw dif at g in
         let begin : w k 0 1 + F k m x ≤ F k m y + G k m x = rw (difference-same m, unlike-parted x y hx hy n) at (tells k m m x y hm hm hx hy) in
         let va : Bits a = bits-front a c (subst Bits e vx) in
         let vd : Bits d = bits-back b d (subst Bits f vy) in
@@ -271,11 +290,12 @@ module _ (F G w : Costs) (tells : Tells F G w) (home growth : ℕ → ℕ → �
           within = omega (arith, ap length e, length-append a c);
           seen = rw fx (omega (arith, ve));
           enough = rw fx (omega (arith, sv, g′, p .starting k));
+          apart = far;
           meeting = λ short. (rw (fx, fy) q, rw fx (omega (arith, ve, h′, p .leaving k)));
         }
-    stretched (parts v g r o) =
+    stretched (parts v g r o far) =
         let dif = difference-parted m x y hm hx hy n in
-        let g′ : rise * length xs ≤ slope * v + growth (suc k) 32 = rw dif at g in
+        let g′ : climb rise (suc k) (length xs) ≤ slope * v + growth (suc k) 32 = rw dif at g in
         let begin : w k 0 1 + F k m x ≤ F k m y + G k m x = rw (difference-same m, unlike-parted x y hx hy n) at (tells k m m x y hm hm hx hy) in
         let le = least (x ∷ xs) (more hx vx) (ap suc l) in
         let ve : w k 0 1 + v ≤ G k m x + costFrom G (suc k) (nextMemory m x) xs = omega (arith, begin, r, le) in
@@ -285,6 +305,7 @@ module _ (F G w : Costs) (tells : Tells F G w) (home growth : ℕ → ℕ → �
           within = omega arith;
           seen = rw (take-length xs) (omega (arith, ve));
           enough = rw (take-length xs) (omega (arith, sv, g′, p .starting k));
+          apart = far;
           meeting = λ short. absurd (omega arith);
         }
 
@@ -295,10 +316,10 @@ module _ (F G w : Costs) (tells : Tells F G w) (home growth : ℕ → ℕ → �
 
   -- so sparse: any window of so many steps has at most so much doubt, and that is too little for a stretch that is home again, for one that is longer than
   -- `depth`, and, twice and more, for one that is longer than the window
-  module _ (window most depth : ℕ) (some : 0 < window) (rises : 0 < rise) (below-free : most < free) (deep : slope * most + lag < rise * suc depth + lead)
-      (steady : slope * most ≤ rise * window) (wide : 2 * (slope * most) + lag ≤ rise * window + lead) where
+  module _ (even : ℕ) (evenly : (k n : ℕ) → climb rise k n ≡ even * n) (window most depth : ℕ) (some : 0 < window) (rises : 0 < even) (below-free : most < free)
+      (deep : slope * most + lag < even * suc depth + lead) (steady : slope * most ≤ even * window) (wide : 2 * (slope * most) + lag ≤ even * window + lead) where
     -- of a stretch of steps and weight v, more than a window's doubt, the doubt e cannot be as much as v
-    tight : (n v e : ℕ) → v ≤ e → most < v → rise * suc n + lead ≤ slope * v + lag → ((q : ℕ) → suc n ≤ window * q → e ≤ most * q) → ⊥
+    tight : (n v e : ℕ) → v ≤ e → most < v → even * suc n + lead ≤ slope * v + lag → ((q : ℕ) → suc n ≤ window * q → e ≤ most * q) → ⊥
     tight n v e ve mv g bound = by (n / window) (n % window) (div-add-mod n window) (mod-lt n some)
       where
         by : (q r : ℕ) → window * q + r ≡ n → r < window → ⊥
@@ -307,16 +328,16 @@ module _ (F G w : Costs) (tells : Tells F G w) (home growth : ℕ → ℕ → �
             let b : e ≤ most * suc (suc q) = bound (suc (suc q)) (omega arith) in
             let f : slope * v ≤ slope * e = mul-le-mul-left slope ve in
             let c : slope * e ≤ slope * (most * suc (suc q)) = mul-le-mul-left slope b in
-            let s : slope * most * q ≤ rise * window * q = mul-le-mul-right q steady in
-            let t : rise * (window * suc q + r + 1) ≡ rise * suc n = ap (λ (i : ℕ). rise * i) (omega arith) in
+            let s : slope * most * q ≤ even * window * q = mul-le-mul-right q steady in
+            let t : even * (window * suc q + r + 1) ≡ even * suc n = ap (λ (i : ℕ). even * i) (omega arith) in
             omega arith
 
     -- a stretch longer than the depth weighs more than a window's doubt
-    deep-weight : (n v : ℕ) → depth ≤ n → rise * suc n + lead ≤ slope * v + lag → most < v
+    deep-weight : (n v : ℕ) → depth ≤ n → even * suc n + lead ≤ slope * v + lag → most < v
     deep-weight n v h g = by (decLe v most)
       where
         by : Dec (v ≤ most) → most < v
-        by (yes l) = absurd (omega (arith, mul-le-mul-left slope l, mul-le-mul-left rise h))
+        by (yes l) = absurd (omega (arith, mul-le-mul-left slope l, mul-le-mul-left even h))
         by (no l) = omega arith
 
     -- ---- where two sequences part
@@ -329,33 +350,40 @@ module _ (F G w : Costs) (tells : Tells F G w) (home growth : ℕ → ℕ → �
       pub near : length xs < depth
       pub doubted : w k 0 1 ≤ costFrom G k m (x ∷ xs)
 
-    module _ (k m x y : ℕ) (xs ys : List ℕ) (hm : m < 64) (hx : x < 2) (hy : y < 2) (n : x ≡ y → ⊥) (vx : Bits xs) (vy : Bits ys) (l : length xs ≡ length ys)
-        (least : Least k m (y ∷ ys)) (sparse : Sparse G window most k m (x ∷ xs)) where
-      -- of a stretch that is home again there is too little doubt; one to the end is short
-      parted : Stretch k m x y xs ys → Late k m x xs
-      parted t =
-          let e = costFrom G k m (take (suc (t .long)) (x ∷ xs)) in
-          let bound : (q : ℕ) → suc (t .long) ≤ window * q → e ≤ most * q = λ q hq. sparse-windows G window most q (suc (t .long)) k m (x ∷ xs) sparse hq in
-          let whole : t .long ≡ length xs = to-end (t .long) e (t .within) (t .enough) bound (λ h. t .meeting h .1) in
-          let all : take (suc (t .long)) (x ∷ xs) ≡ x ∷ xs = ap (λ (i : ℕ). take (suc i) (x ∷ xs)) whole ∙ take-length (x ∷ xs) in
-          record { near = rw whole at (short (t .long) e (t .enough) bound); doubted = rw all at (t .seen) }
+    module _ (k m x y : ℕ) (xs ys : List ℕ) (t : Stretch k m x y xs ys)
+        (bound : (q : ℕ) → suc (t .long) ≤ window * q → costFrom G k m (take (suc (t .long)) (x ∷ xs)) ≤ most * q) where
+      abbrev e : ℕ
+      e = costFrom G k m (take (suc (t .long)) (x ∷ xs))
+
+      even-enough : even * suc (t .long) + lead ≤ slope * e + lag
+      even-enough = omega (arith, t .enough, evenly k (suc (t .long)))
+
+      -- of a stretch that is home again there is too little doubt
+      to-end : t .long ≡ length xs
+      to-end = by (decLe (length xs) (t .long))
         where
-          to-end : (n e : ℕ) → n ≤ length xs → rise * suc n + lead ≤ slope * e + lag → ((q : ℕ) → suc n ≤ window * q → e ≤ most * q) → (n < length xs → free ≤ e) → n ≡ length xs
-          to-end n e h g bound back = by (decLe (length xs) n)
-            where
-              by : Dec (length xs ≤ n) → n ≡ length xs
-              by (yes l) = omega arith
-              by (no l) = absurd (tight n e e (omega arith) (omega (arith, back (omega arith))) g bound)
+          by : Dec (length xs ≤ t .long) → t .long ≡ length xs
+          by (yes l) = omega (arith, t .within)
+          by (no l) = absurd (tight (t .long) e e (omega arith) (omega (arith, t .meeting (omega arith) .1)) even-enough bound)
 
-          short : (n e : ℕ) → rise * suc n + lead ≤ slope * e + lag → ((q : ℕ) → suc n ≤ window * q → e ≤ most * q) → n < depth
-          short n e g bound = by (decLe depth n)
-            where
-              by : Dec (depth ≤ n) → n < depth
-              by (yes l) = absurd (tight n e e (omega arith) (deep-weight n e l g) g bound)
-              by (no l) = omega arith
+      -- one to the end is short
+      short : t .long < depth
+      short = by (decLe depth (t .long))
+        where
+          by : Dec (depth ≤ t .long) → t .long < depth
+          by (yes l) = absurd (tight (t .long) e e (omega arith) (deep-weight (t .long) e l even-enough) even-enough bound)
+          by (no l) = omega arith
 
-      late : Late k m x xs
-      late = parted (stretch k m x y xs ys hm hx hy n vx vy l least)
+      pub parted : Late k m x xs
+      parted =
+          let all : take (suc (t .long)) (x ∷ xs) ≡ x ∷ xs = ap (λ (i : ℕ). take (suc i) (x ∷ xs)) to-end ∙ take-length (x ∷ xs) in
+          record { near = rw to-end at short; doubted = rw all at (t .seen) }
+
+    late : (k m x y : ℕ) (xs ys : List ℕ) → m < 64 → x < 2 → y < 2 → (x ≡ y → ⊥) → Bits xs → Bits ys → length xs ≡ length ys → Least k m (y ∷ ys)
+        → Sparse G window most k m (x ∷ xs) → Late k m x xs
+    late k m x y xs ys hm hx hy n vx vy l least sparse =
+        let t = stretch k m x y xs ys hm hx hy n vx vy l least in
+        parted k m x y xs ys t (λ q h. sparse-windows G window most q (suc (t .long)) k m (x ∷ xs) sparse h)
 
     -- ---- the two agree
 

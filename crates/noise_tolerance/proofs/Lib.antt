@@ -2,9 +2,12 @@ pub mod Difference
 pub mod SparseSteps
 pub mod Linear
 pub mod Exchange
+pub mod Gap
+pub mod Recovery
 pub mod Tables
 pub mod Weights
 pub mod Runs
+pub mod Harm
 pub mod Windows
 pub mod Received
 pub mod Streams

@@ -2,8 +2,8 @@
 -- So the free distance of the code is 10 at rate 1/2, and 6, 5, 4 and 3 at the punctured rates, or more.
 -- Assumes nothing.
 use mathlib.Core.Path.{_≡_, ap}
-use mathlib.Core.Bool.{Bool}
-use mathlib.Core.List.{List, [], flatten}
+use mathlib.Core.Bool.{Bool, true}
+use mathlib.Core.List.{List, [], _∷_, flatten}
 use Prim.Native.Nat.{ℕ, zero, suc, _+_, _*_, _%_, _≤_, _<_}
 use native.Mathlib.Nat.{mod-lt, mul-le-mul-left}
 use native.Mathlib.Omega.{arith}
@@ -19,7 +19,7 @@ use Rattle.depuncturing.specs.Steps.{kind}
 use Rattle.run_reader.proofs.Costs.{next-mod}
 use Rattle.noise_tolerance.proofs.Difference.{weightAt, weight}
 use Rattle.noise_tolerance.proofs.Exchange.{Potentials}
-use Rattle.noise_tolerance.proofs.Tables.{free, slope, rise, lead, lag, homes, growths}
+use Rattle.noise_tolerance.proofs.Tables.{free, slope, rise, lead, lag, top, homes, growths}
 
 unfoldable pub look : List (List ℕ) → ℕ → ℕ → ℕ
 look t place d = getD (getD t place []) d 0
@@ -126,9 +126,32 @@ module _ (r : ℕ) (hr : r < 5) (k : ℕ) where
   unfolding step-test growth-test growth
   growth-step d z h l b = rw (← (next-mod r k)) (leb→le _ _ (both-right (home-test r place d z) (growth-test r place d z) (step-passes d z h l b)))
 
+-- no path falls further behind
+unfoldable allMost : ℕ → List ℕ → Bool
+allMost n [] = true
+allMost n (x ∷ l) = both (leb x n) (allMost n l)
+
+most-at : (n : ℕ) (l : List ℕ) → T (allMost n l) → (i : ℕ) → getD l i 0 ≤ n
+unfolding allMost
+most-at n [] h zero = omega arith
+most-at n [] h (suc i) = omega arith
+most-at n (x ∷ l) h zero = leb→le x n (both-left (leb x n) (allMost n l) h)
+most-at n (x ∷ l) h (suc i) = most-at n l (both-right (leb x n) (allMost n l) h) i
+
+unfoldable top-test : ℕ → ℕ → Bool
+top-test r p = allMost (top r) (getD (growths r) p [])
+
+top-tested : (r p : ℕ) → r < 5 → p < patternLength r → T (top-test r p)
+unfolding top-test allMost top growths modeOf
+top-tested = tested-at top-test tt
+
+pub growth-most : (r k d : ℕ) → r < 5 → growth r k d ≤ top r
+unfolding growth look top-test
+growth-most r k d hr = most-at (top r) (getD (growths r) (k % patternLength r) []) (top-tested r (k % patternLength r) hr (mod-lt k (some-bits r hr))) d
+
 -- each coded bit counts u
 pub potentials : (u r : ℕ) → r < 5
-    → Potentials (λ k d z. u * weight r k d z) (λ k d. u * home r k d) (λ k d. u * growth r k d) (u * free r) (slope r) (u * rise r) (u * lead r) (u * lag r)
+    → Potentials (λ k d z. u * weight r k d z) (λ k d. u * home r k d) (λ k d. u * growth r k d) (u * free r) (slope r) (λ k. u * rise r) (u * lead r) (u * lag r)
 potentials u r hr = record {
   at-home = λ k. let e = ap (λ (n : ℕ). u * n) (home-zero r hr k) in omega arith;
   homeward = λ k d z h l b. omega (arith, mul-le-mul-left u (home-step r hr k d z h l b));
