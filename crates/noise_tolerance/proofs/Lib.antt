@@ -10,7 +10,9 @@ pub mod Runs
 pub mod Harm
 pub mod Windows
 pub mod Received
+pub mod HarmedRuns
 pub mod Streams
+pub mod HarmedStream
 pub mod Ends
 pub mod Numbers
 pub mod Noise
