@@ -7,7 +7,7 @@ use mathlib.Core.List.{List, [], _∷_, _++_, map, append-assoc}
 use mathlib.Core.Logic.{_⊎_, inl, inr}
 use Prim.Native.Nat.{ℕ, zero, suc, _+_, _-_, _*_, _/_, _%_, _≤_, _<_}
 use native.Mathlib.Decide.{ℕ-discrete, decLe, decLt}
-use native.Mathlib.Nat.{le-refl, div-add-mod, mod-lt, mul-mod-right, mul-div-right, mul-add-div, mul-le-mul-left}
+use native.Mathlib.Nat.{le-refl, div-add-mod, mod-lt, mul-mod-right, mul-div-right, mul-add-div, mul-add-mod-self-left, mod-eq-of-lt, mul-le-mul-left}
 use native.Mathlib.Omega.{arith}
 use Rattle.common.specs.Choice.{pick}
 use lib.ListN.{length, getD, take, drop, length-append, length-take, length-drop, take-append-drop, List·getD-append}
@@ -119,6 +119,17 @@ module _ {R : Type 0} (harmed : R → Bool) (some : R) where
 
 quotient : (s n f : ℕ) → 0 < s → (s * n + f) / s ≡ n + f / s
 quotient s n f h = mul-add-div h n f
+
+-- Bit x of the stream is near harm: there are harmed symbols, one not much later than the bit and one not much earlier, and none of them far.
+pub record Beside (P S ahead behind far : ℕ) (Harmed : ℕ → Type 0) (x : ℕ) : Type 0 where
+  pub earliest : ℕ
+  pub latest : ℕ
+  pub earliest-harmed : Harmed earliest
+  pub latest-harmed : Harmed latest
+  pub not-late : P * (earliest / S) ≤ x + ahead
+  pub not-early : x < P * suc (latest / S) + behind
+  pub not-far : x ≤ P * (earliest / S) + 2 * far
+  pub not-beyond : P * (latest / S) ≤ x + far
 
 -- quotients of places
 div-least : (s k e : ℕ) → 0 < s → s * k ≤ e → k ≤ e / s
@@ -386,16 +397,8 @@ module _ {R : Type 0} {cost doubt : R → ℕ → ℕ} {harmed : R → Bool} {u 
 
   -- ---- one run after the other
 
-  -- Bit x of the stream is near harm: there are harmed symbols, one not much later than the bit and one not much earlier.
-  pub record NearHarm (x : ℕ) : Type 0 where
-    pub earliest : ℕ
-    pub latest : ℕ
-    pub earliest-harmed : HarmedAt earliest
-    pub latest-harmed : HarmedAt latest
-    pub not-late : P * (earliest / S) ≤ x + reach
-    pub not-early : x < P * suc (latest / S) + (reach + 6 + opening)
-    pub not-far : x ≤ P * (earliest / S) + 2 * (P * Q)
-    pub not-beyond : P * (latest / S) ≤ x + P * Q
+  abbrev pub Near : ℕ → Type 0
+  Near x = Beside P S reach (reach + 6 + opening) (P * Q) HarmedAt x
 
   -- the bits before pattern k are wrong, by harm behind it
   record Behind (k : ℕ) : Type 0 where
@@ -417,7 +420,7 @@ module _ {R : Type 0} {cost doubt : R → ℕ → ℕ} {harmed : R → Bool} {u 
   state-small (opened h b) = h
 
   module _ (k q : ℕ) (hq : S * k + S * q ≤ length came) (most-q : q ≤ Q) where
-    from-here : (i : ℕ) → i < P * q → Here k q hq most-q i → NearHarm (P * k + i)
+    from-here : (i : ℕ) → i < P * q → Here k q hq most-q i → Near (P * k + i)
     from-here i h e = record {
       earliest = e .earliest;
       latest = e .latest;
@@ -432,7 +435,7 @@ module _ {R : Type 0} {cost doubt : R → ℕ → ℕ} {harmed : R → Bool} {u 
         below : (l : ℕ) → l < S * k + S * q → l / S ≤ k + q
         below l h = omega (arith, div-below S (k + q) l (omega arith))
 
-    from-open : Behind k → (i : ℕ) → i < P * q → HereOpen k q hq most-q i → (NearHarm (P * k + i)) ⊎ (P * q ≤ i + depth)
+    from-open : Behind k → (i : ℕ) → i < P * q → HereOpen k q hq most-q i → (Near (P * k + i)) ⊎ (P * q ≤ i + depth)
     from-open b i h (settling x) =
         inl (record {
           earliest = b .earliest;
@@ -463,10 +466,10 @@ module _ {R : Type 0} {cost doubt : R → ℕ → ℕ} {harmed : R → Bool} {u 
 
     module _ (t : ℕ) (best : List ℕ) (b : Best (runCost (map cost (rs k q hq most-q)) rate t) (runLength rate (ss k q hq most-q)) best) where
       -- a wrong bit of a run
-      wrong-near : State k t → (i : ℕ) → i < P * q → (getD (bs k q hq most-q) i 0 ≡ getD best i 0 → ⊥) → (NearHarm (P * k + i)) ⊎ (P * q ≤ i + depth)
+      wrong-near : State k t → (i : ℕ) → i < P * q → (getD (bs k q hq most-q) i 0 ≡ getD best i 0 → ⊥) → (Near (P * k + i)) ⊎ (P * q ≤ i + depth)
       wrong-near (closed e) i h d = by (wrong-closed k q hq most-q t (rw (sym e) (memory-small k)) best b e i h d)
         where
-          by : (Here k q hq most-q i) ⊎ (P * q ≤ i + depth) → (NearHarm (P * k + i)) ⊎ (P * q ≤ i + depth)
+          by : (Here k q hq most-q i) ⊎ (P * q ≤ i + depth) → (Near (P * k + i)) ⊎ (P * q ≤ i + depth)
           by (inl x) = inl (from-here i h x)
           by (inr x) = inr x
       wrong-near (opened s o) i h d = from-open o i h (wrong-open k q hq most-q t s best b i h d)
@@ -552,7 +555,7 @@ module _ {R : Type 0} {cost doubt : R → ℕ → ℕ} {harmed : R → Bool} {u 
   -- ---- what is decided
 
   record Decisions (k : ℕ) (out : List ℕ) (last : ℕ) (left : List R) : Type 0 where
-    wrong : (i : ℕ) → i < length out → (getD bits (P * k + i) 0 ≡ getD out i 0 → ⊥) → NearHarm (P * k + i)
+    wrong : (i : ℕ) → i < length out → (getD bits (P * k + i) 0 ≡ getD out i 0 → ⊥) → Near (P * k + i)
     done : ℕ
     out-length : length out ≡ P * done
     left-is : left ≡ drop (S * (k + done)) all
@@ -604,11 +607,11 @@ module _ {R : Type 0} {cost doubt : R → ℕ → ℕ} {harmed : R → Bool} {u 
           sent-there : (i : ℕ) → i < P * Q → getD (bs k Q hf (le-refl Q)) i 0 ≡ getD bits (P * k + i) 0
           sent-there i h = getD-take (P * Q) (drop (P * k) bits) i 0 h ∙ getD-drop (P * k) bits i 0
 
-          near-kept : (i : ℕ) → i < keptBits rate → (NearHarm (P * k + i)) ⊎ (P * Q ≤ i + depth) → NearHarm (P * k + i)
+          near-kept : (i : ℕ) → i < keptBits rate → (Near (P * k + i)) ⊎ (P * Q ≤ i + depth) → Near (P * k + i)
           near-kept i h (inl x) = x
           near-kept i h (inr x) = absurd (omega (arith, overlap, full-bits))
 
-          by : (i : ℕ) → i < length (take (keptBits rate) best ++ out) → (getD bits (P * k + i) 0 ≡ getD (take (keptBits rate) best ++ out) i 0 → ⊥) → Dec (i < keptBits rate) → NearHarm (P * k + i)
+          by : (i : ℕ) → i < length (take (keptBits rate) best ++ out) → (getD bits (P * k + i) 0 ≡ getD (take (keptBits rate) best ++ out) i 0 → ⊥) → Dec (i < keptBits rate) → Near (P * k + i)
           by i l e (yes h) =
               near-kept i h (wrong-near k Q hf (le-refl Q) t best as-run s i (omega (arith, overlap, full-bits))
               (λ q. e (sym (sent-there i (omega (arith, overlap, full-bits))) ∙ q ∙ sym (front i h))))
@@ -618,7 +621,7 @@ module _ {R : Type 0} {cost doubt : R → ℕ → ℕ} {harmed : R → Bool} {u 
               let c : length (take (keptBits rate) best) + j ≡ i = omega (arith, kept-length) in
               let g : getD (take (keptBits rate) best ++ out) i 0 ≡ getD out j 0 =
               ap (λ (x : ℕ). getD (take (keptBits rate) best ++ out) x 0) (sym c) ∙ getD-append-add (take (keptBits rate) best) out j 0 in
-              subst NearHarm a
+              subst Near a
               (ih .wrong j (omega (arith, length-append (take (keptBits rate) best) out, kept-length)) (λ q. e (ap (λ (x : ℕ). getD bits x 0) (sym a) ∙ q ∙ sym g)))
 
   decide : (k t : ℕ) {from left : List R} {out : List ℕ} {last : ℕ} → from ≡ drop (S * k) all → S * k ≤ length all → State k t → Decided cost rate t from out last left
@@ -717,7 +720,10 @@ module _ {R : Type 0} {cost doubt : R → ℕ → ℕ} {harmed : R → Bool} {u 
             subst (λ (j : ℕ). j ≤ length bits) (front-bits k (omega (arith, hq)))
             (fits rate hr 0 (omega arith) bits w (take (S * k) came) (drop (S * k) came ++ unread) (front-whole k (omega (arith, hq))) (cut k (omega (arith, hq))))
 
-    pub decided-wrong : (i : ℕ) → i < runBits rate (length all) → (getD bits i 0 ≡ getD (out ++ take count exit) i 0 → ⊥) → (NearHarm i) ⊎ (runBits rate (length all) ≤ i + depth)
+    pub decided-rest : rest ≡ length all % S
+    decided-rest = sym (ap (λ (j : ℕ). j % S) whole-all ∙ (mul-add-mod-self-left S (k + q) rest ∙ mod-eq-of-lt (end .few)))
+
+    pub decided-wrong : (i : ℕ) → i < runBits rate (length all) → (getD bits i 0 ≡ getD (out ++ take count exit) i 0 → ⊥) → (Near i) ⊎ (runBits rate (length all) ≤ i + depth)
     decided-wrong i h e = by (decLt i (length out))
       where
         z : P * 0 + i ≡ i
@@ -726,13 +732,13 @@ module _ {R : Type 0} {cost doubt : R → ℕ → ℕ} {harmed : R → Bool} {u 
         sent-there : (j : ℕ) → j < P * q → getD (bs k q hq most-q) j 0 ≡ getD bits (P * k + j) 0
         sent-there j l = getD-take (P * q) (drop (P * k) bits) j 0 l ∙ getD-drop (P * k) bits j 0
 
-        ended : (j : ℕ) → P * k + j ≡ i → (NearHarm (P * k + j)) ⊎ (P * q ≤ j + depth) → (NearHarm i) ⊎ (runBits rate (length all) ≤ i + depth)
-        ended j c (inl x) = inl (subst NearHarm c x)
+        ended : (j : ℕ) → P * k + j ≡ i → (Near (P * k + j)) ⊎ (P * q ≤ j + depth) → (Near i) ⊎ (runBits rate (length all) ≤ i + depth)
+        ended j c (inl x) = inl (subst Near c x)
         ended j c (inr x) = inr (omega (arith, bits-all))
 
-        by : Dec (i < length out) → (NearHarm i) ⊎ (runBits rate (length all) ≤ i + depth)
+        by : Dec (i < length out) → (Near i) ⊎ (runBits rate (length all) ≤ i + depth)
         by (yes l) =
-            inl (subst NearHarm z (done .wrong i l (λ c. e (ap (λ (x : ℕ). getD bits x 0) (sym z) ∙ c ∙ sym (List·getD-append out (take count exit) 0 i l)))))
+            inl (subst Near z (done .wrong i l (λ c. e (ap (λ (x : ℕ). getD bits x 0) (sym z) ∙ c ∙ sym (List·getD-append out (take count exit) 0 i l)))))
         by (no l) =
             let j : ℕ = i - length out in
             let c : P * k + j ≡ i = omega (arith, done .out-length) in

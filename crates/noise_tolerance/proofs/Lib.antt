@@ -12,8 +12,11 @@ pub mod Windows
 pub mod Received
 pub mod HarmedRuns
 pub mod Streams
+pub mod HarmKinds
 pub mod HarmedStream
+pub mod HarmNumbers
 pub mod Ends
+pub mod Recovered
 pub mod Numbers
 pub mod Noise
 pub mod Sharp

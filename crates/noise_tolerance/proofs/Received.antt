@@ -25,6 +25,7 @@ use Rattle.run_reader.specs.Cost.{differing, runCost}
 use Rattle.run_reader.specs.Read.{symbolsPerPattern, runBits, runLength}
 use Rattle.run_reader.proofs.Costs.{Splits}
 use Rattle.run_reader.proofs.Patterns.{sent-whole}
+use Rattle.run_reader.proofs.SoftDecisions.{decided-small}
 use Rattle.noise_tolerance.proofs.Difference.{unlike}
 use Rattle.noise_tolerance.specs.Noise.{SparseSymbols, QuietEnd}
 use Rattle.noise_tolerance.proofs.SparseSteps.{Sparse}
@@ -41,6 +42,7 @@ pub record Kind {R : Type 0} (cost doubt : R → ℕ → ℕ) (u : ℕ) : Type 0
   pub splits : (r : R) (s : ℕ) → cost r s ≡ part r 0 (s / 2) + part r 1 (s % 2)
   pub doubt-splits : (r : R) (s : ℕ) → doubt r s ≡ part-doubt r 0 (s / 2) + part-doubt r 1 (s % 2)
   pub tells : (r : R) (b v o : ℕ) → v < 2 → o < 2 → u * unlike v o + part r b v ≤ part r b o + part-doubt r b v
+  pub cheap : (r : R) (b v : ℕ) → part r b v ≤ u
 
 -- the places of the coded bits
 abbrev pub spread : {R : Type 0} → (R → ℕ → ℕ → ℕ) → R → List R → ℕ → ℕ → ℕ
@@ -139,19 +141,28 @@ hard-kind = record {
   splits = λ r s. refl;
   doubt-splits = λ r s. omega arith;
   tells = tell;
+  cheap = cheap;
 }
   where
+    one : (t : Bool) → pick {A = ℕ} t 0 1 ≤ 1
+    one true = omega arith
+    one false = omega arith
+
+    cheap : (r b v : ℕ) → hard-part r b v ≤ 1
+    cheap r zero v = one (eqb (r / 2) v)
+    cheap r (suc b) v = one (eqb (r % 2) v)
+
     tell : (r b v o : ℕ) → v < 2 → o < 2 → 1 * unlike v o + hard-part r b v ≤ hard-part r b o + 2 * hard-part r b v
     tell r zero v o h l = omega (arith, differ-triangle (r / 2) v o h l)
     tell r (suc b) v o h l = omega (arith, differ-triangle (r % 2) v o h l)
 
 -- ---- soft decisions
 
-soft-part : Received → ℕ → BitCosts
+unfoldable pub soft-part : Received → ℕ → BitCosts
 soft-part r zero = symbolCosts r .i
 soft-part r (suc b) = symbolCosts r .q
 
-bit-tells : (c : BitCosts) (v o : ℕ) → v < 2 → o < 2 → 7 * unlike v o + decidedAs c v ≤ decidedAs c o + bitDoubt c v
+pub bit-tells : (c : BitCosts) (v o : ℕ) → v < 2 → o < 2 → 7 * unlike v o + decidedAs c v ≤ decidedAs c o + bitDoubt c v
 bit-tells c zero zero h l = omega arith
 bit-tells c zero (suc zero) h l = omega arith
 bit-tells c (suc zero) zero h l = omega arith
@@ -159,6 +170,11 @@ bit-tells c (suc zero) (suc zero) h l = omega arith
 bit-tells c (suc (suc v)) o h l = absurd (omega arith)
 bit-tells c zero (suc (suc o)) h l = absurd (omega arith)
 bit-tells c (suc zero) (suc (suc o)) h l = absurd (omega arith)
+
+pub soft-cheap : (r : Received) (b v : ℕ) → decidedAs (soft-part r b) v ≤ 7
+unfolding soft-part
+soft-cheap r zero v = decided-small r 0 (eqb v 0)
+soft-cheap r (suc b) v = decided-small r 1 (eqb v 0)
 
 pub soft-kind : Kind softly softDoubt 7
 unfolding soft-part
@@ -170,4 +186,5 @@ soft-kind = record {
   splits = λ r s. refl;
   doubt-splits = λ r s. refl;
   tells = λ r b v o h l. bit-tells (soft-part r b) v o h l;
+  cheap = soft-cheap;
 }

@@ -1,2 +1,3 @@
+pub mod Harm
 pub mod Noise
 pub mod Table
