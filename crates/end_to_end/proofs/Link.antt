@@ -71,7 +71,7 @@ module _ (packets : List (List ℕ)) (ws : All Packet packets) where
   abbrev sent : List (List ℕ)
   sent = interleavedBlocks packets
 
-  interleaved-bytes : Bytes (flatten sent)
+  pub interleaved-bytes : Bytes (flatten sent)
   interleaved-bytes =
       flat-bytes sent
       (All-map ByteEntries Bytes bytes-of sent

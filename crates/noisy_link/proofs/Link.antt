@@ -37,19 +37,19 @@ use Rattle.end_to_end.proofs.Link.{sent-length-is, brought-back}
 use Rattle.noise_tolerance.specs.Noise.{QuietEnd, softDoubt, NoisyStream, StreamBack}
 use Rattle.noise_tolerance.specs.Table.{Limits, table, atRate, hardLimits, softLimits}
 use Rattle.noise_tolerance.proofs.Noise.{noisy-stream, noisy-stream-whole, noisy-soft-stream, noisy-soft-stream-whole}
-use Rattle.noisy_link.specs.Link.{NoisyLink, bitsRead, NoisyArrived, FrontArrived}
+use Rattle.noisy_link.specs.Link.{Sparsely, NoisyLink, bitsRead, NoisyArrived, FrontArrived}
 
 -- ---- the first calls of a receiver
 
 -- the first n calls, and their packets
-record KeptFront (n : ℕ) (s : Receiver) (blocks : List (List ℕ)) (numbers : List ℕ) (given : List (List ℕ)) : Type 0 where
-  middle : Receiver
-  front : List (List ℕ)
-  later : List (List ℕ)
-  kept : Kept s (take n blocks) (take n numbers) front middle
-  packets-are : given ≡ front ++ later
+pub record KeptFront (n : ℕ) (s : Receiver) (blocks : List (List ℕ)) (numbers : List ℕ) (given : List (List ℕ)) : Type 0 where
+  pub middle : Receiver
+  pub front : List (List ℕ)
+  pub later : List (List ℕ)
+  pub kept : Kept s (take n blocks) (take n numbers) front middle
+  pub packets-are : given ≡ front ++ later
 
-kept-front : (n : ℕ) {s last : Receiver} {blocks : List (List ℕ)} {numbers : List ℕ} {given : List (List ℕ)} → Kept s blocks numbers given last
+pub kept-front : (n : ℕ) {s last : Receiver} {blocks : List (List ℕ)} {numbers : List ℕ} {given : List (List ℕ)} → Kept s blocks numbers given last
     → KeptFront n s blocks numbers given
 kept-front zero {s} {given = given} k = record { middle = s; front = []; later = given; kept = none; packets-are = refl }
 kept-front (suc n) {s} none = record { middle = s; front = []; later = []; kept = none; packets-are = refl }
@@ -85,18 +85,15 @@ module _ (inputs : List (List ℕ)) (g : All Input inputs) (bs : All Bytes input
   abbrev all : List ℕ
   all = bitsOf (sentBytes packets)
 
-  module _ {R : Type 0} {cost doubt : R → ℕ → ℕ} {l : Limits} (k : NoisyLink cost doubt l rate inputs) where
+  module _ {R : Type 0} {cost : R → ℕ → ℕ} {Noise : List R → List ℕ → Type 0} (k : NoisyLink cost Noise rate inputs) where
     abbrev bits : List ℕ
     bits = bitsRead k
 
-    bytes-are : packedBytes bits ≡ k .bytes
+    pub bytes-are : packedBytes bits ≡ k .bytes
     bytes-are = sym (every-packing (k .packed) .0)
 
-    coded : k .came ++ k .unread ≡ symbolsOf (coderAt rate 0) all
+    pub coded : k .came ++ k .unread ≡ symbolsOf (coderAt rate 0) all
     coded = k .cut ∙ sent-coded rate hr sent g (k .sent)
-
-    stream : NoisyStream doubt l rate all (k .points) (k .came) (k .unread)
-    stream = record { binary = bits-bits (sentBytes packets); coded = coded; as-long = k .as-long; sparse = k .sparse }
 
     -- where all that was read is what was sent
     all-arrived : WholeStream rate all (length (k .points)) bits (k .rest) → NoisyArrived k
@@ -114,11 +111,11 @@ module _ (inputs : List (List ℕ)) (g : All Input inputs) (bs : All Bytes input
     }
 
     -- where all but the last bits is
-    front-arrived : l .unsure ≤ 1632 → StreamBack rate (l .unsure) all (length (k .points)) bits (k .rest) → FrontArrived k
-    front-arrived few w =
-        let f : ℕ = length bits - l .unsure in
+    front-arrived : (unsure : ℕ) → unsure ≤ 1632 → StreamBack rate unsure all (length (k .points)) bits (k .rest) → FrontArrived unsure k
+    front-arrived unsure few w =
+        let f : ℕ = length bits - unsure in
         let n : ℕ = blocksInBits f in
-        let far : runBits rate (length (k .points)) - l .unsure ≡ f = ap (λ (i : ℕ). i - l .unsure) (sym (w .size)) in
+        let far : runBits rate (length (k .points)) - unsure ≡ f = ap (λ (i : ℕ). i - unsure) (sym (w .size)) in
         let front : take f bits ≡ take f all = rw far at (w .given) in
         let size : length (take f bits) ≡ f = length-take-le f bits (omega arith) in
         let c = kept-front n (k .received) in
@@ -130,40 +127,47 @@ module _ (inputs : List (List ℕ)) (g : All Input inputs) (bs : All Bytes input
         let lf : length (c .front) ≡ n - 11 =
         ap length (b .packets) ∙ length-take-le (blocksInBits (length (take f bits)) - 11) packets (omega (arith, b .within, length-packets)) ∙ ap (λ (i : ℕ). i - 11) m in
         record {
-          surely = n;
-          surely-is = refl;
-          all-but-one = omega (arith, length-chunks 204 (k .bytes), ap length bytes-are, length-bytes bits);
+          front =
+              record {
+                surely = n;
+                surely-is = refl;
+                all-but-one = omega (arith, length-chunks 204 (k .bytes), ap length bytes-are, length-bytes bits);
+                answered = b .answered ∙ ap (λ (i : ℕ). take i (replicate 11 9 ++ replicate i 0)) m;
+                packets =
+                    ap (take (n - 11)) (c .packets-are) ∙ take-at (c .front) (c .later) (n - 11) lf ∙ b .packets ∙ ap (λ (i : ℕ). take (i - 11) packets) m;
+              };
           blocks-sent = sym blocks ∙ b .blocks-sent ∙ ap (λ (i : ℕ). take i (interleavedBlocks packets)) m;
-          answered = b .answered ∙ ap (λ (i : ℕ). take i (replicate 11 9 ++ replicate i 0)) m;
-          packets =
-              ap (take (n - 11)) (c .packets-are) ∙ take-at (c .front) (c .later) (n - 11) lf ∙ b .packets ∙ ap (λ (i : ℕ). take (i - 11) packets) m;
         }
       where
         length-packets : length packets ≡ length inputs
         length-packets = length-map inputs packetFor
 
+  module _ {R : Type 0} {cost : R → ℕ → ℕ} (doubt : R → ℕ → ℕ) (l : Limits) (k : NoisyLink cost (Sparsely doubt l) rate inputs) where
+    stream : NoisyStream doubt l rate all (k .points) (k .came) (k .unread)
+    stream = record { binary = bits-bits (sentBytes packets); coded = coded k; as-long = k .as-long; sparse = k .noise }
+
   -- By hard decisions: where any 48, 42, 56 or 48 symbols in a row have at most 4, 2, 2 or 1 wrong I and Q bits, and the last 22, 21, 28 or 21 have none.
-  pub noisy-arrived : (k : NoisyLink differing differing (hardLimits rate) rate inputs) → QuietEnd (hardLimits rate .quiet-stream) (map differing (k .points)) (k .came)
+  pub noisy-arrived : (k : NoisyLink differing (Sparsely differing (hardLimits rate)) rate inputs) → QuietEnd (hardLimits rate .quiet-stream) (map differing (k .points)) (k .came)
       → NoisyArrived k
-  noisy-arrived k quiet = all-arrived k (noisy-stream-whole (stream k) (k .fed) (k .costed) (k .closed) quiet)
+  noisy-arrived k quiet = all-arrived k (noisy-stream-whole (stream differing (hardLimits rate) k) (k .fed) (k .costed) (k .closed) quiet)
 
   -- By soft decisions: where any 55, 54, 56 or 75 points in a row leave a doubt of at most 63, 35, 28 or 21, and the last 26, 27, 28 or 33 none.
-  pub noisy-soft-arrived : (k : NoisyLink softly softDoubt (softLimits rate) rate inputs) → QuietEnd (softLimits rate .quiet-stream) (map softDoubt (k .points)) (k .came)
+  pub noisy-soft-arrived : (k : NoisyLink softly (Sparsely softDoubt (softLimits rate)) rate inputs) → QuietEnd (softLimits rate .quiet-stream) (map softDoubt (k .points)) (k .came)
       → NoisyArrived k
-  noisy-soft-arrived k quiet = all-arrived k (noisy-soft-stream-whole (stream k) (k .fed) (k .costed) (k .closed) quiet)
+  noisy-soft-arrived k quiet = all-arrived k (noisy-soft-stream-whole (stream softDoubt (softLimits rate) k) (k .fed) (k .costed) (k .closed) quiet)
 
   -- ---- whatever the end
 
-  hard-few : hardLimits rate .unsure ≤ 1632
+  pub hard-few : hardLimits rate .unsure ≤ 1632
   unfolding table atRate
   hard-few = leb→le _ _ (below-at (λ r. leb (hardLimits r .unsure) 1632) 5 tt rate hr)
 
-  soft-few : softLimits rate .unsure ≤ 1632
+  pub soft-few : softLimits rate .unsure ≤ 1632
   unfolding table atRate
   soft-few = leb→le _ _ (below-at (λ r. leb (softLimits r .unsure) 1632) 5 tt rate hr)
 
-  pub noisy-front : (k : NoisyLink differing differing (hardLimits rate) rate inputs) → FrontArrived k
-  noisy-front k = front-arrived k hard-few (noisy-stream (stream k) (k .fed) (k .costed) (k .closed))
+  pub noisy-front : (k : NoisyLink differing (Sparsely differing (hardLimits rate)) rate inputs) → FrontArrived (hardLimits rate .unsure) k
+  noisy-front k = front-arrived k (hardLimits rate .unsure) hard-few (noisy-stream (stream differing (hardLimits rate) k) (k .fed) (k .costed) (k .closed))
 
-  pub noisy-soft-front : (k : NoisyLink softly softDoubt (softLimits rate) rate inputs) → FrontArrived k
-  noisy-soft-front k = front-arrived k soft-few (noisy-soft-stream (stream k) (k .fed) (k .costed) (k .closed))
+  pub noisy-soft-front : (k : NoisyLink softly (Sparsely softDoubt (softLimits rate)) rate inputs) → FrontArrived (softLimits rate .unsure) k
+  noisy-soft-front k = front-arrived k (softLimits rate .unsure) soft-few (noisy-soft-stream (stream softDoubt (softLimits rate) k) (k .fed) (k .costed) (k .closed))

@@ -1,6 +1,7 @@
 -- A link over a noisy channel: the symbols that came are not all those that were sent, and are read as a stream, as the programs do.
 -- Assumes nothing.
 use mathlib.Core.Path.{_≡_}
+use mathlib.Core.Bool.{Bool}
 use mathlib.Core.List.{List, _++_, map}
 use Prim.Native.Nat.{ℕ, _+_, _-_, _%_, _≤_}
 use lib.ListN.{length, take, replicate}
@@ -22,10 +23,20 @@ use Rattle.sender.specs.Input.{packetsFor}
 use Rattle.sent_blocks.specs.Blocks.{interleavedBlocks}
 use Rattle.noise_tolerance.specs.Noise.{SparseSymbols}
 use Rattle.noise_tolerance.specs.Table.{Limits}
+use Rattle.noise_tolerance.specs.Harm.{Spoils, Gathered, harmWindow, harmDistance}
 use Rattle.end_to_end.specs.Link.{blocksInBits, BroughtBack, ToTheLast}
 
--- `cost r` says what a received symbol, of whatever kind, makes each sent one cost, and `doubt r` how much it doubts each
-pub record NoisyLink {R : Type 0} (cost doubt : R → ℕ → ℕ) (l : Limits) (rate : ℕ) (inputs : List (List ℕ)) : Type 0 where
+-- what is received doubts what was sent sparsely
+abbrev pub Sparsely : {R : Type 0} → (R → ℕ → ℕ) → Limits → List R → List ℕ → Type 0
+Sparsely doubt l points came = SparseSymbols (l .window) (l .tolerated) (map doubt points) came
+
+-- some symbols are harmed, wherever they are not far apart within so many, and the others are sparsely doubted
+pub record Rained {R : Type 0} (doubt : R → ℕ → ℕ) (harmed : R → Bool) (l : Spoils) (rate : ℕ) (points : List R) (came : List ℕ) : Type 0 where
+  pub sparse : SparseSymbols harmWindow (l .elsewhere) (map doubt points) came
+  pub gathered : Gathered harmed (harmDistance rate) (l .longest) points
+
+-- `cost r` says what a received symbol, of whatever kind, makes each sent one cost; `Noise` is what is assumed of those that came
+pub record NoisyLink {R : Type 0} (cost : R → ℕ → ℕ) (Noise : List R → List ℕ → Type 0) (rate : ℕ) (inputs : List (List ℕ)) : Type 0 where
   -- a fresh sender is given the inputs, call after call, and these are its symbols
   pub symbols : List ℕ
   pub sender : Sender
@@ -34,10 +45,9 @@ pub record NoisyLink {R : Type 0} (cost doubt : R → ℕ → ℕ) (l : Limits) 
   pub came : List ℕ
   pub unread : List ℕ
   pub cut : came ++ unread ≡ symbols
-  -- what was received doubts them sparsely
   pub points : List R
   pub as-long : length points ≡ length came
-  pub sparse : SparseSymbols (l .window) (l .tolerated) (map doubt points) came
+  pub noise : Noise points came
   -- a fresh stream is fed with the costs, in any pieces, and closed
   pub costs : List ℕ
   pub costed : Costed cost points costs
@@ -61,21 +71,25 @@ pub record NoisyLink {R : Type 0} (cost doubt : R → ℕ → ℕ) (l : Limits) 
   pub received : Kept freshReceiver (chunksOf 204 bytes) numbers given receiver
 
 -- the bits that were read
-abbrev pub bitsRead : {R : Type 0} {cost doubt : R → ℕ → ℕ} {l : Limits} {rate : ℕ} {inputs : List (List ℕ)} → NoisyLink cost doubt l rate inputs → List ℕ
+abbrev pub bitsRead : {R : Type 0} {cost : R → ℕ → ℕ} {Noise : List R → List ℕ → Type 0} {rate : ℕ} {inputs : List (List ℕ)} → NoisyLink cost Noise rate inputs → List ℕ
 bitsRead k = k .decided ++ take (k .count) (k .exit)
 
 -- what such a link brings back where its end is quiet: as one that is not harmed
-pub record NoisyArrived {R : Type 0} {cost doubt : R → ℕ → ℕ} {l : Limits} {rate : ℕ} {inputs : List (List ℕ)} (k : NoisyLink cost doubt l rate inputs) : Type 0 where
+pub record NoisyArrived {R : Type 0} {cost : R → ℕ → ℕ} {Noise : List R → List ℕ → Type 0} {rate : ℕ} {inputs : List (List ℕ)} (k : NoisyLink cost Noise rate inputs) : Type 0 where
   pub back : BroughtBack inputs (length (bitsRead k)) (chunksOf 204 (k .bytes)) (k .numbers) (k .given)
   pub behind : k .rest ≡ length (k .came) % symbolsPerPattern rate
   pub to-the-last : length (k .unread) ≡ 0 → ToTheLast rate inputs (length (bitsRead k))
 
--- What it brings back whatever its end. The blocks that are whole before the last bits, which are unsure, are those that were sent: all that were received,
--- or all but the last. They are answered so, and the packets of all but the last eleven of them are given, in order.
-pub record FrontArrived {R : Type 0} {cost doubt : R → ℕ → ℕ} {l : Limits} {rate : ℕ} {inputs : List (List ℕ)} (k : NoisyLink cost doubt l rate inputs) : Type 0 where
+-- What it gives whatever its end, of the blocks that are whole before the last bits, which are unsure: these are all that were received, or all but the last.
+-- They are answered as unharmed ones, and the packets of all but the last eleven of them are given, in order.
+pub record FrontGiven {R : Type 0} {cost : R → ℕ → ℕ} {Noise : List R → List ℕ → Type 0} {rate : ℕ} {inputs : List (List ℕ)} (unsure : ℕ) (k : NoisyLink cost Noise rate inputs) : Type 0 where
   pub surely : ℕ
-  pub surely-is : surely ≡ blocksInBits (length (bitsRead k) - l .unsure)
+  pub surely-is : surely ≡ blocksInBits (length (bitsRead k) - unsure)
   pub all-but-one : length (chunksOf 204 (k .bytes)) ≤ surely + 1
-  pub blocks-sent : take surely (chunksOf 204 (k .bytes)) ≡ take surely (interleavedBlocks (packetsFor inputs))
   pub answered : take surely (k .numbers) ≡ take surely (replicate 11 9 ++ replicate surely 0)
   pub packets : take (surely - 11) (k .given) ≡ take (surely - 11) (packetsFor inputs)
+
+-- where these blocks are also those that were sent
+pub record FrontArrived {R : Type 0} {cost : R → ℕ → ℕ} {Noise : List R → List ℕ → Type 0} {rate : ℕ} {inputs : List (List ℕ)} (unsure : ℕ) (k : NoisyLink cost Noise rate inputs) : Type 0 where
+  pub front : FrontGiven unsure k
+  pub blocks-sent : take (front .surely) (chunksOf 204 (k .bytes)) ≡ take (front .surely) (interleavedBlocks (packetsFor inputs))
