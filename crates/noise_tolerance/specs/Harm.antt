@@ -89,12 +89,12 @@ unfoldable pub harmAt : ℕ → HarmRow
 unfolding harmTable
 harmAt rate = getD harmTable rate (harms (spoils 0 0 0 0) (spoils 0 0 0 0) (spoils 0 0 0 0))
 
--- the symbols of a window elsewhere, and how far apart harmed symbols must be to count one by one: the symbols that 16 blocks take
+-- the symbols of a window elsewhere, and how far apart harmed symbols must be to count one by one: the symbols that 13 blocks take
 abbrev pub harmWindow : ℕ
 harmWindow = 900
 
 abbrev pub harmDistance : ℕ → ℕ
-harmDistance rate = symbolsPerPattern rate * (26112 / patternLength rate)
+harmDistance rate = symbolsPerPattern rate * (21216 / patternLength rate)
 
 -- Bit x is near harm: there is a harmed symbol whose pattern begins at most `ahead` bits later, and one whose pattern ends at most `behind` bits earlier.
 -- None of the two is further than two of the reader's runs.

@@ -91,7 +91,6 @@ first-or f g (suc n) = by (first-or f g n) (ℕ-discrete (f n) (g n))
 pub record Close (rate : ℕ) (l : Spoils) : Type 0 where
   pub span : ℕ
   pub spans : l .longest + symbolsPerPattern rate ≤ symbolsPerPattern rate * span + 1
-  pub some-span : 0 < span
   pub close : patternLength rate * span + (l .ahead + l .behind) ≤ 761
   pub some-symbols : 0 < symbolsPerPattern rate
   pub some-bits : 0 < patternLength rate
@@ -104,77 +103,59 @@ module _ {R : Type 0} (harmed : R → Bool) (rate : ℕ) (l : Spoils) (c : Close
   abbrev S : ℕ
   S = symbolsPerPattern rate
 
+  -- two harmed symbols whose patterns are not far apart: the later one's ends within the span from where the earlier one's begins
+  module _ (e f : ℕ) (he : HarmedAt harmed points e) (hf : HarmedAt harmed points f) (near : P * (f / S) ≤ P * (e / S) + 21200) where
+    de : S * (e / S) + e % S ≡ e
+    de = div-add-mod e S
+
+    df : S * (f / S) + f % S ≡ f
+    df = div-add-mod f S
+
+    me : e % S < S
+    me = mod-lt e (c .some-symbols)
+
+    mf : f % S < S
+    mf = mod-lt f (c .some-symbols)
+
+    apart : f / S < e / S + 21216 / P
+    apart = at (decLt (f / S) (e / S + 21216 / P))
+      where
+        at : Dec (f / S < e / S + 21216 / P) → f / S < e / S + 21216 / P
+        at (yes d) = d
+        at (no d) =
+            absurd (omega (arith, mul-le-mul-left P (over d), near, div-add-mod 21216 P, mod-lt 21216 (c .some-bits), c .few-bits))
+          where
+            over : ¬ (f / S < e / S + 21216 / P) → e / S + 21216 / P ≤ f / S
+            over d = omega arith
+
+    one : f < e + l .longest
+    one = at (decLe e f)
+      where
+        at : Dec (e ≤ f) → f < e + l .longest
+        at (yes h) = gathered e f h (omega (arith, mul-le-mul-left S apart, de, df, mf)) he hf
+        at (no h) = omega arith
+
+    spanned : suc (f / S) ≤ e / S + c .span
+    spanned = at (decLe (suc (f / S)) (e / S + c .span))
+      where
+        at : Dec (suc (f / S) ≤ e / S + c .span) → suc (f / S) ≤ e / S + c .span
+        at (yes d) = d
+        at (no d) = absurd (omega (arith, mul-le-mul-left S (over d), de, df, me, one, c .spans))
+          where
+            over : ¬ (suc (f / S) ≤ e / S + c .span) → e / S + c .span ≤ f / S
+            over d = omega arith
+
+    linked : P * suc (f / S) ≤ P * (e / S) + P * c .span
+    linked = omega (arith, mul-le-mul-left P spanned)
+
   -- two wrong bits within 2,448 bytes and some
   bits-close : (x y : ℕ) → y ≤ x + 19592 → NearHarm harmed rate l points x → NearHarm harmed rate l points y → y < x + 761
-  bits-close x y near a b = by (decLt (b .latest) (a .earliest))
-    where
-      e : ℕ
-      e = a .earliest
-
-      f : ℕ
-      f = b .latest
-
-      de : S * (e / S) + e % S ≡ e
-      de = div-add-mod e S
-
-      df : S * (f / S) + f % S ≡ f
-      df = div-add-mod f S
-
-      me : e % S < S
-      me = mod-lt e (c .some-symbols)
-
-      mf : f % S < S
-      mf = mod-lt f (c .some-symbols)
-
-      -- the latest lies before the earliest
-      lower : f < e → f / S ≤ e / S
-      lower h = at (decLe (f / S) (e / S))
-        where
-          at : Dec (f / S ≤ e / S) → f / S ≤ e / S
-          at (yes d) = d
-          at (no d) = absurd (omega (arith, mul-le-mul-left S (over d), de, df, me))
-            where
-              over : ¬ (f / S ≤ e / S) → suc (e / S) ≤ f / S
-              over d = omega arith
-
-      -- they are near enough to count as one
-      apart : f / S < e / S + 26112 / P
-      apart = at (decLt (f / S) (e / S + 26112 / P))
-        where
-          at : Dec (f / S < e / S + 26112 / P) → f / S < e / S + 26112 / P
-          at (yes d) = d
-          at (no d) =
-              absurd (omega (
-                arith,
-                mul-le-mul-left P (over d),
-                b .not-beyond,
-                a .not-far,
-                near,
-                div-add-mod 26112 P,
-                mod-lt 26112 (c .some-bits),
-                c .few-bits,
-              ))
-            where
-              over : ¬ (f / S < e / S + 26112 / P) → e / S + 26112 / P ≤ f / S
-              over d = omega arith
-
-      one : e ≤ f → f < e + l .longest
-      one h = gathered e f h (omega (arith, mul-le-mul-left S apart, de, df, mf)) (a .earliest-harmed) (b .latest-harmed)
-
-      spanned : e ≤ f → suc (f / S) ≤ e / S + c .span
-      spanned h = at (decLe (suc (f / S)) (e / S + c .span))
-        where
-          at : Dec (suc (f / S) ≤ e / S + c .span) → suc (f / S) ≤ e / S + c .span
-          at (yes d) = d
-          at (no d) = absurd (omega (arith, mul-le-mul-left S (over d), de, df, me, one h, c .spans))
-            where
-              over : ¬ (suc (f / S) ≤ e / S + c .span) → e / S + c .span ≤ f / S
-              over d = omega arith
-
-      by : Dec (f < e) → y < x + 761
-      by (yes h) =
-          omega (arith, b .not-early, a .not-late, mul-le-mul-left P (lower h), c .close, mul-le-mul-left P (c .some-span))
-      by (no h) = omega (arith, b .not-early, a .not-late, mul-le-mul-left P (spanned (omega arith)), c .close)
+  bits-close x y near a b =
+      let u = linked (a .earliest) (a .latest) (a .earliest-harmed) (a .latest-harmed) (omega (arith, a .not-beyond, a .not-far)) in
+      let v = linked (b .earliest) (b .latest) (b .earliest-harmed) (b .latest-harmed) (omega (arith, b .not-beyond, b .not-far)) in
+      let z = linked (a .earliest) (b .latest) (a .earliest-harmed) (b .latest-harmed)
+      (omega (arith, u, v, a .not-early, b .not-late, near, c .close)) in
+      omega (arith, z, b .not-early, a .not-late, c .close)
 
   -- ---- wrong bytes lie within 96
 

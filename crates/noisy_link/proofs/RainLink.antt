@@ -58,7 +58,7 @@ module _ (r : ℕ) (l : Spoils) where
   shape-ok = both (ltb 0 (symbolsPerPattern r)) (both (ltb 0 (patternLength r)) (leb (patternLength r) 7))
 
   abbrev rest-ok : Bool
-  rest-ok = both (ltb 0 span) (both close-ok shape-ok)
+  rest-ok = both close-ok shape-ok
 
   unfoldable near : Bool
   near = both spans-ok rest-ok
@@ -67,14 +67,12 @@ module _ (r : ℕ) (l : Spoils) where
   unfolding near
   nearly h =
       let a : T rest-ok = both-right spans-ok rest-ok h in
-      let b : T (both close-ok shape-ok) = both-right (ltb 0 span) (both close-ok shape-ok) a in
-      let c : T shape-ok = both-right close-ok shape-ok b in
+      let c : T shape-ok = both-right close-ok shape-ok a in
       let d : T (both (ltb 0 (patternLength r)) (leb (patternLength r) 7)) = both-right (ltb 0 (symbolsPerPattern r)) (both (ltb 0 (patternLength r)) (leb (patternLength r) 7)) c in
       record {
         span = span;
         spans = leb→le _ _ (both-left spans-ok rest-ok h);
-        some-span = ltb→lt 0 span (both-left (ltb 0 span) (both close-ok shape-ok) a);
-        close = leb→le _ _ (both-left close-ok shape-ok b);
+        close = leb→le _ _ (both-left close-ok shape-ok a);
         some-symbols = ltb→lt 0 (symbolsPerPattern r) (both-left (ltb 0 (symbolsPerPattern r)) (both (ltb 0 (patternLength r)) (leb (patternLength r) 7)) c);
         some-bits = ltb→lt 0 (patternLength r) (both-left (ltb 0 (patternLength r)) (leb (patternLength r) 7) d);
         few-bits = leb→le (patternLength r) 7 (both-right (ltb 0 (patternLength r)) (leb (patternLength r) 7) d);
@@ -172,7 +170,7 @@ module _ (inputs : List (List ℕ)) (g : All Input inputs) (bs : All Bytes input
         by (yes h) = given (omega arith)
         by (no h) = none (omega arith)
 
-  -- By hard decisions: where harmed symbols that are not as far apart as those of 16 blocks lie within 30, 10, 5 or 1 symbols, and the others have at most 4, 2, 2
+  -- By hard decisions: where harmed symbols that are not as far apart as those of 13 blocks lie within 30, 10, 5 or 1 symbols, and the others have at most 4, 2, 2
   -- or 0 wrong I and Q bits in any 900 symbols, every block that is whole is corrected to what was sent, and the packets of all but the last eleven are given.
   pub rain-hard : (k : NoisyLink (costOf differing) (Rained (doubtOf differing) isStruck (harmAt rate .hard-struck) rate) rate inputs) → FrontGiven (hardLimits rate .unsure) k
   rain-hard k =
