@@ -30,6 +30,7 @@ use Rattle.noise_tolerance.specs.Noise.{SparseSymbols}
 use Rattle.noise_tolerance.proofs.Exchange.{memory-lt}
 use Rattle.noise_tolerance.proofs.Recovery.{six-settle, Astray, near, last, AstrayOpen, early, across, later}
 use Rattle.noise_tolerance.proofs.Harm.{Recoverable}
+use Rattle.noise_tolerance.proofs.Hull.{div-least, div-below, quotient, held, ordered, spanned, Hull, clean, hit, hull}
 use Rattle.noise_tolerance.proofs.HarmedRuns.{Harmable, Within, run-astray, run-astray-open}
 use Rattle.noise_tolerance.proofs.Streams.{sparse-front, sparse-back}
 
@@ -76,49 +77,7 @@ six-alike s t n xs ys hs ht vx vy lx ly h =
     ∙ six-settle (memoryAfter s (take n xs)) (memoryAfter t (take n ys)) (memory-lt s hs (take-bits n vx)) (memory-lt t ht (take-bits n vy)) (take 6 (drop n xs)) six
     ∙ ap (memoryAfter (memoryAfter t (take n ys))) e ∙ sym (memory-append t (take n ys) (take 6 (drop n ys))) ∙ ap (memoryAfter t) (sym (take-add n 6 ys))
 
--- ---- the first and the last harmed symbol of a run
-
-module _ {R : Type 0} (harmed : R → Bool) (some : R) where
-  data Hull (rs : List R) : Type 0 where
-    clean : ((i : ℕ) → i < length rs → harmed (getD rs i some) ≡ false) → Hull rs
-    hit : (f l : ℕ) → f ≤ l → l < length rs → harmed (getD rs f some) ≡ true → harmed (getD rs l some) ≡ true
-        → ((i : ℕ) → i < length rs → harmed (getD rs i some) ≡ true → (f ≤ i) × (i ≤ l)) → Hull rs
-
-  hull : (rs : List R) → Hull rs
-  hull [] = clean (λ i h. absurd (omega arith))
-  hull (r ∷ rs) = by (hull rs) (harmed r) refl
-    where
-      true-false : {A : Type 0} → true ≡ false → A
-      true-false e = absurd (let o : _≡_ {A = ℕ} 1 0 = ap (λ (t : Bool). pick t 1 0) e in omega arith)
-
-      none-further : harmed r ≡ false → ((i : ℕ) → i < length rs → harmed (getD rs i some) ≡ false) → (i : ℕ) → i < length (r ∷ rs) → harmed (getD (r ∷ rs) i some) ≡ false
-      none-further e h zero l = e
-      none-further e h (suc i) l = h i (omega arith)
-
-      only : ((i : ℕ) → i < length rs → harmed (getD rs i some) ≡ false) → (i : ℕ) → i < length (r ∷ rs) → harmed (getD (r ∷ rs) i some) ≡ true → (0 ≤ i) × (i ≤ 0)
-      only h zero l e = (omega arith, omega arith)
-      only h (suc i) l e = true-false (sym e ∙ h i (omega arith))
-
-      from-first : (l : ℕ) → ((i : ℕ) → i < length rs → harmed (getD rs i some) ≡ true → i ≤ l)
-          → (i : ℕ) → i < length (r ∷ rs) → harmed (getD (r ∷ rs) i some) ≡ true → (0 ≤ i) × (i ≤ suc l)
-      from-first l h zero m e = (omega arith, omega arith)
-      from-first l h (suc i) m e = (omega arith, let z = h i (omega arith) e in omega arith)
-
-      further : harmed r ≡ false → (f l : ℕ) → ((i : ℕ) → i < length rs → harmed (getD rs i some) ≡ true → (f ≤ i) × (i ≤ l))
-          → (i : ℕ) → i < length (r ∷ rs) → harmed (getD (r ∷ rs) i some) ≡ true → (suc f ≤ i) × (i ≤ suc l)
-      further q f l h zero m e = true-false (sym e ∙ q)
-      further q f l h (suc i) m e = let z = h i (omega arith) e in let x = z .0 in let y = z .1 in (omega arith, omega arith)
-
-      by : Hull rs → (t : Bool) → harmed r ≡ t → Hull (r ∷ rs)
-      by (clean h) false e = clean (none-further e h)
-      by (clean h) true e = hit 0 0 (omega arith) (omega arith) e e (only h)
-      by (hit f l o m a b h) false e = hit (suc f) (suc l) (omega arith) (omega arith) a b (further e f l h)
-      by (hit f l o m a b h) true e = hit 0 (suc l) (omega arith) (omega arith) e b (from-first l (λ i p q. h i p q .1))
-
 -- ---- a stream
-
-quotient : (s n f : ℕ) → 0 < s → (s * n + f) / s ≡ n + f / s
-quotient s n f h = mul-add-div h n f
 
 -- Bit x of the stream is near harm: there are harmed symbols, one not much later than the bit and one not much earlier, and none of them far.
 pub record Beside (P S ahead behind far : ℕ) (Harmed : ℕ → Type 0) (x : ℕ) : Type 0 where
@@ -130,27 +89,6 @@ pub record Beside (P S ahead behind far : ℕ) (Harmed : ℕ → Type 0) (x : �
   pub not-early : x < P * suc (latest / S) + behind
   pub not-far : x ≤ P * (earliest / S) + 2 * far
   pub not-beyond : P * (latest / S) ≤ x + far
-
--- quotients of places
-div-least : (s k e : ℕ) → 0 < s → s * k ≤ e → k ≤ e / s
-div-least s k e h l = by (decLe k (e / s))
-  where
-    by : Dec (k ≤ e / s) → k ≤ e / s
-    by (yes d) = d
-    by (no d) = absurd (omega (arith, mul-le-mul-left s (over d), div-add-mod e s, mod-lt e h))
-      where
-        over : ¬ (k ≤ e / s) → suc (e / s) ≤ k
-        over d = omega arith
-
-div-below : (s k e : ℕ) → e < s * k → e / s < k
-div-below s k e l = by (decLt (e / s) k)
-  where
-    by : Dec (e / s < k) → e / s < k
-    by (yes d) = d
-    by (no d) = absurd (omega (arith, mul-le-mul-left s (over d), div-add-mod e s))
-      where
-        over : ¬ (e / s < k) → k ≤ e / s
-        over d = omega arith
 
 module _ {R : Type 0} {cost doubt : R → ℕ → ℕ} {harmed : R → Bool} {u charged : ℕ} (kind : Harmable cost doubt harmed u charged) (rate : ℕ) (hr : rate < 5)
     {window most depth span reach opening : ℕ} (n : Recoverable rate window most depth charged span reach opening)
@@ -292,39 +230,16 @@ module _ {R : Type 0} {cost doubt : R → ℕ → ℕ} {harmed : R → Bool} {u 
         l-there : HarmedAt (S * k + l)
         l-there = ap harmed (sym (harmed-there l (omega (arith, lr)))) ∙ c
 
-        df : S * (f / S) + f % S ≡ f
-        df = div-add-mod f S
-
-        dl : S * (l / S) + l % S ≡ l
-        dl = div-add-mod l S
-
         hit-within : Within harmed (kind .some) rate (f / S) (suc (l / S)) rs
-        hit-within i p e = let z = h i p e in let x = z .0 in let y = z .1 in (omega (arith, df), omega (arith, dl, mod-lt l some-S))
+        hit-within i p e = let z = h i p e in held S f l longest span some-S o i (z .0) (z .1)
 
         hit-order : f / S ≤ suc (l / S)
-        hit-order = by (decLe (f / S) (suc (l / S)))
-          where
-            by : Dec (f / S ≤ suc (l / S)) → f / S ≤ suc (l / S)
-            by (yes d) = d
-            by (no d) = absurd (omega (arith, mul-le-mul-left S (over d), df, dl, mod-lt l some-S))
-              where
-                over : ¬ (f / S ≤ suc (l / S)) → suc (suc (l / S)) ≤ f / S
-                over d = omega arith
+        hit-order = ordered S f l longest span some-S o
 
         hit-few : suc (l / S) ≤ f / S + span
-        hit-few = by (decLe (suc (l / S)) (f / S + span))
-          where
-            close : l < f + longest
-            close =
-                let z = rain (S * k + f) (S * k + l) (omega arith) (omega (arith, lr, mul-le-mul-left S most-q, distant, full-is)) (omega (arith, lr, hq, size)) f-there l-there in
-                omega (arith, z)
-
-            by : Dec (suc (l / S) ≤ f / S + span) → suc (l / S) ≤ f / S + span
-            by (yes d) = d
-            by (no d) = absurd (omega (arith, mul-le-mul-left S (over d), df, dl, mod-lt f some-S, close, spans))
-              where
-                over : ¬ (suc (l / S) ≤ f / S + span) → f / S + span ≤ l / S
-                over d = omega arith
+        hit-few =
+            let z = rain (S * k + f) (S * k + l) (omega arith) (omega (arith, lr, mul-le-mul-left S most-q, distant, full-is)) (omega (arith, lr, hq, size)) f-there l-there in
+            spanned S f l longest span some-S o (omega (arith, z)) spans
 
         -- the harm of the run, told of the stream
         near-hit : (i : ℕ) → P * (f / S) ≤ i + reach → i < P * suc (l / S) + reach → Here i

@@ -10,6 +10,7 @@ pub mod Runs
 pub mod Harm
 pub mod Windows
 pub mod Received
+pub mod Hull
 pub mod HarmedRuns
 pub mod Streams
 pub mod HarmKinds

@@ -4,7 +4,7 @@ use mathlib.Core.Path.{_≡_, refl, sym, _∙_, ap, subst}
 use mathlib.Core.Bool.{Bool, true, false}
 use mathlib.Core.List.{List, [], _∷_, _++_, map}
 use mathlib.Core.Logic.{_⊎_, inl, inr}
-use Prim.Native.Nat.{ℕ, suc, _+_, _*_, _/_, _≤_, _<_}
+use Prim.Native.Nat.{ℕ, suc, _+_, _*_, _/_, _%_, _≤_, _<_}
 use native.Mathlib.Decide.{decLt}
 use native.Mathlib.Nat.{mul-le-mul-left}
 use native.Mathlib.Omega.{arith}
@@ -12,13 +12,15 @@ use lib.ListN.{length, getD, take, drop, length-map, List·getD-eq-default}
 use Rattle.common.specs.Choice.{pick}
 use Rattle.common.proofs.Lists.{getD-map-in}
 use Rattle.convolutional_code.specs.Bits.{Bits}
+use Rattle.trellis.specs.Best.{Best}
 use Rattle.puncturing.specs.Step.{patternLength}
 use Rattle.inner_code.specs.Step.{symbolsOf}
 use Rattle.inner_code.specs.Encode.{coderAt}
 use Rattle.soft_decision.specs.Cost.{softly}
 use Rattle.soft_decision.specs.declared.Received.{Received}
-use Rattle.run_reader.specs.Cost.{differing, totalCost, Costed}
+use Rattle.run_reader.specs.Cost.{differing, totalCost, runCost, softCost, Costed}
 use Rattle.run_reader.specs.Read.{symbolsPerPattern, runBits}
+use Rattle.run_reader.proofs.Patterns.{some-symbols}
 use Rattle.symbol_stream.specs.Stream.{runPatterns, Closes}
 use Rattle.symbol_stream.specs.History.{SymbolFeedings, Ended}
 use Rattle.symbol_stream.specs.declared.SymbolStream.{SymbolStream}
@@ -26,36 +28,96 @@ use Rattle.symbol_stream.proofs.Costs.{map-take, map-drop}
 use Rattle.symbol_stream.proofs.Histories.{fed, every-history, every-end}
 use Rattle.noise_tolerance.specs.Noise.{SparseSymbols, softDoubt}
 use Rattle.noise_tolerance.specs.Table.{hardLimits, softLimits}
-use Rattle.noise_tolerance.specs.Harm.{Came, fine, struck, isStruck, costOf, doubtOf, isLost, doubtUnlost, HarmedAt, Gathered, Spoils, harmAt, harmWindow, harmDistance, NearHarm, HarmedStream, Recovered}
+use Rattle.noise_tolerance.specs.Harm.{Came, fine, struck, isStruck, costOf, doubtOf, isLost, doubtUnlost, HarmedAt, Gathered, Spoils, harmAt, harmWindow, harmDistance, BesideHarm, NearHarm, HarmedRun, RunRecovered, HarmedStream, Recovered}
 use Rattle.noise_tolerance.proofs.Received.{hardDoubt}
-use Rattle.noise_tolerance.proofs.HarmedRuns.{Harmable}
+use Rattle.noise_tolerance.proofs.HarmedRuns.{Harmable, Within, run-astray}
+use Rattle.noise_tolerance.proofs.Recovery.{Astray, near, last}
+use Rattle.noise_tolerance.proofs.Hull.{held, ordered, spanned, Hull, clean, hit, hull}
 use Rattle.noise_tolerance.proofs.HarmKinds.{hard-struck-kind, soft-struck-kind, lost-kind}
 use Rattle.noise_tolerance.proofs.HarmNumbers.{HarmFits, hard-struck-fits, soft-struck-fits, lost-fits}
 use Rattle.noise_tolerance.proofs.HarmedStream.{Beside, decided-size, decided-within, decided-rest, decided-wrong}
 
-module _ {R : Type 0} {cost doubt : R → ℕ → ℕ} {harmed : R → Bool} {u charged : ℕ} (kind : Harmable cost doubt harmed u charged) (rate : ℕ) (hr : rate < 5) {t depth : ℕ} {l : Spoils}
-    (f : HarmFits rate u charged t depth l) (bits : List ℕ) (points : List R) (came unread : List ℕ) (w : Bits bits) (coded : came ++ unread ≡ symbolsOf (coderAt rate 0) bits)
-    (size : length points ≡ length came) (doubted : SparseSymbols harmWindow t (map doubt points) came) (gathered : Gathered harmed (harmDistance rate) (l .longest) points) where
-  -- a harmed place, by the list of marks and by the symbol there
-  marked : (i : ℕ) → i < length points → getD (map harmed points) i false ≡ harmed (getD points i (kind .some))
-  marked i l = getD-map-in harmed points (kind .some) false i l
+-- ---- a harmed place, by the list of marks and by the symbol there
 
+module _ {R : Type 0} {cost doubt : R → ℕ → ℕ} {harmed : R → Bool} {u charged : ℕ} (kind : Harmable cost doubt harmed u charged) (points : List R) where
   harmed-marked : (i : ℕ) → harmed (getD points i (kind .some)) ≡ true → HarmedAt harmed points i
   harmed-marked i e = by (decLt i (length points))
     where
       by : Dec (i < length points) → HarmedAt harmed points i
-      by (yes l) = marked i l ∙ e
+      by (yes l) = getD-map-in harmed points (kind .some) false i l ∙ e
       by (no l) =
           let z : harmed (getD points i (kind .some)) ≡ false = ap harmed (List·getD-eq-default points (kind .some) (omega arith)) ∙ kind .some-unharmed in
           absurd (let o : _≡_ {A = ℕ} 1 0 = ap (λ (t : Bool). pick t 1 0) (sym e ∙ z) in omega arith)
 
+  in-patterns : {rate t depth : ℕ} {l : Spoils} (f : HarmFits rate u charged t depth l) (ss : List ℕ) → SparseSymbols harmWindow t (map doubt points) ss
+      → SparseSymbols (symbolsPerPattern rate * f .patterns) (u * f .units) (map doubt points) ss
+  in-patterns {rate} {t} f ss h =
+      subst (λ (k : ℕ). SparseSymbols (symbolsPerPattern rate * f .patterns) k (map doubt points) ss) (sym (f .units-are))
+      (subst (λ (k : ℕ). SparseSymbols k t (map doubt points) ss) (sym (f .window-is)) h)
+
+-- ---- a run
+
+module _ {R : Type 0} {cost doubt : R → ℕ → ℕ} {harmed : R → Bool} {u charged : ℕ} (kind : Harmable cost doubt harmed u charged) (rate m : ℕ) (hr : rate < 5) (hm : m < 64) {t depth : ℕ} {l : Spoils}
+    (f : HarmFits rate u charged t depth l) (bits : List ℕ) (points : List R) (w : Bits bits) (whole : length bits % patternLength rate ≡ 0)
+    (size : length points ≡ length (symbolsOf (coderAt rate m) bits)) (doubted : SparseSymbols harmWindow t (map doubt points) (symbolsOf (coderAt rate m) bits))
+    (gathered : Gathered harmed (length points) (l .longest) points)
+    {best : List ℕ} (b : Best (runCost (map cost points) rate m) (runBits rate (length points)) best) where
+  abbrev ss : List ℕ
+  ss = symbolsOf (coderAt rate m) bits
+
+  some-S : 0 < symbolsPerPattern rate
+  some-S = some-symbols rate hr
+
+  best-sent : Best (runCost (map cost points) rate m) (runBits rate (length ss)) best
+  best-sent = subst (λ (k : ℕ). Best (runCost (map cost points) rate m) (runBits rate k) best) size b
+
+  run-recovered : RunRecovered harmed l rate depth bits points best
+  run-recovered = record { wrong = λ i h d. by i h d (hull harmed (kind .some) points) }
+    where
+      clean-within : ((i : ℕ) → i < length points → harmed (getD points i (kind .some)) ≡ false) → Within harmed (kind .some) rate 0 0 points
+      clean-within g i l e = absurd (let o : _≡_ {A = ℕ} 1 0 = ap (λ (t : Bool). pick t 1 0) (sym e ∙ g i l) in omega arith)
+
+      none : (i : ℕ) → Astray (patternLength rate * 0) (patternLength rate * 0) (l .ahead) depth (length bits) i
+          → (BesideHarm harmed rate (l .ahead) (l .ahead) points i) ⊎ (length bits ≤ i + depth)
+      none i (near z x y) = absurd (omega arith)
+      none i (last x) = inr x
+
+      told : (i f g : ℕ) → harmed (getD points f (kind .some)) ≡ true → harmed (getD points g (kind .some)) ≡ true
+          → Astray (patternLength rate * (f / symbolsPerPattern rate)) (patternLength rate * suc (g / symbolsPerPattern rate)) (l .ahead) depth (length bits) i
+          → (BesideHarm harmed rate (l .ahead) (l .ahead) points i) ⊎ (length bits ≤ i + depth)
+      told i f g a c (near z x y) = inl (record {
+        earliest = f;
+        latest = g;
+        earliest-harmed = harmed-marked kind points f a;
+        latest-harmed = harmed-marked kind points g c;
+        not-late = x;
+        not-early = y;
+      })
+      told i f g a c (last x) = inr x
+
+      by : (i : ℕ) → i < length bits → (getD bits i 0 ≡ getD best i 0 → ⊥) → Hull harmed (kind .some) points
+          → (BesideHarm harmed rate (l .ahead) (l .ahead) points i) ⊎ (length bits ≤ i + depth)
+      by i h d (clean g) =
+          none i (run-astray kind rate hr (f .recoverable) (f .patterns) (f .covers) m m hm hm points bits w whole ss refl size (in-patterns kind points f ss doubted)
+          0 0 (omega arith) (omega arith) (clean-within g) best-sent refl i h d)
+      by i h d (hit x y o q a c g) =
+          let S = symbolsPerPattern rate in
+          told i x y a c
+          (run-astray kind rate hr (f .recoverable) (f .patterns) (f .covers) m m hm hm points bits w whole ss refl size (in-patterns kind points f ss doubted)
+          (x / S) (suc (y / S)) (ordered S x y (l .longest) (f .span) some-S o)
+          (spanned S x y (l .longest) (f .span) some-S o (gathered x y o (omega arith) (harmed-marked kind points x a) (harmed-marked kind points y c)) (f .spans))
+          (λ j p e. let z = g j p e in held S x y (l .longest) (f .span) some-S o j (z .0) (z .1)) best-sent refl i h d)
+
+-- ---- a stream
+
+module _ {R : Type 0} {cost doubt : R → ℕ → ℕ} {harmed : R → Bool} {u charged : ℕ} (kind : Harmable cost doubt harmed u charged) (rate : ℕ) (hr : rate < 5) {t depth : ℕ} {l : Spoils}
+    (f : HarmFits rate u charged t depth l) (bits : List ℕ) (points : List R) (came unread : List ℕ) (w : Bits bits) (coded : came ++ unread ≡ symbolsOf (coderAt rate 0) bits)
+    (size : length points ≡ length came) (doubted : SparseSymbols harmWindow t (map doubt points) came) (gathered : Gathered harmed (harmDistance rate) (l .longest) points) where
   rain : (i j : ℕ) → i ≤ j → j ≤ i + harmDistance rate → j < length points → harmed (getD points i (kind .some)) ≡ true → harmed (getD points j (kind .some)) ≡ true → j < i + l .longest
-  rain i j o d m a b = gathered i j o d (harmed-marked i a) (harmed-marked j b)
+  rain i j o d m a b = gathered i j o d (harmed-marked kind points i a) (harmed-marked kind points j b)
 
   sparse : SparseSymbols (symbolsPerPattern rate * f .patterns) (u * f .units) (map doubt points) came
-  sparse =
-      subst (λ (k : ℕ). SparseSymbols (symbolsPerPattern rate * f .patterns) k (map doubt points) came) (sym (f .units-are))
-      (subst (λ (k : ℕ). SparseSymbols k t (map doubt points) came) (sym (f .window-is)) doubted)
+  sparse = in-patterns kind points f came doubted
 
   module _ {costs out : List ℕ} {s : SymbolStream} (feedings : SymbolFeedings rate costs out s) (c : Costed cost points costs)
       {output exit : List ℕ} {count rest : ℕ} (closes : Closes s output count rest exit) where
@@ -89,8 +151,8 @@ module _ {R : Type 0} {cost doubt : R → ℕ → ℕ} {harmed : R → Bool} {u 
             inl (record {
               earliest = x .earliest;
               latest = x .latest;
-              earliest-harmed = harmed-marked (x .earliest) (x .earliest-harmed);
-              latest-harmed = harmed-marked (x .latest) (x .latest-harmed);
+              earliest-harmed = harmed-marked kind points (x .earliest) (x .earliest-harmed);
+              latest-harmed = harmed-marked kind points (x .latest) (x .latest-harmed);
               not-late = x .not-late;
               not-early = omega (arith, x .not-early, f .behind-is);
               not-far = omega (arith, x .not-far, f .runs);
@@ -119,6 +181,26 @@ twice-sparse n t rs ss h i =
 -- the rate of a stream that was fed is known
 fed-rate : {rate : ℕ} {costs out : List ℕ} {s : SymbolStream} → SymbolFeedings rate costs out s → rate < 5
 fed-rate f = rw (sym (fed f .rate-is)) (fed f .ready .known)
+
+-- Runs, by what they are read as: the same of each kind of harm.
+pub hard-run-recovered : {rate m : ℕ} {bits : List ℕ} {points : List (Came ℕ)} → HarmedRun (doubtOf differing) isStruck (harmAt rate .hard-struck) rate m bits points
+    → {best : List ℕ} → Best (runCost (map (costOf differing) points) rate m) (runBits rate (length points)) best
+    → RunRecovered isStruck (harmAt rate .hard-struck) rate (hardLimits rate .unsure) bits points best
+hard-run-recovered {rate} {m} {bits} {points} h b =
+    run-recovered hard-struck-kind rate m (h .known) (h .in-range) (hard-struck-fits rate (h .known)) bits points (h .binary) (h .whole) (h .as-long)
+    (twice-sparse harmWindow (harmAt rate .hard-struck .elsewhere) points (symbolsOf (coderAt rate m) bits) (h .sparse)) (h .gathered) b
+
+pub soft-run-recovered : {rate m : ℕ} {bits : List ℕ} {points : List (Came Received)} → HarmedRun (doubtOf softDoubt) isStruck (harmAt rate .soft-struck) rate m bits points
+    → {best : List ℕ} → Best (runCost (map (costOf softly) points) rate m) (runBits rate (length points)) best
+    → RunRecovered isStruck (harmAt rate .soft-struck) rate (softLimits rate .unsure) bits points best
+soft-run-recovered {rate} {m} {bits} {points} h b =
+    run-recovered soft-struck-kind rate m (h .known) (h .in-range) (soft-struck-fits rate (h .known)) bits points (h .binary) (h .whole) (h .as-long) (h .sparse) (h .gathered) b
+
+pub lost-run-recovered : {rate m : ℕ} {bits : List ℕ} {points : List Received} → HarmedRun doubtUnlost isLost (harmAt rate .soft-lost) rate m bits points
+    → {best : List ℕ} → Best (softCost points rate m) (runBits rate (length points)) best
+    → RunRecovered isLost (harmAt rate .soft-lost) rate (softLimits rate .unsure) bits points best
+lost-run-recovered {rate} {m} {bits} {points} h b =
+    run-recovered lost-kind rate m (h .known) (h .in-range) (lost-fits rate (h .known)) bits points (h .binary) (h .whole) (h .as-long) (h .sparse) (h .gathered) b
 
 -- Symbols struck in a stream, by hard decisions: where what is not struck has at most 4, 2, 2, 0 or 0 wrong I and Q bits in any 900 symbols, and those struck lie
 -- within 30, 10, 5, 1 or 1 symbols wherever they are not far apart, every wrong bit is near these or one of the last.

@@ -96,8 +96,16 @@ harmWindow = 900
 abbrev pub harmDistance : ℕ → ℕ
 harmDistance rate = symbolsPerPattern rate * (21216 / patternLength rate)
 
--- Bit x is near harm: there is a harmed symbol whose pattern begins at most `ahead` bits later, and one whose pattern ends at most `behind` bits earlier.
--- None of the two is further than two of the reader's runs.
+-- Bit x is beside harm: there is a harmed symbol whose pattern begins at most `ahead` bits later, and one whose pattern ends at most `behind` bits earlier.
+pub record BesideHarm {R : Type 0} (harmed : R → Bool) (rate ahead behind : ℕ) (points : List R) (x : ℕ) : Type 0 where
+  pub earliest : ℕ
+  pub latest : ℕ
+  pub earliest-harmed : HarmedAt harmed points earliest
+  pub latest-harmed : HarmedAt harmed points latest
+  pub not-late : patternLength rate * (earliest / symbolsPerPattern rate) ≤ x + ahead
+  pub not-early : x < patternLength rate * suc (latest / symbolsPerPattern rate) + behind
+
+-- of a stream, and none of the two is further than two of the reader's runs
 pub record NearHarm {R : Type 0} (harmed : R → Bool) (rate : ℕ) (l : Spoils) (points : List R) (x : ℕ) : Type 0 where
   pub earliest : ℕ
   pub latest : ℕ
@@ -109,6 +117,21 @@ pub record NearHarm {R : Type 0} (harmed : R → Bool) (rate : ℕ) (l : Spoils)
   pub not-beyond : patternLength rate * (latest / symbolsPerPattern rate) ≤ x + 1632
 
 -- ---- what came of what was sent
+
+-- a run: bits that were coded from a memory on, in whole patterns, and as many symbols that came, of which those harmed lie close together
+pub record HarmedRun {R : Type 0} (doubt : R → ℕ → ℕ) (harmed : R → Bool) (l : Spoils) (rate m : ℕ) (bits : List ℕ) (points : List R) : Type 0 where
+  pub known : rate < 5
+  pub in-range : m < 64
+  pub binary : Bits bits
+  pub whole : length bits % patternLength rate ≡ 0
+  pub as-long : length points ≡ length (symbolsOf (coderAt rate m) bits)
+  pub sparse : SparseSymbols harmWindow (l .elsewhere) (map doubt points) (symbolsOf (coderAt rate m) bits)
+  pub gathered : Gathered harmed (length points) (l .longest) points
+
+-- Of what is read of it every wrong bit is near harm, `ahead` bits on either side, or one of the last.
+pub record RunRecovered {R : Type 0} (harmed : R → Bool) (l : Spoils) (rate unsure : ℕ) (bits : List ℕ) (points : List R) (out : List ℕ) : Type 0 where
+  pub wrong : (i : ℕ) → i < length bits → (getD bits i 0 ≡ getD out i 0 → ⊥)
+      → (BesideHarm harmed rate (l .ahead) (l .ahead) points i) ⊎ (length bits ≤ i + unsure)
 
 -- a stream: the symbols of a fresh coder, of which so many came, any number left unread at the end; what is not harmed is sparsely doubted
 pub record HarmedStream {R : Type 0} (doubt : R → ℕ → ℕ) (harmed : R → Bool) (l : Spoils) (rate : ℕ) (bits : List ℕ) (points : List R) (came unread : List ℕ) : Type 0 where
