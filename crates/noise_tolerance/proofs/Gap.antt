@@ -13,7 +13,6 @@ use Rattle.common.specs.Choice.{pick}
 use Rattle.convolutional_code.specs.Code.{nextMemory}
 use Rattle.trellis.specs.Metric.{Costs}
 use Rattle.noise_tolerance.proofs.Difference.{unlike, difference}
-use Rattle.noise_tolerance.proofs.Linear.{difference-lt}
 use Rattle.noise_tolerance.proofs.Exchange.{climb, Potentials, Tells}
 
 module _ (a b : ℕ) (order : a ≤ b) where

@@ -1,22 +1,20 @@
 -- Harm within some patterns of a run: coded bits there tell nothing, and those outside tell as ever. Then the wrong bits are near those patterns.
 -- Assumes nothing.
-use mathlib.Core.Path.{_≡_, refl, sym, _∙_, ap, subst}
+use mathlib.Core.Path.{_≡_, refl, ap, subst}
 use mathlib.Core.Bool.{Bool}
 use mathlib.Core.List.{List, [], _∷_, flatten}
 use mathlib.Core.Logic.{_⊎_, inl, inr}
 use Prim.Native.Nat.{ℕ, zero, suc, _+_, _-_, _*_, _/_, _%_, _≤_, _<_}
-use native.Mathlib.Nat.{div-add-mod, mod-lt, mul-add, mul-suc, mul-le-mul-left, mul-add-mod-self-left}
+use native.Mathlib.Nat.{div-add-mod, mod-lt, mul-add, mul-le-mul-left, mul-add-mod-self-left}
 use native.Mathlib.Omega.{arith}
 use borrow.Author.Tests.{lt-ltb, le-ltb}
 use lib.Dec.{T, leb, leb→le}
 use lib.ListN.{length, getD, take, drop, length-take}
-use Rattle.common.specs.Choice.{pick}
 use Rattle.common.proofs.Computed.{agree-at}
 use Rattle.convolutional_code.specs.Bits.{Bits}
 use Rattle.convolutional_code.specs.Code.{tapsX, tapsY, coded, nextMemory, memoryAfter}
-use Rattle.convolutional_code.proofs.Bits.{bits-tail, coded-lt, next-lt}
+use Rattle.convolutional_code.proofs.Bits.{coded-lt}
 use Rattle.trellis.specs.Metric.{Costs, costFrom}
-use Rattle.trellis.proofs.Order.{bits-head}
 use Rattle.puncturing.specs.Mode.{modeOf}
 use Rattle.puncturing.specs.Step.{patternLength}
 use Rattle.puncturing.proofs.Places.{tested-at}

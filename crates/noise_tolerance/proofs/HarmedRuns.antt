@@ -1,6 +1,6 @@
 -- Harm of symbols: a harmed one may cost anything, or nothing at all. A run whose harmed symbols lie within some patterns is read wrong near these only.
 -- Assumes nothing.
-use mathlib.Core.Path.{_≡_, refl, sym, _∙_, ap, subst}
+use mathlib.Core.Path.{_≡_, refl, sym, _∙_, ap}
 use mathlib.Core.Bool.{Bool, true, false}
 use mathlib.Core.List.{List, map}
 use mathlib.Core.Logic.{_⊎_, inl, inr}
@@ -16,7 +16,7 @@ use Rattle.inner_code.specs.Step.{symbolsOf}
 use Rattle.inner_code.specs.Encode.{coderAt}
 use Rattle.depuncturing.specs.Steps.{puncturedCosts}
 use Rattle.run_reader.specs.Cost.{runCost}
-use Rattle.run_reader.specs.Read.{symbolsPerPattern, runBits, runLength}
+use Rattle.run_reader.specs.Read.{symbolsPerPattern, runLength}
 use Rattle.run_reader.proofs.Costs.{run-is}
 use Rattle.run_reader.proofs.Patterns.{sent-whole, run-whole, run-symbols}
 use Rattle.noise_tolerance.specs.Noise.{SparseSymbols}
@@ -99,12 +99,6 @@ module _ {R : Type 0} {cost doubt : R → ℕ → ℕ} {harmed : R → Bool} {u 
   least zs v e =
       let q : length zs ≡ runLength rate ss = e ∙ b .size in
       omega (arith, steps-are best (b .binary) (b .size), steps-are zs v q, b .least zs v q)
-
-  abbrev from : ℕ
-  from = patternLength rate * qa
-
-  abbrev to : ℕ
-  to = patternLength rate * qb
 
   -- a wrong bit of a run from the coder's memory
   pub run-astray : s ≡ t → (i : ℕ) → i < length bits → (getD bits i 0 ≡ getD best i 0 → ⊥) → Astray (patternLength rate * qa) (patternLength rate * qb) reach depth (length bits) i

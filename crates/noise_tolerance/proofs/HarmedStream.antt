@@ -7,10 +7,10 @@ use mathlib.Core.List.{List, [], _∷_, _++_, map, append-assoc}
 use mathlib.Core.Logic.{_⊎_, inl, inr}
 use Prim.Native.Nat.{ℕ, zero, suc, _+_, _-_, _*_, _/_, _%_, _≤_, _<_}
 use native.Mathlib.Decide.{ℕ-discrete, decLe, decLt}
-use native.Mathlib.Nat.{le-refl, div-add-mod, mod-lt, mul-mod-right, mul-div-right, mul-add-div, mul-add-mod-self-left, mod-eq-of-lt, mul-le-mul-left}
+use native.Mathlib.Nat.{le-refl, mul-mod-right, mul-div-right, mul-add-mod-self-left, mod-eq-of-lt, mul-le-mul-left}
 use native.Mathlib.Omega.{arith}
 use Rattle.common.specs.Choice.{pick}
-use lib.ListN.{length, getD, take, drop, length-append, length-take, length-drop, take-append-drop, List·getD-append}
+use lib.ListN.{length, getD, take, drop, length-append, length-drop, take-append-drop, List·getD-append}
 use lib.Seq.{getD-take, getD-drop, getD-append-add, take-take, take-add, take-at, length-take-le, drop-drop}
 use Rattle.convolutional_code.specs.Bits.{Bits}
 use Rattle.convolutional_code.specs.Code.{memoryAfter}

@@ -10,17 +10,17 @@ use native.Mathlib.Nat.{div-add-mod, mod-lt, mul-le-mul-left, mul-le-mul-right}
 use native.Mathlib.Omega.{arith}
 use borrow.Author.Tests.{lt-ltb, le-ltb}
 use lib.ListN.{length, getD, take, drop, length-append, length-drop, take-append-drop}
-use lib.Seq.{drop-cons, take-suc, drop-drop, take-add, take-at, take-length, length-take-le}
-use Rattle.convolutional_code.specs.Bits.{Bits, more}
+use lib.Seq.{drop-cons, take-suc, take-add, take-at, take-length, length-take-le}
+use Rattle.convolutional_code.specs.Bits.{Bits}
 use Rattle.convolutional_code.specs.Code.{nextMemory, memoryAfter}
-use Rattle.convolutional_code.proofs.Bits.{bits-tail, bits-append}
+use Rattle.convolutional_code.proofs.Bits.{bits-append}
 use Rattle.trellis.specs.Metric.{Costs, costFrom}
 use Rattle.trellis.proofs.Order.{bits-head}
 use Rattle.run_reader.proofs.Costs.{bits-front}
 use Rattle.run_reader.proofs.Streams.{take-bits, drop-bits, memory-append}
 use Rattle.noise_tolerance.proofs.Difference.{unlike, difference}
-use Rattle.noise_tolerance.proofs.Exchange.{climb, climb-even, Potentials, Apart, Scan, meets, parts, scan, Stretch, stretch, Late, parted, cost-append, bits-back, memory-lt}
-use Rattle.noise_tolerance.proofs.Gap.{Place, before, within, behind, place, risePast, climb-before, climb-past, weightPast, doubtFull, tells-past, tells-full, growthPast, next-any, lagPast, potentials-past}
+use Rattle.noise_tolerance.proofs.Exchange.{climb, climb-even, Potentials, Apart, Scan, meets, parts, scan, Stretch, stretch, parted, cost-append, bits-back, memory-lt}
+use Rattle.noise_tolerance.proofs.Gap.{risePast, climb-before, climb-past, weightPast, doubtFull, tells-past, tells-full, growthPast, next-any, lagPast, potentials-past}
 
 -- ---- numbers
 

@@ -2,14 +2,13 @@
 -- Assumes nothing.
 use mathlib.Core.Path.{_≡_, refl, sym, ap, _∙_, subst}
 use mathlib.Core.Bool.{Bool, true}
-use mathlib.Core.List.{List, [], _∷_, _++_}
-use mathlib.Core.Logic.{_⊎_}
+use mathlib.Core.List.{List, _++_}
 use Prim.{tt}
-use Prim.Native.Nat.{ℕ, zero, suc, _+_, _-_, _*_, _/_, _≤_, _<_}
+use Prim.Native.Nat.{ℕ, _+_, _-_, _*_, _/_, _≤_, _<_}
 use native.Mathlib.Decide.{decLe}
 use native.Mathlib.Omega.{arith}
 use lib.Dec.{T, leb, leb→le, ltb, ltb→lt}
-use lib.ListN.{length, getD, take, replicate, length-map}
+use lib.ListN.{length, take, replicate, length-map}
 use lib.Seq.{take-at, length-take-le}
 use Rattle.common.specs.Choice.{pick}
 use Rattle.common.specs.Lists.{All, Bytes, chunksOf}
@@ -29,7 +28,7 @@ use Rattle.sender.specs.Input.{Input, packetFor, packetsFor}
 use Rattle.sender.proofs.Inputs.{packets-sent}
 use Rattle.receiver.specs.Receive.{freshReceiver}
 use Rattle.receiver.specs.Kept.{Kept}
-use Rattle.sent_blocks.specs.Blocks.{interleavedBlocks, sentBytes}
+use Rattle.sent_blocks.specs.Blocks.{sentBytes}
 use Rattle.burst_tolerance.proofs.Bursts.{burst-promised}
 use Rattle.end_to_end.specs.Link.{blocksInBits}
 use Rattle.end_to_end.proofs.Link.{interleaved-bytes, sent-length-is}
