@@ -1,14 +1,12 @@
 -- Harm within some patterns of a run: coded bits there tell nothing, and those outside tell as ever. Then the wrong bits are near those patterns.
 -- Assumes nothing.
 use mathlib.Core.Path.{_≡_, refl, ap, subst}
-use mathlib.Core.Bool.{Bool}
 use mathlib.Core.List.{List, [], _∷_, flatten}
 use mathlib.Core.Logic.{_⊎_, inl, inr}
-use Prim.Native.Nat.{ℕ, zero, suc, _+_, _-_, _*_, _/_, _%_, _≤_, _<_}
-use native.Mathlib.Nat.{div-add-mod, mod-lt, mul-add, mul-le-mul-left, mul-add-mod-self-left}
+use Prim.Native.Nat.{ℕ, zero, suc, _+_, _-_, _*_, _%_, _≤_, _<_}
+use native.Mathlib.Nat.{mul-add, mul-le-mul-left, mul-add-mod-self-left}
 use native.Mathlib.Omega.{arith}
 use borrow.Author.Tests.{lt-ltb, le-ltb}
-use lib.Dec.{T, leb, leb→le}
 use lib.ListN.{length, getD, take, drop, length-take}
 use Rattle.common.proofs.Computed.{agree-at}
 use Rattle.convolutional_code.specs.Bits.{Bits}
@@ -17,18 +15,17 @@ use Rattle.convolutional_code.proofs.Bits.{coded-lt}
 use Rattle.trellis.specs.Metric.{Costs, costFrom}
 use Rattle.puncturing.specs.Mode.{modeOf}
 use Rattle.puncturing.specs.Step.{patternLength}
-use Rattle.puncturing.proofs.Places.{tested-at}
-use Rattle.puncturing.proofs.Steps.{some-bits}
 use Rattle.depuncturing.specs.Steps.{width, kind, kindCost, kindAt, first, puncturedCosts}
 use Rattle.run_reader.specs.Read.{symbolsPerPattern}
 use Rattle.noise_tolerance.proofs.Difference.{unlike, difference, weightAt, weight}
 use Rattle.noise_tolerance.proofs.SparseSteps.{Sparse}
-use Rattle.noise_tolerance.proofs.Linear.{difference-coded}
+use Rattle.noise_tolerance.proofs.Linear.{difference-coded, difference-lt}
 use Rattle.noise_tolerance.proofs.Exchange.{sparse-drop, sparse-windows}
 use Rattle.noise_tolerance.proofs.Gap.{placed, Place, before, within, behind, place}
-use Rattle.noise_tolerance.proofs.Recovery.{Astray, walk, AstrayOpen, spoilt}
-use Rattle.noise_tolerance.proofs.Tables.{free, slope, rise, lead, lag, top, capacity}
-use Rattle.noise_tolerance.proofs.Weights.{home, growth, growth-most, potentials}
+use Rattle.noise_tolerance.proofs.Recovery.{Astray, walk, AstrayOpen, Merging, spoilt}
+use Rattle.noise_tolerance.proofs.Homing.{way-home}
+use Rattle.noise_tolerance.proofs.Tables.{free, slope, rise, lead, lag, top, homing}
+use Rattle.noise_tolerance.proofs.Weights.{home, growth, growth-most, homing-most, home-least, potentials}
 use Rattle.noise_tolerance.proofs.Runs.{kind-tells, Tolerable, some-rise, scaled-lt}
 
 -- ---- where the coded bits of a step stand
@@ -60,47 +57,29 @@ first-later rate k (suc n) = let e : k + suc n ≡ suc (k + n) = omega arith in 
 first-le : (rate k n : ℕ) → k ≤ n → first rate k ≤ first rate n
 first-le rate k n h = let e : k + (n - k) ≡ n = omega arith in subst (λ (i : ℕ). first rate k ≤ first rate i) e (first-later rate k (n - k))
 
--- six steps
-unfoldable six-test : ℕ → ℕ → Bool
-six-test r p = leb (first r (p + 6)) (first r p + capacity r)
-
-six-tested : (r p : ℕ) → r < 5 → p < patternLength r → T (six-test r p)
-unfolding six-test first kind modeOf capacity flatten
-six-tested = tested-at six-test tt
-
-six-most : (rate k : ℕ) → rate < 5 → first rate (k + 6) ≤ first rate k + capacity rate
-unfolding six-test
-six-most rate k hr =
-    let P = patternLength rate in
-    let q = k / P in
-    let p = k % P in
-    let d : P * q + p ≡ k = div-add-mod k P in
-    let e : k + 6 ≡ P * q + (p + 6) = omega arith in
-    omega (
-      arith,
-      ap (first rate) e,
-      ap (first rate) d,
-      first-add rate q (p + 6),
-      first-add rate q p,
-      leb→le (first rate (p + 6)) (first rate p + capacity rate) (six-tested rate p hr (mod-lt k (some-bits rate hr))),
-    )
-
 -- ---- the costs of a step
 
+-- another value of a coded bit costs no more than that which was sent but for what a coded bit counts, and so it is of a step
 module _ (c : ℕ → ℕ → ℕ) (u : ℕ) (cheap : (j v : ℕ) → v < 2 → c j v ≤ u) where
-  kind-cheap : (q j x y : ℕ) → x < 2 → y < 2 → kindCost c q j x y ≤ u * width q
-  kind-cheap zero j x y hx hy = omega arith
-  kind-cheap (suc zero) j x y hx hy = omega (arith, cheap j y hy)
-  kind-cheap (suc (suc zero)) j x y hx hy = omega (arith, cheap j x hx)
-  kind-cheap (suc (suc (suc q))) j x y hx hy = omega (arith, cheap j x hx, cheap (j + 1) y hy)
+  bit-dear : (j v o : ℕ) → v < 2 → o < 2 → c j o ≤ c j v + u * unlike v o
+  bit-dear j zero zero hv ho = omega arith
+  bit-dear j zero (suc zero) hv ho = omega (arith, cheap j 1 (omega arith))
+  bit-dear j (suc zero) zero hv ho = omega (arith, cheap j 0 (omega arith))
+  bit-dear j (suc zero) (suc zero) hv ho = omega arith
+  bit-dear j zero (suc (suc o)) hv ho = absurd (omega arith)
+  bit-dear j (suc zero) (suc (suc o)) hv ho = absurd (omega arith)
+  bit-dear j (suc (suc v)) o hv ho = absurd (omega arith)
 
-  cost-cheap : (rate k m : ℕ) (l : List ℕ) → costFrom (puncturedCosts rate c) k m l + u * first rate k ≤ u * first rate (k + length l)
-  unfolding costFrom puncturedCosts first
-  cost-cheap rate k m [] = let e : k + 0 ≡ k = omega arith in rw e (omega arith)
-  cost-cheap rate k m (x ∷ l) =
-      let e : suc k + length l ≡ k + suc (length l) = omega arith in
-      let h = kind-cheap (kindAt rate k) (first rate k) (coded tapsX m x) (coded tapsY m x) (coded-lt tapsX m x) (coded-lt tapsY m x) in
-      omega (arith, h, cost-cheap rate (suc k) (nextMemory m x) l, ap (λ (i : ℕ). u * first rate i) e)
+  kind-dear : (q j x y x′ y′ : ℕ) → x < 2 → y < 2 → x′ < 2 → y′ < 2
+      → kindCost c q j x′ y′ ≤ kindCost c q j x y + u * kindCost (λ j v. v) q 0 (unlike x x′) (unlike y y′)
+  kind-dear zero j x y x′ y′ hx hy hx′ hy′ = omega arith
+  kind-dear (suc zero) j x y x′ y′ hx hy hx′ hy′ = bit-dear j y y′ hy hy′
+  kind-dear (suc (suc zero)) j x y x′ y′ hx hy hx′ hy′ = bit-dear j x x′ hx hx′
+  kind-dear (suc (suc (suc q))) j x y x′ y′ hx hy hx′ hy′ =
+      sum (c j x′) (c j x) (c (j + 1) y′) (c (j + 1) y) (unlike x x′) (unlike y y′) (bit-dear j x x′ hx hx′) (bit-dear (j + 1) y y′ hy hy′)
+    where
+      sum : (a b d e f g : ℕ) → a ≤ b + u * f → d ≤ e + u * g → a + d ≤ b + e + u * (f + g)
+      sum a b d e f g h k = omega arith
 
 kind-weak : (c g : ℕ → ℕ → ℕ) (charge : ℕ) → ((j v o : ℕ) → v < 2 → o < 2 → c j v ≤ c j o + g j v + charge)
     → (q j x y x′ y′ : ℕ) → x < 2 → y < 2 → x′ < 2 → y′ < 2 → kindCost c q j x y ≤ kindCost c q j x′ y′ + (kindCost g q j x y + charge * width q)
@@ -124,10 +103,9 @@ pub record Recoverable (rate window most depth charged span reach opening : ℕ)
   pub steadier : 8 * (slope rate * most) ≤ rise rate * window
   pub wider : 8 * (rise rate * (patternLength rate * span) + (slope rate * (most + charged * (2 * (symbolsPerPattern rate * span))) + (lag rate + top rate))) < 7 * (rise rate * window)
   pub far : slope rate * (most + charged * (2 * (symbolsPerPattern rate * span))) + (lag rate + top rate) < rise rate * suc reach
-  pub six-fit : 6 ≤ opening
   pub wider-open :
-      8 * (rise rate * (patternLength rate * span) + (slope rate * (most + (charged * (2 * (symbolsPerPattern rate * span)) + capacity rate)) + (top rate + top rate))) < 7 * (rise rate * window)
-  pub far-open : slope rate * (most + (charged * (2 * (symbolsPerPattern rate * span)) + capacity rate)) + (top rate + top rate) < rise rate * suc opening
+      8 * (rise rate * (patternLength rate * span) + (slope rate * (most + charged * (2 * (symbolsPerPattern rate * span))) + (homing rate + top rate))) < 7 * (rise rate * window)
+  pub far-open : slope rate * (most + charged * (2 * (symbolsPerPattern rate * span))) + (homing rate + top rate) < rise rate * suc opening
 
 -- ---- a run
 
@@ -191,14 +169,12 @@ module _ (u charged : ℕ) (counts : 0 < u) (c g : ℕ → ℕ → ℕ) (rate : 
           (kind-weak c g (u * charged) weak (kindAt rate k) (first rate k) (coded tapsX s x) (coded tapsY s x) (coded tapsX t y) (coded tapsY t y)
           (coded-lt tapsX s x) (coded-lt tapsY s x) (coded-lt tapsX t y) (coded-lt tapsY t y))
 
-  capped : (k m : ℕ) (l : List ℕ) → Bits l → length l ≤ 6 → costFrom F k m l ≤ u * capacity rate
-  capped k m l v h =
-      let e : k + length l ≤ k + 6 = omega arith in
-      let f : u * first rate (k + length l) ≤ u * (first rate k + capacity rate) = mul-le-mul-left u (trans-le (first-le rate (k + length l) (k + 6) e) (six-most rate k hr)) in
-      omega (arith, cost-cheap c u cheap rate k m l, f)
-    where
-      trans-le : {i j o : ℕ} → i ≤ j → j ≤ o → i ≤ o
-      trans-le p q = omega arith
+  dear : (k s t x y : ℕ) → s < 64 → t < 64 → x < 2 → y < 2 → F k t y ≤ F k s x + W k (difference s t) (unlike x y)
+  unfolding puncturedCosts weightAt
+  dear k s t x y hs ht hx hy =
+      rw (difference-coded tapsX s t x y, difference-coded tapsY s t x y)
+      (kind-dear c u cheap (kindAt rate k) (first rate k) (coded tapsX s x) (coded tapsY s x) (coded tapsX t y) (coded tapsY t y)
+      (coded-lt tapsX s x) (coded-lt tapsY s x) (coded-lt tapsX t y) (coded-lt tapsY t y))
 
   -- what is charged in all
   clamp : ℕ → ℕ
@@ -299,7 +275,7 @@ module _ (u charged : ℕ) (counts : 0 < u) (c g : ℕ → ℕ → ℕ) (rate : 
         let h : b - a ≤ P * span = omega (arith, mul-le-mul-left P few, mul-add P qa span) in
         omega (arith, mul-le-mul-left (u * rise rate) h, scaled-lt u counts (n .wider))
 
-    wide-open : 8 * (u * rise rate * (b - a) + (slope rate * (u * most + (extra + u * capacity rate)) + (u * top rate + u * top rate))) < 7 * (u * rise rate * window)
+    wide-open : 8 * (u * rise rate * (b - a) + (slope rate * (u * most + extra) + (u * homing rate + u * top rate))) < 7 * (u * rise rate * window)
     wide-open =
         let P = patternLength rate in
         let h : b - a ≤ P * span = omega (arith, mul-le-mul-left P few, mul-add P qa span) in
@@ -332,8 +308,30 @@ module _ (u charged : ℕ) (counts : 0 < u) (c g : ℕ → ℕ → ℕ) (rate : 
     far : slope rate * (u * most + extra) + (u * lag rate + u * top rate) < u * rise rate * suc reach
     far = omega (arith, scaled-lt u counts (n .far))
 
-    far-open : slope rate * (u * most + (extra + u * capacity rate)) + (u * top rate + u * top rate) < u * rise rate * suc opening
+    far-open : slope rate * (u * most + extra) + (u * homing rate + u * top rate) < u * rise rate * suc opening
     far-open = omega (arith, scaled-lt u counts (n .far-open))
+
+    -- what is long enough merges
+    merge : (l : List ℕ) → Bits l → suc opening ≤ length l → Merging F (λ k d. u * growth rate k d) (slope rate) (u * homing rate) s t l
+    merge l v h =
+        let e = way-home F W (λ k d. u * home rate k d) (λ k d. u * growth rate k d) (slope rate) (u * rise rate) dear (λ k d p q. home-least rate hr k u d p q) (potentials u rate hr .growing)
+        0 s t l hs ht v in
+        let d = difference s t in
+        let falls : slope rate * (u * home rate 0 d) + u * growth rate 0 d ≤ u * homing rate = omega (arith, mul-le-mul-left u (homing-most rate hr 0 d (difference-lt s t))) in
+        record {
+          bits = e .bits;
+          binary = e .binary;
+          as-long = e .as-long;
+          same = met (e .bits) (e .merged) falls;
+          excess = u * home rate 0 d;
+          cheap = e .cheap;
+          falls = falls;
+        }
+      where
+        met : (bits : List ℕ) → (memoryAfter s l ≡ memoryAfter t bits) ⊎ (u * rise rate * length l ≤ slope rate * (u * home rate 0 (difference s t)) + u * growth rate 0 (difference s t))
+            → slope rate * (u * home rate 0 (difference s t)) + u * growth rate 0 (difference s t) ≤ u * homing rate → memoryAfter s l ≡ memoryAfter t bits
+        met bits (inl m) f = m
+        met bits (inr m) f = absurd (omega (arith, m, f, mul-le-mul-left (u * rise rate) h, far-open))
 
     -- from one memory
     pub astray : s ≡ t → (i : ℕ) → i < length sent → (getD sent i 0 ≡ getD best i 0 → ⊥) → Astray a b reach depth (length sent) i
@@ -348,4 +346,4 @@ module _ (u charged : ℕ) (counts : 0 < u) (c g : ℕ → ℕ → ℕ) (rate : 
     astray-open i h d =
         spoilt a b ordered F G W (2 * u) light-weight any outside (λ k d. u * home rate k d) (λ k d. u * growth rate k d) (u * free rate) (slope rate) (u * rise rate) (u * lead rate) (u * lag rate)
         (potentials u rate hr) (u * top rate) topmost window (u * most) depth extra reach (tol .some) rises below-free deep steady wide steadier wide-gap far
-        s t hs ht sent best vs vb size least allowed clear (u * capacity rate) capped opening (n .six-fit) wide-open far-open i h d
+        s t hs ht sent best vs vb size least allowed clear (u * homing rate) opening merge wide-open far-open i h d

@@ -14,7 +14,7 @@ use Rattle.run_reader.specs.Read.{symbolsPerPattern, runBits}
 use Rattle.symbol_stream.specs.Stream.{keptPatterns, runPatterns, fullSymbols, keptBits}
 use Rattle.noise_tolerance.specs.Table.{table, atRate, hardLimits, softLimits}
 use Rattle.noise_tolerance.specs.Harm.{Spoils, harmTable, harmAt, harmWindow, harmDistance}
-use Rattle.noise_tolerance.proofs.Tables.{free, slope, rise, lead, lag, top, capacity}
+use Rattle.noise_tolerance.proofs.Tables.{free, slope, rise, lead, lag, top, homing}
 use Rattle.noise_tolerance.proofs.Harm.{Recoverable}
 
 -- all tests of a list pass, and so each
@@ -86,9 +86,8 @@ module _ (r u charged doubt depth : ℕ) (l : Spoils) where
       ∷ leb (8 * (slope r * units)) (rise r * steps)
       ∷ ltb (8 * (rise r * (P * span) + (slope r * (units + charge) + (lag r + top r)))) (7 * (rise r * steps))
       ∷ ltb (slope r * (units + charge) + (lag r + top r)) (rise r * suc (l .ahead))
-      ∷ leb 6 opening
-      ∷ ltb (8 * (rise r * (P * span) + (slope r * (units + (charge + capacity r)) + (top r + top r)))) (7 * (rise r * steps))
-      ∷ ltb (slope r * (units + (charge + capacity r)) + (top r + top r)) (rise r * suc opening)
+      ∷ ltb (8 * (rise r * (P * span) + (slope r * (units + charge) + (homing r + top r)))) (7 * (rise r * steps))
+      ∷ ltb (slope r * (units + charge) + (homing r + top r)) (rise r * suc opening)
       ∷ leb (keptBits r + depth) (runBits r (fullSymbols r))
       ∷ leb (opening + (P * span + opening) + 6) (keptBits r)
       ∷ leb (fullSymbols r) (harmDistance r)
@@ -124,30 +123,29 @@ module _ (r u charged doubt depth : ℕ) (l : Spoils) where
           steadier = leb→le _ _ (pass tests h 10);
           wider = ltb→lt _ _ (pass tests h 11);
           far = ltb→lt _ _ (pass tests h 12);
-          six-fit = leb→le _ _ (pass tests h 13);
-          wider-open = ltb→lt _ _ (pass tests h 14);
-          far-open = ltb→lt _ _ (pass tests h 15);
+          wider-open = ltb→lt _ _ (pass tests h 13);
+          far-open = ltb→lt _ _ (pass tests h 14);
         };
-    overlap = leb→le _ _ (pass tests h 16);
-    room = leb→le _ _ (pass tests h 17);
-    distant = leb→le _ _ (pass tests h 18);
-    runs = leb→le _ _ (pass tests h 19);
+    overlap = leb→le _ _ (pass tests h 15);
+    room = leb→le _ _ (pass tests h 16);
+    distant = leb→le _ _ (pass tests h 17);
+    runs = leb→le _ _ (pass tests h 18);
   }
 
 pub hard-struck-fits : (rate : ℕ) → rate < 5 → HarmFits rate 1 1 (2 * harmAt rate .hard-struck .elsewhere) (hardLimits rate .unsure) (harmAt rate .hard-struck)
-unfolding fit table atRate harmTable harmAt free slope rise lead lag top capacity modeOf keptBits keptPatterns fullSymbols runPatterns symbolsPerPattern
+unfolding fit table atRate harmTable harmAt free slope rise lead lag top homing modeOf keptBits keptPatterns fullSymbols runPatterns symbolsPerPattern
 hard-struck-fits rate h =
     fitting rate 1 1 (2 * harmAt rate .hard-struck .elsewhere) (hardLimits rate .unsure) (harmAt rate .hard-struck)
     (below-at (λ r. fit r 1 1 (2 * harmAt r .hard-struck .elsewhere) (hardLimits r .unsure) (harmAt r .hard-struck)) 5 tt rate h)
 
 pub soft-struck-fits : (rate : ℕ) → rate < 5 → HarmFits rate 7 1 (harmAt rate .soft-struck .elsewhere) (softLimits rate .unsure) (harmAt rate .soft-struck)
-unfolding fit table atRate harmTable harmAt free slope rise lead lag top capacity modeOf keptBits keptPatterns fullSymbols runPatterns symbolsPerPattern
+unfolding fit table atRate harmTable harmAt free slope rise lead lag top homing modeOf keptBits keptPatterns fullSymbols runPatterns symbolsPerPattern
 soft-struck-fits rate h =
     fitting rate 7 1 (harmAt rate .soft-struck .elsewhere) (softLimits rate .unsure) (harmAt rate .soft-struck)
     (below-at (λ r. fit r 7 1 (harmAt r .soft-struck .elsewhere) (softLimits r .unsure) (harmAt r .soft-struck)) 5 tt rate h)
 
 pub lost-fits : (rate : ℕ) → rate < 5 → HarmFits rate 7 0 (harmAt rate .soft-lost .elsewhere) (softLimits rate .unsure) (harmAt rate .soft-lost)
-unfolding fit table atRate harmTable harmAt free slope rise lead lag top capacity modeOf keptBits keptPatterns fullSymbols runPatterns symbolsPerPattern
+unfolding fit table atRate harmTable harmAt free slope rise lead lag top homing modeOf keptBits keptPatterns fullSymbols runPatterns symbolsPerPattern
 lost-fits rate h =
     fitting rate 7 0 (harmAt rate .soft-lost .elsewhere) (softLimits rate .unsure) (harmAt rate .soft-lost)
     (below-at (λ r. fit r 7 0 (harmAt r .soft-lost .elsewhere) (softLimits r .unsure) (harmAt r .soft-lost)) 5 tt rate h)

@@ -3,6 +3,7 @@ pub mod SparseSteps
 pub mod Linear
 pub mod Exchange
 pub mod Gap
+pub mod Homing
 pub mod Recovery
 pub mod Tables
 pub mod Weights

@@ -201,8 +201,8 @@ pub lost-run-recovered : {rate m : ℕ} {bits : List ℕ} {points : List Receive
 lost-run-recovered {rate} {m} {bits} {points} h b =
     run-recovered lost-kind rate m (h .known) (h .in-range) (lost-fits rate (h .known)) bits points (h .binary) (h .whole) (h .as-long) (h .sparse) (h .gathered) b
 
--- Symbols struck in a stream, by hard decisions: where what is not struck has at most 4, 2, 2, 0 or 0 wrong I and Q bits in any 900 symbols, and those struck lie
--- within 30, 10, 5, 1 or 1 symbols wherever they are not far apart, every wrong bit is near these or one of the last.
+-- Symbols struck in a stream, by hard decisions: where what is not struck has at most 4, 2, 2, 1 or 1 wrong I and Q bits in any 900 symbols, and those struck lie
+-- within 31, 10, 5, 1 or 1 symbols wherever they are not far apart, every wrong bit is near these or one of the last.
 pub hard-recovered : {rate : ℕ} {bits : List ℕ} {points : List (Came ℕ)} {came unread : List ℕ}
     → HarmedStream (doubtOf differing) isStruck (harmAt rate .hard-struck) rate bits points came unread
     → {costs out : List ℕ} {s : SymbolStream} → SymbolFeedings rate costs out s → Costed (costOf differing) points costs
@@ -212,7 +212,7 @@ hard-recovered {rate} {bits} {points} {came} {unread} h f c closes =
     recovered hard-struck-kind rate (fed-rate f) (hard-struck-fits rate (fed-rate f)) bits points came unread (h .binary) (h .coded) (h .as-long)
     (twice-sparse harmWindow (harmAt rate .hard-struck .elsewhere) points came (h .sparse)) (h .gathered) f c closes
 
--- The same by soft decisions, with a doubt of at most 63, 35, 28, 0 or 0 elsewhere, and harm within 29, 7, 5, 1 or 1 symbols.
+-- The same by soft decisions, with a doubt of at most 63, 35, 28, 14 or 14 elsewhere, and harm within 30, 10, 5, 1 or 1 symbols.
 pub soft-recovered : {rate : ℕ} {bits : List ℕ} {points : List (Came Received)} {came unread : List ℕ}
     → HarmedStream (doubtOf softDoubt) isStruck (harmAt rate .soft-struck) rate bits points came unread
     → {costs out : List ℕ} {s : SymbolStream} → SymbolFeedings rate costs out s → Costed (costOf softly) points costs
@@ -221,7 +221,7 @@ pub soft-recovered : {rate : ℕ} {bits : List ℕ} {points : List (Came Receive
 soft-recovered {rate} {bits} {points} {came} {unread} h f c closes =
     recovered soft-struck-kind rate (fed-rate f) (soft-struck-fits rate (fed-rate f)) bits points came unread (h .binary) (h .coded) (h .as-long) (h .sparse) (h .gathered) f c closes
 
--- Symbols lost, by soft decisions: with a doubt of at most 63, 35, 28, 21 or 14 elsewhere, an outage of up to 609, 394, 307, 151 or 113 symbols.
+-- Symbols lost, by soft decisions: with a doubt of at most 63, 35, 28, 21 or 14 elsewhere, an outage of up to 625, 424, 339, 223 or 185 symbols.
 pub lost-recovered : {rate : ℕ} {bits : List ℕ} {points : List Received} {came unread : List ℕ}
     → HarmedStream doubtUnlost isLost (harmAt rate .soft-lost) rate bits points came unread
     → {costs out : List ℕ} {s : SymbolStream} → SymbolFeedings rate costs out s → Costed softly points costs

@@ -87,6 +87,18 @@ pub data AstrayOpen (a b reach opening depth n i : ℕ) : Type 0 where
   across : a ≤ opening → i < b + opening → AstrayOpen a b reach opening depth n i
   later : Astray a b reach depth n i → AstrayOpen a b reach opening depth n i
 
+-- ---- another way
+
+-- bits from memory t on that lead where the sent ones lead from s on, at a cost that is higher by no more than the potentials allow
+pub record Merging (F : Costs) (growth : ℕ → ℕ → ℕ) (slope fall s t : ℕ) (sent : List ℕ) : Type 0 where
+  pub bits : List ℕ
+  pub binary : Bits bits
+  pub as-long : length bits ≡ length sent
+  pub same : memoryAfter s sent ≡ memoryAfter t bits
+  pub excess : ℕ
+  pub cheap : costFrom F 0 t bits ≤ costFrom F 0 s sent + excess
+  pub falls : slope * excess + growth 0 (difference s t) ≤ fall
+
 -- ---- six bits fill the memory
 
 level5 : (m n x : ℕ) → m / 64 ≡ n / 64 → nextMemory m x / 32 ≡ nextMemory n x / 32
@@ -330,33 +342,15 @@ module _ (a b : ℕ) (order : a ≤ b) (F G w : Costs) (heavy : ℕ) (lightly : 
 
     -- ---- from two memories
 
-    -- however many bits at the front cost, six cost at most `cap`
-    module _ (cap : ℕ) (capped : (k m : ℕ) (l : List ℕ) → Bits l → length l ≤ 6 → costFrom F k m l ≤ cap) (opening : ℕ) (six-fit : 6 ≤ opening)
-        (wider-open : 8 * (r * (b - a) + (slope * (most + (g + cap)) + (top + top))) < 7 * (r * window))
-        (far-open : slope * (most + (g + cap)) + (top + top) < r * suc opening) where
-      settled : (a : List ℕ) → Bits a → 6 ≤ length a → costFrom F 0 t a ≤ costFrom F 0 s a + cap
-      settled a v h =
-          let l : length (take 6 a) ≡ 6 = length-take-le 6 a h in
-          let e : take 6 a ++ drop 6 a ≡ a = take-append-drop 6 a in
-          let c = cost-append F 0 t (take 6 a) (drop 6 a) in
-          let d = cost-append F 0 s (take 6 a) (drop 6 a) in
-          let q : memoryAfter t (take 6 a) ≡ memoryAfter s (take 6 a) = six-settle t s ht hs (take 6 a) (omega (arith, l)) in
-          omega (
-            arith,
-            ap (costFrom F 0 t) e,
-            ap (costFrom F 0 s) e,
-            c,
-            d,
-            ap (λ (j : ℕ). costFrom F (0 + length (take 6 a)) j (drop 6 a)) q,
-            capped 0 t (take 6 a) (take-bits 6 v) (omega (arith, l)),
-          )
-
+    -- by bits that lead home
+    module _ (fall opening : ℕ) (merge : (l : List ℕ) → Bits l → suc opening ≤ length l → Merging F growth slope fall s t l)
+        (wider-open : 8 * (r * (b - a) + (slope * (most + g) + (fall + top))) < 7 * (r * window)) (far-open : slope * (most + g) + (fall + top) < r * suc opening) where
       -- so many steps until the two are at one memory, or to the end
       record Opening : Type 0 where
         steps : ℕ
         most-steps : steps ≤ length sent
         met : steps < length sent → memoryAfter s (take steps sent) ≡ memoryAfter t (take steps best)
-        weight : 6 ≤ steps → climb (risePast a b order r) 0 steps ≤ slope * (costFrom G 0 s (take steps sent) + cap) + (top + top)
+        weight : suc opening ≤ steps → climb (risePast a b order r) 0 steps ≤ slope * costFrom G 0 s (take steps sent) + (fall + top)
 
       opened : Opening
       opened =
@@ -364,13 +358,8 @@ module _ (a b : ℕ) (order : a ≤ b) (F G w : Costs) (heavy : ℕ) (lightly : 
           (risePast a b order r) 0 (lagPast a b order F G w heavy lightly any outside home growth free slope r lead lag p top topmost)
           (potentials-past a b order F G w heavy lightly any outside home growth free slope r lead lag p top topmost) 0 s t sent best hs ht vs vb size)
         where
-          fall : growthPast a b order F G w heavy lightly any outside home growth free slope r lead lag p top topmost 0 (difference s t) ≤ top + top
-          fall =
-              omega (
-                arith,
-                next-any a b order F G w heavy lightly any outside home growth free slope r lead lag p top topmost 0 (difference s t),
-                topmost 0 (difference s t),
-              )
+          fallen : growthPast a b order F G w heavy lightly any outside home growth free slope r lead lag p top topmost 0 (difference s t) ≤ growth 0 (difference s t) + top
+          fallen = next-any a b order F G w heavy lightly any outside home growth free slope r lead lag p top topmost 0 (difference s t)
 
           by : Scan F G past (tells-past a b order F G w heavy lightly any outside) (λ i d. 0) (growthPast a b order F G w heavy lightly any outside home growth free slope r lead lag p top topmost) 0 slope
               (risePast a b order r) 0 (lagPast a b order F G w heavy lightly any outside home growth free slope r lead lag p top topmost)
@@ -380,19 +369,21 @@ module _ (a b : ℕ) (order : a ≤ b) (F G w : Costs) (heavy : ℕ) (lightly : 
               let fy : take (length x) best ≡ y = ap (λ (i : ℕ). take i best) o ∙ (ap (take (length y)) f ∙ take-at y d (length y) refl) in
               let vx : Bits x = bits-front x c (subst Bits e vs) in
               let vd : Bits d = bits-back y d (subst Bits f vb) in
-              let lz : length (x ++ d) ≡ length best = length-append x d ∙ (ap (λ (i : ℕ). i + length d) o ∙ sym (ap length f ∙ length-append y d)) in
               let cy = ap (costFrom F 0 t) f ∙ cost-append F 0 t y d in
-              let cz = cost-append F 0 t x d in
               record {
                 steps = length x;
                 most-steps = omega (arith, ap length e, length-append x c);
                 met = λ i. rw (fx, fy) q;
                 weight = λ i.
-                    let same : costFrom F (0 + length x) (memoryAfter t x) d ≡ costFrom F (0 + length y) (memoryAfter t y) d =
-                    ap₂ (λ (i j : ℕ). costFrom F (0 + i) j d) o (six-settle t s ht hs x i ∙ q) in
-                    let ve : v ≤ costFrom G 0 s x + cap = omega (arith, z, least (x ++ d) (bits-append vx vd) lz, cy, cz, same, settled x vx i) in
-                    let m = mul-le-mul-left slope ve in
-                    rw fx (omega (arith, u, m, fall));
+                    let m = merge x vx i in
+                    let lm : length (m .bits) ≡ length y = m .as-long ∙ o in
+                    let lz : length (m .bits ++ d) ≡ length best = length-append (m .bits) d ∙ (ap (λ (i : ℕ). i + length d) lm ∙ sym (ap length f ∙ length-append y d)) in
+                    let cz = cost-append F 0 t (m .bits) d in
+                    let same : costFrom F (0 + length (m .bits)) (memoryAfter t (m .bits)) d ≡ costFrom F (0 + length y) (memoryAfter t y) d =
+                    ap₂ (λ (i j : ℕ). costFrom F (0 + i) j d) lm (sym (m .same) ∙ q) in
+                    let ve : v ≤ costFrom G 0 s x + m .excess = omega (arith, z, least (m .bits ++ d) (bits-append (m .binary) vd) lz, cy, cz, same, m .cheap) in
+                    let n = mul-le-mul-left slope ve in
+                    rw fx (omega (arith, u, n, fallen, m .falls));
               }
           by (parts v u z o far) =
               record {
@@ -400,9 +391,10 @@ module _ (a b : ℕ) (order : a ≤ b) (F G w : Costs) (heavy : ℕ) (lightly : 
                 most-steps = omega arith;
                 met = λ i. absurd (omega arith);
                 weight = λ i.
-                    let ve : v ≤ costFrom G 0 s sent + cap = omega (arith, z, least sent vs size, settled sent vs i) in
-                    let m = mul-le-mul-left slope ve in
-                    rw (take-length sent) (omega (arith, u, m, fall));
+                    let m = merge sent vs i in
+                    let ve : v ≤ costFrom G 0 s sent + m .excess = omega (arith, z, least (m .bits) (m .binary) (m .as-long ∙ size), m .cheap) in
+                    let n = mul-le-mul-left slope ve in
+                    rw (take-length sent) (omega (arith, u, n, fallen, m .falls));
               }
 
       abbrev open-steps : ℕ
@@ -411,28 +403,28 @@ module _ (a b : ℕ) (order : a ≤ b) (F G w : Costs) (heavy : ℕ) (lightly : 
       -- how far that is
       open-few : (open-steps ≤ opening) ⊎ ((a ≤ opening) × (open-steps ≤ b + opening))
       unfolding memoryAfter
-      open-few = by (decLe 6 open-steps) (decLt a open-steps)
+      open-few = by (decLe (suc opening) open-steps) (decLt a open-steps)
         where
-          bound : (q : ℕ) → open-steps ≤ window * q → costFrom G 0 s (take open-steps sent) + cap ≤ most * q + (g + cap)
-          bound q h = omega (arith, allowed 0 open-steps q h)
+          bound : (q : ℕ) → open-steps ≤ window * q → costFrom G 0 s (take open-steps sent) ≤ most * q + g
+          bound q h = allowed 0 open-steps q h
 
-          through : 6 ≤ open-steps → a < open-steps → a - 0 + (0 + open-steps - b) ≤ opening
+          through : suc opening ≤ open-steps → a < open-steps → a - 0 + (0 + open-steps - b) ≤ opening
           through h l =
-              beside-few slope r most window (g + cap) (top + top) a b order opening some steadier wider-open far-open 0 open-steps
-              (costFrom G 0 s (take open-steps sent) + cap) (omega arith) (omega arith)
+              beside-few slope r most window g (fall + top) a b order opening some steadier wider-open far-open 0 open-steps
+              (costFrom G 0 s (take open-steps sent)) (omega arith) (omega arith)
               (omega (arith, climb-past a b order r open-steps 0 (omega arith) (omega arith), opened .weight h)) bound
 
-          apart : 6 ≤ open-steps → open-steps ≤ a → 0 - 0 + (0 + open-steps - 0) ≤ opening
+          apart : suc opening ≤ open-steps → open-steps ≤ a → 0 - 0 + (0 + open-steps - 0) ≤ opening
           apart h l =
-              beside-few slope r most window (g + cap) (top + top) 0 0 (omega arith) opening some steadier (omega (arith, wider-open)) far-open 0 open-steps
-              (costFrom G 0 s (take open-steps sent) + cap) (omega arith) (omega arith) climbed bound
+              beside-few slope r most window g (fall + top) 0 0 (omega arith) opening some steadier (omega (arith, wider-open)) far-open 0 open-steps
+              (costFrom G 0 s (take open-steps sent)) (omega arith) (omega arith) climbed bound
             where
-              climbed : r * (0 - 0 + (0 + open-steps - 0)) ≤ slope * (costFrom G 0 s (take open-steps sent) + cap) + (top + top)
+              climbed : r * (0 - 0 + (0 + open-steps - 0)) ≤ slope * costFrom G 0 s (take open-steps sent) + (fall + top)
               climbed =
                   let z : 0 - 0 + (0 + open-steps - 0) ≡ open-steps = omega arith in
                   rw z (omega (arith, climb-before a b order r open-steps 0 (omega arith), opened .weight h))
 
-          by : Dec (6 ≤ open-steps) → Dec (a < open-steps) → (open-steps ≤ opening) ⊎ ((a ≤ opening) × (open-steps ≤ b + opening))
+          by : Dec (suc opening ≤ open-steps) → Dec (a < open-steps) → (open-steps ≤ opening) ⊎ ((a ≤ opening) × (open-steps ≤ b + opening))
           by (no h) d = inl (omega arith)
           by (yes h) (yes l) = let z = through h l in inr (omega arith, omega arith)
           by (yes h) (no l) = let z = apart h (omega arith) in inl (omega arith)

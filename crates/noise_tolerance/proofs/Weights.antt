@@ -1,8 +1,8 @@
 -- The weights of differences have the potentials of the tables: one test, computed over every rate, place, difference and bit.
 -- So the free distance of the code is 10 at rate 1/2, and 6, 5, 4 and 3 at the punctured rates, or more.
 -- Assumes nothing.
-use mathlib.Core.Path.{_≡_, ap}
-use mathlib.Core.Bool.{Bool, true}
+use mathlib.Core.Path.{_≡_, refl, sym, ap, subst}
+use mathlib.Core.Bool.{Bool, true, false}
 use mathlib.Core.List.{List, [], _∷_, flatten}
 use Prim.Native.Nat.{ℕ, zero, suc, _+_, _*_, _%_, _≤_, _<_}
 use native.Mathlib.Nat.{mod-lt, mul-le-mul-left}
@@ -19,7 +19,8 @@ use Rattle.depuncturing.specs.Steps.{kind}
 use Rattle.run_reader.proofs.Costs.{next-mod}
 use Rattle.noise_tolerance.proofs.Difference.{weightAt, weight}
 use Rattle.noise_tolerance.proofs.Exchange.{Potentials}
-use Rattle.noise_tolerance.proofs.Tables.{free, slope, rise, lead, lag, top, homes, growths}
+use Rattle.noise_tolerance.proofs.Homing.{Homeward}
+use Rattle.noise_tolerance.proofs.Tables.{free, slope, rise, lead, lag, top, homing, homes, growths}
 
 unfoldable pub look : List (List ℕ) → ℕ → ℕ → ℕ
 look t place d = getD (getD t place []) d 0
@@ -148,6 +149,62 @@ top-tested = tested-at top-test tt
 pub growth-most : (r k d : ℕ) → r < 5 → growth r k d ≤ top r
 unfolding growth look top-test
 growth-most r k d hr = most-at (top r) (getD (growths r) (k % patternLength r) []) (top-tested r (k % patternLength r) hr (mod-lt k (some-bits r hr))) d
+
+-- from each difference one of the two bits is on a way home of least weight, and that way and the growth together are bounded
+abbrev either : Bool → Bool → Bool
+either true b = true
+either false b = b
+
+unfoldable toward : ℕ → ℕ → ℕ → ℕ → Bool
+toward r p d z = leb (weightAt r p d z + look (homes r) (nextPlace r p) (nextMemory d z)) (look (homes r) p d)
+
+unfoldable homing-test : ℕ → ℕ → ℕ → Bool
+homing-test r p d = both (either (toward r p d 0) (toward r p d 1)) (leb (slope r * look (homes r) p d + look (growths r) p d) (homing r))
+
+unfoldable homing-tests : ℕ → ℕ → Bool
+homing-tests r p = both (leb (slope r * look (homes r) p 0 + look (growths r) p 0) (homing r)) (below (λ d. homing-test r p (suc d)) 63)
+
+homing-tested : (r p : ℕ) → r < 5 → p < patternLength r → T (homing-tests r p)
+unfolding homing-tests homing-test toward look homes growths slope homing weightAt kind modeOf flatten
+homing-tested = tested-at homing-tests tt
+
+toward-home : (r k d z : ℕ) → T (toward r (k % patternLength r) d z) → weight r k d z + home r (suc k) (nextMemory d z) ≤ home r k d
+unfolding toward home
+toward-home r k d z h = rw (← (next-mod r k)) (leb→le _ _ h)
+
+module _ (r : ℕ) (hr : r < 5) (k : ℕ) where
+  abbrev spot : ℕ
+  spot = k % patternLength r
+
+  all-homing : T (homing-tests r spot)
+  all-homing = homing-tested r spot hr (mod-lt k (some-bits r hr))
+
+  one-homing : (d : ℕ) → d < 63 → T (homing-test r spot (suc d))
+  unfolding homing-tests
+  one-homing d h =
+      below-at (λ d. homing-test r spot (suc d)) 63
+      (both-right (leb (slope r * look (homes r) spot 0 + look (growths r) spot 0) (homing r)) (below (λ d. homing-test r spot (suc d)) 63) all-homing) d h
+
+  pub homing-most : (d : ℕ) → d < 64 → slope r * home r k d + growth r k d ≤ homing r
+  unfolding home growth homing-tests homing-test
+  homing-most zero h = leb→le _ _ (both-left (leb (slope r * look (homes r) spot 0 + look (growths r) spot 0) (homing r)) (below (λ d. homing-test r spot (suc d)) 63) all-homing)
+  homing-most (suc d) h =
+      leb→le _ _ (both-right (either (toward r spot (suc d) 0) (toward r spot (suc d) 1)) (leb (slope r * look (homes r) spot (suc d) + look (growths r) spot (suc d)) (homing r)) (one-homing d (omega arith)))
+
+  -- the bit
+  pub home-least : (u d : ℕ) → 0 < d → d < 64 → Homeward (λ k d z. u * weight r k d z) (λ k d. u * home r k d) k d
+  unfolding homing-test
+  home-least u zero h l = absurd (omega arith)
+  home-least u (suc d) h l =
+      by (toward r spot (suc d) 0) refl
+      (both-left (either (toward r spot (suc d) 0) (toward r spot (suc d) 1)) (leb (slope r * look (homes r) spot (suc d) + look (growths r) spot (suc d)) (homing r)) (one-homing d (omega arith)))
+    where
+      made : (z : ℕ) → z < 2 → weight r k (suc d) z + home r (suc k) (nextMemory (suc d) z) ≤ home r k (suc d) → Homeward (λ k d z. u * weight r k d z) (λ k d. u * home r k d) k (suc d)
+      made z b e = record { bit = z; binary = b; least = omega (arith, mul-le-mul-left u e) }
+
+      by : (t : Bool) → toward r spot (suc d) 0 ≡ t → T (either t (toward r spot (suc d) 1)) → Homeward (λ k d z. u * weight r k d z) (λ k d. u * home r k d) k (suc d)
+      by true e h = made 0 (omega arith) (toward-home r k (suc d) 0 (subst T (sym e) tt))
+      by false e h = made 1 (omega arith) (toward-home r k (suc d) 1 h)
 
 -- each coded bit counts u
 pub potentials : (u r : ℕ) → r < 5

@@ -78,11 +78,11 @@ harms h s l = record { hard-struck = h; soft-struck = s; soft-lost = l }
 -- rates 1/2, 2/3, 3/4, 5/6 and 7/8
 unfoldable pub harmTable : List HarmRow
 harmTable =
-    harms (spoils 4 30 226 502) (spoils 63 29 222 494) (spoils 63 609 34 118)
-    ∷ harms (spoils 2 10 218 521) (spoils 35 7 181 447) (spoils 35 394 49 183)
-    ∷ harms (spoils 2 5 194 500) (spoils 28 5 194 500) (spoils 28 307 62 236)
-    ∷ harms (spoils 0 1 164 543) (spoils 0 1 164 543) (spoils 21 151 96 407)
-    ∷ harms (spoils 0 1 267 776) (spoils 0 1 267 776) (spoils 14 113 105 452)
+    harms (spoils 4 31 232 498) (spoils 63 30 229 492) (spoils 63 625 34 102)
+    ∷ harms (spoils 2 10 218 482) (spoils 35 10 225 496) (spoils 35 424 49 144)
+    ∷ harms (spoils 2 5 194 452) (spoils 28 5 194 452) (spoils 28 339 62 188)
+    ∷ harms (spoils 1 1 209 515) (spoils 14 1 209 515) (spoils 21 223 96 289)
+    ∷ harms (spoils 1 1 321 756) (spoils 14 1 321 756) (spoils 14 185 105 324)
     ∷ []
 
 unfoldable pub harmAt : ℕ → HarmRow
