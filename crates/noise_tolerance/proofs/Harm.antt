@@ -1,12 +1,11 @@
 -- Harm within some patterns of a run: coded bits there tell nothing, and those outside tell as ever. Then the wrong bits are near those patterns.
 -- Assumes nothing.
-use mathlib.Core.Path.{_≡_, refl, ap, subst}
+use mathlib.Core.Path.{_≡_, refl, sym, _∙_, ap, subst}
 use mathlib.Core.List.{List, [], _∷_, flatten}
 use mathlib.Core.Logic.{_⊎_, inl, inr}
 use Prim.Native.Nat.{ℕ, zero, suc, _+_, _-_, _*_, _%_, _≤_, _<_}
 use native.Mathlib.Nat.{mul-add, mul-le-mul-left, mul-add-mod-self-left}
 use native.Mathlib.Omega.{arith}
-use borrow.Author.Tests.{lt-ltb, le-ltb}
 use lib.ListN.{length, getD, take, drop, length-take}
 use Rattle.common.proofs.Computed.{agree-at}
 use Rattle.convolutional_code.specs.Bits.{Bits}
@@ -81,12 +80,83 @@ module _ (c : ℕ → ℕ → ℕ) (u : ℕ) (cheap : (j v : ℕ) → v < 2 → 
       sum : (a b d e f g : ℕ) → a ≤ b + u * f → d ≤ e + u * g → a + d ≤ b + e + u * (f + g)
       sum a b d e f g h k = omega arith
 
-kind-weak : (c g : ℕ → ℕ → ℕ) (charge : ℕ) → ((j v o : ℕ) → v < 2 → o < 2 → c j v ≤ c j o + g j v + charge)
-    → (q j x y x′ y′ : ℕ) → x < 2 → y < 2 → x′ < 2 → y′ < 2 → kindCost c q j x y ≤ kindCost c q j x′ y′ + (kindCost g q j x y + charge * width q)
-kind-weak c g charge h zero j x y x′ y′ hx hy hx′ hy′ = omega arith
-kind-weak c g charge h (suc zero) j x y x′ y′ hx hy hx′ hy′ = omega (arith, h j y y′ hy hy′)
-kind-weak c g charge h (suc (suc zero)) j x y x′ y′ hx hy hx′ hy′ = omega (arith, h j x x′ hx hx′)
-kind-weak c g charge h (suc (suc (suc q))) j x y x′ y′ hx hy hx′ hy′ = omega (arith, h j x x′ hx hx′, h (j + 1) y y′ hy hy′)
+-- ---- what coded bits from lo to hi are charged
+
+module _ (lo hi : ℕ) (between : lo ≤ hi) where
+  -- a place, moved into those
+  clip : ℕ → ℕ
+  clip j = placed lo hi between j lo j hi
+
+  -- a fee for each of them
+  abbrev pub feeAt : ℕ → ℕ → ℕ
+  feeAt fee j = placed lo hi between j 0 fee 0
+
+  clip-before : (j : ℕ) → j ≤ lo → clip j ≡ lo
+  unfolding clip
+  clip-before j h = by (place lo hi between j)
+    where
+      by : Place lo hi between j → clip j ≡ lo
+      by (before l e) = rw e
+      by (within l m e f) = rw (e, f) (omega arith)
+      by (behind l e f) = rw (e, f) (omega (arith, between))
+
+  clip-behind : (j : ℕ) → hi ≤ j → clip j ≡ hi
+  unfolding clip
+  clip-behind j h = by (place lo hi between j)
+    where
+      by : Place lo hi between j → clip j ≡ hi
+      by (before l e) = absurd (omega (arith, between))
+      by (within l m e f) = absurd (omega arith)
+      by (behind l e f) = rw (e, f)
+
+  clip-least : (j : ℕ) → lo ≤ clip j
+  unfolding clip
+  clip-least j = by (place lo hi between j)
+    where
+      by : Place lo hi between j → lo ≤ clip j
+      by (before l e) = rw e (omega arith)
+      by (within l m e f) = rw (e, f) l
+      by (behind l e f) = rw (e, f) between
+
+  clip-most : (j : ℕ) → clip j ≤ hi
+  unfolding clip
+  clip-most j = by (place lo hi between j)
+    where
+      by : Place lo hi between j → clip j ≤ hi
+      by (before l e) = rw e between
+      by (within l m e f) = rw (e, f) (omega arith)
+      by (behind l e f) = rw (e, f) (omega arith)
+
+  -- one place further, the fee for it is paid
+  clip-next : (fee j : ℕ) → feeAt fee j + fee * clip j ≤ fee * clip (j + 1)
+  unfolding clip
+  clip-next fee j = by (place lo hi between j) (place lo hi between (j + 1))
+    where
+      by : Place lo hi between j → Place lo hi between (j + 1) → feeAt fee j + fee * clip j ≤ fee * clip (j + 1)
+      by (before l e) q = rw e (omega (arith, mul-le-mul-left fee (clip-least (j + 1))))
+      by (within l m e f) (before o g) = absurd (omega arith)
+      by (within l m e f) (within o p g h) = rw (e, f, g, h) (omega arith)
+      by (within l m e f) (behind o g h) = rw (e, f, g, h) (omega (arith, mul-le-mul-left fee m))
+      by (behind l e f) (before o g) = absurd (omega (arith, between))
+      by (behind l e f) (within o p g h) = absurd (omega arith)
+      by (behind l e f) (behind o g h) = rw (e, f, g, h) (omega arith)
+
+kind-weak : (lo hi : ℕ) (between : lo ≤ hi) (c g : ℕ → ℕ → ℕ) (fee : ℕ) → ((j v o : ℕ) → v < 2 → o < 2 → c j v ≤ c j o + g j v + feeAt lo hi between fee j)
+    → (q j x y x′ y′ : ℕ) → x < 2 → y < 2 → x′ < 2 → y′ < 2
+    → kindCost c q j x y + fee * clip lo hi between j ≤ kindCost c q j x′ y′ + kindCost g q j x y + fee * clip lo hi between (j + width q)
+kind-weak lo hi between c g fee h zero j x y x′ y′ hx hy hx′ hy′ = let e : j + 0 ≡ j = omega arith in rw e (omega arith)
+kind-weak lo hi between c g fee h (suc zero) j x y x′ y′ hx hy hx′ hy′ = omega (arith, h j y y′ hy hy′, clip-next lo hi between fee j)
+kind-weak lo hi between c g fee h (suc (suc zero)) j x y x′ y′ hx hy hx′ hy′ = omega (arith, h j x x′ hx hx′, clip-next lo hi between fee j)
+kind-weak lo hi between c g fee h (suc (suc (suc q))) j x y x′ y′ hx hy hx′ hy′ =
+    let e : j + 1 + 1 ≡ j + 2 = omega arith in
+    omega (
+      arith,
+      h j x x′ hx hx′,
+      h (j + 1) y y′ hy hy′,
+      clip-next lo hi between fee j,
+      clip-next lo hi between fee (j + 1),
+      ap (λ (i : ℕ). fee * clip lo hi between i) e,
+    )
 
 light : (q x y : ℕ) → x < 2 → y < 2 → kindCost (λ j v. v) q 0 x y ≤ 2
 light zero x y hx hy = omega arith
@@ -98,19 +168,20 @@ light (suc (suc (suc q))) x y hx hy = omega arith
 
 -- Harm in so many patterns at the most, each coded bit of which may be charged (1) or tells nothing and costs nothing (0), and so much doubt elsewhere in each
 -- window of steps, in coded bits, make bits wrong within `reach` of the patterns; from another memory, within `opening`.
-pub record Recoverable (rate window most depth charged span reach opening : ℕ) : Type 0 where
+pub record Recoverable (rate window most depth charged longest span reach opening : ℕ) : Type 0 where
   pub tolerable : Tolerable rate window most depth
   pub steadier : 8 * (slope rate * most) ≤ rise rate * window
-  pub wider : 8 * (rise rate * (patternLength rate * span) + (slope rate * (most + charged * (2 * (symbolsPerPattern rate * span))) + (lag rate + top rate))) < 7 * (rise rate * window)
-  pub far : slope rate * (most + charged * (2 * (symbolsPerPattern rate * span))) + (lag rate + top rate) < rise rate * suc reach
+  pub wider : 8 * (rise rate * (patternLength rate * span) + (slope rate * (most + charged * (2 * longest)) + (lag rate + top rate))) < 7 * (rise rate * window)
+  pub far : slope rate * (most + charged * (2 * longest)) + (lag rate + top rate) < rise rate * suc reach
   pub wider-open :
-      8 * (rise rate * (patternLength rate * span) + (slope rate * (most + charged * (2 * (symbolsPerPattern rate * span))) + (homing rate + top rate))) < 7 * (rise rate * window)
-  pub far-open : slope rate * (most + charged * (2 * (symbolsPerPattern rate * span))) + (homing rate + top rate) < rise rate * suc opening
+      8 * (rise rate * (patternLength rate * span) + (slope rate * (most + charged * (2 * longest)) + (homing rate + top rate))) < 7 * (rise rate * window)
+  pub far-open : slope rate * (most + charged * (2 * longest)) + (homing rate + top rate) < rise rate * suc opening
 
 -- ---- a run
 
-module _ (u charged : ℕ) (counts : 0 < u) (c g : ℕ → ℕ → ℕ) (rate : ℕ) (hr : rate < 5) (qa qb : ℕ) (order : qa ≤ qb) (cheap : (j v : ℕ) → v < 2 → c j v ≤ u)
-    (weak : (j v o : ℕ) → v < 2 → o < 2 → c j v ≤ c j o + g j v + u * charged)
+module _ (u charged : ℕ) (counts : 0 < u) (c g : ℕ → ℕ → ℕ) (rate : ℕ) (hr : rate < 5) (qa qb : ℕ) (order : qa ≤ qb) (lo hi : ℕ) (between : lo ≤ hi)
+    (lo-within : 2 * (symbolsPerPattern rate * qa) ≤ lo) (hi-within : hi ≤ 2 * (symbolsPerPattern rate * qb)) (cheap : (j v : ℕ) → v < 2 → c j v ≤ u)
+    (weak : (j v o : ℕ) → v < 2 → o < 2 → c j v ≤ c j o + g j v + feeAt lo hi between (u * charged) j)
     (tells : (j v o : ℕ) → v < 2 → o < 2 → (j < 2 * (symbolsPerPattern rate * qa)) ⊎ (2 * (symbolsPerPattern rate * qb) ≤ j) → u * unlike v o + c j v ≤ c j o + g j v) where
   abbrev a : ℕ
   a = patternLength rate * qa
@@ -127,9 +198,15 @@ module _ (u charged : ℕ) (counts : 0 < u) (c g : ℕ → ℕ → ℕ) (rate : 
   abbrev pub G₀ : Costs
   G₀ = puncturedCosts rate g
 
-  -- steps within the harm are charged
+  abbrev fee : ℕ
+  fee = u * charged
+
+  abbrev clipped : ℕ → ℕ
+  clipped k = fee * clip lo hi between (first rate k)
+
+  -- harmed coded bits are charged
   abbrev G : Costs
-  G k m x = G₀ k m x + placed a b ordered k 0 (u * charged * width (kindAt rate k)) 0
+  G k m x = G₀ k m x + (clipped (suc k) - clipped k)
 
   abbrev W : Costs
   W k d z = u * weight rate k d z
@@ -158,16 +235,13 @@ module _ (u charged : ℕ) (counts : 0 < u) (c g : ℕ → ℕ → ℕ) (rate : 
   outside k s t x y hs ht hx hy h = omega (arith, outside₀ k s t x y h)
 
   any : (k s t x y : ℕ) → x < 2 → y < 2 → F k s x ≤ F k t y + G k s x
-  unfolding puncturedCosts
-  any k s t x y hx hy = by (place a b ordered k)
-    where
-      by : Place a b ordered k → F k s x ≤ F k t y + G k s x
-      by (before h e) = omega (arith, outside₀ k s t x y (inl h))
-      by (behind h e f) = omega (arith, outside₀ k s t x y (inr h))
-      by (within h l e f) =
-          rw (e, f)
-          (kind-weak c g (u * charged) weak (kindAt rate k) (first rate k) (coded tapsX s x) (coded tapsY s x) (coded tapsX t y) (coded tapsY t y)
-          (coded-lt tapsX s x) (coded-lt tapsY s x) (coded-lt tapsX t y) (coded-lt tapsY t y))
+  unfolding puncturedCosts first
+  any k s t x y hx hy =
+      omega (
+        arith,
+        kind-weak lo hi between c g fee weak (kindAt rate k) (first rate k) (coded tapsX s x) (coded tapsY s x) (coded tapsX t y) (coded tapsY t y)
+            (coded-lt tapsX s x) (coded-lt tapsY s x) (coded-lt tapsX t y) (coded-lt tapsY t y),
+      )
 
   dear : (k s t x y : ℕ) → s < 64 → t < 64 → x < 2 → y < 2 → F k t y ≤ F k s x + W k (difference s t) (unlike x y)
   unfolding puncturedCosts weightAt
@@ -177,71 +251,44 @@ module _ (u charged : ℕ) (counts : 0 < u) (c g : ℕ → ℕ → ℕ) (rate : 
       (coded-lt tapsX s x) (coded-lt tapsY s x) (coded-lt tapsX t y) (coded-lt tapsY t y))
 
   -- what is charged in all
-  clamp : ℕ → ℕ
-  clamp k = placed a b ordered k a k b
+  clip-up : (j n : ℕ) → fee * clip lo hi between j ≤ fee * clip lo hi between (j + n)
+  clip-up j zero = let e : j + 0 ≡ j = omega arith in rw e (omega arith)
+  clip-up j (suc n) =
+      let e : j + n + 1 ≡ j + suc n = omega arith in
+      omega (arith, clip-up j n, clip-next lo hi between fee (j + n), ap (λ (i : ℕ). fee * clip lo hi between i) e)
 
-  clamp-least : (k : ℕ) → a ≤ clamp k
-  unfolding clamp
-  clamp-least k = by (place a b ordered k)
-    where
-      by : Place a b ordered k → a ≤ clamp k
-      by (before h e) = rw e (omega arith)
-      by (within h l e f) = rw (e, f) h
-      by (behind h e f) = rw (e, f) ordered
+  rising : (k : ℕ) → clipped k ≤ clipped (suc k)
+  unfolding first
+  rising k = clip-up (first rate k) (width (kindAt rate k))
 
-  clamp-next : (k : ℕ) → k < b → suc k ≤ clamp (suc k)
-  unfolding clamp
-  clamp-next k h = by (place a b ordered (suc k))
-    where
-      by : Place a b ordered (suc k) → suc k ≤ clamp (suc k)
-      by (before l e) = rw e (omega arith)
-      by (within l m e f) = rw (e, f) (omega arith)
-      by (behind l e f) = rw (e, f) (omega arith)
-
-  clamp-last : (k : ℕ) → b ≤ k → clamp k ≡ b
-  unfolding clamp
-  clamp-last k h = rw (le-ltb k a (omega (arith, ordered)), le-ltb k b h)
-
-  abbrev fee : ℕ
-  fee = u * charged
-
-  fee-step : (k : ℕ) → placed a b ordered k 0 (fee * width (kindAt rate k)) 0 + fee * first rate (clamp k) ≤ fee * first rate (clamp (suc k))
-  unfolding clamp first
-  fee-step k = by (place a b ordered k)
-    where
-      by : Place a b ordered k → placed a b ordered k 0 (fee * width (kindAt rate k)) 0 + fee * first rate (clamp k) ≤ fee * first rate (clamp (suc k))
-      by (before h e) = rw e (omega (arith, mul-le-mul-left fee (first-le rate a (clamp (suc k)) (clamp-least (suc k)))))
-      by (within h l e f) = rw (e, f) (omega (arith, mul-le-mul-left fee (first-le rate (suc k) (clamp (suc k)) (clamp-next k l))))
-      by (behind h e f) = rw (e, f) (omega (arith, ap (λ (i : ℕ). fee * first rate i) (clamp-last (suc k) (omega arith))))
-
-  charges : (k m : ℕ) (l : List ℕ) → costFrom G k m l + fee * first rate (clamp k) ≤ costFrom G₀ k m l + fee * first rate (clamp (k + length l))
+  charges : (k m : ℕ) (l : List ℕ) → costFrom G k m l + clipped k ≤ costFrom G₀ k m l + clipped (k + length l)
   unfolding costFrom
   charges k m [] = let e : k + 0 ≡ k = omega arith in rw e (omega arith)
   charges k m (x ∷ l) =
       let e : suc k + length l ≡ k + suc (length l) = omega arith in
-      omega (arith, fee-step k, charges (suc k) (nextMemory m x) l, ap (λ (i : ℕ). fee * first rate (clamp i)) e)
+      omega (arith, rising k, charges (suc k) (nextMemory m x) l, ap clipped e)
 
-  clamp-most : (k : ℕ) → clamp k ≤ b
-  unfolding clamp
-  clamp-most k = by (place a b ordered k)
-    where
-      by : Place a b ordered k → clamp k ≤ b
-      by (before h e) = rw e ordered
-      by (within h l e f) = rw (e, f) (omega arith)
-      by (behind h e f) = rw (e, f) (omega arith)
+  level : (k : ℕ) → (k < a) ⊎ (b ≤ k) → clipped (suc k) ≡ clipped k
+  level k (inl h) =
+      let p : first rate (suc k) ≤ lo = omega (arith, first-le rate (suc k) a h, first-patterns rate hr qa, lo-within) in
+      let q : first rate k ≤ lo = omega (arith, p, first-le rate k (suc k) (omega arith)) in
+      ap (λ (i : ℕ). fee * i) (clip-before lo hi between (first rate (suc k)) p ∙ sym (clip-before lo hi between (first rate k) q))
+  level k (inr h) =
+      let p : hi ≤ first rate k = omega (arith, first-le rate b k h, first-patterns rate hr qb, hi-within) in
+      let q : hi ≤ first rate (suc k) = omega (arith, p, first-le rate k (suc k) (omega arith)) in
+      ap (λ (i : ℕ). fee * i) (clip-behind lo hi between (first rate (suc k)) q ∙ sym (clip-behind lo hi between (first rate k) p))
 
   free-outside : (k m : ℕ) (l : List ℕ) → (k + length l ≤ a) ⊎ (b ≤ k) → costFrom G k m l ≡ costFrom G₀ k m l
   unfolding costFrom
   free-outside k m [] h = refl
-  free-outside k m (x ∷ l) (inl h) = rw (lt-ltb k a (omega arith)) (omega (arith, free-outside (suc k) (nextMemory m x) l (inl (omega arith))))
-  free-outside k m (x ∷ l) (inr h) =
-      rw (le-ltb k a (omega (arith, ordered)), le-ltb k b h) (omega (arith, free-outside (suc k) (nextMemory m x) l (inr (omega arith))))
+  free-outside k m (x ∷ l) (inl h) = omega (arith, level k (inl (omega arith)), free-outside (suc k) (nextMemory m x) l (inl (omega arith)))
+  free-outside k m (x ∷ l) (inr h) = omega (arith, level k (inr h), free-outside (suc k) (nextMemory m x) l (inr (omega arith)))
 
-  module _ {window most depth span reach opening : ℕ} (n : Recoverable rate window most depth charged span reach opening) (few : qb ≤ qa + span)
+  module _ {window most depth longest span reach opening : ℕ} (n : Recoverable rate window most depth charged longest span reach opening) (few : qb ≤ qa + span) (short : hi ≤ lo + 2 * longest)
       (s t : ℕ) (hs : s < 64) (ht : t < 64) (sent best : List ℕ) (vs : Bits sent) (vb : Bits best) (size : length sent ≡ length best)
       (least : (zs : List ℕ) → Bits zs → length zs ≡ length best → costFrom F 0 t best ≤ costFrom F 0 t zs) (sparse : Sparse G₀ window (u * most) 0 s sent) where
     abbrev extra : ℕ
-    extra = u * (charged * (2 * (symbolsPerPattern rate * span)))
+    extra = u * (charged * (2 * longest))
 
     sparse-range : (i n q : ℕ) → n ≤ window * q → costFrom G₀ i (memoryAfter s (take i sent)) (take n (drop i sent)) ≤ u * most * q
     sparse-range i n q h =
@@ -251,16 +298,11 @@ module _ (u charged : ℕ) (counts : 0 < u) (c g : ℕ → ℕ → ℕ) (rate : 
 
     allowed : (i n q : ℕ) → n ≤ window * q → costFrom G i (memoryAfter s (take i sent)) (take n (drop i sent)) ≤ u * most * q + extra
     allowed i n q h =
-        let S = symbolsPerPattern rate in
         let l = take n (drop i sent) in
         let m = memoryAfter s (take i sent) in
-        let lo : fee * first rate a ≤ fee * first rate (clamp i) = mul-le-mul-left fee (first-le rate a (clamp i) (clamp-least i)) in
-        let hi : fee * first rate (clamp (i + length l)) ≤ fee * first rate b = mul-le-mul-left fee (first-le rate (clamp (i + length l)) b (clamp-most (i + length l))) in
-        let sq : S * qb ≤ S * (qa + span) = mul-le-mul-left S few in
-        let w : fee * (2 * (S * qb)) ≤ fee * (2 * (S * (qa + span))) = mul-le-mul-left fee (omega (arith, sq)) in
-        let fa : fee * first rate a ≡ fee * (2 * (S * qa)) = ap (λ (j : ℕ). fee * j) (first-patterns rate hr qa) in
-        let fb : fee * first rate b ≡ fee * (2 * (S * qb)) = ap (λ (j : ℕ). fee * j) (first-patterns rate hr qb) in
-        omega (arith, charges i m l, sparse-range i n q h, lo, hi, w, fa, fb)
+        let from : fee * lo ≤ clipped i = mul-le-mul-left fee (clip-least lo hi between (first rate i)) in
+        let to : clipped (i + length l) ≤ fee * hi = mul-le-mul-left fee (clip-most lo hi between (first rate (i + length l))) in
+        omega (arith, charges i m l, sparse-range i n q h, from, to, mul-le-mul-left fee short)
 
     clear : (i n q : ℕ) → n ≤ window * q → (i + n ≤ a) ⊎ (b ≤ i) → costFrom G i (memoryAfter s (take i sent)) (take n (drop i sent)) ≤ u * most * q
     clear i n q h o = rw (free-outside i (memoryAfter s (take i sent)) (take n (drop i sent)) (moved o)) (sparse-range i n q h)

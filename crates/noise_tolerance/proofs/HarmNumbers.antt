@@ -40,7 +40,7 @@ pub record HarmFits (rate u charged doubt depth : ℕ) (l : Spoils) : Type 0 whe
   pub spans : l .longest + symbolsPerPattern rate ≤ symbolsPerPattern rate * span + 1
   pub opening : ℕ
   pub behind-is : l .ahead + 6 + opening ≡ l .behind
-  pub recoverable : Recoverable rate steps units depth charged span (l .ahead) opening
+  pub recoverable : Recoverable rate steps units depth charged (l .longest) span (l .ahead) opening
   pub overlap : keptBits rate + depth ≤ runBits rate (fullSymbols rate)
   pub room : opening + (patternLength rate * span + opening) + 6 ≤ keptBits rate
   pub distant : fullSymbols rate ≤ harmDistance rate
@@ -69,7 +69,7 @@ module _ (r u charged doubt depth : ℕ) (l : Spoils) where
   opening = l .behind - l .ahead - 6
 
   abbrev charge : ℕ
-  charge = charged * (2 * (S * span))
+  charge = charged * (2 * l .longest)
 
   abbrev tests : List Bool
   tests =

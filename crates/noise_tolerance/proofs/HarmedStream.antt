@@ -2,14 +2,13 @@
 -- another memory than the coder's, and recovers within it.
 -- Assumes nothing.
 use mathlib.Core.Path.{_≡_, refl, sym, _∙_, ap, ap₂, subst}
-use mathlib.Core.Bool.{Bool, true, false}
+use mathlib.Core.Bool.{Bool, true}
 use mathlib.Core.List.{List, [], _∷_, _++_, map, append-assoc}
 use mathlib.Core.Logic.{_⊎_, inl, inr}
 use Prim.Native.Nat.{ℕ, zero, suc, _+_, _-_, _*_, _/_, _%_, _≤_, _<_}
 use native.Mathlib.Decide.{ℕ-discrete, decLe, decLt}
 use native.Mathlib.Nat.{le-refl, mul-mod-right, mul-div-right, mul-add-mod-self-left, mod-eq-of-lt, mul-le-mul-left}
 use native.Mathlib.Omega.{arith}
-use Rattle.common.specs.Choice.{pick}
 use lib.ListN.{length, getD, take, drop, length-append, length-drop, take-append-drop, List·getD-append}
 use lib.Seq.{getD-take, getD-drop, getD-append-add, take-take, take-add, take-at, length-take-le, drop-drop}
 use Rattle.convolutional_code.specs.Bits.{Bits}
@@ -30,8 +29,8 @@ use Rattle.noise_tolerance.specs.Noise.{SparseSymbols}
 use Rattle.noise_tolerance.proofs.Exchange.{memory-lt}
 use Rattle.noise_tolerance.proofs.Recovery.{six-settle, Astray, near, last, AstrayOpen, early, across, later}
 use Rattle.noise_tolerance.proofs.Harm.{Recoverable}
-use Rattle.noise_tolerance.proofs.Hull.{div-least, div-below, quotient, held, ordered, spanned, Hull, clean, hit, hull}
-use Rattle.noise_tolerance.proofs.HarmedRuns.{Harmable, Within, run-astray, run-astray-open}
+use Rattle.noise_tolerance.proofs.Hull.{div-least, div-below, quotient, spanned, Hull, clean, hit, hull}
+use Rattle.noise_tolerance.proofs.HarmedRuns.{Harmable, clean-within, hit-within, run-astray, run-astray-open}
 use Rattle.noise_tolerance.proofs.Streams.{sparse-front, sparse-back}
 
 -- ---- lists by their members
@@ -91,9 +90,9 @@ pub record Beside (P S ahead behind far : ℕ) (Harmed : ℕ → Type 0) (x : �
   pub not-beyond : P * (latest / S) ≤ x + far
 
 module _ {R : Type 0} {cost doubt : R → ℕ → ℕ} {harmed : R → Bool} {u charged : ℕ} (kind : Harmable cost doubt harmed u charged) (rate : ℕ) (hr : rate < 5)
-    {window most depth span reach opening : ℕ} (n : Recoverable rate window most depth charged span reach opening)
+    {window most depth span reach opening : ℕ} (longest : ℕ) (n : Recoverable rate window most depth charged longest span reach opening)
     (patterns : ℕ) (covers : window + patternLength rate ≤ patternLength rate * patterns + 1)
-    (longest distance : ℕ) (spans : longest + symbolsPerPattern rate ≤ symbolsPerPattern rate * span + 1) (distant : fullSymbols rate ≤ distance)
+    (distance : ℕ) (spans : longest + symbolsPerPattern rate ≤ symbolsPerPattern rate * span + 1) (distant : fullSymbols rate ≤ distance)
     (overlap : keptBits rate + depth ≤ runBits rate (fullSymbols rate)) (room : opening + (patternLength rate * span + opening) + 6 ≤ keptBits rate)
     (bits : List ℕ) (w : Bits bits) (all : List R) (came unread : List ℕ) (size : length all ≡ length came)
     (sparse : SparseSymbols (symbolsPerPattern rate * patterns) (u * most) (map doubt all) came) (coded : came ++ unread ≡ symbolsOf (coderAt rate 0) bits)
@@ -218,10 +217,6 @@ module _ {R : Type 0} {cost doubt : R → ℕ → ℕ} {harmed : R → Bool} {u 
       end-here : P * q ≤ i + depth → HereOpen i
 
     module _ (t : ℕ) (ht : t < 64) (best : List ℕ) (b : Best (runCost (map cost rs) rate t) (runLength rate ss) best) where
-      -- where nothing is harmed
-      clean-within : ((i : ℕ) → i < length rs → harmed (getD rs i (kind .some)) ≡ false) → Within harmed (kind .some) rate 0 0 rs
-      clean-within h i l e = absurd (let o : _≡_ {A = ℕ} 1 0 = ap (λ (t : Bool). pick t 1 0) (sym e ∙ h i l) in omega arith)
-
       module _ (f l : ℕ) (o : f ≤ l) (m : l < length rs) (a : harmed (getD rs f (kind .some)) ≡ true) (c : harmed (getD rs l (kind .some)) ≡ true)
           (h : (i : ℕ) → i < length rs → harmed (getD rs i (kind .some)) ≡ true → (f ≤ i) × (i ≤ l)) where
         f-there : HarmedAt (S * k + f)
@@ -230,16 +225,13 @@ module _ {R : Type 0} {cost doubt : R → ℕ → ℕ} {harmed : R → Bool} {u 
         l-there : HarmedAt (S * k + l)
         l-there = ap harmed (sym (harmed-there l (omega (arith, lr)))) ∙ c
 
-        hit-within : Within harmed (kind .some) rate (f / S) (suc (l / S)) rs
-        hit-within i p e = let z = h i p e in held S f l longest span some-S o i (z .0) (z .1)
-
-        hit-order : f / S ≤ suc (l / S)
-        hit-order = ordered S f l longest span some-S o
+        close : l < f + longest
+        close =
+            let z = rain (S * k + f) (S * k + l) (omega arith) (omega (arith, lr, mul-le-mul-left S most-q, distant, full-is)) (omega (arith, lr, hq, size)) f-there l-there in
+            omega (arith, z)
 
         hit-few : suc (l / S) ≤ f / S + span
-        hit-few =
-            let z = rain (S * k + f) (S * k + l) (omega arith) (omega (arith, lr, mul-le-mul-left S most-q, distant, full-is)) (omega (arith, lr, hq, size)) f-there l-there in
-            spanned S f l longest span some-S o (omega (arith, z)) spans
+        hit-few = spanned S f l some-S o longest span close spans
 
         -- the harm of the run, told of the stream
         near-hit : (i : ℕ) → P * (f / S) ≤ i + reach → i < P * suc (l / S) + reach → Here i
@@ -277,11 +269,11 @@ module _ {R : Type 0} {cost doubt : R → ℕ → ℕ} {harmed : R → Bool} {u 
           by (clean g) =
               inr (astray-clean
               (run-astray kind rate hr n patterns covers (memoryAt k) t (memory-small k) ht rs bs (take-bits (P * q) (drop-bits (P * k) w)) whole-b ss run-coded (lr ∙ sym ls) sparse-run
-              0 0 (omega arith) (omega arith) (clean-within g) b same i (omega (arith, lb)) d))
+              0 0 0 0 (omega arith) (omega arith) (clean-within harmed (kind .some) rate rs g) b same i (omega (arith, lb)) d))
           by (hit f l o m a c g) =
               told f l o m a c g
               (run-astray kind rate hr n patterns covers (memoryAt k) t (memory-small k) ht rs bs (take-bits (P * q) (drop-bits (P * k) w)) whole-b ss run-coded (lr ∙ sym ls) sparse-run
-              (f / S) (suc (l / S)) (hit-order f l o m a c g) (hit-few f l o m a c g) (hit-within f l o m a c g) b same i (omega (arith, lb)) d)
+              (f / S) (suc (l / S)) f (suc l) (hit-few f l o m a c g) (close f l o m a c g) (hit-within harmed (kind .some) rate some-S rs f l o g) b same i (omega (arith, lb)) d)
 
       -- and from another
       wrong-open : (i : ℕ) → i < P * q → (getD bs i 0 ≡ getD best i 0 → ⊥) → HereOpen i
@@ -304,11 +296,11 @@ module _ {R : Type 0} {cost doubt : R → ℕ → ℕ} {harmed : R → Bool} {u 
           by (clean g) =
               told-clean
               (run-astray-open kind rate hr n patterns covers (memoryAt k) t (memory-small k) ht rs bs (take-bits (P * q) (drop-bits (P * k) w)) whole-b ss run-coded (lr ∙ sym ls) sparse-run
-              0 0 (omega arith) (omega arith) (clean-within g) b i (omega (arith, lb)) d)
+              0 0 0 0 (omega arith) (omega arith) (clean-within harmed (kind .some) rate rs g) b i (omega (arith, lb)) d)
           by (hit f l o m a c g) =
               told f l o m a c g
               (run-astray-open kind rate hr n patterns covers (memoryAt k) t (memory-small k) ht rs bs (take-bits (P * q) (drop-bits (P * k) w)) whole-b ss run-coded (lr ∙ sym ls) sparse-run
-              (f / S) (suc (l / S)) (hit-order f l o m a c g) (hit-few f l o m a c g) (hit-within f l o m a c g) b i (omega (arith, lb)) d)
+              (f / S) (suc (l / S)) f (suc l) (hit-few f l o m a c g) (close f l o m a c g) (hit-within harmed (kind .some) rate some-S rs f l o g) b i (omega (arith, lb)) d)
 
   -- ---- one run after the other
 

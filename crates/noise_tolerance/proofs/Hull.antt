@@ -34,16 +34,19 @@ div-below s k e l = by (decLt (e / s) k)
 pub quotient : (s n f : ℕ) → 0 < s → (s * n + f) / s ≡ n + f / s
 quotient s n f h = mul-add-div h n f
 
--- symbols f to l, less than `longest` apart, stand in at most `span` patterns of s symbols
-module _ (s f l longest span : ℕ) (some : 0 < s) (o : f ≤ l) where
+-- symbols f to l, in patterns of s symbols
+module _ (s f l : ℕ) (some : 0 < s) (o : f ≤ l) where
   df : s * (f / s) + f % s ≡ f
   df = div-add-mod f s
 
   dl : s * (l / s) + l % s ≡ l
   dl = div-add-mod l s
 
-  pub held : (i : ℕ) → f ≤ i → i ≤ l → (s * (f / s) ≤ i) × (i < s * suc (l / s))
-  held i x y = (omega (arith, df), omega (arith, dl, mod-lt l some))
+  pub starts : s * (f / s) ≤ f
+  starts = omega (arith, df)
+
+  pub ends : l < s * suc (l / s)
+  ends = omega (arith, dl, mod-lt l some)
 
   pub ordered : f / s ≤ suc (l / s)
   ordered = by (decLe (f / s) (suc (l / s)))
@@ -55,8 +58,8 @@ module _ (s f l longest span : ℕ) (some : 0 < s) (o : f ≤ l) where
           over : ¬ (f / s ≤ suc (l / s)) → suc (suc (l / s)) ≤ f / s
           over d = omega arith
 
-  pub spanned : l < f + longest → longest + s ≤ s * span + 1 → suc (l / s) ≤ f / s + span
-  spanned close spans = by (decLe (suc (l / s)) (f / s + span))
+  pub spanned : (longest span : ℕ) → l < f + longest → longest + s ≤ s * span + 1 → suc (l / s) ≤ f / s + span
+  spanned longest span close spans = by (decLe (suc (l / s)) (f / s + span))
     where
       by : Dec (suc (l / s) ≤ f / s + span) → suc (l / s) ≤ f / s + span
       by (yes d) = d

@@ -29,9 +29,9 @@ use Rattle.noise_tolerance.specs.Noise.{SparseSymbols, softDoubt}
 use Rattle.noise_tolerance.specs.Table.{hardLimits, softLimits}
 use Rattle.noise_tolerance.specs.Harm.{Came, fine, struck, isStruck, costOf, doubtOf, isLost, doubtUnlost, HarmedAt, Gathered, Spoils, harmAt, harmWindow, harmDistance, BesideHarm, NearHarm, HarmedRun, RunRecovered, HarmedStream, Recovered}
 use Rattle.noise_tolerance.proofs.Received.{hardDoubt}
-use Rattle.noise_tolerance.proofs.HarmedRuns.{Harmable, Within, run-astray}
+use Rattle.noise_tolerance.proofs.HarmedRuns.{Harmable, clean-within, hit-within, run-astray}
 use Rattle.noise_tolerance.proofs.Recovery.{Astray, near, last}
-use Rattle.noise_tolerance.proofs.Hull.{held, ordered, spanned, Hull, clean, hit, hull}
+use Rattle.noise_tolerance.proofs.Hull.{spanned, Hull, clean, hit, hull}
 use Rattle.noise_tolerance.proofs.HarmKinds.{hard-struck-kind, soft-struck-kind, lost-kind}
 use Rattle.noise_tolerance.proofs.HarmNumbers.{HarmFits, hard-struck-fits, soft-struck-fits, lost-fits}
 use Rattle.noise_tolerance.proofs.HarmedStream.{Beside, decided-size, decided-within, decided-rest, decided-wrong}
@@ -73,9 +73,6 @@ module _ {R : Type 0} {cost doubt : R → ℕ → ℕ} {harmed : R → Bool} {u 
   run-recovered : RunRecovered harmed l rate depth bits points best
   run-recovered = record { wrong = λ i h d. by i h d (hull harmed (kind .some) points) }
     where
-      clean-within : ((i : ℕ) → i < length points → harmed (getD points i (kind .some)) ≡ false) → Within harmed (kind .some) rate 0 0 points
-      clean-within g i l e = absurd (let o : _≡_ {A = ℕ} 1 0 = ap (λ (t : Bool). pick t 1 0) (sym e ∙ g i l) in omega arith)
-
       none : (i : ℕ) → Astray (patternLength rate * 0) (patternLength rate * 0) (l .ahead) depth (length bits) i
           → (BesideHarm harmed rate (l .ahead) (l .ahead) points i) ⊎ (length bits ≤ i + depth)
       none i (near z x y) = absurd (omega arith)
@@ -94,18 +91,20 @@ module _ {R : Type 0} {cost doubt : R → ℕ → ℕ} {harmed : R → Bool} {u 
       })
       told i f g a c (last x) = inr x
 
+      close : (x y : ℕ) → x ≤ y → y < length points → harmed (getD points x (kind .some)) ≡ true → harmed (getD points y (kind .some)) ≡ true → y < x + l .longest
+      close x y o q a c = gathered x y o (omega arith) (harmed-marked kind points x a) (harmed-marked kind points y c)
+
       by : (i : ℕ) → i < length bits → (getD bits i 0 ≡ getD best i 0 → ⊥) → Hull harmed (kind .some) points
           → (BesideHarm harmed rate (l .ahead) (l .ahead) points i) ⊎ (length bits ≤ i + depth)
       by i h d (clean g) =
           none i (run-astray kind rate hr (f .recoverable) (f .patterns) (f .covers) m m hm hm points bits w whole ss refl size (in-patterns kind points f ss doubted)
-          0 0 (omega arith) (omega arith) (clean-within g) best-sent refl i h d)
+          0 0 0 0 (omega arith) (omega arith) (clean-within harmed (kind .some) rate points g) best-sent refl i h d)
       by i h d (hit x y o q a c g) =
           let S = symbolsPerPattern rate in
           told i x y a c
           (run-astray kind rate hr (f .recoverable) (f .patterns) (f .covers) m m hm hm points bits w whole ss refl size (in-patterns kind points f ss doubted)
-          (x / S) (suc (y / S)) (ordered S x y (l .longest) (f .span) some-S o)
-          (spanned S x y (l .longest) (f .span) some-S o (gathered x y o (omega arith) (harmed-marked kind points x a) (harmed-marked kind points y c)) (f .spans))
-          (λ j p e. let z = g j p e in held S x y (l .longest) (f .span) some-S o j (z .0) (z .1)) best-sent refl i h d)
+          (x / S) (suc (y / S)) x (suc y) (spanned S x y some-S o (l .longest) (f .span) (close x y o q a c) (f .spans)) (close x y o q a c)
+          (hit-within harmed (kind .some) rate some-S points x y o g) best-sent refl i h d)
 
 -- ---- a stream
 
@@ -126,17 +125,17 @@ module _ {R : Type 0} {cost doubt : R → ℕ → ℕ} {harmed : R → Bool} {u 
         let came′ = every-history cost feedings points c in
         let end = subst (λ (r : ℕ). Ended cost r (s .memory) (came′ .left) output count rest exit) (g .rate-is) (every-end cost s (g .ready) (came′ .left) (came′ .held) closes) in
         let n = f .recoverable in
-        let z = decided-size kind rate hr n (f .patterns) (f .covers) (l .longest) (harmDistance rate) (f .spans) (f .distant) (f .overlap) (f .room)
+        let z = decided-size kind rate hr (l .longest) n (f .patterns) (f .covers) (harmDistance rate) (f .spans) (f .distant) (f .overlap) (f .room)
         bits w points came unread size sparse coded rain (came′ .decided) end in
-        let astray = decided-wrong kind rate hr n (f .patterns) (f .covers) (l .longest) (harmDistance rate) (f .spans) (f .distant) (f .overlap) (f .room)
+        let astray = decided-wrong kind rate hr (l .longest) n (f .patterns) (f .covers) (harmDistance rate) (f .spans) (f .distant) (f .overlap) (f .room)
         bits w points came unread size sparse coded rain (came′ .decided) end in
         record {
           size = z;
           within = subst (λ (k : ℕ). k ≤ length bits) (sym z)
-              (decided-within kind rate hr n (f .patterns) (f .covers) (l .longest) (harmDistance rate) (f .spans) (f .distant) (f .overlap) (f .room)
+              (decided-within kind rate hr (l .longest) n (f .patterns) (f .covers) (harmDistance rate) (f .spans) (f .distant) (f .overlap) (f .room)
               bits w points came unread size sparse coded rain (came′ .decided) end);
           behind =
-              decided-rest kind rate hr n (f .patterns) (f .covers) (l .longest) (harmDistance rate) (f .spans) (f .distant) (f .overlap) (f .room)
+              decided-rest kind rate hr (l .longest) n (f .patterns) (f .covers) (harmDistance rate) (f .spans) (f .distant) (f .overlap) (f .room)
               bits w points came unread size sparse coded rain (came′ .decided) end;
           wrong = λ i m e. told i z (astray i (subst (λ (k : ℕ). i < k) z m) e);
         }
@@ -202,7 +201,7 @@ lost-run-recovered {rate} {m} {bits} {points} h b =
     run-recovered lost-kind rate m (h .known) (h .in-range) (lost-fits rate (h .known)) bits points (h .binary) (h .whole) (h .as-long) (h .sparse) (h .gathered) b
 
 -- Symbols struck in a stream, by hard decisions: where what is not struck has at most 4, 2, 2, 1 or 1 wrong I and Q bits in any 900 symbols, and those struck lie
--- within 31, 10, 5, 1 or 1 symbols wherever they are not far apart, every wrong bit is near these or one of the last.
+-- within 31, 12, 7, 3 or 1 symbols wherever they are not far apart, every wrong bit is near these or one of the last.
 pub hard-recovered : {rate : ℕ} {bits : List ℕ} {points : List (Came ℕ)} {came unread : List ℕ}
     → HarmedStream (doubtOf differing) isStruck (harmAt rate .hard-struck) rate bits points came unread
     → {costs out : List ℕ} {s : SymbolStream} → SymbolFeedings rate costs out s → Costed (costOf differing) points costs
@@ -212,7 +211,7 @@ hard-recovered {rate} {bits} {points} {came} {unread} h f c closes =
     recovered hard-struck-kind rate (fed-rate f) (hard-struck-fits rate (fed-rate f)) bits points came unread (h .binary) (h .coded) (h .as-long)
     (twice-sparse harmWindow (harmAt rate .hard-struck .elsewhere) points came (h .sparse)) (h .gathered) f c closes
 
--- The same by soft decisions, with a doubt of at most 63, 35, 28, 14 or 14 elsewhere, and harm within 30, 10, 5, 1 or 1 symbols.
+-- The same by soft decisions, with a doubt of at most 63, 35, 28, 21 or 14 elsewhere, and harm within 30, 12, 7, 2 or 1 symbols.
 pub soft-recovered : {rate : ℕ} {bits : List ℕ} {points : List (Came Received)} {came unread : List ℕ}
     → HarmedStream (doubtOf softDoubt) isStruck (harmAt rate .soft-struck) rate bits points came unread
     → {costs out : List ℕ} {s : SymbolStream} → SymbolFeedings rate costs out s → Costed (costOf softly) points costs

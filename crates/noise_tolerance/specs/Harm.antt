@@ -79,10 +79,10 @@ harms h s l = record { hard-struck = h; soft-struck = s; soft-lost = l }
 unfoldable pub harmTable : List HarmRow
 harmTable =
     harms (spoils 4 31 232 498) (spoils 63 30 229 492) (spoils 63 625 34 102)
-    ∷ harms (spoils 2 10 218 482) (spoils 35 10 225 496) (spoils 35 424 49 144)
-    ∷ harms (spoils 2 5 194 452) (spoils 28 5 194 452) (spoils 28 339 62 188)
-    ∷ harms (spoils 1 1 209 515) (spoils 14 1 209 515) (spoils 21 223 96 289)
-    ∷ harms (spoils 1 1 321 756) (spoils 14 1 321 756) (spoils 14 185 105 324)
+    ∷ harms (spoils 2 12 218 482) (spoils 35 12 225 496) (spoils 35 424 49 144)
+    ∷ harms (spoils 2 7 216 496) (spoils 28 7 216 496) (spoils 28 339 62 188)
+    ∷ harms (spoils 1 3 209 515) (spoils 21 2 186 469) (spoils 21 223 96 289)
+    ∷ harms (spoils 1 1 159 432) (spoils 14 1 159 432) (spoils 14 185 105 324)
     ∷ []
 
 unfoldable pub harmAt : ℕ → HarmRow

@@ -169,13 +169,13 @@ module _ (inputs : List (List ℕ)) (g : All Input inputs) (bs : All Bytes input
         by (yes h) = given (omega arith)
         by (no h) = none (omega arith)
 
-  -- By hard decisions: where harmed symbols that are not as far apart as those of 13 blocks lie within 31, 10, 5 or 1 symbols, and the others have at most 4, 2, 2
+  -- By hard decisions: where harmed symbols that are not as far apart as those of 13 blocks lie within 31, 12, 7 or 3 symbols, and the others have at most 4, 2, 2
   -- or 1 wrong I and Q bits in any 900 symbols, every block that is whole is corrected to what was sent, and the packets of all but the last eleven are given.
   pub rain-hard : (k : NoisyLink (costOf differing) (Rained (doubtOf differing) isStruck (harmAt rate .hard-struck) rate) rate inputs) → FrontGiven (hardLimits rate .unsure) k
   rain-hard k =
       rained k (hard-close rate hr sent) (hardLimits rate .unsure) (hard-few inputs g bs limit rate hr sent) (hard-recovered (harmed-stream k) (k .fed) (k .costed) (k .closed))
 
-  -- By soft decisions: within 30, 10, 5 or 1 symbols, and a doubt of at most 63, 35, 28 or 14 elsewhere.
+  -- By soft decisions: within 30, 12, 7 or 2 symbols, and a doubt of at most 63, 35, 28 or 21 elsewhere.
   pub rain-soft : (k : NoisyLink (costOf softly) (Rained (doubtOf softDoubt) isStruck (harmAt rate .soft-struck) rate) rate inputs) → FrontGiven (softLimits rate .unsure) k
   rain-soft k =
       rained k (soft-close rate hr sent) (softLimits rate .unsure) (soft-few inputs g bs limit rate hr sent) (soft-recovered (harmed-stream k) (k .fed) (k .costed) (k .closed))

@@ -31,7 +31,7 @@ const SOFT: [Limits; 5] = [limits(63, 55, 25), limits(35, 54, 30), limits(28, 56
 
 /// Those of `specs/Harm.antt`, for the rates that are sent: symbols struck, hard, and symbols lost, each with what is tolerated elsewhere
 /// in 900 symbols.
-const STRUCK: [(usize, usize); 4] = [(31, 4), (10, 2), (5, 2), (1, 1)];
+const STRUCK: [(usize, usize); 4] = [(31, 4), (12, 2), (7, 2), (3, 1)];
 const OUTAGE: [(usize, usize); 4] = [(625, 4), (424, 2), (339, 2), (223, 1)];
 const HARM_WINDOW: usize = 900;
 
