@@ -147,12 +147,15 @@ module _ {R : Type 0} {cost doubt : R → ℕ → ℕ} {harmed : R → Bool} {u 
         told i z (inr x) = inr (omega (arith, z))
         told i z (inl x) =
             inl (record {
-              earliest = x .earliest;
-              latest = x .latest;
-              earliest-harmed = harmed-marked kind points (x .earliest) (x .earliest-harmed);
-              latest-harmed = harmed-marked kind points (x .latest) (x .latest-harmed);
-              not-late = x .not-late;
-              not-early = omega (arith, x .not-early, f .behind-is);
+              beside =
+                  record {
+                    earliest = x .earliest;
+                    latest = x .latest;
+                    earliest-harmed = harmed-marked kind points (x .earliest) (x .earliest-harmed);
+                    latest-harmed = harmed-marked kind points (x .latest) (x .latest-harmed);
+                    not-late = x .not-late;
+                    not-early = omega (arith, x .not-early, f .behind-is);
+                  };
               not-far = omega (arith, x .not-far, f .runs);
               not-beyond = omega (arith, x .not-beyond, f .runs);
             })

@@ -44,6 +44,7 @@ isLost r = eqb (symbolCosts r .i .zero + symbolCosts r .i .one + (symbolCosts r 
 abbrev pub doubtUnlost : Received → ℕ → ℕ
 doubtUnlost r sent = pick (isLost r) 0 (softDoubt r sent)
 
+-- symbol i is harmed
 abbrev pub HarmedAt : {R : Type 0} → (R → Bool) → List R → ℕ → Type 0
 HarmedAt harmed points i = getD (map harmed points) i false ≡ true
 
@@ -105,16 +106,11 @@ pub record BesideHarm {R : Type 0} (harmed : R → Bool) (rate ahead behind : �
   pub not-late : patternLength rate * (earliest / symbolsPerPattern rate) ≤ x + ahead
   pub not-early : x < patternLength rate * suc (latest / symbolsPerPattern rate) + behind
 
--- of a stream, and none of the two is further than two of the reader's runs
+-- Bit x of a stream is near harm: it is beside harm, and none of the two symbols is further than two of the reader's runs.
 pub record NearHarm {R : Type 0} (harmed : R → Bool) (rate : ℕ) (l : Spoils) (points : List R) (x : ℕ) : Type 0 where
-  pub earliest : ℕ
-  pub latest : ℕ
-  pub earliest-harmed : HarmedAt harmed points earliest
-  pub latest-harmed : HarmedAt harmed points latest
-  pub not-late : patternLength rate * (earliest / symbolsPerPattern rate) ≤ x + l .ahead
-  pub not-early : x < patternLength rate * suc (latest / symbolsPerPattern rate) + l .behind
-  pub not-far : x ≤ patternLength rate * (earliest / symbolsPerPattern rate) + 3264
-  pub not-beyond : patternLength rate * (latest / symbolsPerPattern rate) ≤ x + 1632
+  pub beside : BesideHarm harmed rate (l .ahead) (l .behind) points x
+  pub not-far : x ≤ patternLength rate * (beside .earliest / symbolsPerPattern rate) + 3264
+  pub not-beyond : patternLength rate * (beside .latest / symbolsPerPattern rate) ≤ x + 1632
 
 -- ---- what came of what was sent
 
@@ -128,7 +124,7 @@ pub record HarmedRun {R : Type 0} (doubt : R → ℕ → ℕ) (harmed : R → Bo
   pub sparse : SparseSymbols harmWindow (l .elsewhere) (map doubt points) (symbolsOf (coderAt rate m) bits)
   pub gathered : Gathered harmed (length points) (l .longest) points
 
--- Of what is read of it every wrong bit is near harm, `ahead` bits on either side, or one of the last.
+-- Of what is read of it every wrong bit is beside harm, at most `ahead` bits on either side, or one of the last.
 pub record RunRecovered {R : Type 0} (harmed : R → Bool) (l : Spoils) (rate unsure : ℕ) (bits : List ℕ) (points : List R) (out : List ℕ) : Type 0 where
   pub wrong : (i : ℕ) → i < length bits → (getD bits i 0 ≡ getD out i 0 → ⊥)
       → (BesideHarm harmed rate (l .ahead) (l .ahead) points i) ⊎ (length bits ≤ i + unsure)

@@ -151,11 +151,13 @@ module _ {R : Type 0} (harmed : R → Bool) (rate : ℕ) (l : Spoils) (c : Close
   -- two wrong bits within 2,448 bytes and some
   bits-close : (x y : ℕ) → y ≤ x + 19592 → NearHarm harmed rate l points x → NearHarm harmed rate l points y → y < x + 761
   bits-close x y near a b =
-      let u = linked (a .earliest) (a .latest) (a .earliest-harmed) (a .latest-harmed) (omega (arith, a .not-beyond, a .not-far)) in
-      let v = linked (b .earliest) (b .latest) (b .earliest-harmed) (b .latest-harmed) (omega (arith, b .not-beyond, b .not-far)) in
-      let z = linked (a .earliest) (b .latest) (a .earliest-harmed) (b .latest-harmed)
-      (omega (arith, u, v, a .not-early, b .not-late, near, c .close)) in
-      omega (arith, z, b .not-early, a .not-late, c .close)
+      let d = a .beside in
+      let e = b .beside in
+      let u = linked (d .earliest) (d .latest) (d .earliest-harmed) (d .latest-harmed) (omega (arith, a .not-beyond, a .not-far)) in
+      let v = linked (e .earliest) (e .latest) (e .earliest-harmed) (e .latest-harmed) (omega (arith, b .not-beyond, b .not-far)) in
+      let z = linked (d .earliest) (e .latest) (d .earliest-harmed) (e .latest-harmed)
+      (omega (arith, u, v, d .not-early, e .not-late, near, c .close)) in
+      omega (arith, z, e .not-early, d .not-late, c .close)
 
   -- ---- wrong bytes lie within 96
 
