@@ -1,20 +1,24 @@
 -- What noise a reader of symbols survives: a run, and a stream in any pieces, by hard and by soft decisions.
 -- Assumes nothing.
 use mathlib.Core.Path.{_≡_, refl, sym, _∙_, ap, subst}
+use mathlib.Core.Bool.{true}
 use mathlib.Core.List.{List, [], _∷_, _++_, map}
 use Prim.Native.Nat.{ℕ, suc, _-_, _*_, _%_, _<_, _≤_}
 use native.Mathlib.Omega.{arith}
+use lib.Ieee.{Float}
 use lib.ListN.{length, take, drop}
 use lib.Seq.{take-take, take-at}
 use Rattle.common.specs.Lists.{All}
 use Rattle.inner_code.specs.Step.{symbolsOf}
 use Rattle.inner_code.specs.Encode.{coderAt}
 use Rattle.trellis.specs.Best.{Best}
-use Rattle.soft_decision.specs.Cost.{softly}
+use Rattle.soft_decision.specs.Cost.{softly, receivedOf}
 use Rattle.soft_decision.specs.declared.Received.{Received}
 use Rattle.run_reader.specs.Cost.{differing, totalCost, runCost, hardCost, softCost, Costed}
-use Rattle.run_reader.specs.Read.{symbolsPerPattern, runBits, runLength, readNumber, BestRead, ReadsHard, refused, read}
+use Rattle.run_reader.specs.Read.{symbolsPerPattern, runBits, runLength, sound, readNumber, softNumber, BestRead, AnswersRun, refused, read, ReadsHard, ReadsSoft}
 use Rattle.run_reader.proofs.Patterns.{sent-whole}
+use Rattle.soft_decision.proofs.Runs.{length-received}
+use Rattle.run_reader.proofs.SoftDecisions.{sound-lists}
 use Rattle.run_reader.proofs.Outcome.{passes}
 use Rattle.run_reader.proofs.Laws.{all-valid}
 use Rattle.symbol_stream.specs.Stream.{Closes}
@@ -103,6 +107,22 @@ pub record NoisyRead (unsure : ℕ) (bits : List ℕ) (number count : ℕ) (left
   pub counted : count ≡ length bits
   pub front : take (length bits - unsure) left ≡ take (length bits - unsure) bits
 
+call-reads : (unsure : ℕ) (bits : List ℕ) {cost : List ℕ → ℕ} {due n memory number after total count : ℕ} {output left : List ℕ} → due ≡ 0 → length bits ≡ n
+    → ((o : BestRead cost n memory output after total count left) → take (length bits - unsure) (o .bits) ≡ take (length bits - unsure) bits)
+    → AnswersRun due cost n memory output number after total count left → NoisyRead unsure bits number count left
+call-reads unsure bits z l reads (refused f h a c k x) = absurd (omega (arith, f, h, z))
+call-reads unsure bits {n = n} {output = output} z l reads (read a f o) =
+    let lo : length (o .bits) ≡ length bits = o .decoded .best .size ∙ sym l in
+    let i : ℕ = length bits - unsure in
+    record {
+      answered = a;
+      counted = o .counted ∙ sym l;
+      front =
+          ap (take i) (o .written)
+          ∙ (sym (take-take i (length bits) (o .bits ++ drop n output) (omega arith))
+          ∙ (ap (take i) (take-at (o .bits) (drop n output) (length bits) lo) ∙ reads o));
+    }
+
 pub noisy-read : {rate m : ℕ} {bits received : List ℕ} → NoisyRun differing (hardLimits rate) rate m bits received → length bits ≤ 1632 → All (λ s. s < 4) received
     → (output : List ℕ) → length bits ≤ length output
     → {number after cost count : ℕ} {left : List ℕ} → ReadsHard rate m received output number after cost count left → NoisyRead (hardLimits rate .unsure) bits number count left
@@ -112,22 +132,7 @@ noisy-read {rate} {m} {bits} {received} n most four output fits r =
     let e : length received % symbolsPerPattern rate ≡ 0 = ap (λ (k : ℕ). k % symbolsPerPattern rate) (n .as-long) ∙ q .0 in
     let z : readNumber rate m received output ≡ 0 =
     passes (record { known = n .known; in-range = n .in-range; lists-pass = refl; whole = e; most = rw (sym l) most; symbols-pass = all-valid received four; fits = rw (sym l) fits }) in
-    by z l r
-  where
-    by : readNumber rate m received output ≡ 0 → length bits ≡ runLength rate received → {number after cost count : ℕ} {left : List ℕ}
-        → ReadsHard rate m received output number after cost count left → NoisyRead (hardLimits rate .unsure) bits number count left
-    by z l (refused f h a c k x) = absurd (omega (arith, f, h, z))
-    by z l (read a f o) =
-        let lo : length (o .bits) ≡ length bits = o .decoded .best .size ∙ sym l in
-        let i : ℕ = length bits - hardLimits rate .unsure in
-        record {
-          answered = a;
-          counted = o .counted ∙ sym l;
-          front =
-              ap (take i) (o .written)
-              ∙ (sym (take-take i (length bits) (o .bits ++ drop (runLength rate received) output) (omega arith))
-              ∙ (ap (take i) (take-at (o .bits) (drop (runLength rate received) output) (length bits) lo) ∙ noisy-run n o));
-        }
+    call-reads (hardLimits rate .unsure) bits z l (λ o. noisy-run n o) r
 
 module _ {rate : ℕ} {bits received came unread : List ℕ} (n : NoisyStream differing (hardLimits rate) rate bits received came unread)
     {costs out : List ℕ} {s : SymbolStream} (feedings : SymbolFeedings rate costs out s) (c : Costed differing received costs)
@@ -163,14 +168,42 @@ module _ {rate m : ℕ} {bits : List ℕ} {received : List Received} (n : NoisyR
   abbrev soft-sent : List ℕ
   soft-sent = symbolsOf (coderAt rate m) bits
 
+  soft-front : {best : List ℕ} → Best (softCost received rate m) (runBits rate (length (symbolsOf (coderAt rate m) bits))) best
+      → take (length bits - softLimits rate .unsure) best ≡ take (length bits - softLimits rate .unsure) bits
+  soft-front b =
+      kind-agrees soft-kind rate (n .known) (soft .tolerable) (soft .patterns) (soft .covers) m (n .in-range) received bits (n .binary) (n .whole) soft-sent refl (n .as-long)
+      (in-patterns softDoubt soft received soft-sent (n .sparse)) b
+
   -- A run of points of which any 55, 54, 56, 75 or 68 in a row leave a doubt of at most 63, 35, 28, 21 or 14 about what was sent gives all bits that were
   -- sent but the last 25, 30, 38, 50 or 56.
   pub noisy-soft-run : {output : List ℕ} {after total count : ℕ} {left : List ℕ}
       → (o : BestRead (softCost received rate m) (runBits rate (length received)) m output after total count left)
       → take (length bits - softLimits rate .unsure) (o .bits) ≡ take (length bits - softLimits rate .unsure) bits
-  noisy-soft-run o =
-      kind-agrees soft-kind rate (n .known) (soft .tolerable) (soft .patterns) (soft .covers) m (n .in-range) received bits (n .binary) (n .whole) soft-sent refl (n .as-long)
-      (in-patterns softDoubt soft received soft-sent (n .sparse)) (best-sent softly rate m received (n .as-long) (o .decoded .best))
+  noisy-soft-run o = soft-front (best-sent softly rate m received (n .as-long) (o .decoded .best))
+
+  -- It gives all of them, where nothing is doubted in its last 25, 24, 26, 30 or 32 points.
+  pub noisy-soft-run-whole : QuietEnd (softLimits rate .quiet) (map softDoubt received) (symbolsOf (coderAt rate m) bits)
+      → {output : List ℕ} {after total count : ℕ} {left : List ℕ}
+      → (o : BestRead (softCost received rate m) (runBits rate (length received)) m output after total count left) → o .bits ≡ bits
+  noisy-soft-run-whole quiet o =
+      kind-agrees-whole soft-kind rate (n .known) (soft .tolerable) (soft .patterns) (soft .covers) m (n .in-range) received bits (n .binary) (n .whole) soft-sent refl (n .as-long)
+      (in-patterns softDoubt soft received soft-sent (n .sparse)) (best-sent softly rate m received (n .as-long) (o .decoded .best)) (soft .tail) (soft .tail-covers)
+      (quiet-patterns softDoubt soft received soft-sent quiet)
+
+-- By a call, of three lists that pass.
+pub noisy-soft-read : {rate m : ℕ} {bits : List ℕ} (is qs : List Float) (lost : List ℕ) → sound is qs lost ≡ true → NoisyRun softDoubt (softLimits rate) rate m bits (receivedOf is qs lost)
+    → length bits ≤ 1632 → (output : List ℕ) → length bits ≤ length output
+    → {number after cost count : ℕ} {left : List ℕ} → ReadsSoft rate m is qs lost output number after cost count left → NoisyRead (softLimits rate .unsure) bits number count left
+noisy-soft-read {rate} {m} {bits} is qs lost lists n most output fits r =
+    let s = sound-lists is qs lost lists in
+    let k : length (receivedOf is qs lost) ≡ length is = length-received is qs lost (s .qs-size) (s .lost-size) in
+    let q = sent-whole rate m (n .known) (n .in-range) bits (n .binary) (n .whole) (symbolsOf (coderAt rate m) bits) refl in
+    let l : length bits ≡ runBits rate (length is) = q .1 ∙ ap (runBits rate) (sym (n .as-long) ∙ k) in
+    let e : length is % symbolsPerPattern rate ≡ 0 = ap (λ (k : ℕ). k % symbolsPerPattern rate) (sym k ∙ n .as-long) ∙ q .0 in
+    let z : softNumber rate m is qs lost output ≡ 0 =
+    passes (record { known = n .known; in-range = n .in-range; lists-pass = lists; whole = e; most = rw (sym l) most; symbols-pass = refl; fits = rw (sym l) fits }) in
+    call-reads (softLimits rate .unsure) bits z l
+    (λ o. soft-front n (subst (λ (j : ℕ). Best (softCost (receivedOf is qs lost) rate m) (runBits rate j) (o .bits)) (sym k ∙ n .as-long) (o .decoded .best))) r
 
 module _ {rate : ℕ} {bits : List ℕ} {received : List Received} {came unread : List ℕ} (n : NoisyStream softDoubt (softLimits rate) rate bits received came unread)
     {costs out : List ℕ} {s : SymbolStream} (feedings : SymbolFeedings rate costs out s) (c : Costed softly received costs)
