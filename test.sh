@@ -75,6 +75,7 @@ comparison=$!
 "$compared/compare_calls" target/bin/send_calls
 "$compared/compare_reports" target/bin/report_calls
 "$compared/compare_seasons" target/bin/season target/bin/report_calls
+"$compared/compare_noise" target/bin
 bash tests/pieces.sh
 bash tests/reports.sh
 bash tests/marks.sh

@@ -71,7 +71,7 @@ module _ (packets : List (List ℕ)) (ws : All Packet packets) where
   abbrev sent : List (List ℕ)
   sent = interleavedBlocks packets
 
-  interleaved-bytes : Bytes (flatten sent)
+  pub interleaved-bytes : Bytes (flatten sent)
   interleaved-bytes =
       flat-bytes sent
       (All-map ByteEntries Bytes bytes-of sent
@@ -96,10 +96,10 @@ module _ (inputs : List (List ℕ)) (g : All Input inputs) (bs : All Bytes input
   ws : All Packet packets
   ws = packets-sent inputs g bs
 
-  sent-length-is : length (bitsOf (sentBytes packets)) ≡ 1632 * length inputs
+  pub sent-length-is : length (bitsOf (sentBytes packets)) ≡ 1632 * length inputs
   sent-length-is = block-bits packets ∙ ap (λ (k : ℕ). 1632 * k) (length-map inputs packetFor)
 
-  brought-back : (bits : List ℕ) (far : ℕ) → bits ≡ take far (bitsOf (sentBytes packets)) → far ≤ length (bitsOf (sentBytes packets)) → {numbers : List ℕ} {given : List (List ℕ)} {receiver : Receiver}
+  pub brought-back : (bits : List ℕ) (far : ℕ) → bits ≡ take far (bitsOf (sentBytes packets)) → far ≤ length (bitsOf (sentBytes packets)) → {numbers : List ℕ} {given : List (List ℕ)} {receiver : Receiver}
       → Kept freshReceiver (chunksOf 204 (packedBytes bits)) numbers given receiver → BroughtBack inputs (length bits) (chunksOf 204 (packedBytes bits)) numbers given
   brought-back bits far front within received =
       let count : length packets ≡ length inputs = length-map inputs packetFor in

@@ -31,7 +31,7 @@ none-holding : (r h : ℕ) → r < 5 → holding r 0 h ≡ []
 unfolding holding
 none-holding r h l = rw (none-held r l)
 
-bits-front : (a b : List ℕ) → Bits (a ++ b) → Bits a
+pub bits-front : (a b : List ℕ) → Bits (a ++ b) → Bits a
 bits-front [] b w = none
 bits-front (x ∷ a) b (more h w) = more h (bits-front a b w)
 
@@ -103,7 +103,7 @@ total-put c (suc zero) j x y r = rw add-one
 total-put c (suc (suc zero)) j x y r = rw add-one
 total-put c (suc (suc (suc q))) j x y r = let e : j + 2 ≡ suc (suc j) = omega arith in rw (e, add-one) (omega arith)
 
-next-mod : (rate k : ℕ) → nextPlace rate (k % patternLength rate) ≡ suc k % patternLength rate
+pub next-mod : (rate k : ℕ) → nextPlace rate (k % patternLength rate) ≡ suc k % patternLength rate
 next-mod rate k = mod-add-mod k (patternLength rate) 1 ∙ ap (λ (n : ℕ). n % patternLength rate) (add-one k)
 
 bridge : (rate : ℕ) (c : ℕ → ℕ → ℕ) (k m : ℕ) (bs : List ℕ)

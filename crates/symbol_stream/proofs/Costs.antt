@@ -11,12 +11,12 @@ use Rattle.reader.specs.Cost.{symbolCost, Costed}
 
 module _ {R : Type 0} (cost : R → ℕ → ℕ) where
   -- members of a list that is mapped
-  map-take : (k : ℕ) (rs : List R) → map cost (take k rs) ≡ take k (map cost rs)
+  pub map-take : (k : ℕ) (rs : List R) → map cost (take k rs) ≡ take k (map cost rs)
   map-take zero rs = refl
   map-take (suc k) [] = refl
   map-take (suc k) (r ∷ rs) = ap (λ (l : List (ℕ → ℕ)). cost r ∷ l) (map-take k rs)
 
-  map-drop : (k : ℕ) (rs : List R) → map cost (drop k rs) ≡ drop k (map cost rs)
+  pub map-drop : (k : ℕ) (rs : List R) → map cost (drop k rs) ≡ drop k (map cost rs)
   map-drop zero rs = refl
   map-drop (suc k) [] = refl
   map-drop (suc k) (r ∷ rs) = map-drop k rs

@@ -33,24 +33,24 @@ use Rattle.symbol_stream.proofs.Streams.{numbers, kept-le}
 use Rattle.symbol_stream.proofs.Histories.{fed, every-history, every-end}
 
 -- the kept symbols are whole patterns, and their bits the kept ones
-kept-mod : (rate : ℕ) → keptSymbols rate % symbolsPerPattern rate ≡ 0
+pub kept-mod : (rate : ℕ) → keptSymbols rate % symbolsPerPattern rate ≡ 0
 unfolding keptSymbols
 kept-mod rate = mul-mod-right (symbolsPerPattern rate) (keptPatterns rate)
 
-kept-length : (rate : ℕ) → rate < 5 → (l : List ℕ) → length l ≡ keptSymbols rate → runLength rate l ≡ keptBits rate
+pub kept-length : (rate : ℕ) → rate < 5 → (l : List ℕ) → length l ≡ keptSymbols rate → runLength rate l ≡ keptBits rate
 unfolding keptSymbols keptBits
 kept-length rate hr l e =
     ap (λ (k : ℕ). patternLength rate * k) (ap (λ (k : ℕ). k / symbolsPerPattern rate) e ∙ mul-div-right (keptPatterns rate) (some-symbols rate hr))
 
-kept-symbols : (rate : ℕ) → keptSymbols rate ≡ symbolsPerPattern rate * keptPatterns rate
+pub kept-symbols : (rate : ℕ) → keptSymbols rate ≡ symbolsPerPattern rate * keptPatterns rate
 unfolding keptSymbols
 kept-symbols rate = refl
 
-kept-bits : (rate : ℕ) → keptBits rate ≡ patternLength rate * keptPatterns rate
+pub kept-bits : (rate : ℕ) → keptBits rate ≡ patternLength rate * keptPatterns rate
 unfolding keptBits
 kept-bits rate = refl
 
-no-more : (x a s : ℕ) → a < s → x + a / s ≡ x
+pub no-more : (x a s : ℕ) → a < s → x + a / s ≡ x
 no-more x a s h = let z : a / s ≡ 0 = div-eq-of-lt h in omega arith
 
 -- What is decided of symbols that were received clearly, however many more are to come, is the bits that were sent; the memory is the coder's, and what

@@ -1,0 +1,3 @@
+pub mod Harm
+pub mod Noise
+pub mod Table
