@@ -4,13 +4,13 @@
 # The tests draw it anew and compare: after a change of crates.txt it is drawn again.
 set -euo pipefail
 
-# What README.md builds, with all below it; any other code is of the tests and the benchmark.
-built=$(sed -n 's/&&.*//; s/^    rt \(check\|staticlib\) //p' README.md)
+# What build.sh builds, with all below it; any other code is of the tests and the benchmark.
+built=$(sed -n 's/^programs=(\(.*\))$/\1/p; s/.*rt staticlib \([a-z_]*\).*/\1/p' build.sh)
 below=$(for name in $built; do grep "^$name:" crates.txt; done | tr -d ':')
 
 # kind NAME: by what the files of the crate say.
 kind() {
-    if ! grep -q 'fn ' "crates/$1"/src/*.rt; then
+    if ! grep -Eq '^ *(pub )?(fn|const) ' "crates/$1"/src/*.rt && ! grep -q 'extern "C" fn' "crates/$1"/src/*.rt; then
         echo theory
     elif [[ " ${below//$'\n'/ } " != *" $1 "* ]]; then
         echo test
