@@ -27,7 +27,7 @@ use Rattle.noise_tolerance.proofs.Tables.{free, slope, rise, lead, lag}
 use Rattle.noise_tolerance.proofs.Weights.{home, growth, potentials}
 use Rattle.noise_tolerance.proofs.Runs.{steps-tell}
 use Rattle.noise_tolerance.proofs.Received.{spread, spread-splits, hardDoubt, hard-kind}
-use Rattle.noise_tolerance.proofs.Noise.{twice}
+use Rattle.noise_tolerance.proofs.Noise.{twice, hard-twice}
 use Rattle.noise_tolerance.proofs.Sharp.{front, zeros, sentBits, silence, lastOne, binary, whole-is, one-is}
 
 free-is : (rate : ℕ) → rate < 5 → freeDistance rate ≡ free rate
@@ -59,7 +59,7 @@ free-distance rate m hr hm xs ys vx vy l whole one n =
     let f = distant (puncturedCosts rate c) (puncturedCosts rate g) (λ k d z. 1 * weight rate k d z)
     (steps-tell 1 c g (λ j v o hv ho. k .tells (getD ss (j / 2) (k .some)) (j % 2) v o hv ho) rate) (λ k d. 1 * home rate k d) (λ k d. 1 * growth rate k d)
     (1 * free rate) (slope rate) (λ k. 1 * rise rate) (1 * lead rate) (1 * lag rate) (potentials 1 rate hr) 0 m xs ys hm vx vy l one n in
-    omega (arith, f, a, b, d, twice ss ss, own-free ss, free-is rate hr)
+    omega (arith, f, a, b, d, twice hardDoubt differing hard-twice ss ss, own-free ss, free-is rate hr)
 
 -- and two are as near as that
 pub record AsNear (rate : ℕ) : Type 0 where

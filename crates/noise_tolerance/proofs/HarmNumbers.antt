@@ -1,13 +1,12 @@
 -- The numbers of the table of harm are such as the proofs ask for: one test for each kind of harm, computed for every rate.
 -- Assumes nothing.
 use mathlib.Core.Path.{_≡_}
-use mathlib.Core.Bool.{Bool, true}
+use mathlib.Core.Bool.{Bool}
 use mathlib.Core.List.{List, [], _∷_}
-use Prim.Native.Nat.{ℕ, zero, suc, _+_, _-_, _*_, _/_, _≤_, _<_}
+use Prim.Native.Nat.{ℕ, suc, _+_, _-_, _*_, _/_, _≤_, _<_}
 use Prim.{tt}
 use lib.Dec.{T, leb, leb→le, ltb, ltb→lt, eqb, eqb→eq}
-use lib.ListN.{getD}
-use Rattle.common.proofs.Computed.{both, both-left, both-right, below-at}
+use Rattle.common.proofs.Computed.{below-at}
 use Rattle.puncturing.specs.Mode.{modeOf}
 use Rattle.puncturing.specs.Step.{patternLength}
 use Rattle.reader.specs.Read.{symbolsPerPattern, runBits}
@@ -15,17 +14,8 @@ use Rattle.symbol_stream.specs.Stream.{keptPatterns, runPatterns, fullSymbols, 
 use Rattle.noise_tolerance.specs.Table.{table, atRate, hardLimits, softLimits}
 use Rattle.noise_tolerance.specs.Harm.{Spoils, harmTable, harmAt, harmWindow, harmDistance}
 use Rattle.noise_tolerance.proofs.Tables.{free, slope, rise, lead, lag, top, homing}
+use Rattle.noise_tolerance.proofs.Numbers.{allPass, pass}
 use Rattle.noise_tolerance.proofs.Harm.{Recoverable}
-
--- all tests of a list pass, and so each
-abbrev allPass : List Bool → Bool
-allPass [] = true
-allPass (t ∷ l) = both t (allPass l)
-
-pass : (l : List Bool) → T (allPass l) → (i : ℕ) → T (getD l i true)
-pass [] h i = tt
-pass (t ∷ l) h zero = both-left t (allPass l) h
-pass (t ∷ l) h (suc i) = pass l (both-right t (allPass l) h) i
 
 -- Limits of a kind of harm that fit a rate, where a coded bit counts u and a harmed one is charged or not: the doubt in units of u, the window in patterns and
 -- in steps, the harm in patterns, and how many bits it takes to recover from another memory.

@@ -6,7 +6,7 @@ use mathlib.Core.Bool.{Bool, true}
 use mathlib.Core.List.{List, [], _∷_, _++_, map, append-assoc}
 use mathlib.Core.Logic.{_⊎_, inl, inr}
 use Prim.Native.Nat.{ℕ, zero, suc, _+_, _-_, _*_, _/_, _%_, _≤_, _<_}
-use native.Mathlib.Decide.{ℕ-discrete, decLe, decLt}
+use native.Mathlib.Decide.{decLe, decLt}
 use native.Mathlib.Nat.{le-refl, mul-mod-right, mul-div-right, mul-add-mod-self-left, mod-eq-of-lt, mul-le-mul-left}
 use native.Mathlib.Omega.{arith}
 use lib.ListN.{length, getD, take, drop, length-append, length-drop, take-append-drop, List·getD-append}
@@ -29,6 +29,7 @@ use Rattle.noise_tolerance.specs.Noise.{SparseSymbols}
 use Rattle.noise_tolerance.proofs.Exchange.{memory-lt}
 use Rattle.noise_tolerance.proofs.Recovery.{six-settle, Astray, near, last, AstrayOpen, early, across, later}
 use Rattle.noise_tolerance.proofs.Harm.{Recoverable}
+use Rattle.noise_tolerance.proofs.FirstDifference.{First, first-or}
 use Rattle.noise_tolerance.proofs.Hull.{div-least, div-below, quotient, spanned, Hull, clean, hit, hull}
 use Rattle.noise_tolerance.proofs.HarmedRuns.{Harmable, clean-within, hit-within, run-astray, run-astray-open}
 use Rattle.noise_tolerance.proofs.Streams.{sparse-front, sparse-back}
@@ -41,28 +42,6 @@ take-same (suc n) [] ys hx hy h = absurd (omega arith)
 take-same (suc n) (x ∷ xs) [] hx hy h = absurd (omega arith)
 take-same (suc n) (x ∷ xs) (y ∷ ys) hx hy h =
     ap₂ (λ (i : ℕ) (l : List ℕ). i ∷ l) (h 0 (omega arith)) (take-same n xs ys (omega arith) (omega arith) (λ i l. h (suc i) (omega arith)))
-
--- all members below n agree, or one does not
-record Differs (f g : ℕ → ℕ) (n : ℕ) : Type 0 where
-  place : ℕ
-  below : place < n
-  unlike-there : f place ≡ g place → ⊥
-
-agree-or : (f g : ℕ → ℕ) (n : ℕ) → ((i : ℕ) → i < n → f i ≡ g i) ⊎ (Differs f g n)
-agree-or f g zero = inl (λ i h. absurd (omega arith))
-agree-or f g (suc n) = by (agree-or f g n) (ℕ-discrete (f n) (g n))
-  where
-    all : ((i : ℕ) → i < n → f i ≡ g i) → f n ≡ g n → (i : ℕ) → i < suc n → f i ≡ g i
-    all h e i l = at (ℕ-discrete i n)
-      where
-        at : Dec (i ≡ n) → f i ≡ g i
-        at (yes q) = ap f q ∙ e ∙ ap g (sym q)
-        at (no q) = h i (omega arith)
-
-    by : ((i : ℕ) → i < n → f i ≡ g i) ⊎ (Differs f g n) → Dec (f n ≡ g n) → ((i : ℕ) → i < suc n → f i ≡ g i) ⊎ (Differs f g (suc n))
-    by (inr d) e = inr (record { place = d .place; below = omega (arith, d .below); unlike-there = d .unlike-there })
-    by (inl h) (yes e) = inl (all h e)
-    by (inl h) (no e) = inr (record { place = n; below = omega arith; unlike-there = e })
 
 -- two sequences that agree in their last six bits lead to one memory
 six-alike : (s t n : ℕ) (xs ys : List ℕ) → s < 64 → t < 64 → Bits xs → Bits ys → n + 6 ≤ length xs → n + 6 ≤ length ys
@@ -444,12 +423,12 @@ module _ {R : Type 0} {cost doubt : R → ℕ → ℕ} {harmed : R → Bool} {u 
         ∙ ap (memoryAfter (memoryAt k)) (sym (take-take B (P * Q) (drop (P * k) bits) (omega (arith, kept-short))))
 
     next-state : State k t → State (k + kp) (memoryAfter t (take B best))
-    next-state s = by (agree-or (λ i. getD sent (B - 6 + i) 0) (λ i. getD best (B - 6 + i) 0) 6)
+    next-state s = by (first-or (λ i. getD sent (B - 6 + i) 0) (λ i. getD best (B - 6 + i) 0) 6)
       where
         vs : Bits sent
         vs = take-bits (P * Q) (drop-bits (P * k) w)
 
-        by : ((i : ℕ) → i < 6 → getD sent (B - 6 + i) 0 ≡ getD best (B - 6 + i) 0) ⊎ (Differs (λ i. getD sent (B - 6 + i) 0) (λ i. getD best (B - 6 + i) 0) 6)
+        by : ((i : ℕ) → i < 6 → getD sent (B - 6 + i) 0 ≡ getD best (B - 6 + i) 0) ⊎ (First (λ i. getD sent (B - 6 + i) 0) (λ i. getD best (B - 6 + i) 0) 6)
             → State (k + kp) (memoryAfter t (take B best))
         by (inl h) =
             closed (kept-memory

@@ -11,6 +11,7 @@ pub mod Runs
 pub mod Harm
 pub mod Windows
 pub mod Received
+pub mod FirstDifference
 pub mod Hull
 pub mod HarmedRuns
 pub mod Streams
@@ -18,8 +19,8 @@ pub mod HarmKinds
 pub mod HarmedStream
 pub mod HarmNumbers
 pub mod Ends
-pub mod Recovered
 pub mod Numbers
 pub mod Noise
+pub mod Recovered
 pub mod Sharp
 pub mod Distance

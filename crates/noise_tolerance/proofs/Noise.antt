@@ -54,26 +54,31 @@ best-sent cost rate m rs {best = best} e = subst (λ (k : ℕ). Best (runCost (m
 
 -- ---- hard decisions
 
-pub twice : (cs : List ℕ) (ss : List ℕ) → totalCost (map hardDoubt cs) ss ≡ 2 * totalCost (map differing cs) ss
-unfolding totalCost
-twice [] ss = refl
-twice (c ∷ cs) [] = refl
-twice (c ∷ cs) (s ∷ ss) = omega (arith, twice cs ss)
+-- a doubt that is twice another
+module _ {R : Type 0} (f g : R → ℕ → ℕ) (e : (r : R) (s : ℕ) → f r s ≡ 2 * g r s) where
+  pub twice : (cs : List R) (ss : List ℕ) → totalCost (map f cs) ss ≡ 2 * totalCost (map g cs) ss
+  unfolding totalCost
+  twice [] ss = refl
+  twice (c ∷ cs) [] = refl
+  twice (c ∷ cs) (s ∷ ss) = omega (arith, e c s, twice cs ss)
 
-twice-sparse : (n t : ℕ) (rs ss : List ℕ) → SparseSymbols n t (map differing rs) ss → SparseSymbols n (2 * t) (map hardDoubt rs) ss
-unfolding SparseSymbols
-twice-sparse n t rs ss h i =
-    let a : take n (drop i (map hardDoubt rs)) ≡ map hardDoubt (take n (drop i rs)) = ap (take n) (sym (map-drop hardDoubt i rs)) ∙ sym (map-take hardDoubt n (drop i rs)) in
-    let b : take n (drop i (map differing rs)) ≡ map differing (take n (drop i rs)) = ap (take n) (sym (map-drop differing i rs)) ∙ sym (map-take differing n (drop i rs)) in
-    let k = rw b at (h i) in
-    rw a (omega (arith, k, twice (take n (drop i rs)) (take n (drop i ss))))
+  pub twice-sparse : (n t : ℕ) (rs : List R) (ss : List ℕ) → SparseSymbols n t (map g rs) ss → SparseSymbols n (2 * t) (map f rs) ss
+  unfolding SparseSymbols
+  twice-sparse n t rs ss h i =
+      let a : take n (drop i (map f rs)) ≡ map f (take n (drop i rs)) = ap (take n) (sym (map-drop f i rs)) ∙ sym (map-take f n (drop i rs)) in
+      let b : take n (drop i (map g rs)) ≡ map g (take n (drop i rs)) = ap (take n) (sym (map-drop g i rs)) ∙ sym (map-take g n (drop i rs)) in
+      let k = rw b at (h i) in
+      rw a (omega (arith, k, twice (take n (drop i rs)) (take n (drop i ss))))
 
-twice-quiet : (n : ℕ) (rs ss : List ℕ) → QuietEnd n (map differing rs) ss → QuietEnd n (map hardDoubt rs) ss
-unfolding QuietEnd
-twice-quiet n rs ss h =
-    let i = length ss - n in
-    let k = rw (← (map-drop differing i rs)) at h in
-    rw (← (map-drop hardDoubt i rs)) (omega (arith, k, twice (drop i rs) (drop i ss)))
+  twice-quiet : (n : ℕ) (rs : List R) (ss : List ℕ) → QuietEnd n (map g rs) ss → QuietEnd n (map f rs) ss
+  unfolding QuietEnd
+  twice-quiet n rs ss h =
+      let i = length ss - n in
+      let k = rw (← (map-drop g i rs)) at h in
+      rw (← (map-drop f i rs)) (omega (arith, k, twice (drop i rs) (drop i ss)))
+
+pub hard-twice : (r s : ℕ) → hardDoubt r s ≡ 2 * differing r s
+hard-twice r s = refl
 
 module _ {rate m : ℕ} {bits received : List ℕ} (n : NoisyRun differing (hardLimits rate) rate m bits received) where
   abbrev hard : Fits rate 1 (2 * hardLimits rate .tolerated) (hardLimits rate)
@@ -88,7 +93,7 @@ module _ {rate m : ℕ} {bits received : List ℕ} (n : NoisyRun differing (hard
       → take (length bits - hardLimits rate .unsure) (o .bits) ≡ take (length bits - hardLimits rate .unsure) bits
   noisy-run o =
       kind-agrees hard-kind rate (n .known) (hard .tolerable) (hard .patterns) (hard .covers) m (n .in-range) received bits (n .binary) (n .whole) sent refl (n .as-long)
-      (in-patterns hardDoubt hard received sent (twice-sparse (hardLimits rate .window) (hardLimits rate .tolerated) received sent (n .sparse)))
+      (in-patterns hardDoubt hard received sent (twice-sparse hardDoubt differing hard-twice (hardLimits rate .window) (hardLimits rate .tolerated) received sent (n .sparse)))
       (best-sent differing rate m received (n .as-long) (o .decoded .best))
 
   -- It gives all of them, where its last 21, 18, 26, 18 or 32 symbols are unharmed.
@@ -97,9 +102,9 @@ module _ {rate m : ℕ} {bits received : List ℕ} (n : NoisyRun differing (hard
       → o .bits ≡ bits
   noisy-run-whole quiet o =
       kind-agrees-whole hard-kind rate (n .known) (hard .tolerable) (hard .patterns) (hard .covers) m (n .in-range) received bits (n .binary) (n .whole) sent refl (n .as-long)
-      (in-patterns hardDoubt hard received sent (twice-sparse (hardLimits rate .window) (hardLimits rate .tolerated) received sent (n .sparse)))
+      (in-patterns hardDoubt hard received sent (twice-sparse hardDoubt differing hard-twice (hardLimits rate .window) (hardLimits rate .tolerated) received sent (n .sparse)))
       (best-sent differing rate m received (n .as-long) (o .decoded .best)) (hard .tail) (hard .tail-covers)
-      (quiet-patterns hardDoubt hard received sent (twice-quiet (hardLimits rate .quiet) received sent quiet))
+      (quiet-patterns hardDoubt hard received sent (twice-quiet hardDoubt differing hard-twice (hardLimits rate .quiet) received sent quiet))
 
 -- What reading such a run by a call gives: the answer 0, as many bits as were sent, and at the front of the output those that were sent but the last ones.
 pub record NoisyRead (unsure : ℕ) (bits : List ℕ) (number count : ℕ) (left : List ℕ) : Type 0 where
@@ -144,7 +149,7 @@ module _ {rate : ℕ} {bits received came unread : List ℕ} (n : NoisyStream di
   fits = hard-fits rate known
 
   sparse : SparseSymbols (symbolsPerPattern rate * fits .patterns) (1 * fits .units) (map hardDoubt received) came
-  sparse = in-patterns hardDoubt fits received came (twice-sparse (hardLimits rate .window) (hardLimits rate .tolerated) received came (n .sparse))
+  sparse = in-patterns hardDoubt fits received came (twice-sparse hardDoubt differing hard-twice (hardLimits rate .window) (hardLimits rate .tolerated) received came (n .sparse))
 
   -- A stream of such symbols, in overlapping runs and in any pieces, gives all bits that were sent but the last so many.
   pub noisy-stream : StreamBack rate (hardLimits rate .unsure) bits (length received) (out ++ take count exit) rest
@@ -156,7 +161,7 @@ module _ {rate : ℕ} {bits received came unread : List ℕ} (n : NoisyStream di
   pub noisy-stream-whole : QuietEnd (hardLimits rate .quiet-stream) (map differing received) came → WholeStream rate bits (length received) (out ++ take count exit) rest
   noisy-stream-whole quiet =
       stream-whole hard-kind rate known (fits .tolerable) (fits .patterns) (fits .covers) (fits .overlap) bits (n .binary) received came unread (n .as-long) sparse
-      (fits .tail) (fits .tail-covers) (quiet-stream hardDoubt fits received came (twice-quiet (hardLimits rate .quiet-stream) received came quiet)) (n .coded)
+      (fits .tail) (fits .tail-covers) (quiet-stream hardDoubt fits received came (twice-quiet hardDoubt differing hard-twice (hardLimits rate .quiet-stream) received came quiet)) (n .coded)
       feedings c closes
 
 -- ---- soft decisions

@@ -2,12 +2,12 @@
 -- Assumes nothing.
 use mathlib.Core.Path.{_≡_, refl, sym, _∙_, ap, subst}
 use mathlib.Core.Bool.{Bool, true, false}
-use mathlib.Core.List.{List, [], _∷_, _++_, map}
+use mathlib.Core.List.{List, _++_, map}
 use mathlib.Core.Logic.{_⊎_, inl, inr}
 use Prim.Native.Nat.{ℕ, suc, _+_, _*_, _/_, _%_, _≤_, _<_}
 use native.Mathlib.Decide.{decLt}
 use native.Mathlib.Omega.{arith}
-use lib.ListN.{length, getD, take, drop, List·getD-eq-default}
+use lib.ListN.{length, getD, take, List·getD-eq-default}
 use Rattle.common.specs.Choice.{pick}
 use Rattle.common.proofs.Lists.{getD-map-in}
 use Rattle.convolutional_code.specs.Bits.{Bits}
@@ -17,18 +17,18 @@ use Rattle.inner_code.specs.Step.{symbolsOf}
 use Rattle.inner_code.specs.Encode.{coderAt}
 use Rattle.branch_metrics.specs.Cost.{softly}
 use Rattle.branch_metrics.specs.declared.soft_decision.Received.{Received}
-use Rattle.reader.specs.Cost.{differing, totalCost, runCost, softCost, Costed}
+use Rattle.reader.specs.Cost.{differing, runCost, softCost, Costed}
 use Rattle.reader.specs.Read.{symbolsPerPattern, runBits}
 use Rattle.reader.proofs.Patterns.{some-symbols}
 use Rattle.symbol_stream.specs.Stream.{runPatterns, Closes}
 use Rattle.symbol_stream.specs.History.{SymbolFeedings, Ended}
 use Rattle.symbol_stream.specs.declared.SymbolStream.{SymbolStream}
-use Rattle.symbol_stream.proofs.Costs.{map-take, map-drop}
 use Rattle.symbol_stream.proofs.Histories.{fed, every-history, every-end}
 use Rattle.noise_tolerance.specs.Noise.{SparseSymbols, softDoubt}
 use Rattle.noise_tolerance.specs.Table.{hardLimits, softLimits}
 use Rattle.noise_tolerance.specs.Harm.{Came, fine, struck, isStruck, costOf, doubtOf, isLost, doubtUnlost, HarmedAt, Gathered, Spoils, harmAt, harmWindow, harmDistance, BesideHarm, NearHarm, HarmedRun, RunRecovered, HarmedStream, Recovered}
 use Rattle.noise_tolerance.proofs.Received.{hardDoubt}
+use Rattle.noise_tolerance.proofs.Noise.{twice-sparse, hard-twice}
 use Rattle.noise_tolerance.proofs.HarmedRuns.{Harmable, clean-within, hit-within, run-astray}
 use Rattle.noise_tolerance.proofs.Recovery.{Astray, near, last}
 use Rattle.noise_tolerance.proofs.Hull.{spanned, Hull, clean, hit, hull}
@@ -162,22 +162,9 @@ module _ {R : Type 0} {cost doubt : R → ℕ → ℕ} {harmed : R → Bool} {u 
 
 -- ---- struck, by hard decisions
 
-twice-struck : (cs : List (Came ℕ)) (ss : List ℕ) → totalCost (map (doubtOf hardDoubt) cs) ss ≡ 2 * totalCost (map (doubtOf differing) cs) ss
-unfolding totalCost
-twice-struck [] ss = refl
-twice-struck (c ∷ cs) [] = refl
-twice-struck (fine c ∷ cs) (s ∷ ss) = omega (arith, twice-struck cs ss)
-twice-struck (struck c ∷ cs) (s ∷ ss) = omega (arith, twice-struck cs ss)
-
-twice-sparse : (n t : ℕ) (rs : List (Came ℕ)) (ss : List ℕ) → SparseSymbols n t (map (doubtOf differing) rs) ss → SparseSymbols n (2 * t) (map (doubtOf hardDoubt) rs) ss
-unfolding SparseSymbols
-twice-sparse n t rs ss h i =
-    let a : take n (drop i (map (doubtOf hardDoubt) rs)) ≡ map (doubtOf hardDoubt) (take n (drop i rs)) =
-    ap (take n) (sym (map-drop (doubtOf hardDoubt) i rs)) ∙ sym (map-take (doubtOf hardDoubt) n (drop i rs)) in
-    let b : take n (drop i (map (doubtOf differing) rs)) ≡ map (doubtOf differing) (take n (drop i rs)) =
-    ap (take n) (sym (map-drop (doubtOf differing) i rs)) ∙ sym (map-take (doubtOf differing) n (drop i rs)) in
-    let k = rw b at (h i) in
-    rw a (omega (arith, k, twice-struck (take n (drop i rs)) (take n (drop i ss))))
+twice-struck : (r : Came ℕ) (s : ℕ) → doubtOf hardDoubt r s ≡ 2 * doubtOf differing r s
+twice-struck (fine r) s = hard-twice r s
+twice-struck (struck r) s = refl
 
 -- the rate of a stream that was fed is known
 fed-rate : {rate : ℕ} {costs out : List ℕ} {s : SymbolStream} → SymbolFeedings rate costs out s → rate < 5
@@ -189,7 +176,7 @@ pub hard-run-recovered : {rate m : ℕ} {bits : List ℕ} {points : List (Came �
     → RunRecovered isStruck (harmAt rate .hard-struck) rate (hardLimits rate .unsure) bits points best
 hard-run-recovered {rate} {m} {bits} {points} h b =
     run-recovered hard-struck-kind rate m (h .known) (h .in-range) (hard-struck-fits rate (h .known)) bits points (h .binary) (h .whole) (h .as-long)
-    (twice-sparse harmWindow (harmAt rate .hard-struck .elsewhere) points (symbolsOf (coderAt rate m) bits) (h .sparse)) (h .gathered) b
+    (twice-sparse (doubtOf hardDoubt) (doubtOf differing) twice-struck harmWindow (harmAt rate .hard-struck .elsewhere) points (symbolsOf (coderAt rate m) bits) (h .sparse)) (h .gathered) b
 
 pub soft-run-recovered : {rate m : ℕ} {bits : List ℕ} {points : List (Came Received)} → HarmedRun (doubtOf softDoubt) isStruck (harmAt rate .soft-struck) rate m bits points
     → {best : List ℕ} → Best (runCost (map (costOf softly) points) rate m) (runBits rate (length points)) best
@@ -212,7 +199,7 @@ pub hard-recovered : {rate : ℕ} {bits : List ℕ} {points : List (Came ℕ)} {
     → Recovered isStruck (harmAt rate .hard-struck) rate (hardLimits rate .unsure) bits points (out ++ take count exit) rest
 hard-recovered {rate} {bits} {points} {came} {unread} h f c closes =
     recovered hard-struck-kind rate (fed-rate f) (hard-struck-fits rate (fed-rate f)) bits points came unread (h .binary) (h .coded) (h .as-long)
-    (twice-sparse harmWindow (harmAt rate .hard-struck .elsewhere) points came (h .sparse)) (h .gathered) f c closes
+    (twice-sparse (doubtOf hardDoubt) (doubtOf differing) twice-struck harmWindow (harmAt rate .hard-struck .elsewhere) points came (h .sparse)) (h .gathered) f c closes
 
 -- The same by soft decisions, with a doubt of at most 63, 35, 28, 21 or 14 elsewhere, and harm within 30, 12, 7, 2 or 1 symbols.
 pub soft-recovered : {rate : ℕ} {bits : List ℕ} {points : List (Came Received)} {came unread : List ℕ}

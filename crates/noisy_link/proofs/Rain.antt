@@ -7,7 +7,7 @@ use mathlib.Core.List.{List, [], _∷_, flatten}
 use mathlib.Core.Logic.{_⊎_, inl, inr}
 use Prim.{tt}
 use Prim.Native.Nat.{ℕ, zero, suc, _+_, _-_, _*_, _/_, _%_, _≤_, _<_}
-use native.Mathlib.Decide.{ℕ-discrete, decLe, decLt}
+use native.Mathlib.Decide.{decLe, decLt}
 use native.Mathlib.Nat.{div-add-mod, mod-lt, mul-le-mul-left}
 use native.Mathlib.Omega.{arith}
 use lib.ListN.{length, getD, take, drop}
@@ -23,6 +23,7 @@ use Rattle.puncturing.specs.Step.{patternLength}
 use Rattle.interleaver.proofs.Blocks.{flatten-at, length-flatten}
 use Rattle.reader.specs.Read.{symbolsPerPattern}
 use Rattle.link.specs.Burst.{Wrong, Burst, Bursts}
+use Rattle.noise_tolerance.proofs.FirstDifference.{First, first-or}
 use Rattle.noise_tolerance.specs.Harm.{HarmedAt, Gathered, Spoils, harmDistance, NearHarm}
 
 -- ---- bytes by their bits
@@ -59,31 +60,6 @@ same-byte xs ys i h =
   where
     bit : (j : ℕ) → j < 8 → getD (take 8 (drop (8 * i) xs)) j 0 ≡ getD (take 8 (drop (8 * i) ys)) j 0
     bit j l = bit-of xs i j l ∙ h j l ∙ sym (bit-of ys i j l)
-
--- ---- the first that differs
-
--- two lists of numbers agree below n, or differ first at a place
-record First (f g : ℕ → ℕ) (n : ℕ) : Type 0 where
-  place : ℕ
-  below : place < n
-  unlike-there : f place ≡ g place → ⊥
-  alike-before : (i : ℕ) → i < place → f i ≡ g i
-
-first-or : (f g : ℕ → ℕ) (n : ℕ) → ((i : ℕ) → i < n → f i ≡ g i) ⊎ (First f g n)
-first-or f g zero = inl (λ i h. absurd (omega arith))
-first-or f g (suc n) = by (first-or f g n) (ℕ-discrete (f n) (g n))
-  where
-    all : ((i : ℕ) → i < n → f i ≡ g i) → f n ≡ g n → (i : ℕ) → i < suc n → f i ≡ g i
-    all h e i l = at (ℕ-discrete i n)
-      where
-        at : Dec (i ≡ n) → f i ≡ g i
-        at (yes q) = ap f q ∙ e ∙ ap g (sym q)
-        at (no q) = h i (omega arith)
-
-    by : ((i : ℕ) → i < n → f i ≡ g i) ⊎ (First f g n) → Dec (f n ≡ g n) → ((i : ℕ) → i < suc n → f i ≡ g i) ⊎ (First f g (suc n))
-    by (inr d) e = inr (record { place = d .place; below = omega (arith, d .below); unlike-there = d .unlike-there; alike-before = d .alike-before })
-    by (inl h) (yes e) = inl (all h e)
-    by (inl h) (no e) = inr (record { place = n; below = omega arith; unlike-there = e; alike-before = h })
 
 -- ---- wrong bits near harm are near each other
 

@@ -2,7 +2,7 @@
 -- Assumes nothing.
 use mathlib.Core.Path.{_≡_, refl, sym, ap, _∙_, subst}
 use mathlib.Core.Bool.{Bool, true}
-use mathlib.Core.List.{List, _++_}
+use mathlib.Core.List.{List, [], _∷_, _++_}
 use Prim.{tt}
 use Prim.Native.Nat.{ℕ, _+_, _-_, _*_, _/_, _≤_, _<_}
 use native.Mathlib.Decide.{decLe}
@@ -13,7 +13,7 @@ use lib.Seq.{take-at, length-take-le}
 use Rattle.common.specs.Choice.{pick}
 use Rattle.common.specs.Lists.{All, Bytes, chunksOf}
 use Rattle.common.proofs.Chunks.{length-chunks}
-use Rattle.common.proofs.Computed.{both, both-left, both-right, below-at}
+use Rattle.common.proofs.Computed.{below-at}
 use Rattle.randomizer.specs.Stream.{Packet}
 use Rattle.convolutional_code.specs.Bits.{bitsOf}
 use Rattle.convolutional_code.proofs.Bits.{bits-bits}
@@ -35,6 +35,7 @@ use Rattle.link.proofs.Link.{interleaved-bytes, sent-length-is}
 use Rattle.noise_tolerance.specs.Noise.{softDoubt}
 use Rattle.noise_tolerance.specs.Table.{hardLimits, softLimits}
 use Rattle.noise_tolerance.specs.Harm.{isStruck, costOf, doubtOf, isLost, doubtUnlost, Spoils, harmTable, harmAt, HarmedStream, Recovered}
+use Rattle.noise_tolerance.proofs.Numbers.{allPass, pass}
 use Rattle.noise_tolerance.proofs.Recovered.{hard-recovered, soft-recovered, lost-recovered}
 use Rattle.noisy_link.specs.Link.{Rained, NoisyLink, bitsRead, FrontGiven}
 use Rattle.noisy_link.proofs.Link.{kept-front, bytes-are, coded, hard-few, soft-few}
@@ -47,35 +48,28 @@ module _ (r : ℕ) (l : Spoils) where
   abbrev span : ℕ
   span = (l .longest + 2 * symbolsPerPattern r - 2) / symbolsPerPattern r
 
-  abbrev spans-ok : Bool
-  spans-ok = leb (l .longest + symbolsPerPattern r) (symbolsPerPattern r * span + 1)
-
-  abbrev close-ok : Bool
-  close-ok = leb (patternLength r * span + (l .ahead + l .behind)) 761
-
-  abbrev shape-ok : Bool
-  shape-ok = both (ltb 0 (symbolsPerPattern r)) (both (ltb 0 (patternLength r)) (leb (patternLength r) 7))
-
-  abbrev rest-ok : Bool
-  rest-ok = both close-ok shape-ok
+  abbrev tests : List Bool
+  tests =
+      leb (l .longest + symbolsPerPattern r) (symbolsPerPattern r * span + 1)
+      ∷ leb (patternLength r * span + (l .ahead + l .behind)) 761
+      ∷ ltb 0 (symbolsPerPattern r)
+      ∷ ltb 0 (patternLength r)
+      ∷ leb (patternLength r) 7
+      ∷ []
 
   unfoldable near : Bool
-  near = both spans-ok rest-ok
+  near = allPass tests
 
   nearly : T near → Close r l
   unfolding near
-  nearly h =
-      let a : T rest-ok = both-right spans-ok rest-ok h in
-      let c : T shape-ok = both-right close-ok shape-ok a in
-      let d : T (both (ltb 0 (patternLength r)) (leb (patternLength r) 7)) = both-right (ltb 0 (symbolsPerPattern r)) (both (ltb 0 (patternLength r)) (leb (patternLength r) 7)) c in
-      record {
-        span = span;
-        spans = leb→le _ _ (both-left spans-ok rest-ok h);
-        close = leb→le _ _ (both-left close-ok shape-ok a);
-        some-symbols = ltb→lt 0 (symbolsPerPattern r) (both-left (ltb 0 (symbolsPerPattern r)) (both (ltb 0 (patternLength r)) (leb (patternLength r) 7)) c);
-        some-bits = ltb→lt 0 (patternLength r) (both-left (ltb 0 (patternLength r)) (leb (patternLength r) 7) d);
-        few-bits = leb→le (patternLength r) 7 (both-right (ltb 0 (patternLength r)) (leb (patternLength r) 7) d);
-      }
+  nearly h = record {
+    span = span;
+    spans = leb→le _ _ (pass tests h 0);
+    close = leb→le _ _ (pass tests h 1);
+    some-symbols = ltb→lt _ _ (pass tests h 2);
+    some-bits = ltb→lt _ _ (pass tests h 3);
+    few-bits = leb→le _ _ (pass tests h 4);
+  }
 
 -- at each rate that is sent
 if-sent : (rate : ℕ) (l : Spoils) → modeOf rate .sent ≡ true → T (pick (modeOf rate .sent) (near rate l) true) → Close rate l
