@@ -20,7 +20,7 @@ use Rattle.convolutional_code.proofs.Bits.{length-bits}
 use Rattle.bit_packing.specs.Packing.{byteOf, packedBytes}
 use Rattle.bit_packing.proofs.Bytes.{bytes-back, length-bytes}
 use Rattle.puncturing.specs.Step.{patternLength}
-use Rattle.interleaver.proofs.Blocks.{flatten-at, length-flatten}
+use Rattle.interleaver.proofs.BlockLists.{flatten-at, length-flatten}
 use Rattle.reader.specs.Read.{symbolsPerPattern}
 use Rattle.link.specs.Burst.{Wrong, Burst, Bursts}
 use Rattle.noise_tolerance.proofs.FirstDifference.{First, first-or}
