@@ -5,6 +5,8 @@
 # The gate's line `N passed, 0 failed` comes last, and only where all of it passed.
 set -euo pipefail
 cd "$(dirname "$0")"
+# Programs open no file while a standard stream is closed, so there is an input, whatever this script is started with.
+exec < /dev/null
 work=$(mktemp -d)
 trap 'rm -rf "$work"' EXIT
 
