@@ -1,0 +1,2 @@
+pub mod Traces
+mod Numerals
