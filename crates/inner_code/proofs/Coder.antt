@@ -1,14 +1,16 @@
 -- Laws of the coder as a value: its range, how many symbols it gives, and that coding is the mother code followed by the puncturing.
 -- Assumes nothing.
 use mathlib.Core.Path.{_≡_, refl, ap, ap₂, sym, subst, _∙_}
-use mathlib.Core.Bool.{true}
+use mathlib.Core.Bool.{Bool, true, false}
 use mathlib.Core.List.{List, [], _∷_, _++_, append-assoc}
 use Prim.Native.Nat.{ℕ, zero, suc, suc-le-suc, _+_, _*_, _/_, _%_, _<_}
 use native.Mathlib.Nat.{add-zero, zero-add, add-comm, zero-mul, suc-mul, mul-assoc, mod-lt, div-add-mod'}
 use native.Mathlib.Omega.{arith}
 use borrow.Author.Tests.{ltb-true, leb-true, lt-ltb, le-leb}
+use lib.Dec.{ltb}
 use lib.ListN.{length, getD, length-append, List·getD-append}
 use lib.Seq.{getD-append-add}
+use Rattle.common.specs.Choice.{pick}
 use Rattle.common.proofs.Choice.{both-true}
 use Rattle.convolutional_code.specs.Bits.{bitsOf, Bits, none, more}
 use Rattle.convolutional_code.specs.Code.{tapsX, tapsY, nextMemory, coded, motherOf, memoryAfter, blockMother}
@@ -39,15 +41,27 @@ module _ (m : Mode) (c : InnerCoder) where
   unfolding inRangeBy
   range-test-by g = simp (lt-ltb _ _ (g .memory), lt-ltb _ _ (g .place), le-leb _ _ (g .held))
 
-pub in-range : (c : InnerCoder) → coderInRange c ≡ true → CoderInRange c
-in-range c = in-range-by (modeOf (c .rate)) c
-
-pub range-test : (c : InnerCoder) → CoderInRange c → coderInRange c ≡ true
-range-test c = range-test-by (modeOf (c .rate)) c
-
 -- the rate is that of a mode, which is well formed
 pub rate-known : (c : InnerCoder) → CoderInRange c → c .rate < 6
 rate-known c g = known (c .rate) (c .place) (g .place)
+
+-- the test of the rate follows from that of the place
+pub range-by-mode : (c : InnerCoder) → coderInRange c ≡ inRangeBy (modeOf (c .rate)) c
+range-by-mode c = by (inRangeBy (modeOf (c .rate)) c) refl
+  where
+    either : (t : Bool) → pick t false false ≡ false
+    either true = refl
+    either false = refl
+
+    by : (t : Bool) → inRangeBy (modeOf (c .rate)) c ≡ t → coderInRange c ≡ inRangeBy (modeOf (c .rate)) c
+    by true e = simp (lt-ltb _ _ (rate-known c (in-range-by (modeOf (c .rate)) c e)))
+    by false e = simp e (either (ltb (c .rate) 6))
+
+pub in-range : (c : InnerCoder) → coderInRange c ≡ true → CoderInRange c
+in-range c e = in-range-by (modeOf (c .rate)) c (sym (range-by-mode c) ∙ e)
+
+pub range-test : (c : InnerCoder) → CoderInRange c → coderInRange c ≡ true
+range-test c g = range-by-mode c ∙ range-test-by (modeOf (c .rate)) c g
 
 pub formed : (c : InnerCoder) → CoderInRange c → WellFormed (modeOf (c .rate))
 formed c g = well-formed (c .rate) (rate-known c g)

@@ -1,20 +1,23 @@
 -- What each call gives: its answer, by its tests in the order of document 01, the coder, and the output.
 -- Clauses: document 01, "Inner code" and "Answer numbers"; document 02, P10 and P12.
 -- Assumes nothing.
+use mathlib.Core.Path.{_≡_}
 use mathlib.Core.Bool.{Bool}
 use mathlib.Core.List.{List, [], _∷_, _++_}
-use Prim.Native.Nat.{ℕ}
+use Prim.Native.Nat.{ℕ, _≤_}
 use lib.Dec.{ltb, eqb}
 use lib.ListN.{length, drop}
 use Rattle.common.specs.Choice.{pick, indicator}
 use Rattle.common.specs.Refusal.{unless, when, firstDue}
+use Rattle.answer.specs.Number.{numberOf}
 use Rattle.puncturing.specs.Mode.{Mode, modeOf, blockBitsBy}
 use Rattle.puncturing.specs.Step.{countBy}
 use Rattle.puncturing.specs.declared.Symbol.{Symbol}
 use Rattle.puncturing.specs.declared.Symbol.the-variants.{None}
 use Rattle.inner_code.specs.Converter.{encodedBits, uncodedNumbers, sequenced}
-use Rattle.inner_code.specs.Step.{inRangeBy, symbolsBy, coderBy, coderInRange, coderStep, symbolStep}
+use Rattle.inner_code.specs.Step.{inRangeBy, symbolsBy, coderBy, coderInRange, CoderInRange, coderStep, symbolStep}
 use Rattle.inner_code.specs.declared.InnerCoder.{InnerCoder}
+use Rattle.inner_code.specs.declared.Encoded.{Encoded}
 
 -- the coder at the start of a pattern, with the memory of the bits before
 abbrev pub coderAt : ℕ → ℕ → InnerCoder
@@ -86,3 +89,18 @@ encodeCount c block output = pick (eqb (innerEncodeNumber c block output) 0) (le
 -- the symbols, and what stood in the output beyond them
 abbrev pub innerEncodeOutput : InnerCoder → List ℕ → List ℕ → List ℕ
 innerEncodeOutput c block output = pick (eqb (innerEncodeNumber c block output) 0) (blockSymbols c block ++ drop (length (blockSymbols c block)) output) output
+
+-- ---- a block that no test refuses
+
+-- a coder in range, a whole block, and an output that is long enough
+pub record Encodable (c : InnerCoder) (block output : List ℕ) : Type 0 where
+  pub range : CoderInRange c
+  pub size : length block ≡ 204
+  pub enough : length (blockSymbols c block) ≤ length output
+
+-- what encoding it gives
+pub record Encodes (c : InnerCoder) (block output : List ℕ) (r : Encoded) (exit : List ℕ) : Type 0 where
+  pub number : numberOf (r .answer) ≡ 0
+  pub coder : r .coder ≡ blockCoder c block
+  pub count : r .count ≡ length (blockSymbols c block)
+  pub written : exit ≡ blockSymbols c block ++ drop (length (blockSymbols c block)) output

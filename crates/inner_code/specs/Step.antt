@@ -44,10 +44,10 @@ coderBy m c (b ∷ bs) = coderBy m (stepBy m c b) bs
 
 -- ---- in the mode that the coder's rate is the number of
 
--- The rate is in its range too: the pattern of a number that is no mode has no bits, so it has no place.
 abbrev pub coderInRange : InnerCoder → Bool
-coderInRange c = inRangeBy (modeOf (c .rate)) c
+coderInRange c = pick (ltb (c .rate) 6) (inRangeBy (modeOf (c .rate)) c) false
 
+-- The same as facts. The rate is that of a mode: the pattern of a number that is no mode has no bits, and so no place.
 abbrev pub CoderInRange : InnerCoder → Type 0
 CoderInRange c = InRangeBy (modeOf (c .rate)) c
 

@@ -1,12 +1,10 @@
 // The inner coder: convolutional mother code, puncturing and the mapping to symbols. EN 300 421, 4.4.3 and 4.5, and EN 301 210, 4.6.3.
 ghost use mathlib.Core.Path.{_≡_};
-ghost use Prim.Native.Nat.{_<_, _≤_};
-ghost use mathlib.Core.List.{_++_};
-ghost use lib.ListN.{length, drop};
+ghost use Prim.Native.Nat.{_<_};
 ghost use Rattle.answer.specs.Number.{numberOf};
-ghost use Rattle.inner_code.specs.Step.{CoderInRange, coderInRange};
+ghost use Rattle.inner_code.specs.Step.{coderInRange};
 ghost use Rattle.common.specs.Choice.{indicator};
-ghost use Rattle.inner_code.specs.Encode.{freshCoder, newNumber, stepNumber, stepCoder, stepSymbol, blockSymbols, blockCoder, symbolCount, innerEncodeNumber, encodeCoder, encodeCount, innerEncodeOutput};
+ghost use Rattle.inner_code.specs.Encode.{freshCoder, newNumber, stepNumber, stepCoder, stepSymbol, symbolCount, innerEncodeNumber, encodeCoder, encodeCount, innerEncodeOutput, Encodable, Encodes};
 
 mod qam;
 
@@ -200,12 +198,8 @@ fn bit_value(bit: bool) -> u8
 
 // Codes a block at one of the five QPSK rates.
 fn encode_qpsk(coder: InnerCoder, block: &[u8], output: &mut [u8]) -> Encoded
-    requires { ⌜ (CoderInRange coder) × (coder .rate < 5) × (length (now block) ≡ 204) × (length (blockSymbols coder (now block)) ≤ length (now output)) ⌝ }
-    ensures { λ r. ⌜
-        (numberOf (r .answer) ≡ 0)
-        × (r .coder ≡ blockCoder coder (now (block .entry)))
-        × (r .count ≡ length (blockSymbols coder (now (block .entry))))
-        × (now (output .exit) ≡ blockSymbols coder (now (block .entry)) ++ drop (length (blockSymbols coder (now (block .entry)))) (now (output .entry))) ⌝ }
+    requires { ⌜ (Encodable coder (now block) (now output)) × (coder .rate < 5) ⌝ }
+    ensures { λ r. ⌜ Encodes coder (now (block .entry)) (now (output .entry)) r (now (output .exit)) ⌝ }
 {
     let rate = coder.rate;
     let memory = coder.memory;
@@ -229,12 +223,8 @@ fn encode_qpsk(coder: InnerCoder, block: &[u8], output: &mut [u8]) -> Encoded
 
 // Codes a block at 16QAM 3/4: nothing is held, and the place stays 0.
 fn encode_qam(coder: InnerCoder, block: &[u8], output: &mut [u8]) -> Encoded
-    requires { ⌜ (CoderInRange coder) × (coder .rate ≡ 5) × (length (now block) ≡ 204) × (length (blockSymbols coder (now block)) ≤ length (now output)) ⌝ }
-    ensures { λ r. ⌜
-        (numberOf (r .answer) ≡ 0)
-        × (r .coder ≡ blockCoder coder (now (block .entry)))
-        × (r .count ≡ length (blockSymbols coder (now (block .entry))))
-        × (now (output .exit) ≡ blockSymbols coder (now (block .entry)) ++ drop (length (blockSymbols coder (now (block .entry)))) (now (output .entry))) ⌝ }
+    requires { ⌜ (Encodable coder (now block) (now output)) × (coder .rate ≡ 5) ⌝ }
+    ensures { λ r. ⌜ Encodes coder (now (block .entry)) (now (output .entry)) r (now (output .exit)) ⌝ }
 {
     let rate = coder.rate;
     let memory = coder.memory;
@@ -253,12 +243,8 @@ fn encode_qam(coder: InnerCoder, block: &[u8], output: &mut [u8]) -> Encoded
 
 // Codes a block into an output that is long enough.
 fn encode_block(coder: InnerCoder, block: &[u8], output: &mut [u8]) -> Encoded
-    requires { ⌜ (CoderInRange coder) × (length (now block) ≡ 204) × (length (blockSymbols coder (now block)) ≤ length (now output)) ⌝ }
-    ensures { λ r. ⌜
-        (numberOf (r .answer) ≡ 0)
-        × (r .coder ≡ blockCoder coder (now (block .entry)))
-        × (r .count ≡ length (blockSymbols coder (now (block .entry))))
-        × (now (output .exit) ≡ blockSymbols coder (now (block .entry)) ++ drop (length (blockSymbols coder (now (block .entry)))) (now (output .entry))) ⌝ }
+    requires { ⌜ Encodable coder (now block) (now output) ⌝ }
+    ensures { λ r. ⌜ Encodes coder (now (block .entry)) (now (output .entry)) r (now (output .exit)) ⌝ }
 {
     let rate = coder.rate;
     if rate < 5 {

@@ -23,7 +23,7 @@ use Rattle.inner_code.specs.Step.{CoderInRange}
 use Rattle.inner_code.specs.Encode.{freshCoder, blockCoder, symbolCount}
 use Rattle.inner_code.specs.declared.InnerCoder.{InnerCoder}
 use Rattle.inner_code.proofs.Converter.{encoded-bits, length-encoded}
-use Rattle.inner_code.proofs.Coder.{range-test, rate-known, fresh-in-range, coder-in-range, coder-rate, coder-place, length-coded}
+use Rattle.inner_code.proofs.Coder.{range-test-by, rate-known, fresh-in-range, coder-in-range, coder-rate, coder-place, length-coded}
 use Rattle.inner_code.proofs.Stream.{bytes-fresh}
 use Rattle.sent_blocks.specs.Blocks.{sentBytes}
 use Rattle.sent_blocks.proofs.Lengths.{sent-count}
@@ -70,7 +70,7 @@ call-count rate h packets =
     let bytes = sentBytes packets in
     let bits = encodedBits (modeOf rate) bytes in
     let c = blockCoder (freshCoder rate) bytes in
-    simp (range-test c (coder-in-range (freshCoder rate) (fresh-in-range rate h) (encoded-bits (modeOf rate) bytes)))
+    simp (range-test-by (modeOf (c .rate)) c (coder-in-range (freshCoder rate) (fresh-in-range rate h) (encoded-bits (modeOf rate) bytes)))
     (ap₂ (λ (r p : ℕ). symbolsIn r p (blockBits r)) (coder-rate (freshCoder rate) bits)
     (coder-place (freshCoder rate) bits
     ∙ place-after rate 0 (length bits) (w .some-bits)
@@ -84,7 +84,7 @@ most-at r p h k = tested-of 6 (λ r p. leb (getD table (r * 7 + p) 0) 1632) tt r
 pub most-symbols : (c : InnerCoder) → CoderInRange c → symbolCount c ≤ 1632
 most-symbols c g =
     let h = rate-known c g in
-    let e : symbolCount c ≡ symbolsIn (c .rate) (c .place) (blockBits (c .rate)) = simp (range-test c g) in
+    let e : symbolCount c ≡ symbolsIn (c .rate) (c .place) (blockBits (c .rate)) = simp (range-test-by (modeOf (c .rate)) c g) in
     let b = block-symbols (c .rate) (c .place) h (g .place) in
     let m = leb→le (getD table (c .rate * 7 + c .place) 0) 1632 (most-at (c .rate) (c .place) h (g .place)) in
     omega arith

@@ -133,10 +133,11 @@ module _ (s : Sender) (packet : List ℕ) (g : InRange modeOf s) (p : length pac
   unfolding sentSymbols
   modulating q output r m number count c h f en ec es er =
       let n : length (inner.blockSymbols (s .coder) (sentBlock s packet)) ≡ sentCount modeOf s
-      = symbol-count s packet g p (range.formed (s .coder) (range.in-range (s .coder) (g .coder))) in
+      = symbol-count s packet g p (range.formed (s .coder) (range.in-range-by (modeOf (s .coder .rate)) (s .coder) (g .coder))) in
       let k : length (inner.blockSymbols (s .coder) (sentBlock s packet)) ≤ length output = rw n h in
       let b = length-block s packet g p in
-      let done : inner.innerEncodeNumber (s .coder) (sentBlock s packet) output ≡ 0 = simp (g .coder, q, eq-eqb _ _ b, le-ltb _ _ k) in (
+      let done : inner.innerEncodeNumber (s .coder) (sentBlock s packet) output ≡ 0
+      = simp (range.range-by-mode (s .coder) ∙ g .coder, q, eq-eqb _ _ b, le-ltb _ _ k) in (
         en ∙ ap (λ (l : List ℕ). inner.innerEncodeNumber (s .coder) l output) f ∙ done,
         ec ∙ ap (λ (l : List ℕ). inner.encodeCount (s .coder) l output) f
             ∙ ap (λ (j : ℕ). pick (eqb j 0) (length (inner.blockSymbols (s .coder) (sentBlock s packet))) 0) done

@@ -13,7 +13,7 @@ use Rattle.puncturing.specs.Step.{patternLength, symbolsIn, countBy}
 use Rattle.puncturing.proofs.Places.{agreed-of}
 use Rattle.puncturing.proofs.Parts.{symbols-in-append, place-after}
 use Rattle.inner_code.specs.Encode.{symbolCount}
-use Rattle.inner_code.proofs.Coder.{range-test}
+use Rattle.inner_code.proofs.Coder.{range-test-by}
 use Rattle.sender.specs.Input.{packetFor, packetsFor}
 use Rattle.sender.proofs.Counts.{length-on-air}
 use Rattle.sender_stream.specs.Run.{runSymbols}
@@ -81,4 +81,4 @@ module _ {rate start n space place left k : ℕ} (c : Counting rate start n spac
 pub needed-is : (rate place : ℕ) → rate < 6 → place < patternLength rate
     → symbolCount (record { rate = rate; memory = 0; place = place; held = 0 }) ≡ symbolsIn rate place (blockBits rate)
 needed-is rate place h p =
-    simp (range-test (record { rate = rate; memory = 0; place = place; held = 0 }) (record { memory = omega arith; place = p; held = omega arith }))
+    simp (range-test-by (modeOf rate) (record { rate = rate; memory = 0; place = place; held = 0 }) (record { memory = omega arith; place = p; held = omega arith }))

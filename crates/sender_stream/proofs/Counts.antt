@@ -17,7 +17,7 @@ use Rattle.puncturing.specs.Run.{patternPlaceAfter}
 use Rattle.puncturing.proofs.Parts.{symbols-in-append}
 use Rattle.inner_code.specs.Converter.{encodedBits}
 use Rattle.inner_code.proofs.Converter.{length-block-encoded}
-use Rattle.inner_code.proofs.Coder.{range-test, coder-place}
+use Rattle.inner_code.proofs.Coder.{range-test-by, coder-place}
 use Rattle.sender.specs.Input.{packetFor, packetsFor}
 use Rattle.sender.specs.Send.{codedPacket, sentBlock, sentSymbols, senderAfter}
 use Rattle.sender.specs.Calls.{callsSymbols}
@@ -40,7 +40,7 @@ module _ (s : Sender) (packet : List ℕ) (g : Ready modeOf s) where
       (length-block-encoded (modeOf (s .coder .rate)) block (length-out Sending (s .interleaver .branches) (codedPacket s packet)))
 
   count-is : length packet ≡ 188 → length (sentSymbols modeOf s packet) ≡ symbolsIn (s .coder .rate) (s .coder .place) (blockBits (s .coder .rate))
-  count-is n = symbol-count s packet (ready-range s g) n (g .formed) ∙ simp (range-test (s .coder) (g .coder))
+  count-is n = symbol-count s packet (ready-range s g) n (g .formed) ∙ simp (range-test-by (modeOf (s .coder .rate)) (s .coder) (g .coder))
 
 -- the symbols of a list of packets
 length-calls : (s : Sender) (packets : List (List ℕ)) → Ready modeOf s → All (Length 188) packets

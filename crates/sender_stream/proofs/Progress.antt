@@ -29,7 +29,7 @@ use Rattle.sender_stream.specs.declared.SenderStream.{SenderStream}
 pub ready-of : (s : Sender) → length (s .interleaver .branches .cells) ≡ 1122 → length (s .interleaver .branches .positions) ≡ 12 → senderInRange modeOf s ≡ true → isSent modeOf s ≡ true → Ready modeOf s
 ready-of s n m e q =
     let g = in-range modeOf s e in
-    let c = range.in-range (s .coder) (g .coder) in
+    let c = range.in-range-by (modeOf (s .coder .rate)) (s .coder) (g .coder) in
     record {
       place = g .place;
       branches = record { cells = n; positions = m; range = g .branches };

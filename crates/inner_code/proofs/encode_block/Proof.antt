@@ -20,7 +20,7 @@ encode-qam-requires : tie.Need-encode-qam-requires
 encode-qam-requires c κs =
     let a = c .before .before .before .before in
     let p = a .pre in
-    (p .0, omega (arith, rate-known (a .args .coder) (p .0), c .before .if1 .left), p .1, p .2)
+    (p, omega (arith, rate-known (a .args .coder) (p .range), c .before .if1 .left))
 
 same-length-2 : tie.Need-same-length-2
 same-length-2 c = search needs

@@ -13,7 +13,7 @@ code-qam-requires : tie.Need-code-qam-requires
 code-qam-requires c κs =
     let a = c .before .before .before in
     let p = a .pre in
-    (p .0 .memory, p .2, rw (qam-count (a .args .coder) (p .0) (p .1) (a .args .block .now) (p .2)) at (p .3))
+    (p .0 .range .memory, p .0 .size, rw (qam-count (a .args .coder) (p .0 .range) (p .1) (a .args .block .now) (p .0 .size)) at (p .0 .enough))
 
 same-length : tie.Need-same-length
 same-length c = search needs
@@ -25,12 +25,15 @@ returns c =
     let coder = a .args .coder in
     let block = a .args .block .now in
     let r = c .before .before .code-qam .ensures in
-    let count = qam-count coder (p .0) (p .1) block (p .2) in (
-      refl,
-      (λ i. record { rate = p .1 i; memory = r .0 i; place = 0; held = 0 }) ∙ qam-after coder (p .0) (p .1) block (p .2),
-      sym count,
-      r .1 ∙ ap₂ (λ (s : List ℕ) (k : ℕ). s ++ drop k (a .args .output .now)) (qam-symbols coder (p .0) (p .1) block (p .2)) (sym count),
-    )
+    let g = p .0 .range in
+    let h = p .0 .size in
+    let count = qam-count coder g (p .1) block h in
+    record {
+      number = refl;
+      coder = (λ i. record { rate = p .1 i; memory = r .0 i; place = 0; held = 0 }) ∙ qam-after coder g (p .1) block h;
+      count = sym count;
+      written = r .1 ∙ ap₂ (λ (s : List ℕ) (k : ℕ). s ++ drop k (a .args .output .now)) (qam-symbols coder g (p .1) block h) (sym count);
+    }
 
 pub encode-qam-spec : {M : Type 1} → statement M
 encode-qam-spec = tie.close (tie.spec code-qam-requires same-length returns)

@@ -26,7 +26,7 @@ slice-aggregate-code-bytes-2 c = search needs
 code-bytes-requires : tie.Need-code-bytes-requires
 code-bytes-requires c κs =
     let a = c .before .before .before .before in
-    (a .pre .0 .memory, omega (arith, a .pre .2), omega (arith, a .pre .2), omega (arith, a .pre .2))
+    (a .pre .0 .range .memory, omega (arith, a .pre .0 .size), omega (arith, a .pre .0 .size), omega (arith, a .pre .0 .size))
 
 slice-aggregate-puncture-block : tie.Need-slice-aggregate-puncture-block
 slice-aggregate-puncture-block c = search needs
@@ -34,7 +34,7 @@ slice-aggregate-puncture-block c = search needs
 puncture-block-requires : tie.Need-puncture-block-requires
 puncture-block-requires c κs =
     let a = c .before .before .before .before .before .before .before .before .before in
-    let g = a .pre .0 in
+    let g = a .pre .0 .range in
     let m = a .args .coder .memory in
     let bits = bitsOf (a .args .block .now) in
     let e = c .before .before .before .before .code-bytes .ensures .1 in (
@@ -43,7 +43,7 @@ puncture-block-requires c κs =
       g .held,
       rw e (bits-append (bits-mother tapsX m bits) (bits-mother tapsY m bits)),
       c .before .before .before .before .code-bytes .kept .1 .1 .1 .0,
-      rw (e, ← symbols-serial (a .args .coder) bits (block-bits (a .args .block .now) (a .pre .2)), ← qpsk-symbols (a .args .coder) (a .pre .1) (a .args .block .now)) (a .pre .3),
+      rw (e, ← symbols-serial (a .args .coder) bits (block-bits (a .args .block .now) (a .pre .0 .size)), ← qpsk-symbols (a .args .coder) (a .pre .1) (a .args .block .now)) (a .pre .0 .enough),
     )
 
 same-length : tie.Need-same-length
@@ -60,16 +60,18 @@ returns c =
     let e = coded .1 in
     let r = c .before .before .puncture-block .ensures in
     let progressed = r .0 ∙ ap (λ (l : List ℕ). progress (coder .rate) (coder .place) (coder .held) l 0 1632 0) e in
-    let bits = block-bits block (a .pre .2) in
-    let symbols = qpsk-symbols coder (a .pre .1) block ∙ symbols-serial coder (bitsOf block) bits in (
-      refl,
-      (λ i. record { rate = coder .rate; memory = memory i; place = progressed i .place; held = progressed i .held }) ∙ sym (qpsk-coder coder (a .pre .1) block ∙ coder-serial coder (bitsOf block) bits),
-      (λ i. progressed i .count) ∙ zero-add _ ∙ ap length (sym symbols),
-      r .1
+    let bits = block-bits block (a .pre .0 .size) in
+    let symbols = qpsk-symbols coder (a .pre .1) block ∙ symbols-serial coder (bitsOf block) bits in
+    record {
+      number = refl;
+      coder = (λ i. record { rate = coder .rate; memory = memory i; place = progressed i .place; held = progressed i .held }) ∙ sym (qpsk-coder coder (a .pre .1) block ∙ coder-serial coder (bitsOf block) bits);
+      count = (λ i. progressed i .count) ∙ zero-add _ ∙ ap length (sym symbols);
+      written =
+          r .1
           ∙ ap (λ (l : List ℕ). placed output 0 (puncturedSymbols (coder .rate) (coder .place) (coder .held) l 0 1632)) e
           ∙ ap (λ (l : List ℕ). placed output 0 l) (sym symbols)
-          ∙ ap (λ (k : ℕ). blockSymbols coder block ++ drop k output) (zero-add (length (blockSymbols coder block))),
-    )
+          ∙ ap (λ (k : ℕ). blockSymbols coder block ++ drop k output) (zero-add (length (blockSymbols coder block)));
+    }
 
 pub encode-qpsk-spec : {M : Type 1} → statement M
 encode-qpsk-spec =

@@ -7,7 +7,7 @@ use lib.ListN.{length}
 use Rattle.puncturing.specs.Mode.{modeOf}
 use Rattle.inner_code.specs.Step.{coderInRange}
 use Rattle.inner_code.specs.Encode.{blockSymbols}
-use Rattle.inner_code.proofs.Coder.{in-range, length-block}
+use Rattle.inner_code.proofs.Coder.{range-by-mode, in-range, length-block}
 use borrow.Author.Needs.{needs}
 use Rattle.inner_code.proofs.InnerCoder.encode.Statement.{statement}
 use Rattle.inner_code.proofs.InnerCoder.encode.Tie as tie
@@ -39,7 +39,7 @@ count : (c : tie.After-symbol-count)
 count c =
     let a = c .before .before .before .before .before .before .before .before .args in
     let g = good (c .before .before .before .before) in
-    length-block (a .self) (a .block .now) (in-range (a .self) g) (c .before .if3 .left) ∙ sym (c .symbol-count .ensures ∙ simp g)
+    length-block (a .self) (a .block .now) (in-range (a .self) g) (c .before .if3 .left) ∙ sym (c .symbol-count .ensures ∙ simp (sym (range-by-mode (a .self)) ∙ g))
 
 returns-3 : tie.Need-returns-3
 returns-3 c = simp (good (c .before .before .before), sent (c .before), ne-eqb _ _ (c .if3 .taken)) (refl, refl, refl, refl)
@@ -56,11 +56,12 @@ returns-4 c =
 
 encode-block-requires : tie.Need-encode-block-requires
 encode-block-requires c κs =
-    let b = c .before .before in (
-      in-range (b .before .before .before .before .before .before .before .before .args .self) (good (b .before .before .before .before)),
-      b .before .if3 .left,
-      rw (count b) (c .before .if4 .left),
-    )
+    let b = c .before .before in
+    record {
+      range = in-range (b .before .before .before .before .before .before .before .before .args .self) (good (b .before .before .before .before));
+      size = b .before .if3 .left;
+      enough = rw (count b) (c .before .if4 .left);
+    }
 
 same-length : tie.Need-same-length
 same-length c = search needs
@@ -72,7 +73,7 @@ returns-5 c =
     let r = c .before .before .encode-block .ensures in
     simp
     (good (b .before .before .before .before), sent (b .before .before), eq-eqb _ _ (b .before .if3 .left), le-ltb _ _ (rw (← count b) at (e .if4 .left)))
-    (r .0, r .1, r .2, r .3)
+    (r .number, r .coder, r .count, r .written)
 
 pub encode-spec : {M : Type 1} → statement M
 encode-spec =

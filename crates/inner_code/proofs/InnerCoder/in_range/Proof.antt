@@ -16,21 +16,12 @@ use Rattle.inner_code.specs.Step.{inRangeBy}
 use Rattle.inner_code.proofs.InnerCoder.in_range.Statement.{statement}
 use Rattle.inner_code.proofs.InnerCoder.in_range.Tie as tie
 
--- no place is in the pattern of a number that is no mode
 returns : tie.Need-returns
-unfolding inRangeBy
-returns c =
-    let a = c .before .args .self in
-    let z = ap (λ (m : Mode). m .bits) (outside (a .rate) (c .if1 .taken)) in
-    simp (le-ltb (a .place) (patternLength (a .rate)) (omega arith)) (either (ltb (a .memory) 64))
-  where
-    either : (t : Bool) → false ≡ pick t false false
-    either true = refl
-    either false = refl
+returns c = simp (le-ltb _ _ (c .if1 .taken))
 
 returns-2 : tie.Need-returns-2
 unfolding inRangeBy
-returns-2 c = simp (le-ltb _ _ (c .if2 .taken))
+returns-2 c = simp (lt-ltb _ _ (c .before .if1 .left), le-ltb _ _ (c .if2 .taken))
 
 cast-if3 : tie.Need-cast-if3
 cast-if3 c = search needs
@@ -53,14 +44,14 @@ in-pattern c =
 
 returns-3 : tie.Need-returns-3
 unfolding inRangeBy
-returns-3 c = simp (lt-ltb _ _ (c .before .if2 .left), le-ltb _ _ (outside-pattern c))
+returns-3 c = simp (lt-ltb _ _ (c .before .before .if1 .left), lt-ltb _ _ (c .before .if2 .left), le-ltb _ _ (outside-pattern c))
 
 held-count-requires : tie.Need-held-count-requires
 held-count-requires c κs = (c .before .before .if1 .left, in-pattern c)
 
 returns-4 : tie.Need-returns-4
 unfolding inRangeBy
-returns-4 c = rw (c .held-count .ensures) (simp (lt-ltb _ _ (c .before .before .if2 .left), lt-ltb _ _ (in-pattern (c .before))))
+returns-4 c = rw (c .held-count .ensures) (simp (lt-ltb _ _ (c .before .before .before .if1 .left), lt-ltb _ _ (c .before .before .if2 .left), lt-ltb _ _ (in-pattern (c .before))))
 
 pub in-range-spec : {M : Type 1} → statement M
 in-range-spec =

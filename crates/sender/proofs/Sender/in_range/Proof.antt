@@ -3,6 +3,7 @@
 use mathlib.Core.Path.{sym, _∙_}
 use borrow.Author.Tests.{lt-ltb, le-ltb, not-true, not-false}
 use borrow.Author.Needs.{needs}
+use Rattle.inner_code.proofs.Coder.{range-by-mode}
 use Rattle.sender.proofs.Sender.in_range.Statement.{statement}
 use Rattle.sender.proofs.Sender.in_range.Tie as tie
 
@@ -19,7 +20,7 @@ in-range-requires-2 : tie.Need-in-range-requires-2
 in-range-requires-2 c κs = search needs
 
 returns-3 : tie.Need-returns-3
-returns-3 c = c .in-range2 .ensures ∙ sym (simp (le-ltb _ _ (c .before .before .before .before .before .if1 .left), sym (c .before .before .before .in-range .ensures) ∙ not-false _ (c .before .before .if2 .left)))
+returns-3 c = c .in-range2 .ensures ∙ range-by-mode (c .before .before .before .before .before .before .args .self .coder) ∙ sym (simp (le-ltb _ _ (c .before .before .before .before .before .if1 .left), sym (c .before .before .before .in-range .ensures) ∙ not-false _ (c .before .before .if2 .left)))
 
 pub in-range-spec : {M : Type 1} → statement M
 in-range-spec =
