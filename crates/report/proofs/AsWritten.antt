@@ -3,7 +3,6 @@
 use mathlib.Core.Path.{_≡_, refl, sym, ap, _∙_}
 use mathlib.Core.Bool.{Bool, true, false}
 use mathlib.Core.List.{List, [], _++_, append-nil}
-use mathlib.Core.Logic.{_⊎_, inl, inr}
 use Prim.Native.Nat.{ℕ, _≤_}
 use native.Mathlib.Nat.{zero-add, le-refl}
 use native.Mathlib.Decide.{ℕ-discrete}
@@ -16,7 +15,7 @@ use Rattle.common.specs.Lists.{placed}
 use Rattle.common.proofs.Choice.{false-true}
 use Rattle.report.specs.declared.Report.{Report}
 use Rattle.report.specs.Text.{reportText, fits, sums, writeNumber, Writes}
-use Rattle.report.specs.Read.{ReadsWhole, WrittenFor, ReadAsWritten}
+use Rattle.report.specs.Read.{ReadsWhole, WrittenFor, ReadAsWritten, whole, wholeWrong, wholeNone}
 use Rattle.report.proofs.Fronts.{report-unique}
 
 -- a text is that of a report which the writer does not refuse
@@ -93,18 +92,16 @@ same-text : (r s : Report) → fits r ≡ true → fits s ≡ true → reportTex
 same-text r s f g q = report-unique r s [] [] f g (ap (λ (l : List ℕ). l ++ []) q) .0
 
 pub read-given : (t : List ℕ) (n : ℕ) (r : Report) → ReadsWhole t n r → n ≡ 0 → Gives r t
-read-given t n r w e = let d = w .done e in record { fit = d .0; add = d .1; text = d .2 }
+read-given t n r (whole z f s q) e = record { fit = f; add = s; text = q }
+read-given t n r (wholeWrong u z b f s q) e = absurd (omega arith)
+read-given t n r (wholeNone z b g) e = absurd (omega arith)
 
 pub given-read : (t : List ℕ) (n : ℕ) (r s : Report) → ReadsWhole t n r → Gives s t → (n ≡ 0) × (r ≡ s)
-given-read t n r s w g = by (w .one)
-  where
-    by : (n ≡ 0) ⊎ (n ≡ 17) ⊎ (n ≡ 18) → (n ≡ 0) × (r ≡ s)
-    by (inl e) = let d = w .done e in (e, same-text r s (d .0) (g .fit) (sym (d .2) ∙ g .text))
-    by (inr (inl e)) = absurd (w .none e s (g .fit) (g .text))
-    by (inr (inr e)) =
-        let d = w .wrong e in
-        let q : d .0 ≡ s = same-text (d .0) s (d .1) (g .fit) (sym (d .3) ∙ g .text) in
-        false-true (sym (d .2) ∙ ap sums q ∙ g .add)
+given-read t n r s (whole z f a q) g = (z, same-text r s f (g .fit) (sym q ∙ g .text))
+given-read t n r s (wholeWrong u z b f a q) g =
+    let e : u ≡ s = same-text u s f (g .fit) (sym q ∙ g .text) in
+    false-true (sym a ∙ ap sums e ∙ g .add)
+given-read t n r s (wholeNone z b f) g = absurd (f s (g .fit) (g .text))
 
 -- the statement of document 02, P7, of every text
 pub read-as-written : (t : List ℕ) (n : ℕ) (r : Report) → ReadsWhole t n r → ReadAsWritten t n r
@@ -115,13 +112,12 @@ read-as-written t n r w = record {
 
 -- the answer and the report are decided by the text
 pub read-unique : (t : List ℕ) (n m : ℕ) (r s : Report) → ReadsWhole t n r → ReadsWhole t m s → (n ≡ m) × (r ≡ s)
-read-unique t n m r s w v = by (w .one) (v .one)
-  where
-    by : (n ≡ 0) ⊎ (n ≡ 17) ⊎ (n ≡ 18) → (m ≡ 0) ⊎ (m ≡ 17) ⊎ (m ≡ 18) → (n ≡ m) × (r ≡ s)
-    by (inl e) k = let g = given-read t m s r v (read-given t n r w e) in (e ∙ sym (g .0), sym (g .1))
-    by (inr (inl f)) (inl e) = let g = given-read t n r s w (read-given t m s v e) in (g .0 ∙ sym e, g .1)
-    by (inr (inr f)) (inl e) = let g = given-read t n r s w (read-given t m s v e) in (g .0 ∙ sym e, g .1)
-    by (inr (inl e)) (inr (inl f)) = (e ∙ sym f, w .blanked (λ z. omega arith) ∙ sym (v .blanked (λ z. omega arith)))
-    by (inr (inr e)) (inr (inr f)) = (e ∙ sym f, w .blanked (λ z. omega arith) ∙ sym (v .blanked (λ z. omega arith)))
-    by (inr (inl e)) (inr (inr f)) = let d = v .wrong f in absurd (w .none e (d .0) (d .1) (d .3))
-    by (inr (inr e)) (inr (inl f)) = let d = w .wrong e in absurd (v .none f (d .0) (d .1) (d .3))
+read-unique t n m r s (whole z f a q) v = let g = given-read t m s r v (record { fit = f; add = a; text = q }) in (z ∙ sym (g .0), sym (g .1))
+read-unique t n m r s (wholeWrong u z b f a q) (whole y g c p) =
+    let h = given-read t n r s (wholeWrong u z b f a q) (record { fit = g; add = c; text = p }) in
+    (h .0 ∙ sym y, h .1)
+read-unique t n m r s (wholeWrong u z b f a q) (wholeWrong v y d g c p) = (z ∙ sym y, b ∙ sym d)
+read-unique t n m r s (wholeWrong u z b f a q) (wholeNone y d g) = absurd (g u f q)
+read-unique t n m r s (wholeNone z b f) (whole y g c p) = absurd (f s g p)
+read-unique t n m r s (wholeNone z b f) (wholeWrong v y d g c p) = absurd (f v g p)
+read-unique t n m r s (wholeNone z b f) (wholeNone y d g) = (z ∙ sym y, b ∙ sym d)

@@ -3,7 +3,6 @@
 use mathlib.Core.Path.{_≡_}
 use mathlib.Core.Bool.{true, false}
 use mathlib.Core.List.{List, _++_}
-use mathlib.Core.Logic.{_⊎_}
 use Prim.Native.Nat.{ℕ, _≤_}
 use lib.ListN.{length}
 use Rattle.common.specs.Lists.{placed}
@@ -17,20 +16,16 @@ blank = record { taken = 0; filling = 0; delivered = 0; lost = 0; waiting = 0; o
 
 -- The answer to a text t that is to begin with a report, and what comes after it. 0: t begins with the text of r. 18: it begins with that of a
 -- report whose sums are wrong. 17: it begins with that of no report, whatever its sums are.
-pub record ReadsReport (t : List ℕ) (number : ℕ) (r : Report) (rest : List ℕ) : Type 0 where
-  pub done : number ≡ 0 → (fits r ≡ true) × (sums r ≡ true) × (t ≡ reportText r ++ rest)
-  pub wrong : number ≡ 18 → (s : Report) × (fits s ≡ true) × (sums s ≡ false) × (t ≡ reportText s ++ rest)
-  pub none : number ≡ 17 → (s : Report) (x : List ℕ) → fits s ≡ true → t ≡ reportText s ++ x → ⊥
-  pub one : (number ≡ 0) ⊎ (number ≡ 17) ⊎ (number ≡ 18)
-  pub blanked : (number ≡ 0 → ⊥) → r ≡ blank
+pub data ReadsReport (t : List ℕ) (number : ℕ) (r : Report) (rest : List ℕ) : Type 0 where
+  front : number ≡ 0 → fits r ≡ true → sums r ≡ true → t ≡ reportText r ++ rest → ReadsReport t number r rest
+  frontWrong : (s : Report) → number ≡ 18 → r ≡ blank → fits s ≡ true → sums s ≡ false → t ≡ reportText s ++ rest → ReadsReport t number r rest
+  frontNone : number ≡ 17 → r ≡ blank → ((s : Report) (x : List ℕ) → fits s ≡ true → t ≡ reportText s ++ x → ⊥) → ReadsReport t number r rest
 
 -- the answer to a text that is to be one report and nothing else
-pub record ReadsWhole (t : List ℕ) (number : ℕ) (r : Report) : Type 0 where
-  pub done : number ≡ 0 → (fits r ≡ true) × (sums r ≡ true) × (t ≡ reportText r)
-  pub wrong : number ≡ 18 → (s : Report) × (fits s ≡ true) × (sums s ≡ false) × (t ≡ reportText s)
-  pub none : number ≡ 17 → (s : Report) → fits s ≡ true → t ≡ reportText s → ⊥
-  pub one : (number ≡ 0) ⊎ (number ≡ 17) ⊎ (number ≡ 18)
-  pub blanked : (number ≡ 0 → ⊥) → r ≡ blank
+pub data ReadsWhole (t : List ℕ) (number : ℕ) (r : Report) : Type 0 where
+  whole : number ≡ 0 → fits r ≡ true → sums r ≡ true → t ≡ reportText r → ReadsWhole t number r
+  wholeWrong : (s : Report) → number ≡ 18 → r ≡ blank → fits s ≡ true → sums s ≡ false → t ≡ reportText s → ReadsWhole t number r
+  wholeNone : number ≡ 17 → r ≡ blank → ((s : Report) → fits s ≡ true → t ≡ reportText s → ⊥) → ReadsWhole t number r
 
 -- the writer gives this text for a report: into every output that is long enough it writes the text
 pub record WrittenFor (r : Report) (t : List ℕ) : Type 0 where

@@ -1,8 +1,7 @@
 -- A text decides what its season answers and its totals; a text is a season of reports exactly when it is their texts joined.
 -- Assumes nothing.
-use mathlib.Core.Path.{_≡_, refl, sym, ap, _∙_, subst}
+use mathlib.Core.Path.{_≡_, refl, sym, ap, _∙_, subst, subst₂}
 use mathlib.Core.List.{List, [], _∷_, _++_, append-assoc, append-nil}
-use mathlib.Core.Logic.{_⊎_, inl, inr}
 use Prim.Native.Nat.{ℕ, _+_, _<_}
 use native.Mathlib.Decide.{ℕ-discrete}
 use native.Mathlib.Omega.{arith}
@@ -13,37 +12,28 @@ use Rattle.common.proofs.Choice.{false-true}
 use Rattle.report_lines.specs.Line.{lineText}
 use Rattle.report.specs.declared.Report.{Report}
 use Rattle.report.specs.Text.{sums, reportText}
-use Rattle.report.specs.Read.{ReadsReport}
+use Rattle.report.specs.Read.{ReadsReport, front, frontWrong, frontNone}
 use Rattle.report.proofs.Fronts.{report-unique}
 use Rattle.season_totals.specs.Totals.{TotalsOf}
-use Rattle.season_totals.specs.Season.{Good, texts, Seasons, JoinedTexts, SeasonExactly, totalsText, seasonText}
+use Rattle.season_totals.specs.Season.{Good, texts, SeasonEnds, summed, refused, tooMany, Seasons, JoinedTexts, SeasonExactly, totalsText, seasonText}
 use Rattle.season_totals.proofs.Progress.{report-some}
 use Rattle.season_totals.proofs.Fractions.{worst-unique}
 
 -- a report at the front of a text is read, with answer 0
 front-good : (t : List ℕ) (n : ℕ) (r u : Report) (x y : List ℕ) → ReadsReport t n r x → Good u → t ≡ reportText u ++ y → n ≡ 0
-front-good t n r u x y w g q = by (w .one)
-  where
-    by : (n ≡ 0) ⊎ (n ≡ 17) ⊎ (n ≡ 18) → n ≡ 0
-    by (inl e) = e
-    by (inr (inl e)) = absurd (w .none e u y (g .fit) q)
-    by (inr (inr e)) =
-        let d = w .wrong e in
-        let s = report-unique (d .0) u x y (d .1) (g .fit) (sym (d .3) ∙ q) .0 in
-        false-true (sym (d .2) ∙ ap sums s ∙ g .add)
+front-good t n r u x y (front e f a p) g q = e
+front-good t n r u x y (frontWrong s e b f a p) g q = let d = report-unique s u x y f (g .fit) (sym p ∙ q) .0 in false-true (sym a ∙ ap sums d ∙ g .add)
+front-good t n r u x y (frontNone e b f) g q = absurd (f u y (g .fit) q)
 
 -- two answers to one text, neither of them 0
 front-once : (t : List ℕ) (n m : ℕ) (r s : Report) (x y : List ℕ) → ReadsReport t n r x → ReadsReport t m s y → (n ≡ 0 → ⊥) → (m ≡ 0 → ⊥) → n ≡ m
-front-once t n m r s x y w v e f = by (w .one) (v .one)
-  where
-    by : (n ≡ 0) ⊎ (n ≡ 17) ⊎ (n ≡ 18) → (m ≡ 0) ⊎ (m ≡ 17) ⊎ (m ≡ 18) → n ≡ m
-    by (inl a) b = absurd (e a)
-    by (inr (inl a)) (inl b) = absurd (f b)
-    by (inr (inr a)) (inl b) = absurd (f b)
-    by (inr (inl a)) (inr (inl b)) = a ∙ sym b
-    by (inr (inr a)) (inr (inr b)) = a ∙ sym b
-    by (inr (inl a)) (inr (inr b)) = let d = v .wrong b in absurd (w .none a (d .0) y (d .1) (d .3))
-    by (inr (inr a)) (inr (inl b)) = let d = w .wrong a in absurd (v .none b (d .0) x (d .1) (d .3))
+front-once t n m r s x y (front e f a p) v i j = absurd (i e)
+front-once t n m r s x y (frontWrong u e b f a p) (front d g c q) i j = absurd (j d)
+front-once t n m r s x y (frontWrong u e b f a p) (frontWrong v d k g c q) i j = e ∙ sym d
+front-once t n m r s x y (frontWrong u e b f a p) (frontNone d k g) i j = absurd (g u x f p)
+front-once t n m r s x y (frontNone e b f) (front d g c q) i j = absurd (j d)
+front-once t n m r s x y (frontNone e b f) (frontWrong v d k g c q) i j = absurd (f v y g q)
+front-once t n m r s x y (frontNone e b f) (frontNone d k g) i j = e ∙ sym d
 
 -- one list of reports begins the other
 data Begins (rs ss : List Report) (x y : List ℕ) : Type 0 where
@@ -65,46 +55,39 @@ begins (r ∷ rs) (s ∷ ss) x y a b q =
     more e (shorter v z g h k) = shorter v z g (omega arith) k
     more e (longer v z g h k) = longer v z g (omega arith) k
 
--- what follows the reports is no further report
-stops : (t : List ℕ) (n : ℕ) (v : List ℕ) (s : Seasons t n v) (u : Report) (z : List ℕ) → Good u → s .rest ≡ reportText u ++ z → length (s .reports) < 4096 → ⊥
-stops t n v s u z g q h = by (ℕ-discrete n 0) (ℕ-discrete n 21)
-  where
-    by : Dec (n ≡ 0) → Dec (n ≡ 21) → ⊥
-    by (yes e) f =
-        let l : 0 ≡ length (reportText u) + length z = sym (ap length (s .done e .0)) ∙ ap length q ∙ length-append (reportText u) z in
-        omega (arith, report-some u)
-    by (no e) (yes f) = let l = s .many f .0 in omega arith
-    by (no e) (no f) = let b = s .bad e f in e (front-good (s .rest) n (b .2 .0) u (b .2 .1) z (b .2 .2) g q)
+module _ {rs : List Report} {rest : List ℕ} {n : ℕ} {v : List ℕ} where
+  -- what follows the reports is no further report
+  stops : SeasonEnds rs rest n v → (u : Report) (z : List ℕ) → Good u → rest ≡ reportText u ++ z → length rs < 4096 → ⊥
+  stops (summed e f s) u z g q h =
+      let l : 0 ≡ length (reportText u) + length z = sym (ap length f) ∙ ap length q ∙ length-append (reportText u) z in
+      omega (arith, report-some u)
+  stops (refused r x e b k l w) u z g q h = e (front-good rest n r u x z w g q)
+  stops (tooMany e b k l) u z g q h = omega arith
 
--- no answer but 0 where nothing follows the reports
-none-left : (t : List ℕ) (n : ℕ) (v : List ℕ) (s : Seasons t n v) → s .rest ≡ [] → n ≡ 0
-none-left t n v s q = by (ℕ-discrete n 0) (ℕ-discrete n 21)
-  where
-    by : Dec (n ≡ 0) → Dec (n ≡ 21) → n ≡ 0
-    by (yes e) f = e
-    by (no e) (yes f) = let k = s .many f .1 in let l = ap length q in absurd (omega arith)
-    by (no e) (no f) = let k = s .bad e f .1 in let l = ap length q in absurd (omega arith)
+  -- no answer but 0 where nothing follows the reports
+  none-left : SeasonEnds rs rest n v → rest ≡ [] → (n ≡ 0) × TotalsOf rs v
+  none-left (summed e f s) q = (e, s)
+  none-left (refused r x e b k l w) q = let m = ap length q in absurd (omega arith)
+  none-left (tooMany e b k l) q = let m = ap length q in absurd (omega arith)
 
 -- ---- the answer
 
 number-once : (t : List ℕ) (n m : ℕ) (v w : List ℕ) → Seasons t n v → Seasons t m w → n ≡ m
 number-once t n m v w a b = go (begins (a .reports) (b .reports) (a .rest) (b .rest) (a .good) (b .good) (sym (a .text) ∙ b .text))
   where
-    both : a .reports ≡ b .reports → a .rest ≡ b .rest → Dec (n ≡ 0) → Dec (m ≡ 0) → Dec (n ≡ 21) → Dec (m ≡ 21) → n ≡ m
-    both e f (yes x) y i j = x ∙ sym (none-left t m w b (sym f ∙ a .done x .0))
-    both e f (no x) (yes y) i j = absurd (x (none-left t n v a (f ∙ b .done y .0)))
-    both e f (no x) (no y) (yes i) (yes j) = i ∙ sym j
-    both e f (no x) (no y) (yes i) (no j) = let k = a .many i .0 in let l = b .bad y j .0 in let h = ap length e in absurd (omega arith)
-    both e f (no x) (no y) (no i) (yes j) = let k = b .many j .0 in let l = a .bad x i .0 in let h = ap length e in absurd (omega arith)
-    both e f (no x) (no y) (no i) (no j) =
-        let p = a .bad x i .2 in
-        let q = b .bad y j .2 in
-        front-once (b .rest) n m (p .0) (q .0) (p .1) (q .1) (subst (λ (l : List ℕ). ReadsReport l n (p .0) (p .1)) f (p .2)) (q .2) x y
+    both : (rs : List Report) (x : List ℕ) → SeasonEnds rs x n v → SeasonEnds rs x m w → n ≡ m
+    both rs x (summed e f s) y = e ∙ sym (none-left y f .0)
+    both rs x (refused r z e c k l u) (summed d f s) = let j = ap length f in absurd (omega arith)
+    both rs x (refused r z e c k l u) (refused s y d f i j p) = front-once x n m r s z y u p e d
+    both rs x (refused r z e c k l u) (tooMany d f i j) = absurd (omega arith)
+    both rs x (tooMany e c k l) (summed d f s) = let j = ap length f in absurd (omega arith)
+    both rs x (tooMany e c k l) (refused s y d f i j p) = absurd (omega arith)
+    both rs x (tooMany e c k l) (tooMany d f i j) = e ∙ sym d
 
     go : Begins (a .reports) (b .reports) (a .rest) (b .rest) → n ≡ m
-    go (same e f) = both e f (ℕ-discrete n 0) (ℕ-discrete m 0) (ℕ-discrete n 21) (ℕ-discrete m 21)
-    go (shorter u z g h k) = absurd (stops t n v a u z g k (omega (arith, b .few)))
-    go (longer u z g h k) = absurd (stops t m w b u z g k (omega (arith, a .few)))
+    go (same e f) = both (b .reports) (b .rest) (subst₂ (λ (rs : List Report) (x : List ℕ). SeasonEnds rs x n v) e f (a .ends)) (b .ends)
+    go (shorter u z g h k) = absurd (stops (a .ends) u z g k (omega (arith, b .few)))
+    go (longer u z g h k) = absurd (stops (b .ends) u z g k (omega (arith, a .few)))
 
 -- ---- a season of these reports
 
@@ -113,18 +96,20 @@ joined-begins t n v a rs j = begins (a .reports) rs (a .rest) [] (a .good) (j .g
 
 -- A text is read as a season of reports exactly when it is their texts joined.
 pub season-exactly : (t : List ℕ) (n : ℕ) (v : List ℕ) → Seasons t n v → SeasonExactly t n v
-season-exactly t n v a = record {
-  read = λ e. let d = a .done e in (
-    a .reports,
-    record { good = a .good; few = a .few; text = a .text ∙ ap (λ (l : List ℕ). texts (a .reports) ++ l) (d .0) ∙ append-nil (texts (a .reports)) },
-    d .1,
-  );
-  written = λ rs j. by rs j (joined-begins t n v a rs j);
-}
+season-exactly t n v a = record { read = read (a .ends); written = λ rs j. by rs j (joined-begins t n v a rs j) }
   where
+    read : SeasonEnds (a .reports) (a .rest) n v → n ≡ 0 → (rs : List Report) × JoinedTexts rs t × TotalsOf rs v
+    read (summed e f s) z = (
+      a .reports,
+      record { good = a .good; few = a .few; text = a .text ∙ ap (λ (l : List ℕ). texts (a .reports) ++ l) f ∙ append-nil (texts (a .reports)) },
+      s,
+    )
+    read (refused r x e b k l w) z = absurd (e z)
+    read (tooMany e b k l) z = absurd (omega arith)
+
     by : (rs : List Report) → JoinedTexts rs t → Begins (a .reports) rs (a .rest) [] → (n ≡ 0) × TotalsOf rs v
-    by rs j (same e f) = let z = none-left t n v a f in (z, subst (λ (l : List Report). TotalsOf l v) e (a .done z .1))
-    by rs j (shorter u z g h k) = absurd (stops t n v a u z g k (omega (arith, j .few)))
+    by rs j (same e f) = let d = none-left (a .ends) f in (d .0, subst (λ (l : List Report). TotalsOf l v) e (d .1))
+    by rs j (shorter u z g h k) = absurd (stops (a .ends) u z g k (omega (arith, j .few)))
     by rs j (longer u z g h k) =
         let l : 0 ≡ length (reportText u) + length z = ap length k ∙ length-append (reportText u) z in
         absurd (omega (arith, report-some u))

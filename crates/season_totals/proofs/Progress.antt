@@ -3,7 +3,6 @@
 use mathlib.Core.Path.{_≡_, refl, sym, ap, _∙_}
 use mathlib.Core.Bool.{true}
 use mathlib.Core.List.{List, [], _∷_, _++_, append-assoc}
-use mathlib.Core.Logic.{_⊎_, inl, inr}
 use Prim.Native.Nat.{ℕ, suc, _+_, _-_, _*_, _≤_, _<_}
 use native.Mathlib.Nat.{mul-suc, not-suc-le-zero}
 use native.Mathlib.Omega.{arith}
@@ -13,11 +12,12 @@ use Rattle.common.specs.Lists.{All, placed, total}
 use Rattle.report_lines.specs.Line.{decimal, lineText}
 use Rattle.report.specs.declared.Report.{Report}
 use Rattle.report.specs.Text.{fits, reportText, row, linesText, fields, bitsText}
-use Rattle.report.specs.Read.{ReadsReport}
+use Rattle.report.specs.Read.{ReadsReport, front, frontWrong, frontNone}
+use Rattle.report.proofs.Answers.{read-report}
 use Rattle.report.proofs.Counting.{Small, fits-small}
 use Rattle.report.proofs.Fronts.{report-short}
 use Rattle.season_totals.specs.Totals.{TotalsOf, TotalsFit, countedReport, zeroTotals}
-use Rattle.season_totals.specs.Season.{Good, texts, Seasons}
+use Rattle.season_totals.specs.Season.{Good, texts, summed, refused, tooMany, Seasons}
 use Rattle.season_totals.specs.Progress.{Unread, freshSeason}
 use Rattle.season_totals.proofs.Fractions.{totals-more}
 
@@ -96,7 +96,7 @@ module _ {bytes totals rest : List ℕ} (u : Unread bytes totals rest) where
   module _ (number : ℕ) (r : Report) (x : List ℕ) (w : ReadsReport rest number r x) where
     pub unread-next : number ≡ 0 → getD totals 0 0 < 4096 → Unread bytes (countedReport totals r) x
     unread-next e n =
-        let d = w .done e in
+        let d = read-report w e in
         let p = u .sums .passes in
         record {
           reports = u .reports ++ r ∷ [];
@@ -109,68 +109,33 @@ module _ {bytes totals rest : List ℕ} (u : Unread bytes totals rest) where
     pub unread-bad : (number ≡ 0 → ⊥) → getD totals 0 0 < 4096 → 0 < length rest → Seasons bytes number zeroTotals
     unread-bad e n l =
         let p = u .sums .passes in
-        record {
-          reports = u .reports;
-          rest = rest;
-          good = u .good;
-          text = u .text;
-          few = u .few;
-          done = λ z. absurd (e z);
-          bad = λ z y. (omega arith, l, (r, x, w));
-          many = λ z. absurd (not-many z (w .one));
-          blanked = λ z. refl;
-        }
-      where
-        not-many : number ≡ 21 → (number ≡ 0) ⊎ (number ≡ 17) ⊎ (number ≡ 18) → ⊥
-        not-many z (inl y) = omega arith
-        not-many z (inr (inl y)) = omega arith
-        not-many z (inr (inr y)) = omega arith
+        record { reports = u .reports; rest = rest; good = u .good; text = u .text; few = u .few; ends = refused r x e refl (omega arith) l w }
 
   pub unread-many : getD totals 0 0 ≡ 4096 → 0 < length rest → Seasons bytes 21 zeroTotals
   unread-many e l =
       let p = u .sums .passes in
-      record {
-        reports = u .reports;
-        rest = rest;
-        good = u .good;
-        text = u .text;
-        few = u .few;
-        done = λ z. absurd (omega arith);
-        bad = λ z y. absurd (y refl);
-        many = λ z. (omega arith, l);
-        blanked = λ z. refl;
-      }
+      record { reports = u .reports; rest = rest; good = u .good; text = u .text; few = u .few; ends = tooMany refl refl (omega arith) l }
 
   unread-done : rest ≡ [] → Seasons bytes 0 totals
-  unread-done e = record {
-    reports = u .reports;
-    rest = rest;
-    good = u .good;
-    text = u .text;
-    few = u .few;
-    done = λ z. (e, u .sums);
-    bad = λ z. absurd (z refl);
-    many = λ z. absurd (omega arith);
-    blanked = λ z. absurd (z refl);
-  }
+  unread-done e = record { reports = u .reports; rest = rest; good = u .good; text = u .text; few = u .few; ends = summed refl e (u .sums) }
 
 -- ---- a text as long as any report decides what its front is
 
 pub front-more : (t : List ℕ) (n : ℕ) (r : Report) (x : List ℕ) → ReadsReport t n r x → 310 ≤ length t → (more : List ℕ) → ReadsReport (t ++ more) n r (x ++ more)
-front-more t n r x w h more = record {
-  done = λ e. let d = w .done e in (d .0, d .1, longer r (d .2));
-  wrong = λ e. let d = w .wrong e in (d .0, d .1, d .2, longer (d .0) (d .3));
-  none = λ e s y f q.
-      let k = length (reportText s) in
-      let l : k ≤ length t = let o = report-short s in omega arith in
-      let p : take k t ≡ reportText s = sym (take-append-le k t more l) ∙ ap (take k) q ∙ take-at (reportText s) y k refl in
-      w .none e s (drop k t) f (sym (take-append-drop k t) ∙ ap (λ (z : List ℕ). z ++ drop k t) p);
-  one = w .one;
-  blanked = w .blanked;
-}
+front-more t n r x w h more = by w
   where
     longer : (s : Report) → t ≡ reportText s ++ x → t ++ more ≡ reportText s ++ (x ++ more)
     longer s e = ap (λ (l : List ℕ). l ++ more) e ∙ append-assoc (reportText s) x more
+
+    by : ReadsReport t n r x → ReadsReport (t ++ more) n r (x ++ more)
+    by (front e f s q) = front e f s (longer r q)
+    by (frontWrong u e b f s q) = frontWrong u e b f s (longer u q)
+    by (frontNone e b g) =
+        frontNone e b (λ s y f q.
+        let k = length (reportText s) in
+        let l : k ≤ length t = let o = report-short s in omega arith in
+        let p : take k t ≡ reportText s = sym (take-append-le k t more l) ∙ ap (take k) q ∙ take-at (reportText s) y k refl in
+        g s (drop k t) f (sym (take-append-drop k t) ∙ ap (λ (z : List ℕ). z ++ drop k t) p))
 
 -- bytes put after the first of a buffer
 pub put-taken : (buffer bytes : List ℕ) (n : ℕ) → n + length bytes ≤ length buffer
@@ -194,7 +159,7 @@ counted-none text start = record { place = omega arith; is = λ bytes u. u }
 pub past : (text : List ℕ) (at end number : ℕ) (r : Report) → end ≤ length text → ReadsReport (drop at text) number r (drop end text) → number ≡ 0
     → at < length text → at < end
 past text at end number r h w e l =
-    let d = w .done e in
+    let d = read-report w e in
     let q : length text - at ≡ length (reportText r) + (length text - end)
     = sym (length-drop at text) ∙ ap length (d .2) ∙ length-append (reportText r) (drop end text) ∙ ap (λ (n : ℕ). length (reportText r) + n) (length-drop end text) in
     omega (arith, report-some r)

@@ -24,18 +24,21 @@ pub record Good (r : Report) : Type 0 where
   pub fit : fits r ≡ true
   pub add : sums r ≡ true
 
--- What a season answers for a text, and its totals. The text begins with the texts of good reports, at most 4,096. 0: nothing follows them, and
--- these are their totals. 17 or 18: fewer than 4,096 come before one that reading answers so. 21: something follows 4,096.
+-- What stands behind the reports of a text, what a season answers then, and its totals. 0: nothing. 17 or 18: something that reading answers so, behind
+-- fewer than 4,096 reports. 21: something, behind 4,096.
+pub data SeasonEnds (reports : List Report) (rest : List ℕ) (number : ℕ) (totals : List ℕ) : Type 0 where
+  summed : number ≡ 0 → rest ≡ [] → TotalsOf reports totals → SeasonEnds reports rest number totals
+  refused : (r : Report) (x : List ℕ) → (number ≡ 0 → ⊥) → totals ≡ zeroTotals → length reports < 4096 → 0 < length rest → ReadsReport rest number r x → SeasonEnds reports rest number totals
+  tooMany : number ≡ 21 → totals ≡ zeroTotals → length reports ≡ 4096 → 0 < length rest → SeasonEnds reports rest number totals
+
+-- What a season answers for a text, which begins with the texts of good reports, at most 4,096.
 pub record Seasons (t : List ℕ) (number : ℕ) (totals : List ℕ) : Type 0 where
   pub reports : List Report
   pub rest : List ℕ
   pub good : All Good reports
   pub text : t ≡ texts reports ++ rest
   pub few : length reports ≤ 4096
-  pub done : number ≡ 0 → (rest ≡ []) × TotalsOf reports totals
-  pub bad : (number ≡ 0 → ⊥) → (number ≡ 21 → ⊥) → (length reports < 4096) × (0 < length rest) × ((r : Report) × (x : List ℕ) × ReadsReport rest number r x)
-  pub many : number ≡ 21 → (length reports ≡ 4096) × (0 < length rest)
-  pub blanked : (number ≡ 0 → ⊥) → totals ≡ zeroTotals
+  pub ends : SeasonEnds reports rest number totals
 
 -- a text is the texts of these reports joined, and there are not too many of them
 pub record JoinedTexts (rs : List Report) (t : List ℕ) : Type 0 where

@@ -6,6 +6,7 @@ use Prim.Native.Nat.{ℕ, _-_}
 use native.Mathlib.Omega.{arith}
 use lib.ListN.{length}
 use Rattle.answer.specs.Number.{numberOf}
+use Rattle.report.proofs.Answers.{read-report}
 use Rattle.season_totals.proofs.Progress.{CountedTo, counted-none, counted-many, counted-bad, counted-fits, counted-next, counted-done, past}
 use borrow.Author.Needs.{needs}
 use Rattle.season_totals.proofs.count_rest.Statement.{statement}
@@ -49,7 +50,7 @@ count-report-requires c κs =
     let r = c .before .before .before .read-front in
     let b = c .before .before .before .before .before .before .before .before .pre in
     let e : numberOf (r .result .answer) ≡ 0 = sym (c .before .before .number .ensures) ∙ c .before .if2 .left in
-    counted-fits (l .inv) (b .bytes) (b .is) (r .result .report) (c .before .before .before .before .if1 .left) (r .ensures .0 .done e .0)
+    counted-fits (l .inv) (b .bytes) (b .is) (r .result .report) (c .before .before .before .before .if1 .left) (read-report (r .ensures .0) e .0)
 
 loop-less : tie.Need-loop-less Inv-loop μ-loop
 loop-less c =

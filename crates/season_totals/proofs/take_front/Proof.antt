@@ -2,6 +2,7 @@
 -- Assumes nothing.
 use mathlib.Core.Path.{_≡_, sym, ap, _∙_}
 use Rattle.answer.specs.Number.{numberOf}
+use Rattle.report.proofs.Answers.{read-report}
 use Rattle.season_totals.proofs.Progress.{unread-fits}
 use Rattle.season_totals.proofs.Histories.{front-stops, front-taken}
 use borrow.Author.Needs.{needs}
@@ -34,7 +35,7 @@ count-report-requires c κs =
     let s = c .before .before .before .before .before in
     let r = c .before .before .before .read-front in
     let e : numberOf (r .result .answer) ≡ 0 = sym (c .before .before .number .ensures) ∙ c .before .if1 .left in
-    unread-fits (s .pre .0 .is) (r .result .report) (s .pre .1) (r .ensures .0 .done e .0)
+    unread-fits (s .pre .0 .is) (r .result .report) (s .pre .1) (read-report (r .ensures .0) e .0)
 
 sub-appended : tie.Need-sub-appended
 sub-appended c = search needs
