@@ -13,8 +13,6 @@ use Rattle.convolutional_code.specs.Bits.{bitsOf}
 use Rattle.convolutional_code.proofs.Bits.{bits-bits}
 use Rattle.puncturing.specs.Mode.{modeOf}
 use Rattle.puncturing.specs.Step.{patternLength}
-use Rattle.puncturing.proofs.Places.{up}
-use Rattle.puncturing.proofs.WellFormed.{well-formed}
 use Rattle.inner_code.specs.Step.{symbolsOf}
 use Rattle.inner_code.proofs.Stream.{symbols-fresh, stream-qpsk}
 use Rattle.inner_code.specs.Encode.{coderAt}
@@ -45,7 +43,7 @@ pub sent-coded : (rate : ℕ) → rate < 5 → modeOf rate .sent ≡ true → {i
 unfolding onAir
 sent-coded rate hr q {inputs} g c =
     let bytes : List ℕ = sentBytes (packetsFor inputs) in
-    sent-on-air (modeOf rate) (well-formed rate (up rate hr)) q modeOf rate refl g c .0 ∙ (stream-qpsk rate hr bytes ∙ sym (symbols-fresh rate hr (bits-bits bytes)))
+    sent-on-air rate q g c .0 ∙ (stream-qpsk rate hr bytes ∙ sym (symbols-fresh rate hr (bits-bits bytes)))
 
 -- ---- the theorem, of such a sender
 

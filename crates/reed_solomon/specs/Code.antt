@@ -34,8 +34,8 @@ pub record Codeword (block : List ℕ) : Type 0 where
 
 -- ---- how far two blocks are apart
 
--- In how many bits two numbers of n bits are unequal, from the lowest bit up. The highest is what n - 1 halvings leave: of a byte, which
--- has eight bits, the top bit. So unequal numbers have an unequal bit, also where they are no bytes.
+-- In how many of n bits two numbers are unequal. Bits 0 to n - 2 are compared singly and what is above them as one bit, so that the laws need not say
+-- that these are bytes: of two bytes, with n = 8, these are the bits.
 unfoldable pub unequalBits : ℕ → ℕ → ℕ → ℕ
 unequalBits zero x y = 0
 unequalBits (suc zero) x y = unequal x y

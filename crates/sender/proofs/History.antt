@@ -12,8 +12,10 @@ use lib.Seq.{take-at}
 use Rattle.common.specs.Lists.{All, Length}
 use Rattle.common.proofs.Lists.{All-map, All-append}
 use Rattle.randomizer.specs.Stream.{Packet}
-use Rattle.puncturing.specs.Mode.{Mode}
+use Rattle.puncturing.specs.Mode.{Mode, modeOf}
 use Rattle.puncturing.specs.WellFormed.{WellFormed}
+use Rattle.puncturing.proofs.Places.{sent-known}
+use Rattle.puncturing.proofs.WellFormed.{well-formed}
 use Rattle.sender.specs.Standard.{onAir}
 use Rattle.sender.specs.Input.{Input, isInput, packetFor, packetsFor, sentNumber}
 use Rattle.sender.specs.Send.{freshSender, sentSymbols, sentCount, senderAfter, sendRefusal, sendNumber, sendCount, sendSender, sendOutput, Sends}
@@ -127,10 +129,10 @@ ready-calls {t} s (p ∷ ps) g = ready-calls (senderAfter t s p) ps (ready-after
 
 -- In any mode that is well formed and is sent, at whatever number of whatever table of modes: whatever inputs a fresh sender is given, call after call, the
 -- symbols are the standard's for the list with null packets put in, and the sender left is the one that has sent it.
-pub sent-on-air : (m : Mode) → WellFormed m → m .sent ≡ true → (t : ℕ → Mode) (rate : ℕ) → t rate ≡ m
+pub sent-on-air-by : (m : Mode) → WellFormed m → m .sent ≡ true → (t : ℕ → Mode) (rate : ℕ) → t rate ≡ m
     → {inputs : List (List ℕ)} {symbols : List ℕ} {last : Sender} → All Input inputs → SendCalls t (freshSender rate) inputs symbols last
     → (symbols ≡ onAir m (packetsFor inputs)) × (last ≡ senderOf t rate (packetsFor inputs))
-sent-on-air m w q t rate e {inputs} g c =
+sent-on-air-by m w q t rate e {inputs} g c =
     let f : WellFormed (t rate) = subst WellFormed (sym e) w in
     let told-all = told (ready-fresh rate f (ap (λ (x : Mode). x .sent) e ∙ q)) g c in
     let l = packet-lengths inputs g in (
@@ -138,12 +140,18 @@ sent-on-air m w q t rate e {inputs} g c =
       told-all .sender ∙ calls-sender (packetsFor inputs) l t rate f,
     )
 
+-- In a mode of the product: the symbols of a fresh sender are those on air.
+pub sent-on-air : (rate : ℕ) → modeOf rate .sent ≡ true → {inputs : List (List ℕ)} {symbols : List ℕ} {last : Sender} → All Input inputs
+    → SendCalls modeOf (freshSender rate) inputs symbols last
+    → (symbols ≡ onAir (modeOf rate) (packetsFor inputs)) × (last ≡ senderOf modeOf rate (packetsFor inputs))
+sent-on-air rate q = sent-on-air-by (modeOf rate) (well-formed rate (sent-known rate q)) q modeOf rate refl
+
 -- where all of them are packets, none is put in
 pub packets-on-air : (m : Mode) → WellFormed m → m .sent ≡ true → (t : ℕ → Mode) (rate : ℕ) → t rate ≡ m
     → {packets : List (List ℕ)} {symbols : List ℕ} {last : Sender} → All Packet packets → SendCalls t (freshSender rate) packets symbols last
     → (symbols ≡ onAir m packets) × (last ≡ senderOf t rate packets)
 packets-on-air m w q t rate e {packets} g c =
-    rw (packets-kept packets g) at (sent-on-air m w q t rate e (All-map Packet Input (λ p a. inr (a .size)) packets g) c)
+    rw (packets-kept packets g) at (sent-on-air-by m w q t rate e (All-map Packet Input (λ p a. inr (a .size)) packets g) c)
 
 -- a sender that has sent packets since it was fresh is ready for more, and goes on where they end
 module _ {t : ℕ → Mode} (rate : ℕ) (w : WellFormed (t rate)) (q : t rate .sent ≡ true) (sent : List (List ℕ)) (f : All (Length 188) sent) where
