@@ -41,6 +41,7 @@ tool rustc rustc
 quietly bash tests/unused.sh
 quietly bash tests/repeated.sh
 bash docs/crates.sh | quietly cmp - docs/crates.svg
+bash docs/files.sh | quietly diff docs/FILES.md -
 bash tests/believed.sh | quietly diff docs/BELIEVED.md -
 # README.md and docs/TRUST.md name the lines of the three tiers.
 tiers=$(awk -F ' *[|] *' '$2 ~ /^(Sending|All|These)/ { n[++k] = $4 } END { print n[1] ", " n[2] " and " n[3] " lines" }' docs/BELIEVED.md)
