@@ -40,7 +40,7 @@ use Rattle.receiver.proofs.Calls.{state-range, ready-number, ready-state, chang
 use Rattle.receiver.proofs.Outcomes.{Unrefused, next-unrefused, branches-after, taken-after, unmarked-after}
 use Rattle.receiver.proofs.MarkDelays.{none-decodes}
 use Rattle.receiver.proofs.Reception.{blocks-count}
-use Rattle.recording.specs.Block.{blockRefusal, outputWith, GivesBlock}
+use Rattle.recording.specs.Block.{blockRefusal, outputWith, GivesBlock, blockRefused, blockDecoded}
 use Rattle.recording.specs.declared.block.DecodedBlock.{DecodedBlock}
 
 -- the branches after calls that are not refused
@@ -115,11 +115,12 @@ module _ (p : ℕ) (before : List Call) (u : Unrefused freshReceiver before) (pl
   pub as-receiver : (lent exit′ : List ℕ) (received : Received) (v : Receives (afterCalls freshReceiver before) came lent received exit′)
       → (blocks : ℕ) (output : List ℕ) (r : DecodedBlock) (exit : List ℕ) → blockRefusal recorded blocks p output ≡ 0 → GivesBlock recorded blocks p output r exit
       → (numberOf (r .answer) ≡ decodedNumber (v .decoded)) × (r .changed ≡ changedBy (v .decoded)) × (exit ≡ outputWith (v .decoded) (v .left) output)
-  as-receiver lent exit′ received v blocks output r exit e g =
-      let q = unique (gathered recorded p) (g .left) (v .left) (g .decoded) (v .decoded) (g .decodes) (rw call-gathered at (plain lent exit′ received v)) in (
-        g .number ∙ simp e (ap decodedNumber (q .answer)),
-        g .changed ∙ simp e (ap changedBy (q .answer)),
-        g .written ∙ simp e (ap₂ (λ (x : Decoded) (y : List ℕ). outputWith x y output) (q .answer) (q .block)),
+  as-receiver lent exit′ received v blocks output r exit e (blockRefused h n c w) = absurd (omega arith)
+  as-receiver lent exit′ received v blocks output r exit e (blockDecoded left decoded f d n c w) =
+      let q = unique (gathered recorded p) left (v .left) decoded (v .decoded) d (rw call-gathered at (plain lent exit′ received v)) in (
+        n ∙ ap decodedNumber (q .answer),
+        c ∙ ap changedBy (q .answer),
+        w ∙ ap₂ (λ (x : Decoded) (y : List ℕ). outputWith x y output) (q .answer) (q .block),
       )
 
   -- What the call shows of it: it is answered 8 where the block is, and its sums of changed bytes and bits grow by the block's.

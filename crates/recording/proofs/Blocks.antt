@@ -1,7 +1,6 @@
 -- What one block of a recording comes to: the tests, and which bytes matter.
 -- Assumes nothing.
 use mathlib.Core.Path.{_≡_, refl, sym, ap, ap₂, _∙_}
-use mathlib.Core.Bool.{false}
 use mathlib.Core.List.{List, _++_}
 use Prim.Native.Nat.{ℕ, _+_, _-_, _*_, _≤_, _<_, min}
 use native.Mathlib.Decide.{decLt}
@@ -18,12 +17,10 @@ use Rattle.reed_solomon.specs.declared.Changed.{Changed}
 use Rattle.reed_solomon.specs.declared.Decoded.{Decoded}
 use Rattle.reed_solomon.specs.declared.Decoded.the-variants.{Corrected}
 use Rattle.reed_solomon.proofs.Codewords.{codeword-length}
-use Rattle.reed_solomon.specs.Marks.{noMarks}
-use Rattle.reed_solomon.proofs.MarkedDistance.{without-marks}
-use Rattle.reed_solomon.proofs.Laws.{total, unique}
+use Rattle.reed_solomon.proofs.Laws.{unique}
 use Rattle.interleaver.specs.Gathered.{placeIn, gathered}
 use Rattle.interleaver.proofs.Gathering.{gathered-same}
-use Rattle.recording.specs.Block.{blockCount, blockRefusal, outputWith, GivesBlock, Agree, partAt, SameBlock}
+use Rattle.recording.specs.Block.{blockCount, blockRefusal, outputWith, GivesBlock, blockRefused, blockDecoded, Agree, partAt, SameBlock}
 use Rattle.recording.specs.declared.block.DecodedBlock.{DecodedBlock}
 
 -- ---- the tests
@@ -49,16 +46,12 @@ module _ (bytes : List ℕ) (blocks p : ℕ) (output : List ℕ) where
 
   pub refused-with : (k : ℕ) (r : DecodedBlock) → blockRefusal bytes blocks p output ≡ k → 0 < k → numberOf (r .answer) ≡ k → r .changed ≡ noChange
       → GivesBlock bytes blocks p output r output
-  refused-with k r e h n c =
-      let t = total noMarks (gathered bytes p) in
-      let f : eqb (blockRefusal bytes blocks p output) 0 ≡ false = ap (λ (i : ℕ). eqb i 0) e ∙ ne-eqb k 0 (λ z. omega arith) in
-      record { left = t .left; decoded = t .answer; decodes = without-marks (gathered bytes p) (t .left) (t .answer) (t .decodes); number = n ∙ sym e ∙ simp f; changed = c ∙ simp f; written = simp f }
+  refused-with k r e h n c = blockRefused (omega arith) (n ∙ sym e) c refl
 
   pub given-block : blockRefusal bytes blocks p output ≡ 0 → (left : List ℕ) (decoded : Decoded) → Decodes (gathered bytes p) left decoded
       → (r : DecodedBlock) (exit : List ℕ) → numberOf (r .answer) ≡ decodedNumber decoded → r .changed ≡ changedBy decoded
       → exit ≡ outputWith decoded left output → GivesBlock bytes blocks p output r exit
-  given-block e left decoded d r exit n c w =
-      record { left = left; decoded = decoded; decodes = d; number = n ∙ simp e; changed = c ∙ simp e; written = w ∙ simp e }
+  given-block e left decoded d r exit n c w = blockDecoded left decoded e d n c w
 
 pub put-front : (came left output : List ℕ) (changed : Changed) → Decodes came left (Corrected changed)
     → take 0 output ++ left ++ drop (0 + length left) output ≡ left ++ drop 204 output
@@ -72,14 +65,16 @@ put-front came left output changed d =
 same-block : (a b : List ℕ) (blocks more p q : ℕ) (output : List ℕ) (r s : DecodedBlock) (x y : List ℕ)
     → blockRefusal a blocks p output ≡ blockRefusal b more q output → gathered a p ≡ gathered b q
     → GivesBlock a blocks p output r x → GivesBlock b more q output s y → SameBlock r s x y
-same-block a b blocks more p q output r s x y f g h k =
-    let u = unique (gathered b q) (h .left) (k .left) (h .decoded) (k .decoded) (rw g at (h .decodes)) (k .decodes) in
+same-block a b blocks more p q output r s x y f g (blockRefused h n c w) (blockRefused k m d v) =
+    record { number = n ∙ f ∙ sym m; changed = c ∙ sym d; written = w ∙ sym v }
+same-block a b blocks more p q output r s x y f g (blockRefused h n c w) (blockDecoded left decoded e k m d v) = absurd (omega arith)
+same-block a b blocks more p q output r s x y f g (blockDecoded left decoded e h n c w) (blockRefused k m d v) = absurd (omega arith)
+same-block a b blocks more p q output r s x y f g (blockDecoded l i e h n c w) (blockDecoded j z o k m d v) =
+    let u = unique (gathered b q) l j i z (rw g at h) k in
     record {
-      number = h .number ∙ ap₂ (λ (n : ℕ) (d : Decoded). pick (eqb n 0) (decodedNumber d) n) f (u .answer) ∙ sym (k .number);
-      changed = h .changed ∙ ap₂ (λ (n : ℕ) (d : Decoded). pick (eqb n 0) (changedBy d) noChange) f (u .answer) ∙ sym (k .changed);
-      written =
-          h .written ∙ ap (λ (n : ℕ). pick (eqb n 0) (outputWith (h .decoded) (h .left) output) output) f
-          ∙ ap₂ (λ (l : List ℕ) (d : Decoded). pick (eqb (blockRefusal b more q output) 0) (outputWith d l output) output) (u .block) (u .answer) ∙ sym (k .written);
+      number = n ∙ ap decodedNumber (u .answer) ∙ sym m;
+      changed = c ∙ ap changedBy (u .answer) ∙ sym d;
+      written = w ∙ ap₂ (λ (t : Decoded) (y : List ℕ). outputWith t y output) (u .answer) (u .block) ∙ sym v;
     }
 
 -- two recordings with the same number of whole blocks that agree in those 204 bytes give the same

@@ -36,15 +36,12 @@ outputWith Uncorrectable left output = output
 outputWith BlockLength left output = output
 outputWith MarkValue left output = output
 
--- The 204 bytes gathered decode to an outcome, and the call is this function of it.
--- Decoding is total and unique, so the call is decided.
-pub record GivesBlock (bytes : List ℕ) (blocks p : ℕ) (output : List ℕ) (r : DecodedBlock) (exit : List ℕ) : Type 0 where
-  pub left : List ℕ
-  pub decoded : Decoded
-  pub decodes : Decodes (gathered bytes p) left decoded
-  pub number : numberOf (r .answer) ≡ pick (eqb (blockRefusal bytes blocks p output) 0) (decodedNumber decoded) (blockRefusal bytes blocks p output)
-  pub changed : r .changed ≡ pick (eqb (blockRefusal bytes blocks p output) 0) (changedBy decoded) noChange
-  pub written : exit ≡ pick (eqb (blockRefusal bytes blocks p output) 0) (outputWith decoded left output) output
+-- The first test that fails is the answer, and all is as it was; or the 204 bytes gathered decode to this. Decoding is unique, so the call is decided.
+pub data GivesBlock (bytes : List ℕ) (blocks p : ℕ) (output : List ℕ) (r : DecodedBlock) (exit : List ℕ) : Type 0 where
+  blockRefused : 0 < blockRefusal bytes blocks p output → numberOf (r .answer) ≡ blockRefusal bytes blocks p output → r .changed ≡ noChange → exit ≡ output
+      → GivesBlock bytes blocks p output r exit
+  blockDecoded : (left : List ℕ) (decoded : Decoded) → blockRefusal bytes blocks p output ≡ 0 → Decodes (gathered bytes p) left decoded
+      → numberOf (r .answer) ≡ decodedNumber decoded → r .changed ≡ changedBy decoded → exit ≡ outputWith decoded left output → GivesBlock bytes blocks p output r exit
 
 -- two recordings agree in the 204 bytes that block p depends on
 abbrev pub Agree : List ℕ → List ℕ → ℕ → Type 0
