@@ -259,21 +259,27 @@ mod tests {
         assert_eq!(end, STATE_LENGTH);
     }
 
-    /// The rows of the specification: a line "NAME = field OFFSET BYTES (" or, of a count, "NAME = countField OFFSET (".
+    /// The rows of the specification: a line "NAME = field OFFSET BYTES (".
     fn specified(text: &str) -> Vec<(String, usize, usize)> {
         text.lines()
             .filter_map(|line| match line.split_whitespace().collect::<Vec<_>>()[..] {
                 [name, "=", "field", offset, length, ..] => Some((name.to_string(), offset.parse().ok()?, length.parse().ok()?)),
-                [name, "=", "countField", offset, ..] => Some((name.to_string(), offset.parse().ok()?, 8)),
                 _ => None,
             })
             .collect()
+    }
+
+    /// The table with the eight counts, which the specification has as one field, in one row.
+    fn with_counts_joined() -> Vec<(String, usize, usize)> {
+        let mut rows = table();
+        rows.splice(4..12, [("counts".to_string(), 1136, 64)]);
+        rows
     }
 
     #[test]
     fn document_header_and_specification_have_the_same_table() {
         assert_eq!(rows(include_str!("../../docs/BRIDGE.md")), table());
         assert_eq!(rows(include_str!("../../include/dvbs_bridge.h")), table());
-        assert_eq!(specified(include_str!("../../crates/dvbs_bridge/specs/State.antt")), table());
+        assert_eq!(specified(include_str!("../../crates/dvbs_bridge/specs/State.antt")), with_counts_joined());
     }
 }

@@ -14,7 +14,8 @@ use Rattle.common.specs.Choice.{pick}
 use Rattle.common.specs.Lists.{All}
 use Rattle.common.proofs.Choice.{both-true}
 use Rattle.receiver.specs.declared.Receiver.{Receiver}
-use Rattle.dvbs_bridge.specs.State.{StateField, part, fieldsOf, layout, stateLength}
+use Rattle.dvbs_bridge.specs.State.{StateField, fieldsOf, layout, stateLength}
+use Rattle.dvbs_bridge.specs.Reading.{part}
 
 -- a fact of a field, before those of the fields after it
 infixr 10 _&_

@@ -17,7 +17,7 @@ use Rattle.sent_blocks.specs.Blocks.{interleavedBlocks}
 use Rattle.dvbs_bridge.specs.State.{stateBytes, StandsFor}
 use Rattle.dvbs_bridge.specs.Calls.{wrong-length, no-state, as-receiver}
 use Rattle.dvbs_bridge.specs.Pass.{BridgePass, none, call}
-use Rattle.dvbs_bridge.proofs.States.{one-receiver, stands-fresh}
+use Rattle.dvbs_bridge.proofs.States.{stands-length, one-receiver, stands-fresh}
 
 -- calls of the receiver with these blocks, answers and packets, and a receiver after them for which these bytes stand
 pub record AsKept (s : Receiver) (blocks : List (List ℕ)) (numbers : List ℕ) (packets : List (List ℕ)) (bytes : List ℕ) : Type 0 where
@@ -28,7 +28,7 @@ pub record AsKept (s : Receiver) (blocks : List (List ℕ)) (numbers : List ℕ)
 pub pass-kept : {state last : List ℕ} {blocks : List (List ℕ)} {numbers : List ℕ} {packets : List (List ℕ)} (s : Receiver) → StandsFor state s
     → BridgePass state blocks numbers packets last → AsKept s blocks numbers packets last
 pass-kept s h none = record { last = s; calls = kept.none; stands = h }
-pass-kept s h (call block output r after exit l (wrong-length n q a x) rest) = absurd (n (h .size))
+pass-kept s h (call block output r after exit l (wrong-length n q a x) rest) = absurd (n (stands-length _ s h))
 pass-kept s h (call block output r after exit l (no-state n f q a x) rest) = absurd (f s h)
 pass-kept s h (call {blocks = blocks} {numbers = numbers} {packets = packets} block output r after exit l (as-receiver t k received g q a m) rest) =
     let w = pass-kept (received .receiver) m rest in

@@ -17,33 +17,22 @@ use Rattle.reed_solomon.specs.Marks.{noMarks}
 use Rattle.group_sync.specs.declared.Outcome.{Outcome}
 use Rattle.group_sync.specs.declared.Outcome.the-variants.{Filling, Delivered, Lost, Waiting, OutOfStep}
 use Rattle.reception_counts.specs.Counts.{outcomeNumber}
-use Rattle.reception_counts.proofs.Ranges.{counts-range}
 use Rattle.receiver.specs.Receive.{receiverInRange, stepOf, outputAfter, receiveRefusal, Ready, Receives}
 use Rattle.receiver.specs.Run.{Call}
 use Rattle.receiver.specs.declared.Receiver.{Receiver}
 use Rattle.receiver.specs.declared.Received.{Received}
-use Rattle.receiver.proofs.Calls.{state-range, ready-number}
+use Rattle.receiver.proofs.Calls.{ready-number}
 use Rattle.receiver.proofs.Reached.{Sound, sound-call, Refused, ready-or-refused, refused-state}
-use Rattle.dvbs_bridge.specs.State.{stateLength, stateOf, stateBytes, StandsFor}
-use Rattle.dvbs_bridge.specs.State as field
+use Rattle.dvbs_bridge.specs.State.{stateLength, stateBytes, StandsFor}
+use Rattle.dvbs_bridge.specs.Reading.{stateOf}
 use Rattle.dvbs_bridge.specs.Calls.{refuses, BridgeTakes, no-state, as-receiver}
-use Rattle.dvbs_bridge.proofs.States.{part-length, written-read, stands-written}
-
--- ---- the receiver that is read
-
-sound-read : (bytes : List ℕ) → length bytes ≡ stateLength → receiverInRange (stateOf bytes) ≡ true → Sound (stateOf bytes)
-unfolding stateOf
-sound-read bytes n e =
-    let r = state-range (stateOf bytes) e in
-    record {
-      branches = record { cells = part-length bytes n field.cells (omega arith); positions = part-length bytes n field.positions (omega arith); range = r .branches };
-      marks = part-length bytes n field.marks (omega arith);
-      small = r .marks;
-      sync = r .sync;
-      counts = counts-range (stateOf bytes .counts) (r .counts);
-    }
+use Rattle.dvbs_bridge.proofs.States.{written-read, stands-read, stands-written, stands-sound, stands-for-read}
 
 -- ---- refusals
+
+-- bytes that read as a receiver out of range stand for none
+pub none-stands : (state : List ℕ) → receiverInRange (stateOf state) ≡ false → (s : Receiver) → StandsFor state s → ⊥
+none-stands state f s h = false-true (sym f ∙ ap receiverInRange (stands-for-read state s h) ∙ h .range)
 
 -- a block that comes to something is taken
 outcome-taken : (o : Outcome) → refuses (outcomeNumber o) ≡ false
@@ -80,13 +69,13 @@ module _ (state block output : List ℕ) (n : length state ≡ stateLength) (e :
   five f = q ∙ g .number ∙ simp f
 
   none : receiverInRange (stateOf state) ≡ false → (s : Receiver) → StandsFor state s → ⊥
-  none f s h = false-true (sym f ∙ ap receiverInRange (h .read) ∙ h .range)
+  none f s h = none-stands state f s h
 
   same-output : receiverInRange (stateOf state) ≡ false → exit ≡ output
   same-output f = g .written ∙ simp f
 
   stands : receiverInRange (stateOf state) ≡ true → StandsFor state (stateOf state)
-  stands t = record { size = n; read = refl; range = t }
+  stands t = stands-read state n e t
 
   -- a call that is refused, where the bytes of the state are left alone
   pub refused-takes : refuses r ≡ true → BridgeTakes state block output r state exit
@@ -107,5 +96,5 @@ module _ (state block output : List ℕ) (n : length state ≡ stateLength) (e :
       by false f = absurd (false-true (sym h ∙ ap refuses (five f)))
       by true t =
           let c : Call = record { block = block; marks = noMarks; output = output; left = g .left; decoded = g .decoded } in
-          let sound = subst Sound (sym (g .state)) (sound-call (stateOf state) c (sound-read state n t) (g .decodes)) in
+          let sound = subst Sound (sym (g .state)) (sound-call (stateOf state) c (stands-sound state (stateOf state) (stands t)) (g .decodes)) in
           as-receiver (stateOf state) (stands t) received g q refl (stands-written (received .receiver) sound)

@@ -2,19 +2,18 @@
 -- Assumes nothing.
 use mathlib.Core.Path.{_≡_}
 use mathlib.Core.Bool.{Bool}
-use mathlib.Core.List.{List, [], _∷_, _++_}
-use Prim.Native.Nat.{ℕ}
-use lib.Dec.{eqb, ltb}
+use mathlib.Core.List.{List, _++_}
+use Prim.Native.Nat.{ℕ, _≤_, _<_}
+use lib.Dec.{eqb}
 use lib.ListN.{length, getD, drop}
 use Rattle.common.specs.Choice.{pick}
-use Rattle.common.specs.Refusal.{unless, when, firstDue}
 use Rattle.answer.specs.Number.{numberOf}
 use Rattle.reception_counts.specs.Bytes.{toBytes, numbersOf}
-use Rattle.receiver.specs.Receive.{freshReceiver, receiverInRange, Receives}
+use Rattle.receiver.specs.Receive.{freshReceiver, Receives}
 use Rattle.receiver.specs.Run.{takenBy}
 use Rattle.receiver.specs.declared.Receiver.{Receiver}
 use Rattle.receiver.specs.declared.Received.{Received}
-use Rattle.dvbs_bridge.specs.State.{stateLength, stateOf, stateBytes, StandsFor}
+use Rattle.dvbs_bridge.specs.State.{stateLength, stateBytes, StandsFor}
 
 -- ---- a fresh state
 
@@ -42,18 +41,11 @@ pub data BridgeTakes (state block output : List ℕ) (r : ℕ) (after exit : Lis
 
 -- ---- a count
 
--- the tests in their order
-abbrev pub countNumber : List ℕ → ℕ → List ℕ → ℕ
-countNumber state number output =
-    firstDue (
-    unless (eqb (length state) stateLength) 22
-    ∷ when (ltb 7 number) 23
-    ∷ unless (receiverInRange (stateOf state)) 5
-    ∷ when (ltb (length output) 8) 4
-    ∷ []
-    )
-
--- the count of the receiver that the bytes stand for, in eight bytes at the front of the output
-abbrev pub countOutput : List ℕ → ℕ → List ℕ → List ℕ
-countOutput state number output =
-    pick (eqb (countNumber state number output) 0) (toBytes 8 (getD (numbersOf (stateOf state .counts)) number 0) ++ drop 8 output) output
+-- The count of the receiver for which the bytes stand, in eight bytes at the front of the output. The refusals are in the order 22, 23, 5, 4, and leave it.
+pub data BridgeCounts (state : List ℕ) (number : ℕ) (output : List ℕ) (r : ℕ) (exit : List ℕ) : Type 0 where
+  other-length : (length state ≡ stateLength → ⊥) → r ≡ 22 → exit ≡ output → BridgeCounts state number output r exit
+  unknown : length state ≡ stateLength → 7 < number → r ≡ 23 → exit ≡ output → BridgeCounts state number output r exit
+  none-read : length state ≡ stateLength → number ≤ 7 → ((s : Receiver) → StandsFor state s → ⊥) → r ≡ 5 → exit ≡ output → BridgeCounts state number output r exit
+  short : (s : Receiver) → StandsFor state s → number ≤ 7 → length output < 8 → r ≡ 4 → exit ≡ output → BridgeCounts state number output r exit
+  counted : (s : Receiver) → StandsFor state s → number ≤ 7 → 8 ≤ length output → r ≡ 0
+      → exit ≡ toBytes 8 (getD (numbersOf (s .counts)) number 0) ++ drop 8 output → BridgeCounts state number output r exit

@@ -4,7 +4,8 @@ ghost use mathlib.Core.Path.{_≡_};
 ghost use mathlib.Core.List.{_++_};
 ghost use Prim.Native.Nat.{_+_, _≤_};
 ghost use lib.ListN.{length, take, drop};
-ghost use Rattle.dvbs_bridge.specs.State.{placeOf, placeByte, stateOf, stateBytes};
+ghost use Rattle.dvbs_bridge.specs.State.{placeByte, stateBytes};
+ghost use Rattle.dvbs_bridge.specs.Reading.{placeOf, stateOf};
 use group_sync::GroupSync;
 use group_sync::Place;
 use interleaver::Deinterleaver;
@@ -13,7 +14,7 @@ use receiver::Receiver;
 use reception_counts::count_bytes::counts_at;
 use reception_counts::count_bytes::put_counts;
 
-// The first byte of each field, and the length of all of them. The counts are eight fields of eight bytes.
+// The first byte of each field, and the length of all of them. The counts are eight numbers of eight bytes.
 const CELLS: usize = 0;
 
 const POSITIONS: usize = 1122;

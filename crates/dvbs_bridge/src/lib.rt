@@ -1,7 +1,7 @@
 // A part for the bridge: document 02, P14. A receiver whose state is bytes that the firmware keeps, as functions for C.
 // Their declarations are in include/dvbs_bridge.h, and docs/BRIDGE.md lists the layout of the state.
 ghost use mathlib.Core.Path.{_≡_};
-ghost use Rattle.dvbs_bridge.specs.Calls.{freshNumber, freshBytes, refuses, BridgeTakes, countNumber, countOutput};
+ghost use Rattle.dvbs_bridge.specs.Calls.{freshNumber, freshBytes, refuses, BridgeTakes, BridgeCounts};
 use answer::Answer;
 use receiver::Receiver;
 
@@ -69,9 +69,7 @@ pub extern "C" fn dvbs_bridge_take(state: &mut [u8], block: &[u8], output: &mut 
 // Reads a count by its number: the number of the answer.
 #[no_mangle]
 pub extern "C" fn dvbs_bridge_count(state: &[u8], number: u8, output: &mut [u8]) -> u8
-    ensures { λ r. ⌜
-        (r ≡ countNumber (now (state .entry)) number (now (output .entry)))
-        × (now (output .exit) ≡ countOutput (now (state .entry)) number (now (output .entry))) ⌝ }
+    ensures { λ r. ⌜ BridgeCounts (now (state .entry)) number (now (output .entry)) r (now (output .exit)) ⌝ }
 {
     if state.len() != STATE_LENGTH {
         let answer = Answer::StateLength;

@@ -4,12 +4,15 @@ use mathlib.Core.Path.{_≡_, refl, sym, ap, _∙_}
 use mathlib.Core.List.{List, _++_}
 use Prim.Native.Nat.{ℕ, _+_, _*_}
 use native.Mathlib.Omega.{arith}
-use borrow.Author.Tests.{eq-eqb, ne-eqb, lt-ltb, le-ltb, not-true, not-false}
-use lib.ListN.{drop}
+use borrow.Author.Tests.{not-true, not-false}
+use lib.ListN.{take, drop}
 use Rattle.receiver.specs.Receive.{receiverInRange}
-use Rattle.dvbs_bridge.specs.State.{stateOf}
+use Rattle.dvbs_bridge.specs.State.{StandsFor}
+use Rattle.dvbs_bridge.specs.Reading.{stateOf}
+use Rattle.dvbs_bridge.specs.Calls.{other-length, unknown, none-read, short, counted}
 use Rattle.dvbs_bridge.proofs.Copies.{front}
-use Rattle.dvbs_bridge.proofs.States.{count-bytes}
+use Rattle.dvbs_bridge.proofs.States.{stands-read, stands-sound, count-written}
+use Rattle.dvbs_bridge.proofs.Takes.{none-stands}
 use borrow.Author.Needs.{needs}
 use Rattle.dvbs_bridge.proofs.dvbs_bridge_count.Statement.{statement}
 use Rattle.dvbs_bridge.proofs.dvbs_bridge_count.Tie as tie
@@ -18,13 +21,13 @@ number-requires : tie.Need-number-requires
 number-requires c κs = search needs
 
 returns : tie.Need-returns
-returns c = simp (ne-eqb _ _ (c .before .if1 .taken)) (c .number .ensures, refl)
+returns c = other-length (c .before .if1 .taken) (c .number .ensures) refl
 
 number-requires-2 : tie.Need-number-requires-2
 number-requires-2 c κs = search needs
 
 returns-2 : tie.Need-returns-2
-returns-2 c = simp (eq-eqb _ _ (c .before .before .if1 .left), lt-ltb _ _ (c .before .if2 .taken)) (c .number2 .ensures, refl)
+returns-2 c = unknown (c .before .before .if1 .left) (c .before .if2 .taken) (c .number2 .ensures) refl
 
 read-state-requires : tie.Need-read-state-requires
 read-state-requires c κs = search needs
@@ -41,16 +44,22 @@ ranged c = ap receiverInRange (sym (c .before .read-state .ensures)) ∙ sym (c 
 
 returns-3 : tie.Need-returns-3
 returns-3 c =
-    simp (eq-eqb _ _ (c .before .before .before .before .before .if1 .left), le-ltb _ _ (c .before .before .before .before .if2 .left), ranged (c .before .before) ∙ not-true _ (c .before .if3 .taken))
-    (c .number3 .ensures, refl)
+    none-read (c .before .before .before .before .before .if1 .left) (c .before .before .before .before .if2 .left)
+    (none-stands (c .before .before .before .before .before .before .before .before .args .state .now) (ranged (c .before .before) ∙ not-true _ (c .before .if3 .taken)))
+    (c .number3 .ensures) refl
+
+-- past the third test the bytes stand for the receiver that is read
+standing : (c : tie.Else3) → let a = c .before .before .before .before .before .before .before .args in StandsFor (a .state .now) (stateOf (a .state .now))
+standing c =
+    let a = c .before .before .before .before .before .before .before .args in
+    stands-read (a .state .now) (c .before .before .before .before .if1 .left) (λ i. c .before .before .before .before .before .before .shared-slice-known .given i .fits)
+    (ranged (c .before) ∙ not-false _ (c .if3 .left))
 
 number-requires-4 : tie.Need-number-requires-4
 number-requires-4 c κs = search needs
 
 returns-4 : tie.Need-returns-4
-returns-4 c =
-    simp (eq-eqb _ _ (c .before .before .before .before .before .before .if1 .left), le-ltb _ _ (c .before .before .before .before .before .if2 .left), ranged (c .before .before .before) ∙ not-false _ (c .before .before .if3 .left), lt-ltb _ _ (c .before .if4 .taken))
-    (c .number4 .ensures, refl)
+returns-4 c = short _ (standing (c .before .before)) (c .before .before .before .before .before .if2 .left) (c .before .if4 .taken) (c .number4 .ensures) refl
 
 mul-start : tie.Need-mul-start
 mul-start c = search needs
@@ -78,16 +87,15 @@ same-length c = search needs
 
 returns-5 : tie.Need-returns-5
 returns-5 c =
-    let s = c .before .before .before .before .before .before .before .before .before .before .before .before .before in
-    let a = s .args in
-    let n = c .before .before .before .before .before .before .before .before .before .before .if1 .left in
-    let h = c .before .before .before .before .before .before .before .before .before .if2 .left in
-    simp (eq-eqb _ _ n, le-ltb _ _ h, ranged (c .before .before .before .before .before .before .before) ∙ not-false _ (c .before .before .before .before .before .before .if3 .left), le-ltb _ _ (c .before .before .before .before .before .if4 .left)) (
-      refl,
-      c .before .before .put .ensures
-          ∙ front (a .state .now) (a .output .now) (1136 + 8 * a .number) (1136 + 8 * a .number + 8) 8 refl (omega arith)
-          ∙ ap (λ (l : List ℕ). l ++ drop 8 (a .output .now)) (count-bytes (a .state .now) n (λ i. c .before .before .before .before .before .before .before .before .before .before .before .before .shared-slice-known .given i .fits) (a .number) (omega arith)),
-    )
+    let a = c .before .before .before .before .before .before .before .before .before .before .before .before .before .args in
+    let h = standing (c .before .before .before .before .before .before) in
+    let s = stateOf (a .state .now) in
+    let k = c .before .before .before .before .before .before .before .before .before .if2 .left in
+    counted s h k (c .before .before .before .before .before .if4 .left) refl
+    (c .before .before .put .ensures
+    ∙ front (a .state .now) (a .output .now) (1136 + 8 * a .number) (1136 + 8 * a .number + 8) 8 refl (omega arith)
+    ∙ ap (λ (l : List ℕ). take 8 (drop (1136 + 8 * a .number) l) ++ drop 8 (a .output .now)) (h .written)
+    ∙ ap (λ (l : List ℕ). l ++ drop 8 (a .output .now)) (count-written s (stands-sound (a .state .now) s h) (a .number) (omega arith)))
 
 pub dvbs-bridge-count-spec : {M : Type 1} → statement M
 dvbs-bridge-count-spec =

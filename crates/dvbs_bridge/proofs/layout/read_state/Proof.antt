@@ -2,7 +2,7 @@
 -- Assumes nothing.
 use mathlib.Core.Path.{ap, _∙_}
 use native.Mathlib.Omega.{arith}
-use Rattle.dvbs_bridge.specs.State.{placeOf, stateOf}
+use Rattle.dvbs_bridge.specs.Reading.{placeOf, stateOf}
 use Rattle.dvbs_bridge.proofs.States.{byte-in}
 use borrow.Author.Needs.{needs}
 use Rattle.dvbs_bridge.proofs.layout.read_state.Statement.{statement}
