@@ -1,3 +1,2 @@
 pub mod Synchronization
 pub mod Streams
-pub mod AsBefore

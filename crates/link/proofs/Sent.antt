@@ -1,7 +1,7 @@
 -- Demand 2 over a stream: the symbols of a fresh sender, cut into runs of whole patterns in any way, each run read with the memory that the one before
 -- gave, give the bits of the interleaved blocks as far as the runs go, at no cost; up to the last whole pattern where less than one is left.
 -- Assumes nothing.
-use mathlib.Core.Path.{_≡_, refl, sym, _∙_, ap}
+use mathlib.Core.Path.{_≡_, sym, _∙_, ap}
 use mathlib.Core.Bool.{true}
 use mathlib.Core.List.{List, [], _∷_, _++_, flatten}
 use Prim.Native.Nat.{ℕ, _+_, _*_, _/_, _%_, _≤_, _<_}

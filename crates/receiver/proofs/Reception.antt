@@ -27,14 +27,12 @@ use Rattle.interleaver.proofs.BlockLists.{length-flatten, flatten-join, All-tak
 use Rattle.interleaver.proofs.Gathering.{gathered-front, run-gathered, sent-gathered}
 use Rattle.group_sync.specs.Group.{freshSync, knownSync}
 use Rattle.group_sync.specs.Stream.{outcomes, sentFrom, deliveredFrom, beforeGroup}
-use Rattle.group_sync.specs.declared.Place.the-variants.{NotKnown}
 use Rattle.group_sync.specs.declared.BlockDecoding.{BlockDecoding}
 use Rattle.group_sync.specs.declared.BlockDecoding.the-variants as decoding
 use Rattle.group_sync.specs.declared.Outcome.{Outcome}
 use Rattle.group_sync.specs.declared.Outcome.the-variants.{Filling, Waiting, OutOfStep}
 use Rattle.group_sync.specs.declared.GroupSync.{GroupSync}
 use Rattle.group_sync.proofs.Streams as streams
-use Rattle.group_sync.proofs.AsBefore as before
 use Rattle.reception_counts.specs.Counts.{outcomeNumber}
 use Rattle.sent_blocks.specs.Blocks.{codedBlocks, interleavedBlocks}
 use Rattle.sent_blocks.proofs.Lengths.{coded-count, interleaved-count, interleaved-whole}
@@ -45,16 +43,6 @@ use Rattle.receiver.specs.declared.Receiver.{Receiver}
 use Rattle.receiver.proofs.Reached.{sound-fresh}
 use Rattle.receiver.proofs.Outcomes.{Unrefused, plain-marked, come-to, filled-come-to}
 use Rattle.receiver.proofs.Decoding.{sent-length, sent-bytes, coded-back, Nears, nears-of, CorrectedFrom, corrected-after}
-
--- ---- as before
-
--- where every block after the first eleven is lost or in order, the calls come to what they came to by the rule before document 02, P4
-in-order-as-before : (m : ℕ) (cs : List Call) → Unrefused freshReceiver cs → before.InOrder m (decodings (drop 11 cs))
-    → ComeTo freshReceiver cs (filledFirst 11 cs (before.outcomesBefore NotKnown (decodings (drop 11 cs))))
-unfolding freshReceiver
-in-order-as-before m cs u o =
-    subst (λ (x : List Outcome). ComeTo freshReceiver cs (filledFirst 11 cs x)) (before.as-before m (decodings (drop 11 cs)) o)
-    (filled-come-to 11 cs freshReceiver u refl)
 
 -- ---- the answers
 
@@ -246,12 +234,6 @@ module _ (packets : List (List ℕ)) (ws : All Packet packets) where
     -- the theorem
     pub begun-anywhere : BegunAt m packets cs
     begun-anywhere = near-received m cs unharmed-calls pl nears
-
-    -- document 02, P4: the calls come to what they came to by the rule before it
-    pub as-before : ComeTo freshReceiver cs (filledFirst 11 cs (before.outcomesBefore NotKnown (decodings (drop 11 cs))))
-    as-before =
-        in-order-as-before m cs unharmed-calls
-        (subst (before.InOrder m) (sym (near-accepted m cs unharmed-calls pl nears)) (before.sent-in-order m (length cs - 11)))
 
 -- demand 2, receiving: the case of block 0
 pub stream-received : (packets : List (List ℕ)) → All Packet packets → length packets ≤ 4294967295

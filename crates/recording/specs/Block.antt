@@ -5,7 +5,6 @@ use mathlib.Core.List.{List, [], _∷_, _++_}
 use Prim.Native.Nat.{ℕ, _+_, _*_, _/_, _<_, min}
 use lib.Dec.{ltb, eqb}
 use lib.ListN.{length, getD, take, drop}
-use Rattle.common.specs.Choice.{pick}
 use Rattle.common.specs.Refusal.{unless, when, firstDue}
 use Rattle.answer.specs.Number.{numberOf}
 use Rattle.reed_solomon.specs.Code.{noChange}
