@@ -3,8 +3,17 @@
 // the definitions.
 // Inner: docs/ARCHITECTURE.md names the public surface.
 
-// The bits of each mode's pattern: QPSK 1/2, 2/3, 3/4, 5/6, 7/8, and 16QAM 3/4.
-pub const PATTERN_LENGTHS: [u8; 6] = [1, 4, 3, 5, 7, 1];
+// The modes are QPSK 1/2, 2/3, 3/4, 5/6, 7/8, and 16QAM 3/4. A mode is known by its number, from 0 on.
+pub const MODES: usize = 6;
+
+// The first of them are QPSK, and have no uncoded bits.
+pub const QPSK_MODES: usize = 5;
+
+// The bits of each mode's pattern.
+pub const PATTERN_LENGTHS: [u8; MODES] = [1, 4, 3, 5, 7, 1];
+
+// The bits of the longest pattern: tables of what holds at each place of each pattern have so many entries for each mode.
+pub const LONGEST_PATTERN: usize = 7;
 
 // The coded bits of a pattern, by where they stand from its first bit on: the 1,632 X of a block come before the Y.
 pub const X1: usize = 0;
