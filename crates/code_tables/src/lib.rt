@@ -55,10 +55,22 @@ pub const I_7_8: [usize; 4] = [X1, Y2, Y4, Y6];
 
 pub const Q_7_8: [usize; 4] = [Y1, Y3, X5, X7];
 
-// At 16QAM 3/4 the two coded bits of the one symbol, beside two that are not coded. Its blocks have fewer coded bits: what counts is whether each is X or Y.
-pub const C2_16QAM: [usize; 1] = [Y1];
+// A mode with uncoded bits: EN 301 210, tables 3 and 4. The first byte of a group is coded, and the others are cut into digits of a base, from the top
+// bits on, one beside each coded bit. A bit of the encoded branch is a pattern, of one symbol with two coded bits. A block has fewer coded bits than at
+// QPSK: what counts of those is whether each is X or Y.
+pub struct Grouping {
+    pub others: usize,
+    pub base: u8,
+    pub c2: usize,
+    pub c1: usize,
+}
 
-pub const C1_16QAM: [usize; 1] = [X1];
+pub const GROUPING_16QAM: Grouping = Grouping {
+    others: 2,
+    base: 4,
+    c2: Y1,
+    c1: X1,
+};
 
 // The sixteen coefficients of the generator polynomial below x^16, from x^15 down.
 pub const GENERATOR: [u8; 16] = [

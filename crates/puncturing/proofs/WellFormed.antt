@@ -189,7 +189,7 @@ module _ {m : Mode} (w : WellFormed m) (place : ℕ) (k : place < m .bits) where
       next-le : place + 1 ≤ m .bits
       next-le = omega arith
 
-pick-small : (b : Bool) (x y : ℕ) → x < 2 → y < 2 → pick b x y < 2
+pub pick-small : (b : Bool) (x y : ℕ) → x < 2 → y < 2 → pick b x y < 2
 pick-small true x y h k = h
 pick-small false x y h k = k
 
