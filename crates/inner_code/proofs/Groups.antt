@@ -2,11 +2,11 @@
 -- Assumes nothing.
 use mathlib.Core.Path.{_≡_, refl, ap, ap₂, sym, subst, _∙_}
 use mathlib.Core.List.{List, [], _∷_, _++_, map, flatten, append-assoc, append-nil}
-use Prim.Native.Nat.{ℕ, zero, suc, _+_, _-_, _*_, _/_, _%_, _≤_, _<_}
-use native.Mathlib.Nat.{zero-add, add-zero, add-comm, mul-zero, mul-suc, mul-comm, not-suc-le-zero, le-of-suc-le-suc, mul-le-mul-left, mul-lt-mul-of-pos-left, mod-lt}
+use Prim.Native.Nat.{ℕ, zero, suc, _+_, _*_, _/_, _%_, _≤_, _<_}
+use native.Mathlib.Nat.{add-zero, add-comm, mul-zero, mul-suc, not-suc-le-zero, le-of-suc-le-suc, mul-le-mul-left, mod-lt}
 use native.Mathlib.Numerals.{add-one}
 use native.Mathlib.Omega.{arith}
-use borrow.Rule.Slice.PartMut.{putMid, midOf, postOf, same-len-mid}
+use borrow.Rule.Slice.PartMut.{putMid, midOf, postOf}
 use lib.Dec.{ltb}
 use lib.ListN.{length, getD, take, drop, set, length-append, length-set, length-drop, List·getD-append, drop-of-length-le}
 use lib.Seq.{take-at, take-all, length-take-le, getD-take, getD-drop, drop-drop, drop-cons, drop-set-lt, getD-set-same, getD-append-add, ext-getD}

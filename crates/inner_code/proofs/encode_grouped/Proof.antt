@@ -3,7 +3,6 @@
 use mathlib.Core.Path.{refl, ap₂, sym, _∙_}
 use mathlib.Core.List.{List, _++_}
 use Prim.Native.Nat.{ℕ}
-use native.Mathlib.Omega.{arith}
 use borrow.Author.Needs.{needs}
 use lib.ListN.{drop}
 use Rattle.inner_code.proofs.Coder.{formed}

@@ -1,17 +1,11 @@
 -- `inner_code::InnerCoder::in_range` meets its contract.
 -- Assumes nothing.
-use mathlib.Core.Path.{_≡_, refl, ap}
-use mathlib.Core.Bool.{Bool, true, false}
 use Prim.Native.Nat.{_≤_, _<_}
-use native.Mathlib.Omega.{arith}
 use borrow.Author.Needs.{needs}
 use borrow.Author.Tests.{lt-ltb, le-ltb}
-use lib.Dec.{ltb}
 use lib.ListN.{getD}
-use Rattle.common.specs.Choice.{pick}
-use Rattle.puncturing.specs.Mode.{Mode}
 use Rattle.puncturing.specs.Step.{patternLength}
-use Rattle.puncturing.proofs.Places.{lengths, length-is, outside}
+use Rattle.puncturing.proofs.Places.{lengths, length-is}
 use Rattle.inner_code.specs.Step.{inRangeBy}
 use Rattle.inner_code.proofs.InnerCoder.in_range.Statement.{statement}
 use Rattle.inner_code.proofs.InnerCoder.in_range.Tie as tie

@@ -1,7 +1,5 @@
 -- `inner_code::grouped::unpack_byte` meets its contract.
 -- Assumes nothing.
-use mathlib.Core.Path.{_≡_}
-use Prim.Native.Nat.{suc, _-_}
 use native.Mathlib.Omega.{arith}
 use lib.ListN.{length}
 use Rattle.inner_code.proofs.Groups.{Cutting, cutting-none, cutting-more, cutting-all}
