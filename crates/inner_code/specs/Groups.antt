@@ -47,6 +47,10 @@ abbrev pub numbered : ℕ → ℕ → List ℕ → List ℕ → ℕ → List ℕ
 numbered c2 c1 uncoded coded n =
     listOf n (λ k. 4 * getD uncoded k 0 + (2 * codedAs c2 (getD coded k 0) (getD coded (n + k) 0) + codedAs c1 (getD coded k 0) (getD coded (n + k) 0)))
 
+-- a block has at most so many groups
+abbrev pub mostGroups : ℕ
+mostGroups = 68
+
 -- Numbers that fit each other: the digits of a byte, so many that a group has eight, and the groups of a block.
 pub record Fitting (g : Grouping) (per groups : ℕ) : Type 0 where
   pub others-some : 0 < g .others
@@ -55,7 +59,7 @@ pub record Fitting (g : Grouping) (per groups : ℕ) : Type 0 where
   pub base-few : g .base ≤ 64
   pub eight : per * g .others ≡ 8
   pub block : (g .others + 1) * groups ≡ 204
-  pub few : groups ≤ 68
+  pub few : groups ≤ mostGroups
 
 -- A mode that the code takes by such numbers: a bit of the encoded branch is a pattern, of one symbol.
 pub record Grouped (m : Mode) (g : Grouping) : Type 0 where

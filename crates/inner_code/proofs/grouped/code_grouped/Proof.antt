@@ -9,7 +9,7 @@ use lib.ListN.{length, drop}
 use lib.Seq.{length-take-le}
 use Rattle.convolutional_code.specs.Bits.{bitsOf}
 use Rattle.convolutional_code.specs.Code.{memoryAfter, blockMother}
-use Rattle.inner_code.specs.Groups.{firsts, groupDigits, numbered, Fitting}
+use Rattle.inner_code.specs.Groups.{firsts, groupDigits, numbered, mostGroups, Fitting}
 use Rattle.inner_code.proofs.grouped.code_grouped.Statement.{statement}
 use Rattle.inner_code.proofs.grouped.code_grouped.Tie as tie
 
@@ -28,7 +28,7 @@ array-borrow-prefix-bytes c = search needs
 slice-aggregate-code-groups : tie.Need-slice-aggregate-code-groups
 slice-aggregate-code-groups c =
     let a = c .before .before .before in
-    let h : 204 / (a .args .grouping .others + 1) ≤ 68 = omega (arith, a .pre .1 .few) in
+    let h : 204 / (a .args .grouping .others + 1) ≤ mostGroups = omega (arith, a .pre .1 .few) in
     sym (length-take-le _ _ h)
 
 mul-uncoded : tie.Need-mul-uncoded
@@ -40,7 +40,7 @@ array-borrow-prefix-uncoded c = search needs
 slice-aggregate-code-groups-2 : tie.Need-slice-aggregate-code-groups-2
 slice-aggregate-code-groups-2 c =
     let a = c .before .before .before .before in
-    let h : 8 * (204 / (a .args .grouping .others + 1)) ≤ 544 = omega (arith, a .pre .1 .few) in
+    let h : 8 * (204 / (a .args .grouping .others + 1)) ≤ 8 * mostGroups = omega (arith, a .pre .1 .few) in
     sym (length-take-le _ _ h)
 
 mul-history : tie.Need-mul-history
@@ -55,7 +55,7 @@ array-borrow-prefix-history c = search needs
 slice-aggregate-code-groups-3 : tie.Need-slice-aggregate-code-groups-3
 slice-aggregate-code-groups-3 c =
     let a = c .before .before .before .before .before in
-    let h : 8 * (204 / (a .args .grouping .others + 1)) + 6 ≤ 550 = omega (arith, a .pre .1 .few) in
+    let h : 8 * (204 / (a .args .grouping .others + 1)) + 6 ≤ 8 * mostGroups + 6 = omega (arith, a .pre .1 .few) in
     sym (length-take-le _ _ h)
 
 mul-coded : tie.Need-mul-coded
@@ -67,7 +67,7 @@ array-borrow-prefix-coded c = search needs
 slice-aggregate-code-groups-4 : tie.Need-slice-aggregate-code-groups-4
 slice-aggregate-code-groups-4 c =
     let a = c .before .before .before .before .before .before in
-    let h : 16 * (204 / (a .args .grouping .others + 1)) ≤ 1088 = omega (arith, a .pre .1 .few) in
+    let h : 16 * (204 / (a .args .grouping .others + 1)) ≤ 16 * mostGroups = omega (arith, a .pre .1 .few) in
     sym (length-take-le _ _ h)
 
 code-groups-requires : tie.Need-code-groups-requires
