@@ -1,6 +1,6 @@
 // The fixed numbers of both codes, as the standards print them: pattern length and symbols of each mode of the inner code, EN 300 421, table 2, and
-// EN 301 210, table 4; the generator polynomial of the outer code, EN 300 421, 4.4.2. The coders use them from here, and their proofs compare them with
-// the definitions.
+// EN 301 210, tables 3 and 4; the generator polynomial of the outer code, EN 300 421, 4.4.2. The coders use them from here, and their proofs compare
+// them with the definitions.
 // Inner: docs/ARCHITECTURE.md names the public surface.
 
 // The modes are QPSK 1/2, 2/3, 3/4, 5/6, 7/8, and 16QAM 3/4. A mode is known by its number, from 0 on.
@@ -34,7 +34,7 @@ pub const Y4: usize = 1635;
 
 pub const Y6: usize = 1637;
 
-// The symbols of each mode's pattern in the order in which they are sent: the I of each, and the Q of each.
+// The symbols of each QPSK mode's pattern in the order in which they are sent: the I of each, and the Q of each.
 pub const I_1_2: [usize; 1] = [X1];
 
 pub const Q_1_2: [usize; 1] = [Y1];
@@ -55,9 +55,9 @@ pub const I_7_8: [usize; 4] = [X1, Y2, Y4, Y6];
 
 pub const Q_7_8: [usize; 4] = [Y1, Y3, X5, X7];
 
-// A mode with uncoded bits: EN 301 210, tables 3 and 4. The first byte of a group is coded, and the others are cut into digits of a base, from the top
-// bits on, one beside each coded bit. A bit of the encoded branch is a pattern, of one symbol with two coded bits. A block has fewer coded bits than at
-// QPSK: what counts of those is whether each is X or Y.
+// How a mode with uncoded bits takes a group of bytes: EN 301 210, tables 3 and 4. The first byte is coded, the top bit first. The others, as many as
+// others says, are cut into digits of the base, the top bits first, and one digit stands beside each coded bit. Each coded bit gives one symbol: its
+// coded bits C2 and C1 are X1 or Y1.
 pub struct Grouping {
     pub others: usize,
     pub base: u8,

@@ -51,7 +51,7 @@ numbered c2 c1 uncoded coded n =
 abbrev pub mostGroups : ℕ
 mostGroups = 68
 
--- Numbers that fit each other: the digits of a byte, so many that a group has eight, and the groups of a block.
+-- The numbers of a grouping fit: per digits a byte are eight a group, a digit fits into a byte beside two coded bits, and the groups make up a block.
 pub record Fitting (g : Grouping) (per groups : ℕ) : Type 0 where
   pub others-some : 0 < g .others
   pub others-few : g .others ≤ 8
@@ -61,7 +61,8 @@ pub record Fitting (g : Grouping) (per groups : ℕ) : Type 0 where
   pub block : (g .others + 1) * groups ≡ 204
   pub few : groups ≤ mostGroups
 
--- A mode that the code takes by such numbers: a bit of the encoded branch is a pattern, of one symbol.
+-- A mode that a grouping describes: how many bytes a group has, that a coded bit is a pattern, what is coded of a group, what stands beside it, and the
+-- symbol of a coded bit.
 pub record Grouped (m : Mode) (g : Grouping) : Type 0 where
   pub fits : Fitting g (8 / g .others) (204 / (g .others + 1))
   pub size : m .group ≡ g .others + 1

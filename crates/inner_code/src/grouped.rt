@@ -10,7 +10,7 @@ ghost use Rattle.inner_code.specs.Groups.{firsts, digitsOf, byteDigits, 
 use code_tables::Grouping;
 use convolutional_code::code_bytes;
 
-// The groups of a block are at most so many.
+// A block has at most so many groups.
 const MOST_GROUPS: usize = 68;
 
 // The first byte of each group.
@@ -121,8 +121,8 @@ fn sequence(uncoded: &[u8], coded: &[u8], c2: usize, c1: usize, output: &mut [u8
     }
 }
 
-// Codes a block, whose groups are as many as bytes are lent, and gives the memory after it. Lent are also the digits and the coded bits, and a history
-// for the bits of memory and bytes.
+// Codes a block, and gives the memory after it. Four buffers are lent, as long as the number of groups asks: for the coded bytes, the digits, the bits
+// of memory and coded bytes, and X and Y of each of them.
 fn code_groups(
     memory: u8,
     block: &[u8],
@@ -161,7 +161,7 @@ fn code_groups(
     next
 }
 
-// Codes a block by the numbers of its mode, and gives the memory after it.
+// Codes a block by the grouping of its mode, and gives the memory after it.
 pub fn code_grouped(memory: u8, block: &[u8], grouping: Grouping, output: &mut [u8]) -> u8
     requires { ⌜
         (memory < 64)
