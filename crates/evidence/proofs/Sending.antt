@@ -17,13 +17,13 @@ use Rattle.randomizer.proofs.Whole.{packet-lengths}
 use Rattle.interleaver.proofs.BlockLists.{length-flatten}
 use Rattle.convolutional_code.specs.Bits.{bitsOf, Bits}
 use Rattle.convolutional_code.proofs.Bits.{bits-bits, length-bits}
-use Rattle.puncturing.specs.Mode.{modeOf, blockBits}
+use Rattle.puncturing.specs.Mode.{modeOf, blockBits, modeCount, qpskCount}
 use Rattle.puncturing.specs.Step.{patternLength, symbolsIn}
 use Rattle.inner_code.specs.Stream.{symbols, streamSymbols}
-use Rattle.inner_code.specs.Triples.{firsts, codedBits}
+use Rattle.inner_code.specs.Groups.{firsts, codedBits}
 use Rattle.inner_code.specs.Step.{symbolsOf}
 use Rattle.inner_code.proofs.Stream.{symbols-fresh, stream-qpsk}
-use Rattle.inner_code.proofs.Triples.{firsts-at, as-half}
+use Rattle.inner_code.proofs.Groups.{firsts-at, as-half}
 use Rattle.inner_code.specs.Encode.{coderAt}
 use Rattle.reader.proofs.Patterns.{sent-whole}
 use Rattle.reader.proofs.Unharmed.{hard-decoded, own-best}
@@ -52,7 +52,7 @@ Keeps f = (rate : ℕ) (bytes output : List ℕ) → SendsRun rate bytes output 
 
 -- ---- the symbols of whole patterns decide the bits
 
-decided : (rate : ℕ) → rate < 5 → {bs cs : List ℕ} → Bits bs → Bits cs → length bs % patternLength rate ≡ 0 → length cs % patternLength rate ≡ 0
+decided : (rate : ℕ) → rate < qpskCount → {bs cs : List ℕ} → Bits bs → Bits cs → length bs % patternLength rate ≡ 0 → length cs % patternLength rate ≡ 0
     → symbols (modeOf rate) bs ≡ symbols (modeOf rate) cs → bs ≡ cs
 decided rate h {bs} {cs} b c m n e =
     let ss = symbolsOf (coderAt rate 0) bs in
@@ -71,26 +71,26 @@ unfolding modeOf
 half-whole bits = omega arith
 
 -- The symbols of whole patterns decide the lowest bit of every third byte: at the QPSK rates every bit is coded, and at 16QAM those of the bytes A.
-low-decided : (rate : ℕ) → rate < 6 → (bs cs : List ℕ) → length (bitsOf bs) % patternLength rate ≡ 0 → length (bitsOf cs) % patternLength rate ≡ 0
+low-decided : (rate : ℕ) → rate < modeCount → (bs cs : List ℕ) → length (bitsOf bs) % patternLength rate ≡ 0 → length (bitsOf cs) % patternLength rate ≡ 0
     → streamSymbols (modeOf rate) bs ≡ streamSymbols (modeOf rate) cs → (i : ℕ) → i < length bs / 3 → i < length cs / 3
     → getD bs (3 * i) 0 % 2 ≡ getD cs (3 * i) 0 % 2
 low-decided rate h bs cs m n e i k l = by (decLt rate 5)
   where
-    by : Dec (rate < 5) → getD bs (3 * i) 0 % 2 ≡ getD cs (3 * i) 0 % 2
+    by : Dec (rate < qpskCount) → getD bs (3 * i) 0 % 2 ≡ getD cs (3 * i) 0 % 2
     by (yes q) = low bs cs (3 * i) (decided rate q (bits-bits bs) (bits-bits cs) m n (sym (stream-qpsk rate q bs) ∙ e ∙ stream-qpsk rate q cs))
     by (no q) =
         let five : rate ≡ 5 = omega arith in
-        let f = firsts (length bs / 3) bs in
-        let g = firsts (length cs / 3) cs in
+        let f = firsts 3 (length bs / 3) bs in
+        let g = firsts 3 (length cs / 3) cs in
         let half : streamSymbols (modeOf 0) f ≡ streamSymbols (modeOf 0) g
         = sym (as-half bs) ∙ ap (map codedBits) (subst (λ (r : ℕ). streamSymbols (modeOf r) bs ≡ streamSymbols (modeOf r) cs) five e) ∙ as-half cs in
         let same : bitsOf f ≡ bitsOf g
         = decided 0 (omega arith) (bits-bits f) (bits-bits g) (half-whole (bitsOf f)) (half-whole (bitsOf g))
         (sym (stream-qpsk 0 (omega arith) f) ∙ half ∙ stream-qpsk 0 (omega arith) g) in
-        ap (λ (x : ℕ). x % 2) (sym (firsts-at (length bs / 3) bs i k)) ∙ low f g i same ∙ ap (λ (x : ℕ). x % 2) (firsts-at (length cs / 3) cs i l)
+        ap (λ (x : ℕ). x % 2) (sym (firsts-at 3 (length bs / 3) bs i k)) ∙ low f g i same ∙ ap (λ (x : ℕ). x % 2) (firsts-at 3 (length cs / 3) cs i l)
 
 -- 35 blocks make whole patterns in every mode
-whole-patterns : (rate j : ℕ) → rate < 6 → 1632 * (35 * j) % patternLength rate ≡ 0
+whole-patterns : (rate j : ℕ) → rate < modeCount → 1632 * (35 * j) % patternLength rate ≡ 0
 unfolding modeOf
 whole-patterns zero j h = omega arith
 whole-patterns (suc zero) j h = omega arith
@@ -106,7 +106,7 @@ whole-patterns (suc (suc (suc (suc (suc (suc rate)))))) j h = absurd (omega arit
 outputFor : ℕ → ℕ → List ℕ
 outputFor rate n = replicate (symbolsIn rate 0 (blockBits rate * n)) 0
 
-module _ (f : Program) (keeps : Keeps f) (rate : ℕ) (h : rate < 6) (q : modeOf rate .sent ≡ true) where
+module _ (f : Program) (keeps : Keeps f) (rate : ℕ) (h : rate < modeCount) (q : modeOf rate .sent ≡ true) where
   kept : (ps : List (List ℕ)) → All Packet ps → f rate (flatten ps) (outputFor rate (length ps)) .output ≡ onAir (modeOf rate) ps
   unfolding outputFor
   kept ps g =

@@ -15,7 +15,7 @@ use Rattle.common.proofs.Choice.{both-true}
 use Rattle.convolutional_code.specs.Bits.{bitsOf, Bits, none, more}
 use Rattle.convolutional_code.specs.Code.{tapsX, tapsY, nextMemory, coded, motherOf, memoryAfter, blockMother}
 use Rattle.convolutional_code.proofs.Bits.{length-mother}
-use Rattle.puncturing.specs.Mode.{Mode, modeOf, blockBits, blockBitsBy, completed}
+use Rattle.puncturing.specs.Mode.{Mode, modeOf, blockBits, blockBitsBy, completed, modeCount, qpskCount}
 use Rattle.puncturing.specs.WellFormed.{Beside, alone, paired, WellFormed}
 use Rattle.puncturing.specs.Step.{nextBy, symbolList, countBy, nextPlace, punctured, heldAfter, symbolsIn}
 use Rattle.puncturing.specs.Run.{puncturedSymbols, patternPlaceAfter, heldBehind}
@@ -42,7 +42,7 @@ module _ (m : Mode) (c : InnerCoder) where
   range-test-by g = simp (lt-ltb _ _ (g .memory), lt-ltb _ _ (g .place), le-leb _ _ (g .held))
 
 -- the rate is that of a mode, which is well formed
-pub rate-known : (c : InnerCoder) → CoderInRange c → c .rate < 6
+pub rate-known : (c : InnerCoder) → CoderInRange c → c .rate < modeCount
 rate-known c g = known (c .rate) (c .place) (g .place)
 
 -- the test of the rate follows from that of the place
@@ -55,7 +55,7 @@ range-by-mode c = by (inRangeBy (modeOf (c .rate)) c) refl
 
     by : (t : Bool) → inRangeBy (modeOf (c .rate)) c ≡ t → coderInRange c ≡ inRangeBy (modeOf (c .rate)) c
     by true e = simp (lt-ltb _ _ (rate-known c (in-range-by (modeOf (c .rate)) c e)))
-    by false e = simp e (either (ltb (c .rate) 6))
+    by false e = simp e (either (ltb (c .rate) modeCount))
 
 pub in-range : (c : InnerCoder) → coderInRange c ≡ true → CoderInRange c
 in-range c e = in-range-by (modeOf (c .rate)) c (sym (range-by-mode c) ∙ e)
@@ -98,7 +98,7 @@ module _ {m : Mode} (w : WellFormed m) where
       (symbol-count-by w (c .place) (g .place) (coded tapsX (c .memory) b) (coded tapsY (c .memory) b) (c .held))
       (length-symbols-by (stepBy m c b) (step-in-range-by c b g h) t)
 
-pub fresh-in-range : (r : ℕ) → r < 6 → CoderInRange (freshCoder r)
+pub fresh-in-range : (r : ℕ) → r < modeCount → CoderInRange (freshCoder r)
 fresh-in-range r h = fresh-in-range-by (well-formed r h) r
 
 pub step-in-range : (c : InnerCoder) (b : ℕ) → CoderInRange c → b < 2 → CoderInRange (coderStep c b)
@@ -290,7 +290,7 @@ coder-held c l (also {n} {b = b} {bs} ex ey t) =
     })
 
 -- at the QPSK rates every bit is coded, and nothing goes beside
-module _ (c : InnerCoder) (h : c .rate < 5) (block : List ℕ) where
+module _ (c : InnerCoder) (h : c .rate < qpskCount) (block : List ℕ) where
   pub qpsk-symbols : blockSymbols c block ≡ symbolsOf c (bitsOf block)
   unfolding sequenced
   qpsk-symbols = ap₂ (λ (u e : List ℕ). sequenced u (symbolsOf c e)) (uncoded-qpsk (c .rate) h block) (encoded-qpsk (c .rate) h block)

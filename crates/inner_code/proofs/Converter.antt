@@ -11,7 +11,7 @@ use Rattle.common.specs.Lists.{chunks, chunksOf}
 use Rattle.common.proofs.Chunks.{length-chunks, chunks-append}
 use Rattle.convolutional_code.specs.Bits.{bitsOf, Bits, none, more}
 use Rattle.convolutional_code.proofs.Bits.{bits-at, bits-append}
-use Rattle.puncturing.specs.Mode.{CodedBit, InputBit, A, B, D, Column, Mode, qpsk, modeOf, blockBitsBy}
+use Rattle.puncturing.specs.Mode.{CodedBit, InputBit, A, B, D, Column, Mode, qpsk, modeOf, blockBitsBy, qpskCount}
 use Rattle.puncturing.proofs.Places.{end, _&_, Below, below}
 use Rattle.inner_code.specs.Converter.{bitAt, inputBit, encodedGroup, encodedBits, besideSymbol, uncodedGroup, uncodedNumbers, sequenced}
 
@@ -146,17 +146,17 @@ encoded-plain t b s bytes = ap (λ (n : ℕ). flatten (map (encodedGroup (qpsk t
 abbrev EveryBit : ℕ → Type 0
 EveryBit r = (bytes : List ℕ) → encodedBits (modeOf r) bytes ≡ bitsOf bytes
 
-all-coded : Below EveryBit 5
+all-coded : Below EveryBit qpskCount
 unfolding modeOf
 all-coded = encoded-plain _ _ _ & encoded-plain _ _ _ & encoded-plain _ _ _ & encoded-plain _ _ _ & encoded-plain _ _ _ & end
 
 -- every bit is coded
-pub encoded-qpsk : (r : ℕ) → r < 5 → (bytes : List ℕ) → encodedBits (modeOf r) bytes ≡ bitsOf bytes
-encoded-qpsk r h bytes = below EveryBit 5 all-coded r h bytes
+pub encoded-qpsk : (r : ℕ) → r < qpskCount → (bytes : List ℕ) → encodedBits (modeOf r) bytes ≡ bitsOf bytes
+encoded-qpsk r h bytes = below EveryBit qpskCount all-coded r h bytes
 
-no-uncoded : Below (λ r. modeOf r .uncoded ≡ []) 5
+no-uncoded : Below (λ r. modeOf r .uncoded ≡ []) qpskCount
 unfolding modeOf
 no-uncoded = refl & refl & refl & refl & refl & end
 
-pub uncoded-qpsk : (r : ℕ) → r < 5 → (bytes : List ℕ) → uncodedNumbers (modeOf r) bytes ≡ []
-uncoded-qpsk r h bytes = uncoded-none (modeOf r) (below (λ r. modeOf r .uncoded ≡ []) 5 no-uncoded r h) bytes
+pub uncoded-qpsk : (r : ℕ) → r < qpskCount → (bytes : List ℕ) → uncodedNumbers (modeOf r) bytes ≡ []
+uncoded-qpsk r h bytes = uncoded-none (modeOf r) (below (λ r. modeOf r .uncoded ≡ []) qpskCount no-uncoded r h) bytes

@@ -1,4 +1,4 @@
 pub mod Converter
 pub mod Coder
 pub mod Stream
-pub mod Triples
+pub mod Groups

@@ -17,7 +17,7 @@ use Rattle.common.specs.Lists.{All, Length}
 use Rattle.convolutional_code.specs.Bits.{bitsOf, Bits, none, more}
 use Rattle.convolutional_code.specs.Code.{tapsX, tapsY, convolved, recent, nextMemory, coded}
 use Rattle.convolutional_code.proofs.Bits.{bits-at}
-use Rattle.puncturing.specs.Mode.{CodedBit, X, Y, Mode, modeOf, completed, begun, binary}
+use Rattle.puncturing.specs.Mode.{CodedBit, X, Y, Mode, modeOf, completed, begun, binary, qpskCount}
 use Rattle.puncturing.specs.WellFormed.{AtHand, newest, held, First, WellFormed}
 use Rattle.puncturing.specs.Step.{nextBy, valueAt, symbolList, puncturedBy, firstOf, heldBy}
 use Rattle.puncturing.proofs.Places.{up}
@@ -258,10 +258,10 @@ calls-stream m w rate bs l = calls-flatten w bs (freshCoder rate) (fresh-in-rang
 
 -- ---- the QPSK rates
 
-pub symbols-fresh : (r : ℕ) {bits : List ℕ} → r < 5 → Bits bits → symbolsOf (freshCoder r) bits ≡ symbols (modeOf r) bits
+pub symbols-fresh : (r : ℕ) {bits : List ℕ} → r < qpskCount → Bits bits → symbolsOf (freshCoder r) bits ≡ symbols (modeOf r) bits
 symbols-fresh r h t = symbols-fresh-by (well-formed r (up r h)) r t
 
 -- every bit of the bytes is coded, and there is nothing beside
-pub stream-qpsk : (r : ℕ) → r < 5 → (bytes : List ℕ) → streamSymbols (modeOf r) bytes ≡ symbols (modeOf r) (bitsOf bytes)
+pub stream-qpsk : (r : ℕ) → r < qpskCount → (bytes : List ℕ) → streamSymbols (modeOf r) bytes ≡ symbols (modeOf r) (bitsOf bytes)
 unfolding streamSymbols sequenced
 stream-qpsk r h bytes = ap₂ (λ (u e : List ℕ). sequenced u (symbols (modeOf r) e)) (uncoded-qpsk r h bytes) (encoded-qpsk r h bytes)

@@ -2,4 +2,4 @@ pub mod Converter
 pub mod Stream
 pub mod Step
 pub mod Encode
-pub mod Triples
+pub mod Groups

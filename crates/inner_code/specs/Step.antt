@@ -7,7 +7,7 @@ use Prim.Native.Nat.{ℕ, _<_, _≤_}
 use lib.Dec.{ltb, leb}
 use Rattle.common.specs.Choice.{pick}
 use Rattle.convolutional_code.specs.Code.{tapsX, tapsY, nextMemory, coded}
-use Rattle.puncturing.specs.Mode.{Mode, modeOf}
+use Rattle.puncturing.specs.Mode.{Mode, modeOf, modeCount}
 use Rattle.puncturing.specs.Step.{nextBy, heldCountBy, symbolList, puncturedBy, heldBy}
 use Rattle.puncturing.specs.declared.Symbol.{Symbol}
 use Rattle.inner_code.specs.declared.InnerCoder.{InnerCoder}
@@ -45,7 +45,7 @@ coderBy m c (b ∷ bs) = coderBy m (stepBy m c b) bs
 -- ---- in the mode that the coder's rate is the number of
 
 abbrev pub coderInRange : InnerCoder → Bool
-coderInRange c = pick (ltb (c .rate) 6) (inRangeBy (modeOf (c .rate)) c) false
+coderInRange c = pick (ltb (c .rate) modeCount) (inRangeBy (modeOf (c .rate)) c) false
 
 -- The same as facts. The rate is that of a mode: the pattern of a number that is no mode has no bits, and so no place.
 abbrev pub CoderInRange : InnerCoder → Type 0

@@ -2,24 +2,27 @@
 ghost use mathlib.Core.Path.{_≡_};
 ghost use Prim.Native.Nat.{_<_};
 ghost use Rattle.answer.specs.Number.{numberOf};
+ghost use Rattle.puncturing.specs.Mode.{modeOf, qpskCount};
 ghost use Rattle.inner_code.specs.Step.{coderInRange};
+ghost use Rattle.inner_code.specs.Groups.{Grouped};
 ghost use Rattle.common.specs.Choice.{indicator};
 ghost use Rattle.inner_code.specs.Encode.{freshCoder, newNumber, stepNumber, stepCoder, stepSymbol, symbolCount, innerEncodeNumber, encodeCoder, encodeCount, innerEncodeOutput, Encodable, Encodes};
 
-mod qam;
+mod grouped;
 
 use answer::Answer;
+use code_tables::Grouping;
 use convolutional_code::code_bytes;
 use convolutional_code::next_memory;
 use convolutional_code::x_of;
 use convolutional_code::y_of;
+use grouped::code_grouped;
 use puncturing::Symbol;
 use puncturing::block_count;
 use puncturing::held_count;
 use puncturing::is_sent;
 use puncturing::puncture;
 use puncturing::puncture_block;
-use qam::code_qam;
 
 // The state of the coder. place is where in the puncturing pattern the next bit stands; held is an I whose Q has not come, 0 where none is held.
 pub struct InnerCoder {
@@ -54,7 +57,7 @@ impl InnerCoder {
     pub const BLOCK_LENGTH: usize = 204;
 
     // The bits of each mode's puncturing pattern.
-    pub const PATTERN_LENGTHS: [u8; 6] = code_tables::PATTERN_LENGTHS;
+    pub const PATTERN_LENGTHS: [u8; code_tables::MODES] = code_tables::PATTERN_LENGTHS;
 
     pub fn new(rate: u8) -> Created
         ensures { λ r. ⌜ (numberOf (r .answer) ≡ newNumber rate) × (r .coder ≡ freshCoder rate) ⌝ }
@@ -85,7 +88,7 @@ impl InnerCoder {
         let memory = self.memory;
         let place = self.place;
         let held = self.held;
-        if rate >= 6 {
+        if rate as usize >= code_tables::MODES {
             return false;
         }
         if memory >= 64 {
@@ -198,7 +201,7 @@ fn bit_value(bit: bool) -> u8
 
 // Codes a block at one of the five QPSK rates.
 fn encode_qpsk(coder: InnerCoder, block: &[u8], output: &mut [u8]) -> Encoded
-    requires { ⌜ (Encodable coder (now block) (now output)) × (coder .rate < 5) ⌝ }
+    requires { ⌜ (Encodable coder (now block) (now output)) × (coder .rate < qpskCount) ⌝ }
     ensures { λ r. ⌜ Encodes coder (now (block .entry)) (now (output .entry)) r (now (output .exit)) ⌝ }
 {
     let rate = coder.rate;
@@ -221,14 +224,15 @@ fn encode_qpsk(coder: InnerCoder, block: &[u8], output: &mut [u8]) -> Encoded
     }
 }
 
-// Codes a block at 16QAM 3/4: nothing is held, and the place stays 0.
-fn encode_qam(coder: InnerCoder, block: &[u8], output: &mut [u8]) -> Encoded
-    requires { ⌜ (Encodable coder (now block) (now output)) × (coder .rate ≡ 5) ⌝ }
+// Codes a block in a mode with uncoded bits: nothing is held, and the place stays 0.
+fn encode_grouped(coder: InnerCoder, grouping: Grouping, block: &[u8], output: &mut [u8]) -> Encoded
+    requires { ⌜ (Encodable coder (now block) (now output)) × (Grouped (modeOf (coder .rate)) grouping) ⌝ }
     ensures { λ r. ⌜ Encodes coder (now (block .entry)) (now (output .entry)) r (now (output .exit)) ⌝ }
 {
     let rate = coder.rate;
     let memory = coder.memory;
-    let next = code_qam(memory, block, output);
+    let others = grouping.others;
+    let next = code_grouped(memory, block, grouping, output);
     Encoded {
         answer: Answer::Done,
         coder: InnerCoder {
@@ -237,7 +241,7 @@ fn encode_qam(coder: InnerCoder, block: &[u8], output: &mut [u8]) -> Encoded
             place: 0,
             held: 0,
         },
-        count: 544,
+        count: 8 * (204 / (others + 1)),
     }
 }
 
@@ -247,8 +251,8 @@ fn encode_block(coder: InnerCoder, block: &[u8], output: &mut [u8]) -> Encoded
     ensures { λ r. ⌜ Encodes coder (now (block .entry)) (now (output .entry)) r (now (output .exit)) ⌝ }
 {
     let rate = coder.rate;
-    if rate < 5 {
+    if (rate as usize) < code_tables::QPSK_MODES {
         return encode_qpsk(coder, block, output);
     }
-    encode_qam(coder, block, output)
+    encode_grouped(coder, code_tables::GROUPING_16QAM, block, output)
 }

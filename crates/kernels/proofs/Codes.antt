@@ -15,7 +15,7 @@ use Rattle.inner_code.specs.Step.{CoderInRange, symbolsBy, symbolStep, coderSte
 use Rattle.common.specs.Lists.{chunksOf}
 use Rattle.common.proofs.Computed as computed
 use Rattle.common.proofs.Chunks.{chunks-whole}
-use Rattle.puncturing.specs.Mode.{modeOf, blockBits, blockBitsBy}
+use Rattle.puncturing.specs.Mode.{modeOf, blockBits, blockBitsBy, modeCount}
 use Rattle.inner_code.specs.Converter.{encodedBits}
 use Rattle.inner_code.specs.Encode.{freshCoder, blockSymbolsBy, blockCoderBy, callsBy, blockSymbols, blockCoder, encodeCoder, encodeCount, innerEncodeOutput}
 use Rattle.inner_code.specs.declared.InnerCoder.{InnerCoder}
@@ -42,9 +42,9 @@ symbols-few c (b ∷ bs) =
     let r = symbols-few (coderStep c b) bs in
     omega (arith, at-most-one (symbolStep c b), length-append (symbolList (symbolStep c b)) (symbolsOf (coderStep c b) bs))
 
-bits-few : (r : ℕ) → r < 6 → blockBits r ≤ 1632
+bits-few : (r : ℕ) → r < modeCount → blockBits r ≤ 1632
 unfolding blockBitsBy modeOf
-bits-few r h = leb→le _ _ (computed.below-at (λ r. leb (blockBits r) 1632) 6 tt r h)
+bits-few r h = leb→le _ _ (computed.below-at (λ r. leb (blockBits r) 1632) modeCount tt r h)
 
 block-few : (c : InnerCoder) → CoderInRange c → (block : List ℕ) → length block ≡ 204 → length (blockSymbols c block) ≤ 1632
 block-few c g block n =

@@ -10,7 +10,7 @@ use lib.ListN.{length, getD, length-append}
 use Rattle.common.proofs.Computed as computed
 use Rattle.convolutional_code.specs.Bits.{Bits}
 use Rattle.convolutional_code.proofs.Bits.{bits-at}
-use Rattle.puncturing.specs.Mode.{modeOf, completed}
+use Rattle.puncturing.specs.Mode.{modeOf, completed, qpskCount}
 use Rattle.puncturing.specs.Step.{patternLength, nextPlace, heldCount, symbolList, punctured, heldAfter, symbolsIn, puncturedBy, heldBy, heldCountBy, countBy}
 use Rattle.puncturing.specs.Run.{puncturedSymbols, patternPlaceAfter, heldBehind, patternSymbols, patternsSymbols, iBits, qBits}
 use Rattle.puncturing.proofs.Places.{tested-at, agreed-at, up, end, _&_, Below, below}
@@ -52,7 +52,7 @@ held-append r p h l n (suc j) k =
     ∙ held-append r p′ h′ l (suc n) j k
     ∙ ap (λ (m : ℕ). heldBehind r (patternPlaceAfter r p′ j) (heldBehind r p′ h′ l (suc n) j) l m k) (suc-add n j ∙ sym (add-suc n j))
 
-held-behind : (r p h : ℕ) (l : List ℕ) (n k : ℕ) → r < 5 → p < patternLength r → h ≤ heldCount r p → Bits l
+held-behind : (r p h : ℕ) (l : List ℕ) (n k : ℕ) → r < qpskCount → p < patternLength r → h ≤ heldCount r p → Bits l
     → heldBehind r p h l n k ≤ heldCount r (patternPlaceAfter r p k)
 unfolding patternPlaceAfter heldBehind
 held-behind r p h l n zero hr hp hh t = hh
@@ -79,15 +79,15 @@ place-after r p (suc k) h =
     place-after r (nextPlace r p) k (next-lt r p h) ∙ mod-add-mod (p + 1) (patternLength r) k ∙ ap (λ (n : ℕ). n % patternLength r) e
 
 -- a whole pattern has as many symbols as its mode, and what is shorter has fewer
-pattern-count : (r : ℕ) → r < 5 → symbolsIn r 0 (patternLength r) ≡ length (modeOf r .symbols)
+pattern-count : (r : ℕ) → r < qpskCount → symbolsIn r 0 (patternLength r) ≡ length (modeOf r .symbols)
 unfolding countBy modeOf
-pattern-count r h = computed.agree-at (λ r. symbolsIn r 0 (patternLength r)) (λ r. length (modeOf r .symbols)) 5 tt r h
+pattern-count r h = computed.agree-at (λ r. symbolsIn r 0 (patternLength r)) (λ r. length (modeOf r .symbols)) qpskCount tt r h
 
-pub part-count : (r k : ℕ) → r < 5 → k < patternLength r → symbolsIn r 0 k < length (modeOf r .symbols)
+pub part-count : (r k : ℕ) → r < qpskCount → k < patternLength r → symbolsIn r 0 k < length (modeOf r .symbols)
 unfolding countBy modeOf
 part-count r k h l = ltb→lt _ _ (tested-at (λ r k. ltb (symbolsIn r 0 k) (length (modeOf r .symbols))) tt r k h l)
 
-pub whole-count : (r q : ℕ) → r < 5 → symbolsIn r 0 (patternLength r * q) ≡ length (modeOf r .symbols) * q
+pub whole-count : (r q : ℕ) → r < qpskCount → symbolsIn r 0 (patternLength r * q) ≡ length (modeOf r .symbols) * q
 unfolding countBy
 whole-count r zero h = rw (mul-zero, mul-zero)
 whole-count r (suc q) h =
@@ -100,20 +100,20 @@ whole-count r (suc q) h =
 
 -- ---- where a pattern begins
 
-pub none-held : (r : ℕ) → r < 5 → heldCount r 0 ≡ 0
+pub none-held : (r : ℕ) → r < qpskCount → heldCount r 0 ≡ 0
 unfolding heldCountBy modeOf
-none-held r h = computed.agree-at (λ r. heldCount r 0) (λ r. 0) 5 tt r h
+none-held r h = computed.agree-at (λ r. heldCount r 0) (λ r. 0) qpskCount tt r h
 
-pub to-start : (r p : ℕ) → r < 5 → p < patternLength r → patternPlaceAfter r p ((patternLength r - p) % patternLength r) ≡ 0
+pub to-start : (r p : ℕ) → r < qpskCount → p < patternLength r → patternPlaceAfter r p ((patternLength r - p) % patternLength r) ≡ 0
 unfolding patternPlaceAfter modeOf
 to-start r p h k = agreed-at (λ r p. patternPlaceAfter r p ((patternLength r - p) % patternLength r)) (λ r p. 0) tt r p h k
 
-around : (r : ℕ) → r < 5 → patternPlaceAfter r 0 (patternLength r) ≡ 0
+around : (r : ℕ) → r < qpskCount → patternPlaceAfter r 0 (patternLength r) ≡ 0
 unfolding patternPlaceAfter modeOf
-around r h = computed.agree-at (λ r. patternPlaceAfter r 0 (patternLength r)) (λ r. 0) 5 tt r h
+around r h = computed.agree-at (λ r. patternPlaceAfter r 0 (patternLength r)) (λ r. 0) qpskCount tt r h
 
 -- at the start of a pattern nothing is held
-held-start : (r p h : ℕ) (l : List ℕ) (n k : ℕ) → r < 5 → p < patternLength r → h ≤ heldCount r p → Bits l → patternPlaceAfter r p k ≡ 0
+held-start : (r p h : ℕ) (l : List ℕ) (n k : ℕ) → r < qpskCount → p < patternLength r → h ≤ heldCount r p → Bits l → patternPlaceAfter r p k ≡ 0
     → heldBehind r p h l n k ≡ 0
 held-start r p h l n k hr hp hh t e =
     let a : heldBehind r p h l n k ≤ heldCount r (patternPlaceAfter r p k) = held-behind r p h l n k hr hp hh t in
@@ -145,16 +145,16 @@ near r p h l m n j (suc k) e =
 abbrev Whole : ℕ → Type 0
 Whole r = (l : List ℕ) (n : ℕ) → patternSymbols (iBits r) (qBits r) l n ≡ sentNear r 0 0 l n 0 (patternLength r)
 
-wholes : Below Whole 5
+wholes : Below Whole qpskCount
 unfolding patternSymbols iBits qBits puncturedBy heldBy modeOf
 wholes = (λ l n. refl) & (λ l n. refl) & (λ l n. refl) & (λ l n. refl) & (λ l n. refl) & end
 
-pattern-sent : (r : ℕ) (l : List ℕ) (n : ℕ) → r < 5 → patternSymbols (iBits r) (qBits r) l n ≡ puncturedSymbols r 0 0 l n (patternLength r)
-pattern-sent r l n h = below Whole 5 wholes r h l n ∙ sym (near r 0 0 l n n 0 (patternLength r) (sym (add-zero n)))
+pattern-sent : (r : ℕ) (l : List ℕ) (n : ℕ) → r < qpskCount → patternSymbols (iBits r) (qBits r) l n ≡ puncturedSymbols r 0 0 l n (patternLength r)
+pattern-sent r l n h = below Whole qpskCount wholes r h l n ∙ sym (near r 0 0 l n n 0 (patternLength r) (sym (add-zero n)))
 
 -- ---- patterns
 
-module _ (r : ℕ) (l : List ℕ) (hr : r < 5) (bits : Bits l) where
+module _ (r : ℕ) (l : List ℕ) (hr : r < qpskCount) (bits : Bits l) where
   pub length-patterns : (n t : ℕ) → length (patternsSymbols (iBits r) (qBits r) l (patternLength r) n t) ≡ t * length (iBits r)
   unfolding patternsSymbols
   length-patterns n zero = sym (zero-mul (length (iBits r)))

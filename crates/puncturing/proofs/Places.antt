@@ -9,10 +9,10 @@ use native.Mathlib.Omega.{arith}
 use native.Mathlib.Nat.{le-of-suc-le-suc, not-suc-le-zero, eq-or-lt-of-le}
 use borrow.Author.Tests.{ltb-true, ltb-false}
 use lib.Dec.{T, ltb, leb, eqb, eqb→eq, leb→le}
-use lib.ListN.{getD}
+use lib.ListN.{getD, List·getD-eq-default}
 use Rattle.common.proofs.Choice.{false-true}
 use Rattle.common.proofs.Computed as computed
-use Rattle.puncturing.specs.Mode.{Mode, noMode, modeOf}
+use Rattle.puncturing.specs.Mode.{Mode, modes, noMode, modeOf, modeCount, qpskCount, longestPattern}
 use Rattle.puncturing.specs.Step.{patternLength}
 
 -- a test that passes at each place of the first n modes
@@ -34,56 +34,50 @@ agreed-of n f g t r p h k = eqb→eq (f r p) (g r p) (tested-of n (λ r p. eqb (
 abbrev pub lengths : List ℕ
 lengths = 1 ∷ 4 ∷ 3 ∷ 5 ∷ 7 ∷ 1 ∷ []
 
-pub length-is : (r : ℕ) → r < 6 → getD lengths r 0 ≡ patternLength r
+pub length-is : (r : ℕ) → r < modeCount → getD lengths r 0 ≡ patternLength r
 unfolding modeOf
-length-is r h = computed.agree-at (λ r. getD lengths r 0) patternLength 6 tt r h
+length-is r h = computed.agree-at (λ r. getD lengths r 0) patternLength modeCount tt r h
 
-pub length-le : (r : ℕ) → r < 6 → patternLength r ≤ 7
+pub length-le : (r : ℕ) → r < modeCount → patternLength r ≤ longestPattern
 unfolding modeOf
-length-le r h = leb→le _ _ (computed.below-at (λ r. leb (patternLength r) 7) 6 tt r h)
+length-le r h = leb→le _ _ (computed.below-at (λ r. leb (patternLength r) longestPattern) modeCount tt r h)
 
 -- of the five QPSK rates
 abbrev pub tested : (ℕ → ℕ → Bool) → Bool
-tested = testedOf 5
+tested = testedOf qpskCount
 
-pub tested-at : (f : ℕ → ℕ → Bool) → T (tested f) → (r p : ℕ) → r < 5 → p < patternLength r → T (f r p)
-tested-at = tested-of 5
+pub tested-at : (f : ℕ → ℕ → Bool) → T (tested f) → (r p : ℕ) → r < qpskCount → p < patternLength r → T (f r p)
+tested-at = tested-of qpskCount
 
 abbrev pub agreed : (ℕ → ℕ → ℕ) → (ℕ → ℕ → ℕ) → Bool
-agreed = agreedOf 5
+agreed = agreedOf qpskCount
 
-pub agreed-at : (f g : ℕ → ℕ → ℕ) → T (agreed f g) → (r p : ℕ) → r < 5 → p < patternLength r → f r p ≡ g r p
-agreed-at = agreed-of 5
+pub agreed-at : (f g : ℕ → ℕ → ℕ) → T (agreed f g) → (r p : ℕ) → r < qpskCount → p < patternLength r → f r p ≡ g r p
+agreed-at = agreed-of qpskCount
 
 -- a QPSK rate is one of the modes
-pub up : (r : ℕ) → r < 5 → r < 6
+pub up : (r : ℕ) → r < qpskCount → r < modeCount
 up r h = omega arith
 
 -- what no mode has the number of
-pub outside : (r : ℕ) → 6 ≤ r → modeOf r ≡ noMode
-unfolding modeOf
-outside zero h = absurd (omega arith)
-outside (suc zero) h = absurd (omega arith)
-outside (suc (suc zero)) h = absurd (omega arith)
-outside (suc (suc (suc zero))) h = absurd (omega arith)
-outside (suc (suc (suc (suc zero)))) h = absurd (omega arith)
-outside (suc (suc (suc (suc (suc zero))))) h = absurd (omega arith)
-outside (suc (suc (suc (suc (suc (suc r)))))) h = refl
+pub outside : (r : ℕ) → modeCount ≤ r → modeOf r ≡ noMode
+unfolding modeOf modes
+outside r h = List·getD-eq-default modes noMode h
 
-pub known : (r p : ℕ) → p < patternLength r → r < 6
-known r p h = by (ltb r 6) refl
+pub known : (r p : ℕ) → p < patternLength r → r < modeCount
+known r p h = by (ltb r modeCount) refl
   where
-    by : (t : Bool) → ltb r 6 ≡ t → r < 6
-    by true e = ltb-true r 6 e
-    by false e = let z = ap (λ (m : Mode). m .bits) (outside r (ltb-false r 6 e)) in absurd (omega arith)
+    by : (t : Bool) → ltb r modeCount ≡ t → r < modeCount
+    by true e = ltb-true r modeCount e
+    by false e = let z = ap (λ (m : Mode). m .bits) (outside r (ltb-false r modeCount e)) in absurd (omega arith)
 
 -- a number whose mode is sent is that of a mode
-pub sent-known : (r : ℕ) → modeOf r .sent ≡ true → r < 6
-sent-known r s = by (ltb r 6) refl
+pub sent-known : (r : ℕ) → modeOf r .sent ≡ true → r < modeCount
+sent-known r s = by (ltb r modeCount) refl
   where
-    by : (t : Bool) → ltb r 6 ≡ t → r < 6
-    by true e = ltb-true r 6 e
-    by false e = false-true (sym (ap (λ (m : Mode). m .sent) (outside r (ltb-false r 6 e))) ∙ s)
+    by : (t : Bool) → ltb r modeCount ≡ t → r < modeCount
+    by true e = ltb-true r modeCount e
+    by false e = false-true (sym (ap (λ (m : Mode). m .sent) (outside r (ltb-false r modeCount e))) ∙ s)
 
 -- a fact that no test decides, at each number below n, the greatest first
 infixr 5 _&_
@@ -103,7 +97,7 @@ pub everywhere-of : (n : ℕ) (P : ℕ → ℕ → Type 0) → EverywhereOf n P 
 everywhere-of n P t r p h k = below (P r) (patternLength r) (below (λ r. Below (P r) (patternLength r)) n t r h) p k
 
 abbrev pub Everywhere : (ℕ → ℕ → Type 0) → Type 0
-Everywhere = EverywhereOf 5
+Everywhere = EverywhereOf qpskCount
 
-pub everywhere : (P : ℕ → ℕ → Type 0) → Everywhere P → (r p : ℕ) → r < 5 → p < patternLength r → P r p
-everywhere = everywhere-of 5
+pub everywhere : (P : ℕ → ℕ → Type 0) → Everywhere P → (r p : ℕ) → r < qpskCount → p < patternLength r → P r p
+everywhere = everywhere-of qpskCount

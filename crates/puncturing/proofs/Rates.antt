@@ -11,7 +11,7 @@ use Rattle.common.specs.Lists.{placed}
 use Rattle.common.proofs.Computed.{both, both-left, both-right}
 use Rattle.common.proofs.Computed as computed
 use Rattle.convolutional_code.specs.Bits.{Bits}
-use Rattle.puncturing.specs.Mode.{modeOf}
+use Rattle.puncturing.specs.Mode.{modeOf, qpskCount}
 use Rattle.puncturing.specs.Step.{patternLength}
 use Rattle.puncturing.specs.Run.{patternsSymbols, iBits, qBits}
 
@@ -32,15 +32,15 @@ pub record Table (r : ℕ) (is qs : List ℕ) (len : ℕ) : Type 0 where
   pub i-under : (j : ℕ) → getD is j 0 < 1632 + len
   pub q-under : (j : ℕ) → getD qs j 0 < 1632 + len
 
-pub table : (r : ℕ) → r < 5 → Table r (iBits r) (qBits r) (patternLength r)
+pub table : (r : ℕ) → r < qpskCount → Table r (iBits r) (qBits r) (patternLength r)
 unfolding iBits qBits modeOf
 table r h = record {
-  few = leb→le _ _ (computed.below-at (λ r. leb (length (iBits r)) 4) 5 tt r h);
-  same = computed.agree-at (λ r. length (iBits r)) (λ r. length (qBits r)) 5 tt r h;
+  few = leb→le _ _ (computed.below-at (λ r. leb (length (iBits r)) 4) qpskCount tt r h);
+  same = computed.agree-at (λ r. length (iBits r)) (λ r. length (qBits r)) qpskCount tt r h;
   i-under =
-      under (1632 + patternLength r) (iBits r) (computed.below-at (λ r. allUnder (1632 + patternLength r) (iBits r)) 5 tt r h) (omega arith);
+      under (1632 + patternLength r) (iBits r) (computed.below-at (λ r. allUnder (1632 + patternLength r) (iBits r)) qpskCount tt r h) (omega arith);
   q-under =
-      under (1632 + patternLength r) (qBits r) (computed.below-at (λ r. allUnder (1632 + patternLength r) (qBits r)) 5 tt r h) (omega arith);
+      under (1632 + patternLength r) (qBits r) (computed.below-at (λ r. allUnder (1632 + patternLength r) (qBits r)) qpskCount tt r h) (omega arith);
 }
 
 -- what a run of whole patterns asks for
@@ -55,7 +55,7 @@ Asked r l output from turns at =
     × (from + turns * patternLength r ≤ 1632)
     × (at + turns * length (iBits r) ≤ length output)
 
-pub asked : (k r : ℕ) (l output : List ℕ) (from turns at : ℕ) → r ≡ k → r < 5 → Bits l → length l ≡ 3264 → from + turns * patternLength r ≤ 1632
+pub asked : (k r : ℕ) (l output : List ℕ) (from turns at : ℕ) → r ≡ k → r < qpskCount → Bits l → length l ≡ 3264 → from + turns * patternLength r ≤ 1632
     → at + turns * length (iBits r) ≤ length output → Asked k l output from turns at
 asked k r l output from turns at e h b n f g =
     let t = table r h in
@@ -70,5 +70,5 @@ pub given : (k r : ℕ) (l output output′ : List ℕ) (from turns at n : ℕ) 
 given k r l output output′ from turns at n e g = subst (λ (r : ℕ). Given r l output output′ from turns at n) (sym e) g
 
 -- the last of the five rates
-pub four : (r : ℕ) → r < 5 → (r ≡ 0 → ⊥) → (r ≡ 1 → ⊥) → (r ≡ 2 → ⊥) → (r ≡ 3 → ⊥) → r ≡ 4
+pub four : (r : ℕ) → r < qpskCount → (r ≡ 0 → ⊥) → (r ≡ 1 → ⊥) → (r ≡ 2 → ⊥) → (r ≡ 3 → ⊥) → r ≡ 4
 four r h a b c d = omega arith

@@ -12,6 +12,7 @@ use Rattle.common.proofs.Written.{Written, written-none, written-more, written-
 use Rattle.common.proofs.Outputs.{placed-all}
 use Rattle.convolutional_code.specs.Bits.{Bits}
 use Rattle.convolutional_code.proofs.Bits.{bits-at}
+use Rattle.puncturing.specs.Mode.{qpskCount}
 use Rattle.puncturing.specs.Step.{patternLength, nextPlace, heldCount, symbolList, punctured, heldAfter}
 use Rattle.puncturing.specs.Run.{puncturedSymbols, patternPlaceAfter, heldBehind, progress}
 use Rattle.puncturing.specs.declared.Symbol.{Symbol}
@@ -22,7 +23,7 @@ use Rattle.puncturing.proofs.Steps.{next-lt, held-in-range}
 
 -- before bit n of the bits from .. to: the puncturing is at place p with the held bit h, and the output is written up to count
 pub record Going (r p₀ h₀ : ℕ) (l : List ℕ) (from to : ℕ) (output₀ : List ℕ) (at : ℕ) (output : List ℕ) (p h count n : ℕ) : Type 0 where
-  pub rate : r < 5
+  pub rate : r < qpskCount
   pub place : p < patternLength r
   pub held : h ≤ heldCount r p
   pub within : n ≤ to
@@ -33,7 +34,7 @@ pub record Going (r p₀ h₀ : ℕ) (l : List ℕ) (from to : ℕ) (output₀ :
   pub placing : patternPlaceAfter r p₀ (to - from) ≡ patternPlaceAfter r p (to - n)
   pub behind : heldBehind r p₀ h₀ l from (to - from) ≡ heldBehind r p h l n (to - n)
 
-pub going-start : {r p h : ℕ} {l : List ℕ} {from to : ℕ} {output : List ℕ} {at : ℕ} → r < 5 → p < patternLength r → h ≤ heldCount r p → from ≤ to
+pub going-start : {r p h : ℕ} {l : List ℕ} {from to : ℕ} {output : List ℕ} {at : ℕ} → r < qpskCount → p < patternLength r → h ≤ heldCount r p → from ≤ to
     → at + length (puncturedSymbols r p h l from (to - from)) ≤ length output → Going r p h l from to output at output p h at from
 going-start hr hp hh hn output = record {
   rate = hr;

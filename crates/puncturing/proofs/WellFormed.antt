@@ -13,7 +13,7 @@ use Rattle.common.specs.Choice.{pick}
 use Rattle.common.specs.Lists.{All}
 use Rattle.common.proofs.Computed.{both, both-left, both-right}
 use Rattle.common.proofs.Computed as computed
-use Rattle.puncturing.specs.Mode.{CodedBit, X, Y, bitOf, Mode, modeOf, completed, begun, binary}
+use Rattle.puncturing.specs.Mode.{CodedBit, X, Y, bitOf, Mode, modeOf, completed, begun, binary, modeCount}
 use Rattle.puncturing.specs.WellFormed.{AtHand, newest, held, First, Beside, alone, paired, WellFormed}
 use Rattle.puncturing.specs.Step.{nextBy, heldCountBy, valueAt, symbolOf, symbolList, puncturedBy, firstOf, heldBy}
 
@@ -142,12 +142,12 @@ well-formed-by m t0 =
 
 -- ---- the rows of the table
 
-rows : T (computed.below (λ r. wellFormed (modeOf r)) 6)
+rows : T (computed.below (λ r. wellFormed (modeOf r)) modeCount)
 unfolding modeOf
 rows = tt
 
-pub well-formed : (r : ℕ) → r < 6 → WellFormed (modeOf r)
-well-formed r h = well-formed-by (modeOf r) (computed.below-at (λ r. wellFormed (modeOf r)) 6 rows r h)
+pub well-formed : (r : ℕ) → r < modeCount → WellFormed (modeOf r)
+well-formed r h = well-formed-by (modeOf r) (computed.below-at (λ r. wellFormed (modeOf r)) modeCount rows r h)
 
 -- ---- the puncturing of one bit
 
@@ -189,7 +189,7 @@ module _ {m : Mode} (w : WellFormed m) (place : ℕ) (k : place < m .bits) where
       next-le : place + 1 ≤ m .bits
       next-le = omega arith
 
-pick-small : (b : Bool) (x y : ℕ) → x < 2 → y < 2 → pick b x y < 2
+pub pick-small : (b : Bool) (x y : ℕ) → x < 2 → y < 2 → pick b x y < 2
 pick-small true x y h k = h
 pick-small false x y h k = k
 

@@ -87,6 +87,16 @@ modes =
     ∷ sixteenQam
     ∷ []
 
+-- how many modes there are, and how many of them, the first ones, are QPSK; no pattern has more bits than the longest
+abbrev pub modeCount : ℕ
+modeCount = 6
+
+abbrev pub qpskCount : ℕ
+qpskCount = 5
+
+abbrev pub longestPattern : ℕ
+longestPattern = 7
+
 -- the mode of a number; of a number that is no mode, one without symbols, which is not sent
 abbrev pub noMode : Mode
 noMode = record { sent = false; group = 0; columns = []; bits = 0; symbols = []; uncoded = [] }

@@ -5,13 +5,15 @@ ghost use Prim.Native.Nat.{ℕ, _+_, _-_, _*_, _<_, _≤_};
 ghost use lib.ListN.{length};
 ghost use Rattle.common.specs.Lists.{placed};
 ghost use Rattle.convolutional_code.specs.Bits.{Bits};
-ghost use Rattle.puncturing.specs.Mode.{modeOf, blockBits};
+ghost use Rattle.puncturing.specs.Mode.{modeOf, modeCount, qpskCount, longestPattern, blockBits};
 ghost use Rattle.puncturing.specs.Step.{patternLength, nextPlace, heldCount, punctured, symbolsIn};
 ghost use Rattle.puncturing.specs.Run.{byKind, punctureStep, puncturedSymbols, patternPlaceAfter, progress};
 
 mod tables;
 mod whole;
 
+use code_tables::LONGEST_PATTERN;
+use code_tables::MODES;
 use code_tables::PATTERN_LENGTHS;
 use tables::COMPLETED;
 use tables::COUNTS;
@@ -19,7 +21,7 @@ use tables::HELD;
 use whole::whole_patterns;
 
 // Which modes are sent: 1 where one is.
-const SENT: [u8; 6] = [1, 1, 1, 1, 0, 1];
+const SENT: [u8; MODES] = [1, 1, 1, 1, 0, 1];
 
 // What a bit completes: no symbol yet, or one with this number.
 pub enum Symbol {
@@ -31,14 +33,14 @@ pub enum Symbol {
 pub fn is_sent(rate: u8) -> bool
     ensures { λ r. ⌜ r ≡ modeOf rate .sent ⌝ }
 {
-    if rate >= 6 {
+    if rate as usize >= MODES {
         return false;
     }
     SENT[rate as usize] == 1
 }
 
 pub fn pattern_length(rate: u8) -> u8
-    requires { ⌜ rate < 6 ⌝ }
+    requires { ⌜ rate < modeCount ⌝ }
     ensures { λ r. ⌜ r ≡ patternLength rate ⌝ }
 {
     PATTERN_LENGTHS[rate as usize]
@@ -46,35 +48,35 @@ pub fn pattern_length(rate: u8) -> u8
 
 // The entry of a table for a place of a rate's pattern.
 fn cell(rate: u8, place: u8) -> usize
-    requires { ⌜ (rate < 6) × (place < patternLength rate) ⌝ }
-    ensures { λ r. ⌜ (r ≡ rate * 7 + place) × (r < 42) ⌝ }
+    requires { ⌜ (rate < modeCount) × (place < patternLength rate) ⌝ }
+    ensures { λ r. ⌜ (r ≡ rate * longestPattern + place) × (r < longestPattern * modeCount) ⌝ }
 {
-    rate as usize * 7 + place as usize
+    rate as usize * LONGEST_PATTERN + place as usize
 }
 
 pub fn held_count(rate: u8, place: u8) -> u8
-    requires { ⌜ (rate < 6) × (place < patternLength rate) ⌝ }
+    requires { ⌜ (rate < modeCount) × (place < patternLength rate) ⌝ }
     ensures { λ r. ⌜ r ≡ heldCount rate place ⌝ }
 {
     HELD[cell(rate, place)]
 }
 
 pub fn block_count(rate: u8, place: u8) -> u16
-    requires { ⌜ (rate < 6) × (place < patternLength rate) ⌝ }
+    requires { ⌜ (rate < modeCount) × (place < patternLength rate) ⌝ }
     ensures { λ r. ⌜ r ≡ symbolsIn rate place (blockBits rate) ⌝ }
 {
     COUNTS[cell(rate, place)]
 }
 
 fn completed_at(rate: u8, place: u8) -> u8
-    requires { ⌜ (rate < 6) × (place < patternLength rate) ⌝ }
+    requires { ⌜ (rate < modeCount) × (place < patternLength rate) ⌝ }
     ensures { λ r. ⌜ ((x y held : ℕ) → punctured rate place x y held ≡ byKind r x y held) ⌝ }
 {
     COMPLETED[cell(rate, place)]
 }
 
 fn next_place(rate: u8, place: u8) -> u8
-    requires { ⌜ (rate < 6) × (place < patternLength rate) ⌝ }
+    requires { ⌜ (rate < modeCount) × (place < patternLength rate) ⌝ }
     ensures { λ r. ⌜ r ≡ nextPlace rate place ⌝ }
 {
     (place + 1) % pattern_length(rate)
@@ -88,7 +90,7 @@ pub struct Punctured {
 
 // X and Y of one bit.
 pub fn puncture(rate: u8, place: u8, held: u8, x: u8, y: u8) -> Punctured
-    requires { ⌜ (rate < 6) × (place < patternLength rate) × (held < 2) × (x < 2) × (y < 2) ⌝ }
+    requires { ⌜ (rate < modeCount) × (place < patternLength rate) × (held < 2) × (x < 2) × (y < 2) ⌝ }
     ensures { λ r. ⌜ r ≡ punctureStep rate place held x y ⌝ }
 {
     let next = next_place(rate, place);
@@ -148,7 +150,7 @@ fn puncture_bits(
     at: usize,
 ) -> Progress
     requires { ⌜
-        (rate < 5)
+        (rate < qpskCount)
         × (place < patternLength rate)
         × (held ≤ heldCount rate place)
         × (Bits (now coded))
@@ -194,7 +196,7 @@ fn puncture_parts(
     output: &mut [u8],
 ) -> Progress
     requires { ⌜
-        (rate < 5)
+        (rate < qpskCount)
         × (place < patternLength rate)
         × (held ≤ heldCount rate place)
         × (Bits (now coded))
@@ -215,7 +217,7 @@ fn puncture_parts(
 // X and Y of each bit of a block, into an output that is long enough.
 pub fn puncture_block(rate: u8, place: u8, held: u8, coded: &[u8], output: &mut [u8]) -> Progress
     requires { ⌜
-        (rate < 5)
+        (rate < qpskCount)
         × (place < patternLength rate)
         × (held ≤ heldCount rate place)
         × (Bits (now coded))

@@ -1,7 +1,9 @@
-// Constant tables of the puncturing: for each rate, what each bit of its pattern completes.
+// Constant tables of the puncturing: LONGEST_PATTERN entries for each mode, one for each place of its pattern and zeros behind them.
+use code_tables::LONGEST_PATTERN;
+use code_tables::MODES;
 
-// The symbol that each bit of a rate's pattern completes: 0 none, 1 (X,Y), 2 the held I with X, 3 the held I with Y, 4 (Y,X). Seven entries for each rate.
-pub const COMPLETED: [u8; 42] = [
+// The symbol that each bit of a rate's pattern completes: 0 none, 1 (X,Y), 2 the held I with X, 3 the held I with Y, 4 (Y,X).
+pub const COMPLETED: [u8; LONGEST_PATTERN * MODES] = [
     1,
     0,
     0,
@@ -46,8 +48,8 @@ pub const COMPLETED: [u8; 42] = [
     0,
 ];
 
-// 1 where an I is held before the bit. Seven entries for each rate.
-pub const HELD: [u8; 42] = [
+// 1 where an I is held before the bit.
+pub const HELD: [u8; LONGEST_PATTERN * MODES] = [
     0,
     0,
     0,
@@ -92,8 +94,8 @@ pub const HELD: [u8; 42] = [
     0,
 ];
 
-// How many symbols a block gives that begins at a place of the pattern. Seven entries for each rate.
-pub const COUNTS: [u16; 42] = [
+// How many symbols a block gives that begins at a place of the pattern.
+pub const COUNTS: [u16; LONGEST_PATTERN * MODES] = [
     1632,
     0,
     0,

@@ -4,6 +4,7 @@ ghost use Prim.Native.Nat.{ℕ, _+_, _*_, _<_, _≤_};
 ghost use lib.ListN.{length, getD};
 ghost use Rattle.common.specs.Lists.{placed};
 ghost use Rattle.convolutional_code.specs.Bits.{Bits};
+ghost use Rattle.puncturing.specs.Mode.{qpskCount};
 ghost use Rattle.puncturing.specs.Step.{patternLength};
 ghost use Rattle.puncturing.specs.Run.{patternSymbols, patternsSymbols, iBits, qBits};
 use code_tables::PATTERN_LENGTHS;
@@ -73,7 +74,7 @@ pub fn whole_patterns(
     at: usize,
 ) -> usize
     requires { ⌜
-        (rate < 5)
+        (rate < qpskCount)
         × (Bits (now coded))
         × (length (now coded) ≡ 3264)
         × (from + turns * patternLength rate ≤ 1632)

@@ -11,7 +11,7 @@ use lib.ListN.{length, getD}
 use Rattle.common.proofs.Computed.{both, both-left, both-right}
 use Rattle.convolutional_code.specs.Bits.{bitsOf}
 use Rattle.convolutional_code.proofs.Bits.{length-bits}
-use Rattle.puncturing.specs.Mode.{Mode, modeOf, blockBits, blockBitsBy}
+use Rattle.puncturing.specs.Mode.{Mode, modeOf, blockBits, blockBitsBy, modeCount, longestPattern}
 use Rattle.puncturing.specs.WellFormed.{WellFormed}
 use Rattle.puncturing.specs.Step.{patternLength, symbolsIn}
 use Rattle.puncturing.proofs.Places.{tested-of}
@@ -50,7 +50,7 @@ coded-bits {m} w packets =
     ∙ ap (λ (j : ℕ). j * c) (mul-div-cancel (k * n) (w .some-group))
     ∙ mul-right-comm k n c
 
-pub length-on-air : (rate : ℕ) → rate < 6 → (packets : List (List ℕ)) → length (onAir (modeOf rate) packets) ≡ symbolsIn rate 0 (blockBits rate * length packets)
+pub length-on-air : (rate : ℕ) → rate < modeCount → (packets : List (List ℕ)) → length (onAir (modeOf rate) packets) ≡ symbolsIn rate 0 (blockBits rate * length packets)
 unfolding onAir
 length-on-air rate h packets =
     let w = well-formed rate h in
@@ -62,7 +62,7 @@ length-on-air rate h packets =
 -- ---- in each call
 
 -- the call after some packets sends the symbols that the coded bits of the next block complete, from the place in the pattern where the packets left it
-call-count : (rate : ℕ) → rate < 6 → (packets : List (List ℕ))
+call-count : (rate : ℕ) → rate < modeCount → (packets : List (List ℕ))
     → symbolCount (senderOf modeOf rate packets .coder) ≡ symbolsIn rate (blockBits rate * length packets % patternLength rate) (blockBits rate)
 unfolding senderOf
 call-count rate h packets =
@@ -77,33 +77,33 @@ call-count rate h packets =
     ∙ ap (λ (n : ℕ). n % patternLength rate) (zero-add _ ∙ coded-bits w packets)))
 
 -- a packet gives at most a symbol for each bit
-most-at : (r p : ℕ) → r < 6 → p < patternLength r → T (leb (getD table (r * 7 + p) 0) 1632)
+most-at : (r p : ℕ) → r < modeCount → p < patternLength r → T (leb (getD table (r * longestPattern + p) 0) 1632)
 unfolding table modeOf
-most-at r p h k = tested-of 6 (λ r p. leb (getD table (r * 7 + p) 0) 1632) tt r p h k
+most-at r p h k = tested-of modeCount (λ r p. leb (getD table (r * longestPattern + p) 0) 1632) tt r p h k
 
 pub most-symbols : (c : InnerCoder) → CoderInRange c → symbolCount c ≤ 1632
 most-symbols c g =
     let h = rate-known c g in
     let e : symbolCount c ≡ symbolsIn (c .rate) (c .place) (blockBits (c .rate)) = simp (range-test-by (modeOf (c .rate)) c g) in
     let b = block-symbols (c .rate) (c .place) h (g .place) in
-    let m = leb→le (getD table (c .rate * 7 + c .place) 0) 1632 (most-at (c .rate) (c .place) h (g .place)) in
+    let m = leb→le (getD table (c .rate * longestPattern + c .place) 0) 1632 (most-at (c .rate) (c .place) h (g .place)) in
     omega arith
 
 -- at every place of a pattern the number is one of document 01's
 within : ℕ → ℕ → Bool
-within r p = both (leb (getD fewest r 0) (getD table (r * 7 + p) 0)) (leb (getD table (r * 7 + p) 0) (getD most r 0))
+within r p = both (leb (getD fewest r 0) (getD table (r * longestPattern + p) 0)) (leb (getD table (r * longestPattern + p) 0) (getD most r 0))
 
-counts-within : (r p : ℕ) → r < 6 → p < patternLength r → T (within r p)
+counts-within : (r p : ℕ) → r < modeCount → p < patternLength r → T (within r p)
 unfolding within table modeOf
-counts-within r p h k = tested-of 6 within tt r p h k
+counts-within r p h k = tested-of modeCount within tt r p h k
 
 -- so each call sends as many symbols as documents 01 and 02 say
-pub call-bounds : (rate : ℕ) → rate < 6 → (packets : List (List ℕ))
+pub call-bounds : (rate : ℕ) → rate < modeCount → (packets : List (List ℕ))
     → (getD fewest rate 0 ≤ symbolCount (senderOf modeOf rate packets .coder)) × (symbolCount (senderOf modeOf rate packets .coder) ≤ getD most rate 0)
 unfolding within
 call-bounds rate h packets =
     let p = blockBits rate * length packets % patternLength rate in
-    let n = getD table (rate * 7 + p) 0 in
+    let n = getD table (rate * longestPattern + p) 0 in
     let in-pattern : p < patternLength rate = mod-lt (blockBits rate * length packets) (well-formed rate h .some-bits) in
     let t = counts-within rate p h in-pattern in
     rw (call-count rate h packets, ← block-symbols rate p h in-pattern) (

@@ -8,7 +8,7 @@ use native.Mathlib.Omega.{arith}
 use lib.ListN.{length, length-map}
 use Rattle.common.specs.Lists.{chunksOf}
 use Rattle.common.proofs.Chunks.{length-chunks}
-use Rattle.puncturing.specs.Mode.{modeOf, blockBits, blockBitsBy}
+use Rattle.puncturing.specs.Mode.{modeOf, blockBits, blockBitsBy, modeCount}
 use Rattle.puncturing.specs.Step.{patternLength, symbolsIn, countBy}
 use Rattle.puncturing.proofs.Places.{agreed-of}
 use Rattle.puncturing.proofs.Parts.{symbols-in-append, place-after}
@@ -19,24 +19,24 @@ use Rattle.sender.proofs.Counts.{length-on-air}
 use Rattle.sender_stream.specs.Run.{runSymbols}
 
 -- the symbols of a buffer of packets
-pub length-run : (rate : ℕ) → rate < 6 → (bytes : List ℕ) → length (runSymbols rate bytes) ≡ symbolsIn rate 0 (blockBits rate * (length bytes / 188))
+pub length-run : (rate : ℕ) → rate < modeCount → (bytes : List ℕ) → length (runSymbols rate bytes) ≡ symbolsIn rate 0 (blockBits rate * (length bytes / 188))
 length-run rate h bytes =
     length-on-air rate h (packetsFor (chunksOf 188 bytes))
     ∙ ap (λ (n : ℕ). symbolsIn rate 0 (blockBits rate * n)) (length-map (chunksOf 188 bytes) packetFor ∙ length-chunks 188 bytes)
 
 -- a block leaves the pattern where 1,632 bits leave it
-same-place : (rate place : ℕ) → rate < 6 → place < patternLength rate → (place + 1632) % patternLength rate ≡ (place + blockBits rate) % patternLength rate
+same-place : (rate place : ℕ) → rate < modeCount → place < patternLength rate → (place + 1632) % patternLength rate ≡ (place + blockBits rate) % patternLength rate
 unfolding blockBitsBy modeOf
-same-place rate place h k = agreed-of 6 (λ r p. (p + 1632) % patternLength r) (λ r p. (p + blockBits r) % patternLength r) tt rate place h k
+same-place rate place h k = agreed-of modeCount (λ r p. (p + 1632) % patternLength r) (λ r p. (p + blockBits r) % patternLength r) tt rate place h k
 
 -- k of n packets have been counted, from the place where the first begins and from the space, and left is what they leave
 pub record Counting (rate start n space : ℕ) (place left k : ℕ) : Type 0 where
-  pub known : rate < 6
+  pub known : rate < modeCount
   pub within : k ≤ n
   pub in-pattern : place < patternLength rate
   pub balance : symbolsIn rate start (blockBits rate * n) + left ≡ space + symbolsIn rate place (blockBits rate * (n - k))
 
-pub counting-start : (rate start n space : ℕ) → rate < 6 → start < patternLength rate → Counting rate start n space start space 0
+pub counting-start : (rate start n space : ℕ) → rate < modeCount → start < patternLength rate → Counting rate start n space start space 0
 counting-start rate start n space h p = record { known = h; within = omega arith; in-pattern = p; balance = ap (λ (m : ℕ). symbolsIn rate start (blockBits rate * m) + space) (sym none) ∙ add-comm _ _ }
   where
     none : n - 0 ≡ n
@@ -78,7 +78,7 @@ module _ {rate start n space place left k : ℕ} (c : Counting rate start n spac
         }
 
 -- the need of one packet, by a coder at that place
-pub needed-is : (rate place : ℕ) → rate < 6 → place < patternLength rate
+pub needed-is : (rate place : ℕ) → rate < modeCount → place < patternLength rate
     → symbolCount (record { rate = rate; memory = 0; place = place; held = 0 }) ≡ symbolsIn rate place (blockBits rate)
 needed-is rate place h p =
     simp (range-test-by (modeOf rate) (record { rate = rate; memory = 0; place = place; held = 0 }) (record { memory = omega arith; place = p; held = omega arith }))

@@ -6,7 +6,7 @@ ghost use lib.Dec.{ltb};
 ghost use lib.ListN.{length, drop};
 ghost use Rattle.common.specs.Lists.{chunksOf};
 ghost use Rattle.answer.specs.Number.{numberOf};
-ghost use Rattle.puncturing.specs.Mode.{blockBits};
+ghost use Rattle.puncturing.specs.Mode.{blockBits, modeCount};
 ghost use Rattle.puncturing.specs.Step.{patternLength, symbolsIn};
 ghost use Rattle.sender_stream.specs.Run.{synced, runSymbols, Sendable, SendsRun};
 use answer::Answer;
@@ -41,7 +41,7 @@ fn is_synced(packets: &[u8]) -> bool
 // Whether there is too little space for the symbols of so many packets, of which the first begins at a place of the mode's pattern.
 // A part, with a requires: `send_run` and those who send piece by piece make the test with it.
 pub fn is_short(rate: u8, start: u8, packets: usize, space: usize) -> bool
-    requires { ⌜ (rate < 6) × (start < patternLength rate) ⌝ }
+    requires { ⌜ (rate < modeCount) × (start < patternLength rate) ⌝ }
     ensures { λ r. ⌜ r ≡ ltb space (symbolsIn rate start (blockBits rate * packets)) ⌝ }
 {
     let lengths = InnerCoder::PATTERN_LENGTHS;

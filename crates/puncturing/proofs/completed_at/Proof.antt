@@ -5,7 +5,7 @@ use mathlib.Core.List.{List, [], _∷_}
 use Prim.Native.Nat.{ℕ, _+_, _*_}
 use borrow.Author.Needs.{needs}
 use lib.ListN.{getD}
-use Rattle.puncturing.specs.Mode.{modeOf}
+use Rattle.puncturing.specs.Mode.{modeOf, modeCount, longestPattern}
 use Rattle.puncturing.specs.Step.{punctured, puncturedBy}
 use Rattle.puncturing.specs.Run.{byKind}
 use Rattle.puncturing.proofs.Places.{end, _&_, EverywhereOf, everywhere-of}
@@ -22,9 +22,9 @@ array-read-result : tie.Need-array-read-result
 array-read-result c = search needs
 
 abbrev Told : ℕ → ℕ → Type 0
-Told r p = (x y held : ℕ) → punctured r p x y held ≡ byKind (getD table (r * 7 + p) 0) x y held
+Told r p = (x y held : ℕ) → punctured r p x y held ≡ byKind (getD table (r * longestPattern + p) 0) x y held
 
-told : EverywhereOf 6 Told
+told : EverywhereOf modeCount Told
 unfolding table puncturedBy modeOf
 told =
     ((λ x y h. refl) & end)
@@ -40,7 +40,7 @@ unfolding table
 returns c = λ x y held.
     let a = c .before .args in
     let g = c .before .pre in
-    everywhere-of 6 Told told (a .rate) (a .place) (g .0) (g .1) x y held ∙ ap (λ (k : ℕ). byKind (getD table k 0) x y held) (sym (c .cell .ensures .0))
+    everywhere-of modeCount Told told (a .rate) (a .place) (g .0) (g .1) x y held ∙ ap (λ (k : ℕ). byKind (getD table k 0) x y held) (sym (c .cell .ensures .0))
 
 pub completed-at-spec : {M : Type 1} → statement M
 completed-at-spec = tie.close (tie.spec cell-requires array-read-result returns)

@@ -5,7 +5,7 @@ use mathlib.Core.List.{List, [], _∷_}
 use Prim.Native.Nat.{ℕ, _+_, _*_}
 use borrow.Author.Needs.{needs}
 use lib.ListN.{getD}
-use Rattle.puncturing.specs.Mode.{modeOf}
+use Rattle.puncturing.specs.Mode.{modeOf, modeCount, longestPattern}
 use Rattle.puncturing.specs.Step.{heldCount, heldCountBy}
 use Rattle.puncturing.proofs.Places.{agreed-of}
 use Rattle.puncturing.proofs.held_count.Statement.{statement}
@@ -25,7 +25,7 @@ unfolding table heldCountBy modeOf
 returns c =
     let a = c .before .args in
     let g = c .before .pre in
-    ap (λ (k : ℕ). getD table k 0) (c .cell .ensures .0) ∙ agreed-of 6 (λ r p. getD table (r * 7 + p) 0) heldCount tt (a .rate) (a .place) (g .0) (g .1)
+    ap (λ (k : ℕ). getD table k 0) (c .cell .ensures .0) ∙ agreed-of modeCount (λ r p. getD table (r * longestPattern + p) 0) heldCount tt (a .rate) (a .place) (g .0) (g .1)
 
 pub held-count-spec : {M : Type 1} → statement M
 held-count-spec = tie.close (tie.spec cell-requires array-read-result returns)

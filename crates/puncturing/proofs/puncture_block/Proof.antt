@@ -4,6 +4,7 @@ use mathlib.Core.Path.{_≡_, ap, _∙_}
 use Prim.Native.Nat.{ℕ, _+_, _-_, _*_, _/_, _%_, _≤_, _<_}
 use native.Mathlib.Nat.{mod-lt, div-add-mod'}
 use native.Mathlib.Omega.{arith}
+use Rattle.puncturing.specs.Mode.{longestPattern}
 use Rattle.puncturing.specs.Step.{patternLength}
 use Rattle.puncturing.specs.Run.{patternPlaceAfter}
 use Rattle.puncturing.proofs.Places.{length-le, up}
@@ -32,7 +33,7 @@ module _ (c : tie.After-pattern-length) where
   some : 0 < c .pattern-length .result
   some = let g = c .before .before .before .pre .1 in omega (arith, len)
 
-  short : (c .pattern-length .result - c .before .before .before .args .place) % c .pattern-length .result ≤ 7
+  short : (c .pattern-length .result - c .before .before .before .args .place) % c .pattern-length .result ≤ longestPattern
   short =
       let a = c .before .before .before in
       let h = mod-lt (c .pattern-length .result - a .args .place) some in

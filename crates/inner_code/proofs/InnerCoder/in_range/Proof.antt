@@ -10,6 +10,9 @@ use Rattle.inner_code.specs.Step.{inRangeBy}
 use Rattle.inner_code.proofs.InnerCoder.in_range.Statement.{statement}
 use Rattle.inner_code.proofs.InnerCoder.in_range.Tie as tie
 
+cast-if1 : tie.Need-cast-if1
+cast-if1 c = search needs
+
 returns : tie.Need-returns
 returns c = simp (le-ltb _ _ (c .if1 .taken))
 
@@ -50,4 +53,4 @@ returns-4 c = rw (c .held-count .ensures) (simp (lt-ltb _ _ (c .before .before .
 pub in-range-spec : {M : Type 1} → statement M
 in-range-spec =
     tie.close
-    (tie.spec returns returns-2 cast-if3 array-read-if3 returns-3 held-count-requires returns-4)
+    (tie.spec cast-if1 returns returns-2 cast-if3 array-read-if3 returns-3 held-count-requires returns-4)

@@ -1,8 +1,8 @@
--- `inner_code::qam::coded_bit` meets its contract.
+-- `inner_code::grouped::coded_bit` meets its contract.
 -- Assumes nothing.
 use borrow.Author.Tests.{lt-ltb, le-ltb}
-use Rattle.inner_code.proofs.qam.coded_bit.Statement.{statement}
-use Rattle.inner_code.proofs.qam.coded_bit.Tie as tie
+use Rattle.inner_code.proofs.grouped.coded_bit.Statement.{statement}
+use Rattle.inner_code.proofs.grouped.coded_bit.Tie as tie
 
 returns : tie.Need-returns
 returns c = simp (lt-ltb _ _ (c .if1 .taken))
