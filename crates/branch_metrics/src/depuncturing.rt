@@ -46,45 +46,40 @@ const SENT_KINDS: [u8; 35] = [
     2,
 ];
 
-// The costs of a step's coded bits, X as 0 and as 1 and then Y, of which the decoder makes its branch metrics; and the first coded bit after it.
-struct Four {
-    x0: u8,
-    x1: u8,
-    y0: u8,
-    y1: u8,
+// The number of a step, of which the decoder takes its branch metrics, and the first coded bit after it.
+struct Step {
+    number: u8,
     next: usize,
 }
 
-// The four costs of a step of kind q, whose first coded bit is j, and the coded bit after it.
-fn four_of(costs: &[u8], q: u8, j: usize) -> Four
-    requires { ⌜ (2 * (j + width q) ≤ length (now costs)) × (0 < q) × (q ≤ 3) ⌝ }
-    ensures { λ r. ⌜ (r .x0 ≡ value (now (costs .entry)) q j 0) × (r .x1 ≡ value (now (costs .entry)) q j 1) × (r .y0 ≡ value (now (costs .entry)) q j 2) × (r .y1 ≡ value (now (costs .entry)) q j 3) × (r .next ≡ j + width q) ⌝ }
+// The decision on coded bit j: on I of a symbol, or on its Q.
+fn decision_at(symbols: &[u8], j: usize) -> u8
 {
-    let a = costs[2 * j + 0];
-    let b = costs[2 * j + 1];
+    if j % 2 == 0 {
+        symbols[j / 2] / 9
+    } else {
+        symbols[j / 2] % 9
+    }
+}
+
+// That of a step of kind q, whose first coded bit is j: 9 x + y, where x is the decision on its X and y that on its Y, and 8 for one that is not sent.
+fn step_of(symbols: &[u8], q: u8, j: usize) -> Step
+{
+    let first = decision_at(symbols, j);
     if q == 1 {
-        return Four {
-            x0: 0,
-            x1: 0,
-            y0: a,
-            y1: b,
+        return Step {
+            number: 72 + first,
             next: j + 1,
         };
     }
     if q == 2 {
-        return Four {
-            x0: a,
-            x1: b,
-            y0: 0,
-            y1: 0,
+        return Step {
+            number: 9 * first + 8,
             next: j + 1,
         };
     }
-    Four {
-        x0: a,
-        x1: b,
-        y0: costs[2 * j + 2],
-        y1: costs[2 * j + 3],
+    Step {
+        number: 9 * first + decision_at(symbols, j + 1),
         next: j + 2,
     }
 }
@@ -98,42 +93,29 @@ fn following(place: usize, pattern: usize) -> usize
     if next < pattern { next } else { 0 }
 }
 
-// Writes the four costs of each of n steps, place by place of the pattern.
-fn spread_places(costs: &[u8], rate: usize, pattern: usize, n: usize, output: &mut [u8])
-    requires { ⌜ (rate < 5) × (pattern ≡ patternLength rate) × (0 < pattern) × (pattern ≤ 7) × (2 * first rate n ≤ length (now costs)) × (4 * n ≤ length (now output)) ⌝ }
-    ensures { λ _. ⌜ (length (now (output .exit)) ≡ length (now (output .entry))) × ((t : ℕ) → t < 4 * n → getD (now (output .exit)) t 0 ≡ stepValue (now (costs .entry)) rate t) ⌝ }
+// Writes the numbers of n steps, place by place of the pattern.
+fn spread_places(symbols: &[u8], rate: usize, pattern: usize, n: usize, output: &mut [u8])
 {
     let kinds = SENT_KINDS;
     let mut k = 0;
     let mut place = 0;
     let mut j = 0;
-    let mut at = 0;
     while k < n {
         let q = kinds[7 * rate + place];
-        let f = four_of(costs, q, j);
-        output[at] = f.x0;
-        let at1 = at + 1;
-        output[at1] = f.x1;
-        let at2 = at1 + 1;
-        output[at2] = f.y0;
-        let at3 = at2 + 1;
-        output[at3] = f.y1;
-        at = at3 + 1;
-        j = f.next;
+        let step = step_of(symbols, q, j);
+        output[k] = step.number;
+        j = step.next;
         place = following(place, pattern);
         k += 1;
     }
 }
 
-// Writes the four costs of each of n steps. At rate 1/2 every coded bit is sent, and the costs stand as they are wanted.
-pub fn spread_costs(costs: &[u8], rate: usize, pattern: usize, n: usize, output: &mut [u8])
-    requires { ⌜ (rate < 5) × (pattern ≡ patternLength rate) × (0 < pattern) × (pattern ≤ 7) × (2 * first rate n ≤ length (now costs)) × (4 * n ≤ length (now output)) ⌝ }
-    ensures { λ _. ⌜ (length (now (output .exit)) ≡ length (now (output .entry))) × ((t : ℕ) → t < 4 * n → getD (now (output .exit)) t 0 ≡ stepValue (now (costs .entry)) rate t) ⌝ }
+// Writes the numbers of n steps. At rate 1/2 every coded bit is sent, and the symbols are the steps.
+pub fn spread(symbols: &[u8], rate: usize, pattern: usize, n: usize, output: &mut [u8])
 {
     if rate == 0 {
-        let end = 4 * n;
-        put(&costs[0..end], 0, output);
+        put(&symbols[0..n], 0, output);
     } else {
-        spread_places(costs, rate, pattern, n, output);
+        spread_places(symbols, rate, pattern, n, output);
     }
 }

