@@ -1,10 +1,11 @@
-// Depuncturing: the costs of the coded bits received, put where the steps of the trellis want them.
+// Depuncturing: the decisions on the coded bits received, put where the steps of the trellis want them.
 // Inner: its functions may require what the crates above have tested. docs/ARCHITECTURE.md names the public surface.
 ghost use mathlib.Core.Path.{_≡_};
-ghost use Prim.Native.Nat.{ℕ, _+_, _*_, _%_, _<_, _≤_};
+ghost use Prim.Native.Nat.{ℕ, _+_, _*_, _/_, _%_, _<_, _≤_};
 ghost use lib.ListN.{length, getD};
+ghost use Rattle.convolutional_code.specs.Costs.{Pairs};
 ghost use Rattle.puncturing.specs.Step.{patternLength};
-ghost use Rattle.branch_metrics.specs.Steps.{width, first, value, stepValue};
+ghost use Rattle.branch_metrics.specs.Steps.{width, first, decisionAt, stepPair, runStep};
 use common::put;
 
 // For each rate, seven to a row, and each place of its pattern: which coded bits of a step are sent. 0 none, 1 Y, 2 X, 3 both.
@@ -46,40 +47,42 @@ const SENT_KINDS: [u8; 35] = [
     2,
 ];
 
-// The number of a step, of which the decoder takes its branch metrics, and the first coded bit after it.
+// The decisions on the coded bits of a step as one number, 9 x + y, of which the decoder takes its branch metrics; and the first coded bit after it.
 struct Step {
-    number: u8,
+    pair: u8,
     next: usize,
 }
 
 // The decision on coded bit j: on I of a symbol, or on its Q.
-fn decision_at(symbols: &[u8], j: usize) -> u8
+fn decision_at(pairs: &[u8], j: usize) -> u8
+    requires { ⌜ (j / 2 < length (now pairs)) × Pairs (now pairs) ⌝ }
+    ensures { λ r. ⌜ (r ≡ decisionAt (now (pairs .entry)) j) × (r ≤ 8) ⌝ }
 {
-    if j % 2 == 0 {
-        symbols[j / 2] / 9
-    } else {
-        symbols[j / 2] % 9
-    }
+    let pair = pairs[j / 2];
+    if j % 2 == 0 { pair / 9 } else { pair % 9 }
 }
 
-// That of a step of kind q, whose first coded bit is j: 9 x + y, where x is the decision on its X and y that on its Y, and 8 for one that is not sent.
-fn step_of(symbols: &[u8], q: u8, j: usize) -> Step
+// A step of kind q, whose first coded bit is j. The decision on one that is not sent is 8.
+fn step_of(pairs: &[u8], q: u8, j: usize) -> Step
+    requires { ⌜ (j + width q ≤ 2 * length (now pairs)) × (0 < q) × (q ≤ 3) × Pairs (now pairs) ⌝ }
+    ensures { λ r. ⌜ (r .pair ≡ stepPair (now (pairs .entry)) q j) × (r .next ≡ j + width q) ⌝ }
 {
-    let first = decision_at(symbols, j);
+    let a = decision_at(pairs, j);
     if q == 1 {
         return Step {
-            number: 72 + first,
+            pair: 72 + a,
             next: j + 1,
         };
     }
     if q == 2 {
         return Step {
-            number: 9 * first + 8,
+            pair: 9 * a + 8,
             next: j + 1,
         };
     }
+    let b = decision_at(pairs, j + 1);
     Step {
-        number: 9 * first + decision_at(symbols, j + 1),
+        pair: 9 * a + b,
         next: j + 2,
     }
 }
@@ -93,8 +96,10 @@ fn following(place: usize, pattern: usize) -> usize
     if next < pattern { next } else { 0 }
 }
 
-// Writes the numbers of n steps, place by place of the pattern.
-fn spread_places(symbols: &[u8], rate: usize, pattern: usize, n: usize, output: &mut [u8])
+// Writes the decisions of n steps, place by place of the pattern.
+fn spread_places(pairs: &[u8], rate: usize, pattern: usize, n: usize, output: &mut [u8])
+    requires { ⌜ (rate < 5) × (pattern ≡ patternLength rate) × (0 < pattern) × (pattern ≤ 7) × (first rate n ≤ 2 * length (now pairs)) × (n ≤ length (now output)) × Pairs (now pairs) ⌝ }
+    ensures { λ _. ⌜ (length (now (output .exit)) ≡ length (now (output .entry))) × ((t : ℕ) → t < n → getD (now (output .exit)) t 0 ≡ runStep (now (pairs .entry)) rate t) ⌝ }
 {
     let kinds = SENT_KINDS;
     let mut k = 0;
@@ -102,20 +107,22 @@ fn spread_places(symbols: &[u8], rate: usize, pattern: usize, n: usize, output: 
     let mut j = 0;
     while k < n {
         let q = kinds[7 * rate + place];
-        let step = step_of(symbols, q, j);
-        output[k] = step.number;
+        let step = step_of(pairs, q, j);
+        output[k] = step.pair;
         j = step.next;
         place = following(place, pattern);
         k += 1;
     }
 }
 
-// Writes the numbers of n steps. At rate 1/2 every coded bit is sent, and the symbols are the steps.
-pub fn spread(symbols: &[u8], rate: usize, pattern: usize, n: usize, output: &mut [u8])
+// Writes the decisions of n steps. At rate 1/2 every coded bit is sent, and a symbol is a step.
+pub fn spread_pairs(pairs: &[u8], rate: usize, pattern: usize, n: usize, output: &mut [u8])
+    requires { ⌜ (rate < 5) × (pattern ≡ patternLength rate) × (0 < pattern) × (pattern ≤ 7) × (first rate n ≤ 2 * length (now pairs)) × (n ≤ length (now output)) × Pairs (now pairs) ⌝ }
+    ensures { λ _. ⌜ (length (now (output .exit)) ≡ length (now (output .entry))) × ((t : ℕ) → t < n → getD (now (output .exit)) t 0 ≡ runStep (now (pairs .entry)) rate t) ⌝ }
 {
     if rate == 0 {
-        put(&symbols[0..n], 0, output);
+        put(&pairs[0..n], 0, output);
     } else {
-        spread_places(symbols, rate, pattern, n, output);
+        spread_places(pairs, rate, pattern, n, output);
     }
 }

@@ -1,15 +1,15 @@
 // Reading runs of received symbols: the bits whose coding costs the least, by hard or by soft decisions. The two differ in the costs alone.
 ghost use mathlib.Core.Path.{_≡_};
-ghost use Prim.Native.Nat.{ℕ, _*_, _/_, _<_, _≤_};
+ghost use Prim.Native.Nat.{ℕ, _<_, _≤_};
 ghost use lib.ListN.{length, getD};
 ghost use Rattle.answer.specs.Number.{numberOf};
 ghost use Rattle.common.specs.Lists.{All};
 ghost use Rattle.reader.specs.Cost.{runCost, costsOf};
 ghost use Rattle.reader.specs.Read.{symbolsPerPattern, runBits, sound, answerNumber, Readable, BestRead, ReadsHard, ReadsSoft};
-ghost use Rattle.reader.specs.Decisions.{decisionCost};
+ghost use Rattle.reader.specs.Decisions.{hardPair};
 use answer::Answer;
-use branch_metrics::depuncturing::spread;
-use branch_metrics::soft_decision::write_numbers;
+use branch_metrics::depuncturing::spread_pairs;
+use branch_metrics::soft_decision::soft_pairs;
 use puncturing::pattern_length;
 use viterbi_decoder::Run;
 use viterbi_decoder::decode;
@@ -21,7 +21,7 @@ const LONGEST: usize = 1632;
 const SYMBOL_COUNTS: [u8; 5] = [1, 3, 2, 3, 4];
 
 // What a call hands back: the answer, the coder's memory after the bits, what they cost, and how many bits were written. Where the answer is not 0,
-// the memory is the one given and both numbers are 0.
+// the memory is the one given and both pairs are 0.
 pub struct Read {
     pub answer: Answer,
     pub memory: u8,
@@ -99,26 +99,30 @@ fn refused(answer: Answer, memory: u8) -> Read
     }
 }
 
-fn hard_number(s: u8) -> u8 {
-    if s == 0 { 70 } else if s == 1 { 63 } else if s == 2 { 7 } else { 0 }
-}
-
-// Hard decisions: writes those on I and Q of each symbol, at the levels that are farthest from each other, 7 for a 0 and 0 for a 1.
-pub fn hard_numbers(symbols: &[u8], output: &mut [u8])
+// Hard decisions: writes the pair of each symbol. They are the two levels in the middle, 4 for a 0 and 3 for a 1, which cost 3 each and 1 more where the bit
+// is decided otherwise.
+pub fn hard_pairs(symbols: &[u8], output: &mut [u8])
+    requires { ⌜ (All (λ s. s < 4) (now symbols)) × (length (now symbols) ≤ length (now output)) ⌝ }
+    ensures { λ _. ⌜ ((t : ℕ) → t < length (now (symbols .entry)) → getD (now (output .exit)) t 0 ≡ hardPair (getD (now (symbols .entry)) t 0)) ⌝ }
 {
     let mut i: usize = 0;
     while i < symbols.len() {
-        output[i] = hard_number(symbols[i]);
+        let s = symbols[i];
+        output[i] = 40 - 9 * (s / 2) - s % 2;
         i += 1;
     }
 }
 
 // Decodes a run from the decisions on its symbols, where count is how many bits it has.
-fn decode_numbers(rate: u8, memory: u8, numbers: &[u8], count: usize, output: &mut [u8]) -> Run
+fn decode_pairs(rate: u8, memory: u8, pairs: &[u8], count: usize, output: &mut [u8]) -> Run
+    requires { ⌜ (Readable rate memory (now pairs) (now output)) × (count ≡ runBits rate (length (now pairs))) ⌝ }
+    ensures { λ r. ⌜
+        (BestRead (runCost (costsOf (now (pairs .entry))) rate memory) (runBits rate (length (now (pairs .entry)))) memory (now (output .entry)) (r .memory) (r .cost) count (now (output .exit)))
+        × (r .memory < 64) ⌝ }
 {
     let mut steps = [0u8; 1632];
-    spread(
-        numbers,
+    spread_pairs(
+        pairs,
         rate as usize,
         pattern_length(rate) as usize,
         count,
@@ -127,13 +131,17 @@ fn decode_numbers(rate: u8, memory: u8, numbers: &[u8], count: usize, output: &m
     decode(&steps[0..count], memory as usize, &mut output[0..count])
 }
 
-// The core of both calls: reads a run from the decisions on its symbols, on I and on Q of each.
-pub fn read_numbers(rate: u8, memory: u8, numbers: &[u8], output: &mut [u8]) -> Read
+// The core of both calls: reads a run from the decisions on I and Q of its symbols, one number for each. The cost is by these decisions.
+pub fn read_pairs(rate: u8, memory: u8, pairs: &[u8], output: &mut [u8]) -> Read
+    requires { ⌜ Readable rate memory (now pairs) (now output) ⌝ }
+    ensures { λ r. ⌜
+        (numberOf (r .answer) ≡ 0)
+        × (BestRead (runCost (costsOf (now (pairs .entry))) rate memory) (runBits rate (length (now (pairs .entry)))) memory (now (output .entry)) (r .memory) (r .cost) (r .count) (now (output .exit))) ⌝ }
 {
     let bits = pattern_length(rate) as usize;
     let pattern = symbol_count(rate) as usize;
-    let count = bits * (numbers.len() / pattern);
-    let run = decode_numbers(rate, memory, numbers, count, output);
+    let count = bits * (pairs.len() / pattern);
+    let run = decode_pairs(rate, memory, pairs, count, output);
     Read {
         answer: Answer::Done,
         memory: run.memory as u8,
@@ -153,14 +161,15 @@ pub fn read_run(rate: u8, memory: u8, symbols: &[u8], output: &mut [u8]) -> Read
     if answer.number() != 0 {
         return refused(answer, memory);
     }
-    let mut numbers = [0u8; 1632];
-    hard_numbers(symbols, &mut numbers);
+    let mut pairs = [0u8; 1632];
+    hard_pairs(symbols, &mut pairs);
     let end = symbols.len();
-    let read = read_numbers(rate, memory, &numbers[0..end], output);
+    let read = read_pairs(rate, memory, &pairs[0..end], output);
+    let excess = 6 * symbols.len() as u64;
     Read {
-        answer: read.answer,
+        answer: Answer::Done,
         memory: read.memory,
-        cost: read.cost / 7,
+        cost: read.cost - excess,
         count: read.count,
     }
 }
@@ -182,8 +191,8 @@ pub fn read_soft_run(
     if answer.number() != 0 {
         return refused(answer, memory);
     }
-    let mut numbers = [0u8; 1632];
-    write_numbers(is, qs, lost, &mut numbers);
+    let mut pairs = [0u8; 1632];
+    soft_pairs(is, qs, lost, &mut pairs);
     let end = is.len();
-    read_numbers(rate, memory, &numbers[0..end], output)
+    read_pairs(rate, memory, &pairs[0..end], output)
 }

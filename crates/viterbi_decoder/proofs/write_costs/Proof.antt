@@ -49,9 +49,9 @@ loop-again : tie.Need-loop-again Inv-loop μ-loop
 loop-again c =
     written-more _ (omega arith)
     (λ i h.
-        c .coded-costs .ensures i h
-        ∙ ap₂ (λ (x y : ℕ). decided x y (at (c .before .before .before .before .before .args .bits .now) i)) (c .before .before .zero-cost .ensures .0) (c .before .one-cost .ensures .0))
-     (c .before .before .before .before .loop .inv)
+    c .coded-costs .ensures i h
+    ∙ ap₂ (λ (x y : ℕ). decided x y (at (c .before .before .before .before .before .args .bits .now) i)) (c .before .before .zero-cost .ensures .0) (c .before .one-cost .ensures .0))
+    (c .before .before .before .before .loop .inv)
 
 returns : tie.Need-returns Inv-loop μ-loop
 returns c = let v = c .before .loop .inv in record { size = v .len; cost = λ n h. v .done n (omega arith) }

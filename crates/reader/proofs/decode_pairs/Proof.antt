@@ -1,27 +1,26 @@
--- `reader::decode_costs` meets its contract.
+-- `reader::decode_pairs` meets its contract.
 -- Assumes nothing.
-use Prim.Native.Nat.{_-_, _*_}
+use borrow.Author.Needs.{needs}
+use Prim.Native.Nat.{_-_}
 use native.Mathlib.Omega.{arith}
 use lib.ListN.{length-take}
 use Rattle.puncturing.proofs.Steps.{some-bits}
 use Rattle.puncturing.proofs.Places.{up, length-le}
-use Rattle.reader.proofs.Outcome.{steps-small}
-use Rattle.reader.proofs.Reading.{all-small, enough, read-out}
-use borrow.Author.Needs.{needs}
-use Rattle.reader.proofs.decode_costs.Statement.{statement}
-use Rattle.reader.proofs.decode_costs.Tie as tie
+use Rattle.reader.proofs.Reading.{all-pairs, enough, steps-pairs, read-out}
+use Rattle.reader.proofs.decode_pairs.Statement.{statement}
+use Rattle.reader.proofs.decode_pairs.Tie as tie
 
 pattern-length-requires : tie.Need-pattern-length-requires
 pattern-length-requires c κs = search needs
 
-cast-spread-costs : tie.Need-cast-spread-costs
-cast-spread-costs c = search needs
+cast-spread-pairs : tie.Need-cast-spread-pairs
+cast-spread-pairs c = search needs
 
-slice-aggregate-spread-costs : tie.Need-slice-aggregate-spread-costs
-slice-aggregate-spread-costs c = search needs
+slice-aggregate-spread-pairs : tie.Need-slice-aggregate-spread-pairs
+slice-aggregate-spread-pairs c = search needs
 
-spread-costs-requires : tie.Need-spread-costs-requires
-spread-costs-requires c κs =
+spread-pairs-requires : tie.Need-spread-pairs-requires
+spread-pairs-requires c κs =
     let a = c .before .before .before .before in
     let p = c .before .pattern-length .ensures in (
       a .pre .0 .known,
@@ -30,10 +29,8 @@ spread-costs-requires c κs =
       rw p (length-le (a .args .rate) (up (a .args .rate) (a .pre .0 .known))),
       enough (a .pre .0) (a .args .count) (a .pre .1),
       omega (arith, a .pre .0 .most, a .pre .1),
+      all-pairs (a .args .pairs .now) (a .pre .0 .small),
     )
-
-mul-end : tie.Need-mul-end
-mul-end c = search needs
 
 sub-decode : tie.Need-sub-decode
 sub-decode c = search needs
@@ -56,12 +53,12 @@ part-decode-end-2 c = search needs
 decode-requires : tie.Need-decode-requires
 decode-requires c κs =
     let a = c .before .before .before .before .before .before .before .before .before in
-    let s = c .before .before .before .before .spread-costs in (
-      omega (arith, length-take (a .args .count - 0) (a .args .output .now), length-take (4 * a .args .count - 0) (s .last .1 .1 .1 .1 .0), s .ensures .0, a .pre .0 .most, a .pre .1),
+    let s = c .before .before .before .before .spread-pairs in
+    let steps = s .last .1 .1 .1 .1 .0 in (
+      omega (arith, length-take (a .args .count - 0) (a .args .output .now), length-take (a .args .count - 0) steps, s .ensures .0, a .pre .0 .most, a .pre .1),
       omega (arith, length-take (a .args .count - 0) (a .args .output .now), a .pre .0 .most, a .pre .1),
       a .pre .0 .in-range,
-      steps-small (a .args .costs .now) (s .last .1 .1 .1 .1 .0) (a .args .rate) (4 * a .args .count - 0) (all-small (a .args .costs .now) (a .pre .0 .small))
-          (λ t h. s .ensures .1 t (omega arith)),
+      steps-pairs (a .pre .0) (a .args .count) (a .pre .1) steps (omega (arith, s .ensures .0, a .pre .0 .most, a .pre .1)) (s .ensures .1),
     )
 
 same-length : tie.Need-same-length
@@ -70,19 +67,18 @@ same-length c = search needs
 returns : tie.Need-returns
 returns c =
     let a = c .before .before .before .before .before .before .before .before .before .before .before .before in
-    let s = c .before .before .before .before .before .before .before .spread-costs in
+    let s = c .before .before .before .before .before .before .before .spread-pairs in
     read-out (a .pre .0) (a .args .count) (a .pre .1) (s .last .1 .1 .1 .1 .0) (omega (arith, s .ensures .0, a .pre .0 .most, a .pre .1)) (s .ensures .1)
     (c .before .before .decode .last .1 .1 .0) (c .before .before .decode .ensures) (a .args .count - 0) (omega arith)
 
-pub decode-costs-spec : {M : Type 1} → statement M
-decode-costs-spec =
+pub decode-pairs-spec : {M : Type 1} → statement M
+decode-pairs-spec =
     tie.close
     (tie.spec
     pattern-length-requires
-    cast-spread-costs
-    slice-aggregate-spread-costs
-    spread-costs-requires
-    mul-end
+    cast-spread-pairs
+    slice-aggregate-spread-pairs
+    spread-pairs-requires
     sub-decode
     part-decode-start
     part-decode-end

@@ -1,4 +1,4 @@
--- `branch_metrics::depuncturing::spread_costs` meets its contract.
+-- `branch_metrics::depuncturing::spread_pairs` meets its contract.
 -- Assumes nothing.
 use borrow.Author.Needs.{needs}
 use Prim.Native.Nat.{_-_, _*_, _≤_}
@@ -6,11 +6,8 @@ use native.Mathlib.Omega.{arith}
 use lib.ListN.{length}
 use Rattle.branch_metrics.specs.Steps.{first}
 use Rattle.branch_metrics.proofs.Facts.{half-first, half-spread}
-use Rattle.branch_metrics.proofs.depuncturing.spread_costs.Statement.{statement}
-use Rattle.branch_metrics.proofs.depuncturing.spread_costs.Tie as tie
-
-mul-end : tie.Need-mul-end
-mul-end c = search needs
+use Rattle.branch_metrics.proofs.depuncturing.spread_pairs.Statement.{statement}
+use Rattle.branch_metrics.proofs.depuncturing.spread_pairs.Tie as tie
 
 sub-put : tie.Need-sub-put
 sub-put c = search needs
@@ -18,11 +15,11 @@ sub-put c = search needs
 part-put-start : tie.Need-part-put-start
 part-put-start c = search needs
 
--- at rate 1/2 there are costs enough
-enough : (c : tie.Then1) → let s = c .before .before .before .args in 4 * s .n ≤ length (s .costs .now)
+-- at rate 1/2 there are symbols enough
+enough : (c : tie.Then1) → let s = c .before .before .before .args in s .n ≤ length (s .pairs .now)
 enough c =
     let s = c .before .before .before in
-    let p : 2 * first 0 (s .args .n) ≤ length (s .args .costs .now) = rw (c .if1 .taken) at (s .pre .4) in
+    let p : first 0 (s .args .n) ≤ 2 * length (s .args .pairs .now) = rw (c .if1 .taken) at (s .pre .4) in
     omega (arith, half-first (s .args .n))
 
 part-put-end : tie.Need-part-put-end
@@ -42,7 +39,7 @@ returns c =
     let w = c .before .before .before .before .before in
     let s = c .before .before .before .before .before .before .before .before in
     rw (w .if1 .taken)
-    (half-spread (s .args .costs .now) (s .args .output .now) (c .before .before .put .last .1 .1 .0) (s .args .n) (4 * s .args .n - 0) (omega arith) (enough w) (s .pre .5) (c .before .before .put .ensures))
+    (half-spread (s .args .pairs .now) (s .args .output .now) (c .before .before .put .last .1 .1 .0) (s .args .n) (s .args .n - 0) (omega arith) (enough w) (s .pre .5) (c .before .before .put .ensures))
 
 same-length-2 : tie.Need-same-length-2
 same-length-2 c = search needs
@@ -50,11 +47,10 @@ same-length-2 c = search needs
 returns-2 : tie.Need-returns-2
 returns-2 c = search needs
 
-pub spread-costs-spec : {M : Type 1} → statement M
-spread-costs-spec =
+pub spread-pairs-spec : {M : Type 1} → statement M
+spread-pairs-spec =
     tie.close
     (tie.spec
-    mul-end
     sub-put
     part-put-start
     part-put-end
