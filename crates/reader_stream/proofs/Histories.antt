@@ -2,8 +2,8 @@
 -- Assumes nothing.
 use mathlib.Core.Path.{_≡_, refl, sym, _∙_, ap, ap₂, subst}
 use mathlib.Core.List.{List, [], _++_, map, append-assoc}
-use Prim.Native.Nat.{ℕ, _+_, _*_, _/_, _%_, _^_, _<_, _≤_}
-use native.Mathlib.Nat.{mul-mod-right, mod-add-mod}
+use Prim.Native.Nat.{ℕ, _+_, _-_, _*_, _/_, _%_, _<_, _≤_}
+use native.Mathlib.Nat.{mul-mod-right}
 use native.Mathlib.Omega.{arith}
 use lib.ListN.{length, take, drop, length-append}
 use lib.Seq.{take-append-le, drop-append-le, length-take-le}
@@ -15,10 +15,11 @@ use Rattle.viterbi_decoder.proofs.Laws.{decoded-unique}
 use Rattle.reader.specs.Cost.{runCost, costsOf, Costed}
 use Rattle.reader.specs.Read.{symbolsPerPattern, runBits, BestRead}
 use Rattle.reader.proofs.Patterns.{memory-in-range}
+use Rattle.reader.proofs.Costs.{excess}
 use Rattle.reader.proofs.Reading.{decoded-as, read-as}
 use Rattle.reader.proofs.Streams.{take-bits}
 use Rattle.reader_stream.specs.Packing.{packedBytes, carriedBits}
-use Rattle.reader_stream.specs.Runs.{fullSymbols, keptSymbols, keptBits, fullCosts, keptCosts, Decided, few, run, DecidedCosts, few-costs, run-costs, Ended, heldOf, Closes}
+use Rattle.reader_stream.specs.Runs.{fullSymbols, keptSymbols, keptBits, fullSymbols, keptSymbols, Decided, few, run, DecidedCosts, few-costs, run-costs, Ended, heldOf, Closes}
 use Rattle.reader_stream.specs.Stream.{heldCosts, heldBits, FinishesReader}
 use Rattle.reader_stream.specs.History.{ReaderFeedings, none, feeding, CostsRead, SymbolsRead, SymbolsEnded}
 use Rattle.reader_stream.specs.declared.ReaderStream.{ReaderStream}
@@ -36,10 +37,10 @@ pub joined : {rate : ℕ} → rate < 5 → {m k last : ℕ} {a h h′ out out′
 joined hr (few-costs l) b d = d
 joined {rate} hr {m} {k} {last} {h′ = h′} {out′ = out′} (run-costs {costs = costs} {out = out} bits total after full e r) b d =
     let n = numbers rate hr in
-    let f : fullCosts rate ≤ length (costs ++ b) = omega (arith, length-append costs b) in
+    let f : fullSymbols rate ≤ length (costs ++ b) = omega (arith, length-append costs b) in
     subst (λ (l : List ℕ). DecidedCosts rate m (costs ++ b) l last h′) (sym (append-assoc (take (keptBits rate) bits) out out′))
-    (run-costs bits total after f (rw (take-append-le (fullCosts rate) costs b full) e)
-    (rw (drop-append-le (keptCosts rate) costs b (omega (arith, n .costs-fewer))) (joined hr r b d)))
+    (run-costs bits total after f (rw (take-append-le (fullSymbols rate) costs b full) e)
+    (rw (drop-append-le (keptSymbols rate) costs b (omega (arith, n .kept-fewer))) (joined hr r b d)))
 
 -- one result
 decided-unique : {rate m last last′ : ℕ} {costs left left′ out out′ : List ℕ} → DecidedCosts rate m costs out last left → DecidedCosts rate m costs out′ last′ left′
@@ -48,9 +49,9 @@ decided-unique (few-costs l) (few-costs l′) = (refl, refl, refl)
 decided-unique (few-costs l) (run-costs bits total after full d r) = absurd (omega arith)
 decided-unique (run-costs bits total after full d r) (few-costs l) = absurd (omega arith)
 decided-unique {rate} {m} {last′ = last′} {costs} {left′ = left′} (run-costs bits total after full d r) (run-costs {out = rest} bits′ total′ after′ full′ d′ r′) =
-    let s = decoded-unique (runCost (costsOf (take (fullCosts rate) costs)) rate m) (runBits rate (fullSymbols rate)) m d d′ in
+    let s = decoded-unique (runCost (costsOf (take (fullSymbols rate) costs)) rate m) (runBits rate (fullSymbols rate)) m d d′ in
     let e : take (keptBits rate) bits′ ≡ take (keptBits rate) bits = ap (take (keptBits rate)) (sym (s .bits)) in
-    let i = decided-unique r (subst (λ (l : List ℕ). DecidedCosts rate (memoryAfter m l) (drop (keptCosts rate) costs) rest last′ left′) e r′) in
+    let i = decided-unique r (subst (λ (l : List ℕ). DecidedCosts rate (memoryAfter m l) (drop (keptSymbols rate) costs) rest last′ left′) e r′) in
     (ap₂ (λ (x y : List ℕ). x ++ y) (sym e) (i .0), i .1, i .2)
 
 -- ---- the symbols that the costs are of
@@ -62,29 +63,24 @@ record SymbolsDecided {R : Type 0} (cost : R → ℕ → ℕ) (rate m : ℕ) (rs
 
 symbols-decided : {R : Type 0} (cost : R → ℕ → ℕ) {rate m : ℕ} → rate < 5 → m < 64 → {costs out left : List ℕ} {last : ℕ} → DecidedCosts rate m costs out last left
     → (rs : List R) → Costed cost rs costs → SymbolsDecided cost rate m rs out last left
-symbols-decided cost {rate} hr hm (few-costs l) rs c = record { left = rs; decided = few {rs = rs} (omega (arith, c .size, numbers rate hr .full-costs)); held = c }
+symbols-decided cost {rate} hr hm (few-costs l) rs c = record { left = rs; decided = few {rs = rs} (omega (arith, c .size)); held = c }
 symbols-decided {R} cost {rate} {m} hr hm {left = left} {last} (run-costs {costs = costs} {out = out} bits total after full d r) rs c =
     let n = numbers rate hr in
     let F = fullSymbols rate in
-    let long : F ≤ length rs = omega (arith, c .size, n .full-costs) in
-    let front : Costed cost (take F rs) (take (fullCosts rate) costs) = rw (n .full-costs) (costed-take cost F c) in
+    let long : F ≤ length rs = omega (arith, c .size) in
+    let front : Costed cost (take F rs) (take F costs) = costed-take cost F c in
     let lr : length (take F rs) ≡ F = length-take-le F rs long in
-    let q : length (take (fullCosts rate) costs) / 4 ≡ F = omega (arith, front .size, lr) in
-    let e : Decoded (runCost (map cost (take F rs)) rate m) (runBits rate F) m bits total after =
-    subst (λ (k : ℕ). Decoded (runCost (map cost (take F rs)) rate m) (runBits rate k) m bits total after) lr
-    (decoded-as cost (take F rs) (take (fullCosts rate) costs) front rate m hr hm (ap (λ (k : ℕ). k % symbolsPerPattern rate) lr ∙ n .full-whole)
-    (subst (λ (k : ℕ). Decoded (runCost (costsOf (take (fullCosts rate) costs)) rate m) (runBits rate k) m bits total after) (sym q) d)) in
+    let q : length (take F costs) ≡ F = front .size ∙ lr in
+    let less : ℕ = total - excess (front .extra) (length (take F rs)) in
+    let e : Decoded (runCost (map cost (take F rs)) rate m) (runBits rate F) m bits less after =
+    subst (λ (k : ℕ). Decoded (runCost (map cost (take F rs)) rate m) (runBits rate k) m bits less after) lr
+    (decoded-as cost (take F rs) (take F costs) front rate m hr hm (ap (λ (k : ℕ). k % symbolsPerPattern rate) lr ∙ n .full-whole)
+    (subst (λ (k : ℕ). Decoded (runCost (costsOf (take F costs)) rate m) (runBits rate k) m bits total after) (sym q) d)) in
     let i = symbols-decided cost hr (memory-in-range rate m hr hm (take-bits (keptBits rate) (d .best .binary))) r (drop (keptSymbols rate) rs)
-    (rw (n .kept-costs) (costed-drop cost (keptSymbols rate) c)) in
-    record { left = i .left; decided = run {rs = rs} bits total after long e (i .decided); held = i .held }
+    (costed-drop cost (keptSymbols rate) c) in
+    record { left = i .left; decided = run {rs = rs} bits less after long e (i .decided); held = i .held }
 
 -- ---- every history
-
--- the number of symbols, modulo m, with those of a piece more
-more-symbols : (n a b c m : ℕ) → n ≡ a / 4 % m → a % 4 ≡ 0 → c ≡ a + b → (n + b / 4) % m ≡ c / 4 % m
-more-symbols n a b c m e f l =
-    let k : a / 4 + b / 4 ≡ c / 4 = omega arith in
-    ap (λ (x : ℕ). (x + b / 4) % m) e ∙ mod-add-mod (a / 4) m (b / 4) ∙ ap (λ (x : ℕ). x % m) k
 
 -- Whatever pieces the costs came in, the bytes so far are those of the bits that overlapping runs decide of all of them.
 pub every-history : {rate : ℕ} {costs bytes : List ℕ} {s : ReaderStream} → ReaderFeedings rate costs bytes s → CostsRead rate costs bytes s
@@ -95,28 +91,24 @@ every-history {rate} {s = s} (none f) =
     record {
       ready = f .ready;
       rate-is = f .empty .rate-is;
-      fours = refl;
       bits = [];
-      decided = rw (f .empty .memory-is, f .empty .held-is) (few-costs {costs = []} (rw (sym (f .empty .rate-is)) (omega (arith, n .costs-some, n .costs-fewer))));
+      decided = rw (f .empty .memory-is, f .empty .held-is) (few-costs {costs = []} (rw (sym (f .empty .rate-is)) (omega (arith, n .kept-some, n .kept-fewer))));
       bytes-are = sym (packed-few [] (omega arith));
       bits-left = ap (λ (k : ℕ). carriedBits (s .carry) k) (f .none-held) ∙ sym (rest-few 8 (omega arith) [] (omega arith));
-      counted = f .none-counted;
     }
-every-history {rate} {s = next} (feeding {costs} {s = s} piece output exit count before e f) =
+every-history {rate} {s = next} (feeding {costs} {s = s} piece output exit count before f) =
     let b = every-history before in
     let p = packs-on (b .bits) (s .carry) (s .held) (b .bytes-are) (b .bits-left) (f .bits) (f .packed) in
     let hr : rate < 5 = rw (sym (b .rate-is)) (b .ready .runs-ready .known) in
     record {
       ready = f .ready;
       rate-is = f .rate-is ∙ b .rate-is;
-      fours = omega (arith, length-append costs piece, b .fours);
       bits = b .bits ++ f .bits;
       decided =
           joined hr (b .decided) piece
           (subst (λ (r : ℕ). DecidedCosts r (s .runs .memory) (heldCosts s ++ piece) (f .bits) (next .runs .memory) (heldCosts next)) (b .rate-is) (f .decided));
       bytes-are = p .0;
       bits-left = p .1;
-      counted = f .counted ∙ more-symbols (s .symbols) (length costs) (length piece) (length (costs ++ piece)) (2 ^ 64) (b .counted) (b .fours) (length-append costs piece);
     }
 
 -- so any two ways of cutting them give the same bytes, and hold the same
@@ -139,7 +131,6 @@ module _ {R : Type 0} (cost : R → ℕ → ℕ) {rate : ℕ} {costs bytes : Lis
   pub every-symbol : SymbolsRead cost rate rs bytes s
   every-symbol =
       let d = symbols-decided cost known (omega arith) (came .decided) rs c in
-      let n : length costs / 4 ≡ length rs = omega (arith, c .size) in
       record {
         bits = came .bits;
         left = d .left;
@@ -147,7 +138,6 @@ module _ {R : Type 0} (cost : R → ℕ → ℕ) {rate : ℕ} {costs bytes : Lis
         held = d .held;
         bytes-are = came .bytes-are;
         bits-left = came .bits-left;
-        counted = came .counted ∙ ap (λ (k : ℕ). k % 2 ^ 64) n;
       }
 
   -- ---- the end
@@ -162,17 +152,17 @@ module _ {R : Type 0} (cost : R → ℕ → ℕ) {rate : ℕ} {costs bytes : Lis
       let k : ℕ = p * e .whole in
       let n : length left ≡ rest + k = omega (arith, c .size, held-length r g, e .split) in
       let l : length (take k left) ≡ k = length-take-le k left (omega arith) in
-      let ck = costed-take cost k c in
-      let q : length (take (4 * k) (heldOf r)) / 4 ≡ k = omega (arith, ck .size, l) in
+      let ck : Costed cost (take k left) (take k (heldOf r)) = costed-take cost k c in
+      let q : length (take k (heldOf r)) ≡ k = ck .size ∙ l in
       record {
         whole = e .whole;
         split = sym n;
         few = e .few;
-        total = e .total;
+        total = e .total - excess (ck .extra) (length (take k left));
         after = e .after;
         bits =
-            read-as cost (take k left) (take (4 * k) (heldOf r)) ck (r .rate) (r .memory) (g .known) (g .in-range) (ap (λ (j : ℕ). j % p) l ∙ mul-mod-right p (e .whole))
-            (subst (λ (j : ℕ). BestRead (runCost (costsOf (take (4 * k) (heldOf r))) (r .rate) (r .memory)) (runBits (r .rate) j) (r .memory) output (e .after) (e .total) count exit) (sym q) (e .bits));
+            read-as cost (take k left) (take k (heldOf r)) ck (r .rate) (r .memory) (g .known) (g .in-range) (ap (λ (j : ℕ). j % p) l ∙ mul-mod-right p (e .whole))
+            (subst (λ (j : ℕ). BestRead (runCost (costsOf (take k (heldOf r))) (r .rate) (r .memory)) (runBits (r .rate) j) (r .memory) output (e .after) (e .total) count exit) (sym q) (e .bits));
       }
 
   -- Whatever pieces the symbols came in, what is given to the end is the bytes of the bits of all of them.

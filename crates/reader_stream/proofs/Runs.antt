@@ -21,7 +21,7 @@ use Rattle.puncturing.specs.Mode.{modeOf}
 use Rattle.puncturing.specs.Step.{patternLength}
 use Rattle.reader.specs.Cost.{runCost, costsOf}
 use Rattle.reader.specs.Read.{symbolsPerPattern, runBits, Readable, BestRead}
-use Rattle.reader_stream.specs.Runs.{runPatterns, keptPatterns, fullSymbols, keptSymbols, keptBits, fullCosts, keptCosts, heldOf, FullRead, RunsReady, FeedsSymbols, gathered, read, Closes}
+use Rattle.reader_stream.specs.Runs.{runPatterns, keptPatterns, fullSymbols, keptSymbols, keptBits, fullSymbols, keptSymbols, heldOf, FullRead, RunsReady, FeedsSymbols, gathered, read, Closes}
 
 -- ---- the memory after bits, one after the other
 
@@ -103,39 +103,29 @@ pub record Numbers (rate : ℕ) : Type 0 where
   pub kept-fewer : keptSymbols rate ≤ fullSymbols rate
   pub kept-some : 0 < keptSymbols rate
   pub bits-fewer : keptBits rate ≤ 1632
-  pub bits-half : 2 * keptBits rate ≤ keptCosts rate
+  pub bits-double : keptBits rate ≤ 2 * keptSymbols rate
   pub full-most : fullSymbols rate ≤ 1632
   pub full-whole : fullSymbols rate % symbolsPerPattern rate ≡ 0
-  pub full-costs : fullCosts rate ≡ 4 * fullSymbols rate
-  pub kept-costs : keptCosts rate ≡ 4 * keptSymbols rate
-  pub costs-fewer : keptCosts rate ≤ fullCosts rate
-  pub costs-some : 0 < keptCosts rate
-  pub costs-most : fullCosts rate ≤ 6528
 
 pub numbers : (rate : ℕ) → rate < 5 → Numbers rate
-unfolding fullCosts keptCosts fullSymbols keptSymbols keptBits runPatterns keptPatterns symbolsPerPattern modeOf
+unfolding fullSymbols keptSymbols keptBits runPatterns keptPatterns symbolsPerPattern modeOf
 numbers rate h = record {
   kept-fewer = leb→le _ _ (computed.below-at (λ r. leb (keptSymbols r) (fullSymbols r)) 5 tt rate h);
   kept-some = leb→le _ _ (computed.below-at (λ r. leb 1 (keptSymbols r)) 5 tt rate h);
   bits-fewer = leb→le _ _ (computed.below-at (λ r. leb (keptBits r) 1632) 5 tt rate h);
-  bits-half = leb→le _ _ (computed.below-at (λ r. leb (2 * keptBits r) (keptCosts r)) 5 tt rate h);
+  bits-double = leb→le _ _ (computed.below-at (λ r. leb (keptBits r) (2 * keptSymbols r)) 5 tt rate h);
   full-most = leb→le _ _ (computed.below-at (λ r. leb (fullSymbols r) 1632) 5 tt rate h);
   full-whole = computed.agree-at (λ r. fullSymbols r % symbolsPerPattern r) (λ r. 0) 5 tt rate h;
-  full-costs = refl;
-  kept-costs = refl;
-  costs-fewer = leb→le _ _ (computed.below-at (λ r. leb (keptCosts r) (fullCosts r)) 5 tt rate h);
-  costs-some = leb→le _ _ (computed.below-at (λ r. leb 1 (keptCosts r)) 5 tt rate h);
-  costs-most = leb→le _ _ (computed.below-at (λ r. leb (fullCosts r) 6528) 5 tt rate h);
 }
 
 -- ---- lists of costs
 
-pub all-take : (n : ℕ) (xs : List ℕ) → All (λ x. x ≤ 7) xs → All (λ x. x ≤ 7) (take n xs)
+pub all-take : (n : ℕ) (xs : List ℕ) → All (λ x. x < 81) xs → All (λ x. x < 81) (take n xs)
 all-take zero xs h = tt
 all-take (suc n) [] h = tt
 all-take (suc n) (x ∷ xs) h = (h .0, all-take n xs (h .1))
 
-pub all-drop : (n : ℕ) (xs : List ℕ) → All (λ x. x ≤ 7) xs → All (λ x. x ≤ 7) (drop n xs)
+pub all-drop : (n : ℕ) (xs : List ℕ) → All (λ x. x < 81) xs → All (λ x. x < 81) (drop n xs)
 all-drop zero xs h = h
 all-drop (suc n) [] h = tt
 all-drop (suc n) (x ∷ xs) h = all-drop n xs (h .1)
@@ -155,12 +145,11 @@ short-run rate n most =
     omega (arith, mul-le-mul-left (patternLength rate) d, mul-div-le 1632 (patternLength rate))
 
 -- the costs of k symbols that make whole patterns, no more than a longest run, can be read
-short-readable : (rate m : ℕ) → rate < 5 → m < 64 → (l : List ℕ) (k : ℕ) → length l ≡ 4 * k → k % symbolsPerPattern rate ≡ 0 → k ≤ fullSymbols rate
-    → All (λ x. x ≤ 7) l → (output : List ℕ) → 1632 ≤ length output → Readable rate m l output
+short-readable : (rate m : ℕ) → rate < 5 → m < 64 → (l : List ℕ) (k : ℕ) → length l ≡ k → k % symbolsPerPattern rate ≡ 0 → k ≤ fullSymbols rate
+    → All (λ x. x < 81) l → (output : List ℕ) → 1632 ≤ length output → Readable rate m l output
 short-readable rate m hr hm l k size whole most small output long =
-    let q : length l / 4 ≡ k = omega arith in
-    let b : runBits rate (length l / 4) ≤ 1632 = rw q (short-run rate k most) in
-    record { known = hr; in-range = hm; fours = omega arith; whole = rw q whole; most = b; small = small; fits = omega (arith, b) }
+    let b : runBits rate (length l) ≤ 1632 = rw size (short-run rate k most) in
+    record { known = hr; in-range = hm; whole = rw size whole; most = b; small = small; fits = omega (arith, b) }
 
 -- the bits of a longest run
 pub kept-le : (rate : ℕ) → rate < 5 → keptBits rate ≤ runBits rate (fullSymbols rate)
@@ -171,36 +160,33 @@ kept-le rate hr = rw (mul-div-right (1632 / patternLength rate) (some-symbols ra
     less = omega arith
 
 -- a longest run: the bits that are kept stand at the front of the output
-module _ (rate m : ℕ) (hr : rate < 5) (hm : m < 64) (l output : List ℕ) (size : length l ≡ fullCosts rate) where
-  full-quarter : length l / 4 ≡ fullSymbols rate
-  full-quarter = omega (arith, numbers rate hr .full-costs)
-
-  pub full-readable : All (λ x. x ≤ 7) l → 1632 ≤ length output → Readable rate m l output
+module _ (rate m : ℕ) (hr : rate < 5) (hm : m < 64) (l output : List ℕ) (size : length l ≡ fullSymbols rate) where
+  pub full-readable : All (λ x. x < 81) l → 1632 ≤ length output → Readable rate m l output
   full-readable small long =
       let n = numbers rate hr in
-      short-readable rate m hr hm l (fullSymbols rate) (size ∙ n .full-costs) (n .full-whole) (omega arith) small output long
+      short-readable rate m hr hm l (fullSymbols rate) size (n .full-whole) (omega arith) small output long
 
-  pub front : {after total count : ℕ} {exit : List ℕ} → (o : BestRead (runCost (costsOf l) rate m) (runBits rate (length l / 4)) m output after total count exit)
+  pub front : {after total count : ℕ} {exit : List ℕ} → (o : BestRead (runCost (costsOf l) rate m) (runBits rate (length l)) m output after total count exit)
       → (k : ℕ) → k ≡ keptBits rate
       → (take (k - 0) exit ≡ take (keptBits rate) (o .bits)) × Bits (take (k - 0) exit) × (k ≤ length exit)
   front {exit = exit} o k e =
       let z : k - 0 ≡ keptBits rate = omega arith in
-      let n : runBits rate (length l / 4) ≡ runBits rate (fullSymbols rate) = ap (runBits rate) full-quarter in
+      let n : runBits rate (length l) ≡ runBits rate (fullSymbols rate) = ap (runBits rate) size in
       let f : keptBits rate ≤ length (o .bits) = omega (arith, kept-le rate hr, o .decoded .best .size, n) in
       let b = o .written in
       let t : take (k - 0) exit ≡ take (keptBits rate) (o .bits) =
-      ap (λ (j : ℕ). take j exit) z ∙ (ap (take (keptBits rate)) b ∙ take-append-le (keptBits rate) (o .bits) (drop (runBits rate (length l / 4)) output) f) in (
+      ap (λ (j : ℕ). take j exit) z ∙ (ap (take (keptBits rate)) b ∙ take-append-le (keptBits rate) (o .bits) (drop (runBits rate (length l)) output) f) in (
         t,
         subst Bits (sym t) (take-bits (keptBits rate) (o .decoded .best .binary)),
-        omega (arith, ap length b, length-append (o .bits) (drop (runBits rate (length l / 4)) output)),
+        omega (arith, ap length b, length-append (o .bits) (drop (runBits rate (length l)) output)),
       )
 
 -- ---- feeding a piece
 
 pub held-length : (s : SymbolRuns) → RunsReady s → length (heldOf s) ≡ s .count
-held-length s g = length-take-le (s .count) (s .held) (omega (arith, g .size, g .below, numbers (s .rate) (g .known) .costs-most))
+held-length s g = length-take-le (s .count) (s .held) (omega (arith, g .size, g .below, numbers (s .rate) (g .known) .full-most))
 
-module _ (s : SymbolRuns) (g : RunsReady s) (piece : List ℕ) (w : All (λ x. x ≤ 7) piece) (fours : length piece % 4 ≡ 0) where
+module _ (s : SymbolRuns) (g : RunsReady s) (piece : List ℕ) (w : All (λ x. x < 81) piece) where
   abbrev h : List ℕ
   h = heldOf s
 
@@ -213,12 +199,12 @@ module _ (s : SymbolRuns) (g : RunsReady s) (piece : List ℕ) (w : All (λ x. x
     behind =
         ap (take n) eH ∙ take-at (h ++ p) (drop (s .count + length p) (s .held)) n (length-append h p ∙ (ap (λ (k : ℕ). k + length p) h-length ∙ sym en))
 
-    behind-length : s .count + length p ≤ 6528 → length H ≡ 6528
+    behind-length : s .count + length p ≤ 1632 → length H ≡ 1632
     behind-length l =
         ap length eH
         ∙ omega (arith, length-append (h ++ p) (drop (s .count + length p) (s .held)), length-append h p, h-length, length-drop (s .count + length p) (s .held), g .size)
 
-  pub gathers : (output H : List ℕ) → length piece < fullCosts (s .rate) - s .count → H ≡ h ++ piece ++ drop (s .count + length piece) (s .held)
+  pub gathers : (output H : List ℕ) → length piece < fullSymbols (s .rate) - s .count → H ≡ h ++ piece ++ drop (s .count + length piece) (s .held)
       → let next : SymbolRuns = record { rate = s .rate; memory = s .memory; held = H; count = s .count + length piece } in
       (FeedsSymbols s piece output next (length piece) 0 output) × (RunsReady next)
   gathers output H l eH =
@@ -228,15 +214,14 @@ module _ (s : SymbolRuns) (g : RunsReady s) (piece : List ℕ) (w : All (λ x. x
         record {
           known = g .known;
           in-range = g .in-range;
-          size = behind-length piece H (s .count + length piece) refl eH (omega (arith, n .costs-most));
+          size = behind-length piece H (s .count + length piece) refl eH (omega (arith, n .full-most));
           below = omega arith;
-          fours = omega (arith, g .fours);
-          small = subst (All (λ x. x ≤ 7)) (sym b) (All-append (λ x. x ≤ 7) h piece (g .small) w);
+          small = subst (All (λ x. x < 81)) (sym b) (All-append (λ x. x < 81) h piece (g .small) w);
         },
       )
 
   -- where there are symbols enough for a run
-  module _ (full : ℕ) (ef : full ≡ fullCosts (s .rate)) (enough : full - s .count ≤ length piece) (H : List ℕ)
+  module _ (full : ℕ) (ef : full ≡ fullSymbols (s .rate)) (enough : full - s .count ≤ length piece) (H : List ℕ)
       (eH : H ≡ h ++ take (full - s .count - 0) piece ++ drop (s .count + length (take (full - s .count - 0) piece)) (s .held)) where
     abbrev p : List ℕ
     p = take (full - s .count - 0) piece
@@ -248,24 +233,24 @@ module _ (s : SymbolRuns) (g : RunsReady s) (piece : List ℕ) (w : All (λ x. x
     all-of = omega (arith, piece-length, g .below)
 
     pub fits : s .count + length p ≤ length (s .held)
-    fits = omega (arith, all-of, g .size, numbers (s .rate) (g .known) .costs-most)
+    fits = omega (arith, all-of, g .size, numbers (s .rate) (g .known) .full-most)
 
-    pub H-length : length H ≡ 6528
+    pub H-length : length H ≡ 1632
     H-length = behind-length p H full all-of eH (omega (arith, fits, g .size))
 
     run-of : take (full - 0) H ≡ h ++ p
     run-of = let z : full - 0 ≡ full = omega arith in ap (λ (k : ℕ). take k H) z ∙ behind p H full all-of eH
 
-    pub run-length : length (take (full - 0) H) ≡ fullCosts (s .rate)
+    pub run-length : length (take (full - 0) H) ≡ fullSymbols (s .rate)
     run-length = ap length run-of ∙ (length-append h p ∙ omega (arith, h-length, all-of))
 
-    pub run-small : All (λ x. x ≤ 7) (take (full - 0) H)
-    run-small = subst (All (λ x. x ≤ 7)) (sym run-of) (All-append (λ x. x ≤ 7) h p (g .small) (all-take (full - s .count - 0) piece w))
+    pub run-small : All (λ x. x < 81) (take (full - 0) H)
+    run-small = subst (All (λ x. x < 81)) (sym run-of) (All-append (λ x. x < 81) h p (g .small) (all-take (full - s .count - 0) piece w))
 
-    module _ (from : ℕ) (er : from ≡ keptCosts (s .rate)) (N zeros : List ℕ) (ez : length zeros ≡ 6528)
+    module _ (from : ℕ) (er : from ≡ keptSymbols (s .rate)) (N zeros : List ℕ) (ez : length zeros ≡ 1632)
         (eN : N ≡ take (full - from) (drop from H) ++ drop (0 + length (take (full - from) (drop from H))) zeros) where
       from-le : from ≤ full
-      from-le = omega (arith, numbers (s .rate) (g .known) .costs-fewer)
+      from-le = omega (arith, numbers (s .rate) (g .known) .kept-fewer)
 
       tail-length : length (take (full - from) (drop from H)) ≡ full - from
       tail-length = length-take-le (full - from) (drop from H) (omega (arith, length-drop from H, H-length, all-of, fits, g .size))
@@ -295,16 +280,15 @@ module _ (s : SymbolRuns) (g : RunsReady s) (piece : List ℕ) (w : All (λ x. x
                     length-append (take (full - from) (drop from H)) (drop (0 + length (take (full - from) (drop from H))) zeros),
                     length-drop (0 + length (take (full - from) (drop from H))) zeros,
                     tail-length,
-                    n .costs-most,
+                    n .full-most,
                   );
-              below = omega (arith, n .costs-some, n .costs-fewer);
-              fours = omega (arith, n .full-costs, n .kept-costs);
-              small = subst (All (λ x. x ≤ 7)) (sym tail-is) (all-drop from (take (full - 0) H) run-small);
+              below = omega (arith, n .kept-some, n .kept-fewer);
+              small = subst (All (λ x. x < 81)) (sym tail-is) (all-drop from (take (full - 0) H) run-small);
             },
           )
 
 -- the room for what is put
-pub placed-fits : (s : SymbolRuns) → RunsReady s → (piece : List ℕ) → (full : ℕ) → full ≡ fullCosts (s .rate) → full - s .count ≤ length piece
+pub placed-fits : (s : SymbolRuns) → RunsReady s → (piece : List ℕ) → (full : ℕ) → full ≡ fullSymbols (s .rate) → full - s .count ≤ length piece
     → s .count + length (take (full - s .count - 0) piece) ≤ length (s .held)
 placed-fits s g piece full e enough =
     omega (
@@ -312,10 +296,10 @@ placed-fits s g piece full e enough =
       length-take-le (full - s .count - 0) piece (omega arith),
       g .size,
       g .below,
-      numbers (s .rate) (g .known) .costs-most,
+      numbers (s .rate) (g .known) .full-most,
     )
 
-pub tail-fits : (full from : ℕ) (l : List ℕ) → full ≤ 6528 → 0 + length (take (full - from) l) ≤ 6528
+pub tail-fits : (full from : ℕ) (l : List ℕ) → full ≤ 1632 → 0 + length (take (full - from) l) ≤ 1632
 tail-fits full from l h = omega (arith, length-take (full - from) l)
 
 -- ---- the end
@@ -326,52 +310,51 @@ mod-le n k = omega (arith, mod-add-div n k)
 -- of so many symbols as are held those that make whole patterns
 module _ (s : SymbolRuns) (g : RunsReady s) (k : ℕ) (e : k ≡ symbolsPerPattern (s .rate)) where
   abbrev n : ℕ
-  n = s .count / 4
+  n = s .count
 
   abbrev end : ℕ
-  end = 4 * (n - n % k) - 0
+  end = n - n % k - 0
 
   abbrev whole : ℕ
   whole = symbolsPerPattern (s .rate) * (n / symbolsPerPattern (s .rate))
 
-  end-is : end ≡ 4 * whole
+  end-is : end ≡ whole
   end-is = rw e (part n (symbolsPerPattern (s .rate)))
     where
-      part : (n p : ℕ) → 4 * (n - n % p) - 0 ≡ 4 * (p * (n / p))
+      part : (n p : ℕ) → n - n % p - 0 ≡ p * (n / p)
       part n p = omega (arith, mod-add-div n p)
 
-  whole-le : 4 * whole ≤ s .count
+  whole-le : whole ≤ s .count
   whole-le = omega (arith, mul-div-le n (symbolsPerPattern (s .rate)))
 
-  pub end-le : end ≤ 6528
-  end-le = omega (arith, end-is, whole-le, g .below, numbers (s .rate) (g .known) .costs-most)
+  pub end-le : end ≤ 1632
+  end-le = omega (arith, end-is, whole-le, g .below, numbers (s .rate) (g .known) .full-most)
 
-  taken-is : take end (s .held) ≡ take (4 * whole) (heldOf s)
-  taken-is = ap (λ (j : ℕ). take j (s .held)) end-is ∙ sym (take-take (4 * whole) (s .count) (s .held) whole-le)
+  taken-is : take end (s .held) ≡ take whole (heldOf s)
+  taken-is = ap (λ (j : ℕ). take j (s .held)) end-is ∙ sym (take-take whole (s .count) (s .held) whole-le)
 
-  taken-length : length (take end (s .held)) ≡ 4 * whole
+  taken-length : length (take end (s .held)) ≡ whole
   taken-length = length-take-le end (s .held) (omega (arith, end-le, g .size)) ∙ end-is
 
   pub end-readable : (output : List ℕ) → 1632 ≤ length output → Readable (s .rate) (s .memory) (take end (s .held)) output
   end-readable output long =
       short-readable (s .rate) (s .memory) (g .known) (g .in-range) (take end (s .held)) whole taken-length
       (mul-mod-right (symbolsPerPattern (s .rate)) (n / symbolsPerPattern (s .rate)))
-      (omega (arith, whole-le, g .below, numbers (s .rate) (g .known) .full-costs))
-      (subst (All (λ x. x ≤ 7)) (sym taken-is) (all-take (4 * whole) (heldOf s) (g .small))) output long
+      (omega (arith, whole-le, g .below))
+      (subst (All (λ x. x < 81)) (sym taken-is) (all-take whole (heldOf s) (g .small))) output long
 
   pub closes : (output : List ℕ) {after total count : ℕ} {exit : List ℕ}
-      → BestRead (runCost (costsOf (take end (s .held))) (s .rate) (s .memory)) (runBits (s .rate) (length (take end (s .held)) / 4)) (s .memory) output after total count exit
+      → BestRead (runCost (costsOf (take end (s .held))) (s .rate) (s .memory)) (runBits (s .rate) (length (take end (s .held)))) (s .memory) output after total count exit
       → Closes s output count (n % k) exit
   closes output {after} {total} {count} {exit} o =
       let p = symbolsPerPattern (s .rate) in
-      let q : length (take end (s .held)) / 4 ≡ whole = omega (arith, taken-length) in
       record {
         whole = n / p;
-        split = rw e (omega (arith, mod-add-div n p, g .fours));
+        split = rw e (mod-add-div n p);
         few = rw e (mod-lt n (some-symbols (s .rate) (g .known)));
         total = total;
         after = after;
         bits =
             subst (λ (l : List ℕ). BestRead (runCost (costsOf l) (s .rate) (s .memory)) (runBits (s .rate) whole) (s .memory) output after total count exit) taken-is
-            (subst (λ (j : ℕ). BestRead (runCost (costsOf (take end (s .held))) (s .rate) (s .memory)) (runBits (s .rate) j) (s .memory) output after total count exit) q o);
+            (subst (λ (j : ℕ). BestRead (runCost (costsOf (take end (s .held))) (s .rate) (s .memory)) (runBits (s .rate) j) (s .memory) output after total count exit) taken-length o);
       }

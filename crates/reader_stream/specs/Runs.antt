@@ -4,7 +4,7 @@
 -- Assumes nothing.
 use mathlib.Core.Path.{_≡_}
 use mathlib.Core.List.{List, [], _++_, map}
-use Prim.Native.Nat.{ℕ, _+_, _-_, _*_, _/_, _%_, _<_, _≤_}
+use Prim.Native.Nat.{ℕ, _+_, _-_, _*_, _/_, _<_, _≤_}
 use lib.ListN.{length, take, drop}
 use Rattle.common.specs.Lists.{All}
 use Rattle.convolutional_code.specs.Code.{memoryAfter}
@@ -63,20 +63,14 @@ pub record ReadToEnd {R : Type 0} (cost : R → ℕ → ℕ) (rate : ℕ) (rs : 
   pub end : Ended cost rate memory left output count rest exit
   pub bits-are : bits ≡ decided ++ take count exit
 
--- ---- in costs, four for each symbol
-
-unfoldable pub fullCosts : ℕ → ℕ
-fullCosts rate = 4 * fullSymbols rate
-
-unfoldable pub keptCosts : ℕ → ℕ
-keptCosts rate = 4 * keptSymbols rate
+-- ---- in costs: one number for each symbol, which stands for the decisions on its I and Q
 
 -- What the costs of all the symbols come to: the bits that are decided, the memory after them, and the costs of the symbols behind them.
 pub data DecidedCosts (rate : ℕ) : ℕ → List ℕ → List ℕ → ℕ → List ℕ → Type 0 where
-  few-costs : {m : ℕ} {costs : List ℕ} → length costs < fullCosts rate → DecidedCosts rate m costs [] m costs
-  run-costs : {m last : ℕ} {costs left out : List ℕ} (bits : List ℕ) (total after : ℕ) → fullCosts rate ≤ length costs
-      → Decoded (runCost (costsOf (take (fullCosts rate) costs)) rate m) (runBits rate (fullSymbols rate)) m bits total after
-      → DecidedCosts rate (memoryAfter m (take (keptBits rate) bits)) (drop (keptCosts rate) costs) out last left
+  few-costs : {m : ℕ} {costs : List ℕ} → length costs < fullSymbols rate → DecidedCosts rate m costs [] m costs
+  run-costs : {m last : ℕ} {costs left out : List ℕ} (bits : List ℕ) (total after : ℕ) → fullSymbols rate ≤ length costs
+      → Decoded (runCost (costsOf (take (fullSymbols rate) costs)) rate m) (runBits rate (fullSymbols rate)) m bits total after
+      → DecidedCosts rate (memoryAfter m (take (keptBits rate) bits)) (drop (keptSymbols rate) costs) out last left
       → DecidedCosts rate m costs (take (keptBits rate) bits ++ out) last left
 
 -- a longest run that is read, and the memory after the bits of it that are kept
@@ -84,7 +78,7 @@ pub record FullRead (rate memory : ℕ) (costs output : List ℕ) (after : ℕ) 
   pub total : ℕ
   pub last : ℕ
   pub count : ℕ
-  pub out : BestRead (runCost (costsOf costs) rate memory) (runBits rate (length costs / 4)) memory output last total count exit
+  pub out : BestRead (runCost (costsOf costs) rate memory) (runBits rate (length costs)) memory output last total count exit
   pub leaves : after ≡ memoryAfter memory (take (keptBits rate) (out .bits))
 
 -- runs in progress, and what they hold
@@ -94,10 +88,9 @@ heldOf s = take (s .count) (s .held)
 pub record RunsReady (s : SymbolRuns) : Type 0 where
   pub known : s .rate < 5
   pub in-range : s .memory < 64
-  pub size : length (s .held) ≡ 6528
-  pub fours : s .count % 4 ≡ 0
-  pub below : s .count < fullCosts (s .rate)
-  pub small : All (λ c. c ≤ 7) (heldOf s)
+  pub size : length (s .held) ≡ 1632
+  pub below : s .count < fullSymbols (s .rate)
+  pub small : All (λ c. c < 81) (heldOf s)
 
 pub record RunsHold (s : SymbolRuns) (rate memory : ℕ) (costs : List ℕ) : Type 0 where
   pub rate-is : s .rate ≡ rate
@@ -107,18 +100,18 @@ pub record RunsHold (s : SymbolRuns) (rate memory : ℕ) (costs : List ℕ) : Ty
 -- What feeding a piece does: where there are not enough symbols for a run, they are held. Else so many are taken as make one, and it is read; the output
 -- has its bits, of which those that count says are decided.
 pub data FeedsSymbols (s : SymbolRuns) (piece output : List ℕ) (next : SymbolRuns) (taken count : ℕ) (exit : List ℕ) : Type 0 where
-  gathered : length (heldOf s ++ piece) < fullCosts (s .rate) → taken ≡ length piece → count ≡ 0 → exit ≡ output
+  gathered : length (heldOf s ++ piece) < fullSymbols (s .rate) → taken ≡ length piece → count ≡ 0 → exit ≡ output
       → RunsHold next (s .rate) (s .memory) (heldOf s ++ piece) → FeedsSymbols s piece output next taken count exit
-  read : (costs : List ℕ) → costs ≡ heldOf s ++ take taken piece → taken ≤ length piece → length costs ≡ fullCosts (s .rate) → count ≡ keptBits (s .rate)
-      → (after : ℕ) → FullRead (s .rate) (s .memory) costs output after exit → RunsHold next (s .rate) after (drop (keptCosts (s .rate)) costs)
+  read : (costs : List ℕ) → costs ≡ heldOf s ++ take taken piece → taken ≤ length piece → length costs ≡ fullSymbols (s .rate) → count ≡ keptBits (s .rate)
+      → (after : ℕ) → FullRead (s .rate) (s .memory) costs output after exit → RunsHold next (s .rate) after (drop (keptSymbols (s .rate)) costs)
       → FeedsSymbols s piece output next taken count exit
 
 -- What closing the runs gives: the bits of the whole patterns that are held, and how many symbols are behind them.
 pub record Closes (s : SymbolRuns) (output : List ℕ) (count rest : ℕ) (exit : List ℕ) : Type 0 where
   pub whole : ℕ
-  pub split : 4 * (rest + symbolsPerPattern (s .rate) * whole) ≡ s .count
+  pub split : rest + symbolsPerPattern (s .rate) * whole ≡ s .count
   pub few : rest < symbolsPerPattern (s .rate)
   pub total : ℕ
   pub after : ℕ
   pub bits :
-      BestRead (runCost (costsOf (take (4 * (symbolsPerPattern (s .rate) * whole)) (heldOf s))) (s .rate) (s .memory)) (runBits (s .rate) (symbolsPerPattern (s .rate) * whole)) (s .memory) output after total count exit
+      BestRead (runCost (costsOf (take (symbolsPerPattern (s .rate) * whole) (heldOf s))) (s .rate) (s .memory)) (runBits (s .rate) (symbolsPerPattern (s .rate) * whole)) (s .memory) output after total count exit

@@ -1,9 +1,9 @@
 // Reading in progress: the costs of received symbols from pieces of any length, decided in runs that overlap, and the bits packed into bytes. The costs of
 // symbols that are not decided yet are held, and the bits that fill no byte yet.
-// A symbol comes as four costs, those of deciding its I as 0 and as 1 and then its Q, whether they are from hard or from soft decisions.
+// The costs of a symbol come as one number, which stands for the decisions on its I and Q, whether they are hard or soft ones.
 // Inner: its functions may require what the crates above have tested. docs/ARCHITECTURE.md names the public surface.
 ghost use mathlib.Core.Path.{_≡_};
-ghost use Prim.Native.Nat.{_+_, _*_, _%_, _<_, _≤_};
+ghost use Prim.Native.Nat.{_+_, _*_, _<_, _≤_};
 ghost use lib.ListN.{length};
 ghost use Rattle.common.specs.Lists.{All};
 ghost use Rattle.reader_stream.specs.Stream.{ReaderReady, FreshReader, FeedsReader, FinishesReader};
@@ -13,10 +13,9 @@ use crate::symbol_runs::SymbolRuns;
 pub mod bit_packing;
 pub mod symbol_runs;
 
-// The runs in progress, how many symbols came, and the bits that fill no byte yet, which are the last `held` of `carry`.
+// The runs in progress, and the bits that fill no byte yet, which are the last `held` of `carry`.
 pub struct ReaderStream {
     pub runs: SymbolRuns,
-    pub symbols: u64,
     pub carry: u8,
     pub held: usize,
 }
@@ -42,7 +41,6 @@ impl ReaderStream {
         let runs = crate::symbol_runs::open(rate);
         ReaderStream {
             runs,
-            symbols: 0,
             carry: 0,
             held: 0,
         }
@@ -50,7 +48,7 @@ impl ReaderStream {
 
     // Takes the costs of symbols. The bytes that the bits fill stand at the front of the output. A run is read into `bits`.
     pub fn feed(self, costs: &[u8], bits: &mut [u8], output: &mut [u8]) -> Fed
-        requires { ⌜ (ReaderReady self) × (All (λ c. c ≤ 7) (now costs)) × (length (now costs) % 4 ≡ 0) × (1632 ≤ length (now bits)) × (length (now costs) + 6528 ≤ 16 * length (now output)) ⌝ }
+        requires { ⌜ (ReaderReady self) × (All (λ p. p < 81) (now costs)) × (1632 ≤ length (now bits)) × (length (now costs) + 1632 ≤ 4 * length (now output)) ⌝ }
         ensures { λ r. ⌜ FeedsReader self (now (costs .entry)) (now (output .entry)) (r .stream) (r .count) (now (output .exit)) ⌝ }
     {
         let mut runs = self.runs;
@@ -70,14 +68,8 @@ impl ReaderStream {
             count += packed.count;
             at += length;
         }
-        let symbols = std::num::wrapping_add_u64(self.symbols, (costs.len() / 4) as u64);
         Fed {
-            stream: ReaderStream {
-                runs,
-                symbols,
-                carry,
-                held,
-            },
+            stream: ReaderStream { runs, carry, held },
             count,
         }
     }

@@ -1,27 +1,27 @@
 // Received symbols decided in runs that overlap, so that no decision is kept that few symbols stand behind.
 ghost use mathlib.Core.Path.{_≡_};
 ghost use mathlib.Core.List.{[]};
-ghost use Prim.Native.Nat.{_%_, _<_, _≤_};
+ghost use Prim.Native.Nat.{_<_, _≤_};
 ghost use lib.ListN.{length};
 ghost use Rattle.common.specs.Lists.{All};
 ghost use Rattle.convolutional_code.specs.Code.{memoryAfter};
 ghost use Rattle.convolutional_code.specs.Bits.{Bits};
-ghost use Rattle.reader_stream.specs.Runs.{fullCosts, keptCosts, keptBits, FullRead, RunsReady, RunsHold, FeedsSymbols, Closes};
+ghost use Rattle.reader_stream.specs.Runs.{fullSymbols, keptSymbols, keptBits, FullRead, RunsReady, RunsHold, FeedsSymbols, Closes};
 use common::put;
 use convolutional_code::next_memory;
-use reader::read_costs;
+use reader::read_pairs;
 use reader::symbol_count;
 
-// Runs in progress: the rate, the coder's memory before the first symbol that is held, the costs of the symbols that are held, and how many
-// costs these are.
+// Runs in progress: the rate, the coder's memory before the first symbol that is held, the decisions on the symbols that are held, one number for each,
+// and how many these are.
 pub struct SymbolRuns {
     pub rate: u8,
     pub memory: u8,
-    pub held: [u8; 6528],
+    pub held: [u8; 1632],
     pub count: usize,
 }
 
-// The runs after a piece, how many costs of the piece were taken, and how many bits are decided.
+// The runs after a piece, how many symbols of the piece were taken, and how many bits are decided.
 pub struct Taken {
     pub runs: SymbolRuns,
     pub taken: usize,
@@ -34,26 +34,26 @@ pub struct Closed {
     pub rest: usize,
 }
 
-// The costs of each rate's longest run.
-const FULL_COSTS: [usize; 5] = [6528, 4896, 4352, 3912, 3728];
+// The symbols of each rate's longest run.
+const FULL_SYMBOLS: [usize; 5] = [1632, 1224, 1088, 978, 932];
 
-// The costs of such a run whose bits are kept, and the bits.
-const KEPT_COSTS: [usize; 5] = [6124, 4584, 4080, 3660, 3488];
+// The symbols of such a run whose bits are kept, and the bits.
+const KEPT_SYMBOLS: [usize; 5] = [1531, 1146, 1020, 915, 872];
 
 const KEPT_BITS: [usize; 5] = [1531, 1528, 1530, 1525, 1526];
 
-fn full_costs(rate: u8) -> usize
+fn full_symbols(rate: u8) -> usize
     requires { ⌜ rate < 5 ⌝ }
-    ensures { λ r. ⌜ r ≡ fullCosts rate ⌝ }
+    ensures { λ r. ⌜ r ≡ fullSymbols rate ⌝ }
 {
-    FULL_COSTS[rate as usize]
+    FULL_SYMBOLS[rate as usize]
 }
 
-fn kept_costs(rate: u8) -> usize
+fn kept_symbols(rate: u8) -> usize
     requires { ⌜ rate < 5 ⌝ }
-    ensures { λ r. ⌜ r ≡ keptCosts rate ⌝ }
+    ensures { λ r. ⌜ r ≡ keptSymbols rate ⌝ }
 {
-    KEPT_COSTS[rate as usize]
+    KEPT_SYMBOLS[rate as usize]
 }
 
 fn kept_bits(rate: u8) -> usize
@@ -90,11 +90,11 @@ fn memory_after(memory: u8, bits: &[u8]) -> u8
 }
 
 // Reads a longest run into the output: the memory after the bits of it that are kept.
-fn read_full(rate: u8, memory: u8, costs: &[u8], output: &mut [u8]) -> u8
-    requires { ⌜ (rate < 5) × (memory < 64) × (length (now costs) ≡ fullCosts rate) × (All (λ c. c ≤ 7) (now costs)) × (1632 ≤ length (now output)) ⌝ }
-    ensures { λ r. ⌜ FullRead rate memory (now (costs .entry)) (now (output .entry)) r (now (output .exit)) ⌝ }
+fn read_full(rate: u8, memory: u8, pairs: &[u8], output: &mut [u8]) -> u8
+    requires { ⌜ (rate < 5) × (memory < 64) × (length (now pairs) ≡ fullSymbols rate) × (All (λ p. p < 81) (now pairs)) × (1632 ≤ length (now output)) ⌝ }
+    ensures { λ r. ⌜ FullRead rate memory (now (pairs .entry)) (now (output .entry)) r (now (output .exit)) ⌝ }
 {
-    read_costs(rate, memory, costs, output);
+    read_pairs(rate, memory, pairs, output);
     let kept = kept_bits(rate);
     memory_after(memory, &output[0..kept])
 }
@@ -107,22 +107,22 @@ pub fn open(rate: u8) -> SymbolRuns
     SymbolRuns {
         rate,
         memory: 0,
-        held: [0; 6528],
+        held: [0; 1632],
         count: 0,
     }
 }
 
-// Takes the costs of symbols of a piece: as many as make a longest run with those that are held, or all. Where they make one, it is read into the
+// Takes the symbols of a piece, the decisions on each as one number: as many as make a longest run with those that are held, or all. Where they make one, it is read into the
 // output, and the bits that are decided stand at its front.
 pub fn feed(runs: SymbolRuns, piece: &[u8], output: &mut [u8]) -> Taken
-    requires { ⌜ (RunsReady runs) × (All (λ c. c ≤ 7) (now piece)) × (length (now piece) % 4 ≡ 0) × (1632 ≤ length (now output)) ⌝ }
+    requires { ⌜ (RunsReady runs) × (All (λ p. p < 81) (now piece)) × (1632 ≤ length (now output)) ⌝ }
     ensures { λ r. ⌜ (FeedsSymbols runs (now (piece .entry)) (now (output .entry)) (r .runs) (r .taken) (r .count) (now (output .exit))) × (RunsReady (r .runs)) ⌝ }
 {
     let rate = runs.rate;
     let memory = runs.memory;
     let count = runs.count;
     let mut held = runs.held;
-    let full = full_costs(rate);
+    let full = full_symbols(rate);
     let space = full - count;
     if piece.len() < space {
         put(piece, count, &mut held);
@@ -139,8 +139,8 @@ pub fn feed(runs: SymbolRuns, piece: &[u8], output: &mut [u8]) -> Taken
     }
     put(&piece[0..space], count, &mut held);
     let after = read_full(rate, memory, &held[0..full], output);
-    let from = kept_costs(rate);
-    let mut next = [0u8; 6528];
+    let from = kept_symbols(rate);
+    let mut next = [0u8; 1632];
     put(&held[from..full], 0, &mut next);
     Taken {
         runs: SymbolRuns {
@@ -163,10 +163,9 @@ pub fn close(runs: SymbolRuns, output: &mut [u8]) -> Closed
     let memory = runs.memory;
     let count = runs.count;
     let held = runs.held;
-    let symbols = count / 4;
-    let rest = symbols % symbol_count(rate) as usize;
-    let end = 4 * (symbols - rest);
-    let read = read_costs(rate, memory, &held[0..end], output);
+    let rest = count % symbol_count(rate) as usize;
+    let end = count - rest;
+    let read = read_pairs(rate, memory, &held[0..end], output);
     Closed {
         count: read.count,
         rest,

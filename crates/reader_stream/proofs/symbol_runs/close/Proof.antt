@@ -19,26 +19,23 @@ rem-rest c = rw (c .symbol-count .ensures) (some-symbols _ (c .before .before .b
 sub-end : tie.Need-sub-end
 sub-end c = mod-le _ _
 
-mul-end : tie.Need-mul-end
-mul-end c = search needs
+sub-read-pairs : tie.Need-sub-read-pairs
+sub-read-pairs c = search needs
 
-sub-read-costs : tie.Need-sub-read-costs
-sub-read-costs c = search needs
+part-read-pairs-start : tie.Need-part-read-pairs-start
+part-read-pairs-start c = search needs
 
-part-read-costs-start : tie.Need-part-read-costs-start
-part-read-costs-start c = search needs
+part-read-pairs-end : tie.Need-part-read-pairs-end
+part-read-pairs-end c = let a = c .before .before .before .before in omega (arith, a .pre .0 .size, end-le (a .args .runs) (a .pre .0) _ (c .before .symbol-count .ensures))
 
-part-read-costs-end : tie.Need-part-read-costs-end
-part-read-costs-end c = let a = c .before .before .before .before in omega (arith, a .pre .0 .size, end-le (a .args .runs) (a .pre .0) _ (c .before .symbol-count .ensures))
-
-read-costs-requires : tie.Need-read-costs-requires
-read-costs-requires c κs = let a = c .before .before .before .before .before .before in end-readable (a .args .runs) (a .pre .0) _ (c .before .before .before .symbol-count .ensures) (a .args .output .now) (a .pre .1)
+read-pairs-requires : tie.Need-read-pairs-requires
+read-pairs-requires c κs = let a = c .before .before .before .before .before .before in end-readable (a .args .runs) (a .pre .0) _ (c .before .before .before .symbol-count .ensures) (a .args .output .now) (a .pre .1)
 
 same-length : tie.Need-same-length
 same-length c = search needs
 
 returns : tie.Need-returns
-returns c = let a = c .before .before .before .before .before .before .before .before .before in closes (a .args .runs) (a .pre .0) _ (c .before .before .before .before .before .before .symbol-count .ensures) (a .args .output .now) (c .before .before .read-costs .ensures .1)
+returns c = let a = c .before .before .before .before .before .before .before .before .before in closes (a .args .runs) (a .pre .0) _ (c .before .before .before .before .before .before .symbol-count .ensures) (a .args .output .now) (c .before .before .read-pairs .ensures .1)
 
 pub close-spec : {M : Type 1} → statement M
 close-spec =
@@ -48,10 +45,9 @@ close-spec =
     cast-rest
     rem-rest
     sub-end
-    mul-end
-    sub-read-costs
-    part-read-costs-start
-    part-read-costs-end
-    read-costs-requires
+    sub-read-pairs
+    part-read-pairs-start
+    part-read-pairs-end
+    read-pairs-requires
     same-length
     returns)

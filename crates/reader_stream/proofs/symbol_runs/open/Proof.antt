@@ -9,7 +9,7 @@ use Rattle.reader_stream.proofs.symbol_runs.open.Tie as tie
 returns : tie.Need-returns
 returns c =
     let n = numbers (c .args .rate) (c .pre) in (
-      record { known = c .pre; in-range = omega arith; size = refl; fours = refl; below = omega (arith, n .costs-some, n .costs-fewer); small = tt },
+      record { known = c .pre; in-range = omega arith; size = refl; below = omega (arith, n .kept-some, n .kept-fewer); small = tt },
       record { rate-is = refl; memory-is = refl; held-is = refl },
     )
 
