@@ -2,7 +2,7 @@
 -- Assumes nothing.
 use mathlib.Core.Path.{_≡_, refl, sym, ap, ap₂, subst, _∙_}
 use mathlib.Core.List.{List, [], _++_, append-nil, append-assoc}
-use Prim.Native.Nat.{ℕ, _+_, _*_, _/_, _-_, _%_, _^_, _≤_, _<_}
+use Prim.Native.Nat.{ℕ, _+_, _*_, _/_, _-_, _%_, _≤_, _<_}
 use native.Mathlib.Omega.{arith}
 use borrow.Rule.Slice.PartMut.{putMid}
 use lib.ListN.{length, take, drop, length-append, length-take, length-drop, drop-of-length-le}
@@ -115,17 +115,17 @@ fed-decided {s} {piece = piece} {exit = exit} {taken} {count} g (read costs es l
 -- ---- the loop over costs
 
 -- so many of the costs were taken, and so many bytes packed
-pub record Feeding (start : ReaderStream) (costs output₀ output : List ℕ) (runs : SymbolRuns) (carry held count at : ℕ) : Type 0 where
+pub record Feeding (start : SymbolRuns) (carry₀ held₀ : ℕ) (costs output₀ output : List ℕ) (runs : SymbolRuns) (carry held count at : ℕ) : Type 0 where
   pub ready : RunsReady runs
-  pub rate-is : runs .rate ≡ start .runs .rate
+  pub rate-is : runs .rate ≡ start .rate
   pub most : at ≤ length costs
   pub fours : at % 4 ≡ 0
   pub bits : List ℕ
-  pub decided : DecidedCosts (start .runs .rate) (start .runs .memory) (heldCosts start ++ take at costs) bits (runs .memory) (heldOf runs)
-  pub packed : Packs (carriedBits (start .carry) (start .held)) bits output₀ carry held count output
-  pub space : 2 * length bits + runs .count ≤ start .runs .count + at
+  pub decided : DecidedCosts (start .rate) (start .memory) (heldOf start ++ take at costs) bits (runs .memory) (heldOf runs)
+  pub packed : Packs (carriedBits carry₀ held₀) bits output₀ carry held count output
+  pub space : 2 * length bits + runs .count ≤ start .count + at
 
-pub feeding-none : (s : ReaderStream) → ReaderReady s → (costs output : List ℕ) → Feeding s costs output output (s .runs) (s .carry) (s .held) 0 0
+pub feeding-none : (s : ReaderStream) → ReaderReady s → (costs output : List ℕ) → Feeding (s .runs) (s .carry) (s .held) costs output output (s .runs) (s .carry) (s .held) 0 0
 feeding-none s g costs output =
     let r = g .runs-ready in
     record {
@@ -139,8 +139,8 @@ feeding-none s g costs output =
       space = omega arith;
     }
 
-module _ {start : ReaderStream} (going : ReaderReady start) {runs : SymbolRuns} {costs output₀ output : List ℕ} (whole : length costs % 4 ≡ 0)
-    (fits : length costs + 6528 ≤ 16 * length output) {carry held count at : ℕ} (here : at < length costs) (g : Feeding start costs output₀ output runs carry held count at) where
+module _ {start runs : SymbolRuns} {carry₀ held₀ : ℕ} (going : RunsReady start) (few : held₀ < 8) {costs output₀ output : List ℕ} (whole : length costs % 4 ≡ 0)
+    (fits : length costs + 6528 ≤ 16 * length output) {carry held count at : ℕ} (here : at < length costs) (g : Feeding start carry₀ held₀ costs output₀ output runs carry held count at) where
   abbrev piece : List ℕ
   piece = take (length costs - at) (drop at costs)
 
@@ -168,8 +168,7 @@ module _ {start : ReaderStream} (going : ReaderReady start) {runs : SymbolRuns} 
     -- all the bits that are decided by now
     few-bits : 2 * (length (g .bits) + decided) ≤ 16 * length output
     few-bits =
-        let s = going .runs-ready in
-        omega (arith, fits, fed-some .1, g .space, fed-space (g .ready) r f, s .below, numbers (start .runs .rate) (s .known) .costs-most)
+        omega (arith, fits, fed-some .1, g .space, fed-space (g .ready) r f, going .below, numbers (start .rate) (going .known) .costs-most)
 
     pub pack-fits : (held < 8) × (Bits (take decided exit)) × (held + length (take decided exit) < 8 * length behind + 8)
     pack-fits = (
@@ -180,9 +179,9 @@ module _ {start : ReaderStream} (going : ReaderReady start) {runs : SymbolRuns} 
         length-take decided exit,
         packs-all (g .packed),
         packs-fit (g .packed),
-        length-append (carriedBits (start .carry) (start .held)) (g .bits),
-        carried-length (start .carry) (start .held) (omega (arith, going .few)),
-        going .few,
+        length-append (carriedBits carry₀ held₀) (g .bits),
+        carried-length carry₀ held₀ (omega (arith, few)),
+        few,
         few-bits,
         ap length behind-is,
         length-drop count output,
@@ -191,19 +190,19 @@ module _ {start : ReaderStream} (going : ReaderReady start) {runs : SymbolRuns} 
 
     -- the bytes of these bits, behind those that stand there
     pub feeding-more : {carry′ held′ n : ℕ} {last : List ℕ} → Packs (carriedBits carry held) (take decided exit) behind carry′ held′ n last
-        → Feeding start costs output₀ (putMid count (length output - count) output last) next carry′ held′ (count + n) (at + taken)
+        → Feeding start carry₀ held₀ costs output₀ (putMid count (length output - count) output last) next carry′ held′ (count + n) (at + taken)
     feeding-more {carry′} {held′} {n} {last} p =
         let t = fed-some in
         let k : length (take taken piece) ≡ taken = length-take-le taken piece (omega (arith, t .1, size)) in
         let more : List ℕ = take decided exit in
         let kept = taken-fours runs (g .ready) piece lent piece-fours f in
-        let hr : start .runs .rate < 5 = going .runs-ready .known in
+        let hr : start .rate < 5 = going .known in
         let w = packs-more (g .packed) more (subst (λ (x : List ℕ). Packs (carriedBits carry held) more x carry′ held′ n last) behind-is p) in
         let nothing : last ++ drop (length output - count) (drop count output) ≡ last =
         ap (λ (x : List ℕ). last ++ x) (drop-of-length-le (drop count output) {i = length output - count} (omega (arith, length-drop count output))) ∙ append-nil last in
-        let front : heldCosts start ++ take at costs ++ take taken piece ≡ heldCosts start ++ take (at + taken) costs =
-        append-assoc (heldCosts start) (take at costs) (take taken piece)
-        ∙ ap (λ (l : List ℕ). heldCosts start ++ l) (ap (λ (l : List ℕ). take at costs ++ take taken l) all ∙ sym (take-add at taken costs)) in
+        let front : heldOf start ++ take at costs ++ take taken piece ≡ heldOf start ++ take (at + taken) costs =
+        append-assoc (heldOf start) (take at costs) (take taken piece)
+        ∙ ap (λ (l : List ℕ). heldOf start ++ l) (ap (λ (l : List ℕ). take at costs ++ take taken l) all ∙ sym (take-add at taken costs)) in
         record {
           ready = r;
           rate-is = kept .1 ∙ g .rate-is;
@@ -211,11 +210,11 @@ module _ {start : ReaderStream} (going : ReaderReady start) {runs : SymbolRuns} 
           fours = omega (arith, g .fours, k, kept .0);
           bits = g .bits ++ more;
           decided =
-              subst (λ (l : List ℕ). DecidedCosts (start .runs .rate) (start .runs .memory) l (g .bits ++ more) (next .memory) (heldOf next)) front
+              subst (λ (l : List ℕ). DecidedCosts (start .rate) (start .memory) l (g .bits ++ more) (next .memory) (heldOf next)) front
               (joined hr (g .decided) (take taken piece)
               (subst (λ (j : ℕ). DecidedCosts j (runs .memory) (heldOf runs ++ take taken piece) more (next .memory) (heldOf next)) (g .rate-is) (fed-decided (g .ready) f)));
           packed =
-              subst (λ (l : List ℕ). Packs (carriedBits (start .carry) (start .held)) (g .bits ++ more) output₀ carry′ held′ (count + n) l)
+              subst (λ (l : List ℕ). Packs (carriedBits carry₀ held₀) (g .bits ++ more) output₀ carry′ held′ (count + n) l)
               (ap (λ (x : List ℕ). take count output ++ x) (sym nothing)) w;
           space = omega (arith, length-append (g .bits) more, length-take decided exit, g .space, fed-space (g .ready) r f);
         }
@@ -226,18 +225,17 @@ module _ {start : ReaderStream} (going : ReaderReady start) {runs : SymbolRuns} 
     count-fits p e = omega (arith, packs-fit p, packs-fit (g .packed), ap length behind-is, length-drop count output)
 
 -- all of them were taken
-pub feeding-all : {start : ReaderStream} {runs : SymbolRuns} {costs output₀ output : List ℕ} {carry held count at symbols : ℕ} → Feeding start costs output₀ output runs carry held count at
-    → length costs ≤ at → symbols ≡ (start .symbols + length costs / 4) % 2 ^ 64
-    → FeedsReader start costs output₀ (record { runs = runs; symbols = symbols; carry = carry; held = held }) count output
-feeding-all {start} {runs} {costs} {at = at} g h e =
+pub feeding-all : (s : ReaderStream) {runs : SymbolRuns} {costs output₀ output : List ℕ} {carry held count at : ℕ}
+    → Feeding (s .runs) (s .carry) (s .held) costs output₀ output runs carry held count at → length costs ≤ at
+    → FeedsReader s costs output₀ (record { runs = runs; carry = carry; held = held }) count output
+feeding-all s {runs} {costs} {at = at} g h =
     let k : at ≡ length costs = omega (arith, g .most) in
     record {
       ready = record { runs-ready = g .ready; few = g .packed .few };
       rate-is = g .rate-is;
       bits = g .bits;
       decided =
-          subst (λ (l : List ℕ). DecidedCosts (start .runs .rate) (start .runs .memory) (heldCosts start ++ l) (g .bits) (runs .memory) (heldOf runs))
+          subst (λ (l : List ℕ). DecidedCosts (s .runs .rate) (s .runs .memory) (heldCosts s ++ l) (g .bits) (runs .memory) (heldOf runs))
           (ap (λ (k : ℕ). take k costs) k ∙ take-length costs) (g .decided);
       packed = g .packed;
-      counted = e;
     }

@@ -2,8 +2,8 @@
 -- Assumes nothing.
 use mathlib.Core.Path.{_≡_, refl, sym, _∙_, ap, ap₂, subst}
 use mathlib.Core.List.{List, [], _++_, map, append-assoc}
-use Prim.Native.Nat.{ℕ, _+_, _*_, _/_, _%_, _^_, _<_, _≤_}
-use native.Mathlib.Nat.{mul-mod-right, mod-add-mod}
+use Prim.Native.Nat.{ℕ, _+_, _*_, _/_, _%_, _<_, _≤_}
+use native.Mathlib.Nat.{mul-mod-right}
 use native.Mathlib.Omega.{arith}
 use lib.ListN.{length, take, drop, length-append}
 use lib.Seq.{take-append-le, drop-append-le, length-take-le}
@@ -80,12 +80,6 @@ symbols-decided {R} cost {rate} {m} hr hm {left = left} {last} (run-costs {costs
 
 -- ---- every history
 
--- the number of symbols, modulo m, with those of a piece more
-more-symbols : (n a b c m : ℕ) → n ≡ a / 4 % m → a % 4 ≡ 0 → c ≡ a + b → (n + b / 4) % m ≡ c / 4 % m
-more-symbols n a b c m e f l =
-    let k : a / 4 + b / 4 ≡ c / 4 = omega arith in
-    ap (λ (x : ℕ). (x + b / 4) % m) e ∙ mod-add-mod (a / 4) m (b / 4) ∙ ap (λ (x : ℕ). x % m) k
-
 -- Whatever pieces the costs came in, the bytes so far are those of the bits that overlapping runs decide of all of them.
 pub every-history : {rate : ℕ} {costs bytes : List ℕ} {s : ReaderStream} → ReaderFeedings rate costs bytes s → CostsRead rate costs bytes s
 unfolding carriedBits
@@ -100,7 +94,6 @@ every-history {rate} {s = s} (none f) =
       decided = rw (f .empty .memory-is, f .empty .held-is) (few-costs {costs = []} (rw (sym (f .empty .rate-is)) (omega (arith, n .costs-some, n .costs-fewer))));
       bytes-are = sym (packed-few [] (omega arith));
       bits-left = ap (λ (k : ℕ). carriedBits (s .carry) k) (f .none-held) ∙ sym (rest-few 8 (omega arith) [] (omega arith));
-      counted = f .none-counted;
     }
 every-history {rate} {s = next} (feeding {costs} {s = s} piece output exit count before e f) =
     let b = every-history before in
@@ -116,7 +109,6 @@ every-history {rate} {s = next} (feeding {costs} {s = s} piece output exit count
           (subst (λ (r : ℕ). DecidedCosts r (s .runs .memory) (heldCosts s ++ piece) (f .bits) (next .runs .memory) (heldCosts next)) (b .rate-is) (f .decided));
       bytes-are = p .0;
       bits-left = p .1;
-      counted = f .counted ∙ more-symbols (s .symbols) (length costs) (length piece) (length (costs ++ piece)) (2 ^ 64) (b .counted) (b .fours) (length-append costs piece);
     }
 
 -- so any two ways of cutting them give the same bytes, and hold the same
@@ -139,7 +131,6 @@ module _ {R : Type 0} (cost : R → ℕ → ℕ) {rate : ℕ} {costs bytes : Lis
   pub every-symbol : SymbolsRead cost rate rs bytes s
   every-symbol =
       let d = symbols-decided cost known (omega arith) (came .decided) rs c in
-      let n : length costs / 4 ≡ length rs = omega (arith, c .size) in
       record {
         bits = came .bits;
         left = d .left;
@@ -147,7 +138,6 @@ module _ {R : Type 0} (cost : R → ℕ → ℕ) {rate : ℕ} {costs bytes : Lis
         held = d .held;
         bytes-are = came .bytes-are;
         bits-left = came .bits-left;
-        counted = came .counted ∙ ap (λ (k : ℕ). k % 2 ^ 64) n;
       }
 
   -- ---- the end

@@ -3,7 +3,7 @@
 -- Assumes nothing.
 use mathlib.Core.Path.{_≡_}
 use mathlib.Core.List.{List, [], _++_}
-use Prim.Native.Nat.{ℕ, _/_, _%_, _^_}
+use Prim.Native.Nat.{ℕ, _%_}
 use lib.ListN.{length, take}
 use Rattle.common.specs.Lists.{restOf}
 use Rattle.reader.specs.Cost.{Costed}
@@ -29,7 +29,6 @@ pub record CostsRead (rate : ℕ) (costs bytes : List ℕ) (s : ReaderStream) : 
   pub decided : DecidedCosts rate 0 costs bits (s .runs .memory) (heldCosts s)
   pub bytes-are : bytes ≡ packedBytes bits
   pub bits-left : heldBits s ≡ restOf 8 bits
-  pub counted : s .symbols ≡ length costs / 4 % 2 ^ 64
 
 -- What received symbols come to, where `cost r` says what a received symbol makes each sent one cost.
 pub record SymbolsRead {R : Type 0} (cost : R → ℕ → ℕ) (rate : ℕ) (rs : List R) (bytes : List ℕ) (s : ReaderStream) : Type 0 where
@@ -39,7 +38,6 @@ pub record SymbolsRead {R : Type 0} (cost : R → ℕ → ℕ) (rate : ℕ) (rs 
   pub held : Costed cost left (heldCosts s)
   pub bytes-are : bytes ≡ packedBytes bits
   pub bits-left : heldBits s ≡ restOf 8 bits
-  pub counted : s .symbols ≡ length rs % 2 ^ 64
 
 -- What they come to with the end: the bytes of all their bits. So many symbols are in no pattern, and so many bits in no byte.
 pub record SymbolsEnded {R : Type 0} (cost : R → ℕ → ℕ) (rate : ℕ) (rs : List R) (bytes : List ℕ) (rest left-bits : ℕ) : Type 0 where

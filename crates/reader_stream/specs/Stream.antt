@@ -3,8 +3,8 @@
 -- Assumes nothing.
 use mathlib.Core.Path.{_≡_}
 use mathlib.Core.List.{List, [], _++_}
-use Prim.Native.Nat.{ℕ, _+_, _/_, _%_, _^_, _<_}
-use lib.ListN.{length, take}
+use Prim.Native.Nat.{ℕ, _<_}
+use lib.ListN.{take}
 use Rattle.reader_stream.specs.Packing.{carriedBits, Packs}
 use Rattle.reader_stream.specs.Runs.{DecidedCosts, heldOf, RunsReady, RunsHold, Closes}
 use Rattle.reader_stream.specs.declared.ReaderStream.{ReaderStream}
@@ -26,18 +26,16 @@ pub record ReaderReady (s : ReaderStream) : Type 0 where
 pub record FreshReader (rate : ℕ) (s : ReaderStream) : Type 0 where
   pub ready : ReaderReady s
   pub empty : RunsHold (s .runs) rate 0 []
-  pub none-counted : s .symbols ≡ 0
   pub none-held : s .held ≡ 0
 
 -- What feeding costs does: all of them are taken. Behind those that were held they are decided in runs that overlap; the bits, behind those that were
--- held, are packed. The bytes stand at the front of the output, with all behind them as it was. Symbols are counted modulo 2 to the 64th.
+-- held, are packed. The bytes stand at the front of the output, with all behind them as it was.
 pub record FeedsReader (s : ReaderStream) (costs output : List ℕ) (next : ReaderStream) (count : ℕ) (exit : List ℕ) : Type 0 where
   pub ready : ReaderReady next
   pub rate-is : next .runs .rate ≡ s .runs .rate
   pub bits : List ℕ
   pub decided : DecidedCosts (s .runs .rate) (s .runs .memory) (heldCosts s ++ costs) bits (next .runs .memory) (heldCosts next)
   pub packed : Packs (heldBits s) bits output (next .carry) (next .held) count exit
-  pub counted : next .symbols ≡ (s .symbols + length costs / 4) % 2 ^ 64
 
 -- What the end does: the bits of the whole patterns that are held, behind the bits that were held, are packed. It says how many symbols are in no pattern,
 -- and how many bits in no byte. The bits are read into a buffer, which was lent.

@@ -13,10 +13,9 @@ use crate::symbol_runs::SymbolRuns;
 pub mod bit_packing;
 pub mod symbol_runs;
 
-// The runs in progress, how many symbols came, and the bits that fill no byte yet, which are the last `held` of `carry`.
+// The runs in progress, and the bits that fill no byte yet, which are the last `held` of `carry`.
 pub struct ReaderStream {
     pub runs: SymbolRuns,
-    pub symbols: u64,
     pub carry: u8,
     pub held: usize,
 }
@@ -42,7 +41,6 @@ impl ReaderStream {
         let runs = crate::symbol_runs::open(rate);
         ReaderStream {
             runs,
-            symbols: 0,
             carry: 0,
             held: 0,
         }
@@ -70,14 +68,8 @@ impl ReaderStream {
             count += packed.count;
             at += length;
         }
-        let symbols = std::num::wrapping_add_u64(self.symbols, (costs.len() / 4) as u64);
         Fed {
-            stream: ReaderStream {
-                runs,
-                symbols,
-                carry,
-                held,
-            },
+            stream: ReaderStream { runs, carry, held },
             count,
         }
     }

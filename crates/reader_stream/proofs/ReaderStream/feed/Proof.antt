@@ -14,11 +14,11 @@ use Rattle.reader_stream.proofs.ReaderStream.feed.Statement.{statement}
 use Rattle.reader_stream.proofs.ReaderStream.feed.Tie as tie
 
 abbrev Inv-loop : tie.InvT-loop
-Inv-loop self costs bits₀ output₀ runs₀ carry₀ held₀ count₀ at₀ bits output runs carry held count at =
-    (Feeding self costs output₀ output runs carry held count at) × (length bits ≡ length bits₀) × (length output ≡ length output₀)
+Inv-loop costs bits₀ output₀ runs₀ carry₀ held₀ count₀ at₀ bits output runs carry held count at =
+    (Feeding runs₀ carry₀ held₀ costs output₀ output runs carry held count at) × (length bits ≡ length bits₀) × (length output ≡ length output₀)
 
 abbrev μ-loop : tie.MeasureT-loop
-μ-loop self costs bits₀ output₀ runs₀ carry₀ held₀ count₀ at₀ bits output runs carry held count at = length costs - at
+μ-loop costs bits₀ output₀ runs₀ carry₀ held₀ count₀ at₀ bits output runs carry held count at = length costs - at
 
 -- the output has the room that it had
 enough : (c : tie.In-loop Inv-loop μ-loop)
@@ -33,7 +33,7 @@ some : (c : tie.After-feed Inv-loop μ-loop)
 some c =
     let l = c .before .before .before in
     let s = l .before .before .before .before .before .before in
-    fed-some (s .pre .0) (s .pre .2) (enough l) (l .loop-test .taken) (l .before .loop .inv .0) (c .feed .ensures .0) (c .feed .ensures .1)
+    fed-some (s .pre .0 .runs-ready) (s .pre .0 .few) (s .pre .2) (enough l) (l .loop-test .taken) (l .before .loop .inv .0) (c .feed .ensures .0) (c .feed .ensures .1)
 
 loop-holds : tie.Need-loop-holds Inv-loop μ-loop
 loop-holds c = let s = c .before .before .before .before in (feeding-none (s .args .self) (s .pre .0) (s .args .costs .now) (s .args .output .now), refl, refl)
@@ -54,7 +54,7 @@ feed-requires c κs =
     let k = l .before .loop in (
       k .inv .0 .ready,
       all-take (length (s .args .costs .now) - k .at) (drop (k .at) (s .args .costs .now)) (all-drop (k .at) (s .args .costs .now) (s .pre .1)),
-      piece-fours (s .pre .0) (s .pre .2) (enough l) (l .loop-test .taken) (k .inv .0),
+      piece-fours (s .pre .0 .runs-ready) (s .pre .0 .few) (s .pre .2) (enough l) (l .loop-test .taken) (k .inv .0),
       omega (arith, k .inv .1, s .pre .3),
     )
 
@@ -84,7 +84,7 @@ pack-requires c κs =
     let f = c .before .before .before .before .before in
     let l = f .before .before .before in
     let s = l .before .before .before .before .before .before in
-    pack-fits (s .pre .0) (s .pre .2) (enough l) (l .loop-test .taken) (l .before .loop .inv .0) (f .feed .ensures .0) (f .feed .ensures .1)
+    pack-fits (s .pre .0 .runs-ready) (s .pre .0 .few) (s .pre .2) (enough l) (l .loop-test .taken) (l .before .loop .inv .0) (f .feed .ensures .0) (f .feed .ensures .1)
 
 add-count : tie.Need-add-count Inv-loop μ-loop
 add-count c =
@@ -93,7 +93,7 @@ add-count c =
     let l = f .before .before .before in
     let k = l .before .loop in
     let s = l .before .before .before .before .before .before in
-    omega (arith, s .good, k .inv .2, count-fits (s .pre .0) (s .pre .2) (enough l) (l .loop-test .taken) (k .inv .0) (f .feed .ensures .0) (f .feed .ensures .1) (p .pack .ensures) (p .pack .kept .1 .1 .1 .0))
+    omega (arith, s .good, k .inv .2, count-fits (s .pre .0 .runs-ready) (s .pre .0 .few) (s .pre .2) (enough l) (l .loop-test .taken) (k .inv .0) (f .feed .ensures .0) (f .feed .ensures .1) (p .pack .ensures) (p .pack .kept .1 .1 .1 .0))
 
 add-at : tie.Need-add-at Inv-loop μ-loop
 add-at c = omega (arith, c .before .before .before .before .before .before .before .before .before .before .before .before .before .before .before .before .before .before .good, some (c .before .before .before .before .before .before .before .before .before) .1)
@@ -108,22 +108,19 @@ loop-again c =
     let l = f .before .before .before in
     let k = l .before .loop in
     let s = l .before .before .before .before .before .before in (
-      feeding-more (s .pre .0) (s .pre .2) (enough l) (l .loop-test .taken) (k .inv .0) (f .feed .ensures .0) (f .feed .ensures .1) (p .pack .ensures),
+      feeding-more (s .pre .0 .runs-ready) (s .pre .0 .few) (s .pre .2) (enough l) (l .loop-test .taken) (k .inv .0) (f .feed .ensures .0) (f .feed .ensures .1) (p .pack .ensures),
       omega (arith, f .feed .kept, k .inv .1),
       same-len-mid (k .count) (length (k .output) - k .count) (k .output) (p .pack .last .1 .1 .1 .0) (p .pack .kept .1 .1 .1 .0) ∙ k .inv .2,
     )
 
-wrapping-add-u64-requires : tie.Need-wrapping-add-u64-requires Inv-loop μ-loop
-wrapping-add-u64-requires c κs = search needs
-
 same-length : tie.Need-same-length Inv-loop μ-loop
-same-length c = c .before .before .loop .inv .1
+same-length c = c .before .loop .inv .1
 
 same-length-2 : tie.Need-same-length-2 Inv-loop μ-loop
-same-length-2 c = c .before .before .loop .inv .2
+same-length-2 c = c .before .loop .inv .2
 
 returns : tie.Need-returns Inv-loop μ-loop
-returns c = feeding-all (c .before .before .loop .inv .0) (c .before .loop-test .left) (c .wrapping-add-u64 .ensures)
+returns c = feeding-all (c .before .before .before .before .before .before .args .self) (c .before .loop .inv .0) (c .loop-test .left)
 
 pub feed-spec : {M : Type 1} → statement M
 feed-spec =
@@ -146,7 +143,6 @@ feed-spec =
     add-at
     loop-less
     loop-again
-    wrapping-add-u64-requires
     same-length
     same-length-2
     returns)
