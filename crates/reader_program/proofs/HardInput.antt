@@ -47,24 +47,15 @@ front-all f l = record { most = f .most; symbols = f .symbols; ends = λ h. absu
 
 -- ---- their costs
 
-module _ (symbols costs : List ℕ) (w : Written symbols costs) (n : ℕ) (size : length symbols ≡ n) (long : 4 * n ≤ length costs) where
-  whole : 4 * length symbols ≤ length costs
-  whole = rw size long
+module _ (symbols costs : List ℕ) (valid : All (λ s. s < 4) symbols) (w : Written symbols costs) (n : ℕ) (size : length symbols ≡ n) (long : n ≤ length costs) where
+  pub costs-length : length (take n costs) ≡ n
+  costs-length = length-take-le n costs long
 
-  same : take (4 * length symbols) costs ≡ take (4 * n) costs
-  same = ap (λ (k : ℕ). take (4 * k) costs) size
+  pub costs-small : All (λ p. p < 81) (take n costs)
+  costs-small = written-small symbols costs valid w (rw size long) n (sym size)
 
-  pub costs-length : length (take (4 * n) costs) ≡ 4 * n
-  costs-length = length-take-le (4 * n) costs long
-
-  pub costs-small : All (λ c. c ≤ 7) (take (4 * n) costs)
-  costs-small = subst (All (λ c. c ≤ 7)) same (written-small symbols costs w whole)
-
-  pub costs-fours : length (take (4 * n) costs) % 4 ≡ 0
-  costs-fours = omega (arith, costs-length)
-
-  pub costs-costed : Costed differing symbols (take (4 * n) costs)
-  costs-costed = subst (Costed differing symbols) same (written-costed symbols costs w whole)
+  pub costs-costed : Costed differing symbols (take n costs)
+  costs-costed = written-costed symbols costs valid w (rw size long) n (sym size)
 
 -- ---- no byte is left
 

@@ -16,7 +16,7 @@ use Rattle.common.proofs.Lists.{getD-map-in}
 use Rattle.common.proofs.Chunks.{length-chunks}
 use Rattle.reader.proofs.Outcome.{not-true}
 use Rattle.reader.proofs.SoftDecisions.{along-costed}
-use Rattle.branch_metrics.specs.PointCosts.{costsAlong}
+use Rattle.branch_metrics.specs.SoftPairs.{symbolPair}
 use Rattle.branch_metrics.specs.declared.soft_decision.Received.the-variants.{Lost}
 use Rattle.branch_metrics.proofs.Runs.{along-small}
 use Rattle.branch_metrics.specs.Cost.{softly}
@@ -95,17 +95,14 @@ points-at bytes i h =
 
 -- ---- their costs
 
-module _ (bytes costs : List ℕ) (w : (t : ℕ) → t < 4 * (length bytes / 8) → getD costs t 0 ≡ costsAlong (pointAt bytes) t) (long : 4 * (length bytes / 8) ≤ length costs) where
+module _ (bytes costs : List ℕ) (w : (t : ℕ) → t < length bytes / 8 → getD costs t 0 ≡ symbolPair (pointAt bytes t)) (long : length bytes / 8 ≤ length costs) where
   abbrev n : ℕ
   n = length bytes / 8
 
-  pub points-small : All (λ c. c ≤ 7) (take (4 * n) costs)
+  pub points-small : All (λ p. p < 81) (take n costs)
   points-small = along-small (pointAt bytes) n costs long w
 
-  pub points-fours : length (take (4 * n) costs) % 4 ≡ 0
-  points-fours = let e = length-take-le (4 * n) costs long in omega (arith, e)
-
-  pub points-costed : Costed softly (pointsOf bytes) (take (4 * n) costs)
+  pub points-costed : Costed softly (pointsOf bytes) (take n costs)
   points-costed = along-costed (pointAt bytes) (pointsOf bytes) n (points-length bytes) (points-at bytes) costs long w
 
 -- ---- the bytes that make no whole point

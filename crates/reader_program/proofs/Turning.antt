@@ -17,11 +17,11 @@ use Rattle.reader_program.specs.Ends.{mostOf, ReadsBehind}
 -- ---- hard or soft decisions
 
 module _ {soft : Bool} where
-  pub as-soft : soft ≡ true → (n : ℕ) (l : List ℕ) (a b : ℕ) → 4 * (n / width soft) + a ≤ b * length l → 4 * (n / 8) + a ≤ b * length l
-  as-soft e n l a b = subst (λ (t : Bool). 4 * (n / width t) + a ≤ b * length l) e
+  pub as-soft : soft ≡ true → (n : ℕ) (l : List ℕ) (a b : ℕ) → n / width soft + a ≤ b * length l → n / 8 + a ≤ b * length l
+  as-soft e n l a b = subst (λ (t : Bool). n / width t + a ≤ b * length l) e
 
-  pub as-hard : soft ≡ false → (n : ℕ) (l : List ℕ) (a b : ℕ) → 4 * (n / width soft) + a ≤ b * length l → 4 * n + a ≤ b * length l
-  as-hard e n l a b h = let g : 4 * (n / 1) + a ≤ b * length l = subst (λ (t : Bool). 4 * (n / width t) + a ≤ b * length l) e h in let q : n / 1 ≡ n = omega arith in rw (← q) g
+  pub as-hard : soft ≡ false → (n : ℕ) (l : List ℕ) (a b : ℕ) → n / width soft + a ≤ b * length l → n + a ≤ b * length l
+  as-hard e n l a b h = let g : n / 1 + a ≤ b * length l = subst (λ (t : Bool). n / width t + a ≤ b * length l) e h in let q : n / 1 ≡ n = omega arith in rw (← q) g
 
 pub few-held : (soft : Bool) {n : ℕ} → n < width soft → n < 8
 few-held true h = h
@@ -37,7 +37,7 @@ most-some false = omega arith
 
 -- the costs of a piece, behind the bytes that are held, and the bytes that its bits fill
 pub room : (soft : Bool) (size held came : ℕ) {most : ℕ} → size ≡ held + came → held < width soft → came ≤ most → most ≡ mostOf soft
-    → (4 * (size / width soft) ≤ 65536) × (4 * (size / width soft) + 6528 ≤ 72064)
+    → (size / width soft ≤ 16384) × (size / width soft + 1632 ≤ 18016)
 room true size held came e f c m = (omega arith, omega arith)
 room false size held came e f c m = (omega arith, omega arith)
 

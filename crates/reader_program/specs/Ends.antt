@@ -47,7 +47,7 @@ pub record Buffers (soft : Bool) (p : Pass) (buffer costs bits output : List ℕ
   pub few : p .held < width soft
   pub size : length (p .tail) ≡ 8
   pub piece : length buffer ≡ 65544
-  pub numbers : length costs ≡ 65536
+  pub numbers : length costs ≡ 16384
   pub run : length bits ≡ 1632
   pub bytes : length output ≡ 4504
 

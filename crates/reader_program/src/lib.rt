@@ -67,7 +67,7 @@ fn take_bytes(
     bits: &mut [u8],
     output: &mut [u8],
 ) -> Taken
-    requires { ⌜ (ReaderReady stream) × (4 * (length (now bytes) / width soft) ≤ length (now costs)) × (1632 ≤ length (now bits)) × (4 * (length (now bytes) / width soft) + 6528 ≤ 16 * length (now output)) ⌝ }
+    requires { ⌜ (ReaderReady stream) × (length (now bytes) / width soft ≤ length (now costs)) × (1632 ≤ length (now bits)) × (length (now bytes) / width soft + 1632 ≤ 4 * length (now output)) ⌝ }
     ensures { λ r. ⌜ TakesBytes soft stream (now (bytes .entry)) (now (output .entry)) r (now (output .exit)) ⌝ }
 {
     if soft {
@@ -224,7 +224,7 @@ fn read_all(soft: bool, rate: u8, input: Input, output: Output, errors: Output) 
     ensures { λ r. ⌜ Ends soft rate r ⌝ }
 {
     let mut buffer = [0u8; 65544];
-    let mut costs = [0u8; 65536];
+    let mut costs = [0u8; 16384];
     let mut bits = [0u8; 1632];
     let mut bytes = [0u8; 4504];
     let mut input = input;

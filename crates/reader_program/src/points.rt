@@ -5,7 +5,7 @@ ghost use mathlib.Core.Bool.{true};
 ghost use Prim.Native.Nat.{ℕ, _+_, _*_, _/_, _<_, _≤_};
 ghost use lib.Ieee.{isNan, ofBits, binary32, nanBits};
 ghost use lib.ListN.{length, getD};
-ghost use Rattle.branch_metrics.specs.PointCosts.{costsAlong};
+ghost use Rattle.branch_metrics.specs.SoftPairs.{symbolPair};
 ghost use Rattle.reader_stream.specs.Stream.{ReaderReady};
 ghost use Rattle.reader_program.specs.Received.{wordAt, number, point, pointAt};
 ghost use Rattle.reader_program.specs.Pass.{TakesBytes};
@@ -13,7 +13,7 @@ use crate::Pass;
 use crate::Taken;
 use branch_metrics::soft_decision::Point;
 use branch_metrics::soft_decision::Received;
-use branch_metrics::soft_decision::put_costs;
+use branch_metrics::soft_decision::symbol_pair;
 use common::put;
 use reader_stream::ReaderStream;
 
@@ -82,14 +82,14 @@ fn point_at(bytes: &[u8], at: usize) -> Received
     point_of(i, q)
 }
 
-// Writes the costs of so many points.
-fn point_costs(bytes: &[u8], count: usize, output: &mut [u8])
-    requires { ⌜ (8 * count ≤ length (now bytes)) × (4 * count ≤ length (now output)) ⌝ }
-    ensures { λ _. ⌜ ((t : ℕ) → t < 4 * count → getD (now (output .exit)) t 0 ≡ costsAlong (pointAt (now (bytes .entry))) t) ⌝ }
+// Writes the decisions on so many points, one number for each.
+fn point_pairs(bytes: &[u8], count: usize, output: &mut [u8])
+    requires { ⌜ (8 * count ≤ length (now bytes)) × (count ≤ length (now output)) ⌝ }
+    ensures { λ _. ⌜ ((t : ℕ) → t < count → getD (now (output .exit)) t 0 ≡ symbolPair (pointAt (now (bytes .entry)) t)) ⌝ }
 {
     let mut k: usize = 0;
     while k < count {
-        put_costs(point_at(bytes, 8 * k), 4 * k, output);
+        output[k] = symbol_pair(point_at(bytes, 8 * k));
         k += 1;
     }
 }
@@ -102,13 +102,12 @@ pub fn take_points(
     bits: &mut [u8],
     output: &mut [u8],
 ) -> Taken
-    requires { ⌜ (ReaderReady stream) × (4 * (length (now bytes) / 8) ≤ length (now costs)) × (1632 ≤ length (now bits)) × (4 * (length (now bytes) / 8) + 6528 ≤ 16 * length (now output)) ⌝ }
+    requires { ⌜ (ReaderReady stream) × (length (now bytes) / 8 ≤ length (now costs)) × (1632 ≤ length (now bits)) × (length (now bytes) / 8 + 1632 ≤ 4 * length (now output)) ⌝ }
     ensures { λ r. ⌜ TakesBytes true stream (now (bytes .entry)) (now (output .entry)) r (now (output .exit)) ⌝ }
 {
     let points = bytes.len() / 8;
-    point_costs(bytes, points, costs);
-    let end = 4 * points;
-    let fed = stream.feed(&costs[..end], bits, output);
+    point_pairs(bytes, points, costs);
+    let fed = stream.feed(&costs[..points], bits, output);
     let next = fed.stream;
     let count = fed.count;
     let whole = 8 * points;

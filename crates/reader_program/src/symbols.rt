@@ -6,7 +6,7 @@ ghost use Rattle.reader_stream.specs.Stream.{ReaderReady};
 ghost use Rattle.reader_program.specs.Pass.{SymbolsAtFront, TakesBytes};
 use crate::Pass;
 use crate::Taken;
-use reader::decision_costs;
+use reader::hard_pairs;
 use reader_stream::ReaderStream;
 
 // How many bytes at the front are symbols.
@@ -31,13 +31,12 @@ pub fn take_symbols(
     bits: &mut [u8],
     output: &mut [u8],
 ) -> Taken
-    requires { ⌜ (ReaderReady stream) × (4 * length (now bytes) ≤ length (now costs)) × (1632 ≤ length (now bits)) × (4 * length (now bytes) + 6528 ≤ 16 * length (now output)) ⌝ }
+    requires { ⌜ (ReaderReady stream) × (length (now bytes) ≤ length (now costs)) × (1632 ≤ length (now bits)) × (length (now bytes) + 1632 ≤ 4 * length (now output)) ⌝ }
     ensures { λ r. ⌜ TakesBytes false stream (now (bytes .entry)) (now (output .entry)) r (now (output .exit)) ⌝ }
 {
     let taken = symbols_in(bytes);
-    decision_costs(&bytes[..taken], costs);
-    let end = 4 * taken;
-    let fed = stream.feed(&costs[..end], bits, output);
+    hard_pairs(&bytes[..taken], costs);
+    let fed = stream.feed(&costs[..taken], bits, output);
     let next = fed.stream;
     let count = fed.count;
     let tail = [0u8; 8];

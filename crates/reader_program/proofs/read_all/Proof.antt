@@ -14,7 +14,7 @@ use Rattle.reader_program.proofs.read_all.Tie as tie
 
 abbrev Inv-loop : tie.InvT-loop
 Inv-loop soft rate errors buffer₀ costs₀ bits₀ bytes₀ input₀ output₀ pass₀ came₀ t22 buffer costs bits bytes input output pass came =
-    (Going soft rate input output pass came) × (Files input output errors) × (length buffer ≡ 65544) × (length costs ≡ 65536) × (length bits ≡ 1632) × (length bytes ≡ 4504)
+    (Going soft rate input output pass came) × (Files input output errors) × (length buffer ≡ 65544) × (length costs ≡ 16384) × (length bits ≡ 1632) × (length bytes ≡ 4504)
     × (came ≤ 9223372036854841343)
 
 abbrev μ-loop : tie.MeasureT-loop
@@ -29,7 +29,7 @@ loop-holds c =
       going-none (c .before .args .soft) (p .1) (p .2) (c .new .ensures) refl refl,
       files-none (p .1) (p .2) (p .3),
       length-replicate {A = ℕ} 65544 0,
-      length-replicate {A = ℕ} 65536 0,
+      length-replicate {A = ℕ} 16384 0,
       length-replicate {A = ℕ} 1632 0,
       length-replicate {A = ℕ} 4504 0,
       omega arith,

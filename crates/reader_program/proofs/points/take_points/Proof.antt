@@ -5,24 +5,21 @@ use Prim.Native.Nat.{_*_, _/_, _%_, _≤_}
 use native.Mathlib.Omega.{arith}
 use lib.ListN.{length}
 use lib.Seq.{length-take-le}
-use Rattle.reader_program.proofs.SoftInput.{points-small, points-fours, points-costed, points-taken, tail-length, tail-is}
+use Rattle.reader_program.proofs.SoftInput.{points-small, points-costed, points-taken, tail-length, tail-is}
 use Rattle.reader_program.specs.declared.Pass.{Pass}
 use borrow.Author.Needs.{needs}
 use Rattle.reader_program.proofs.points.take_points.Statement.{statement}
 use Rattle.reader_program.proofs.points.take_points.Tie as tie
 
-point-costs-requires : tie.Need-point-costs-requires
-point-costs-requires c κs = search needs
-
-mul-end : tie.Need-mul-end
-mul-end c = search needs
+point-pairs-requires : tie.Need-point-pairs-requires
+point-pairs-requires c κs = search needs
 
 slice-reshare-prefix-feed : tie.Need-slice-reshare-prefix-feed
 slice-reshare-prefix-feed c = search needs
 
 -- the costs of all the points were written
-long : (c : tie.After-point-costs) → 4 * (length (c .before .before .before .before .before .before .args .bytes .now) / 8) ≤ length (c .point-costs .last .1 .1 .0)
-long c = omega (arith, c .before .before .before .before .before .before .pre .1, c .point-costs .kept)
+long : (c : tie.After-point-pairs) → length (c .before .before .before .before .before .before .args .bytes .now) / 8 ≤ length (c .point-pairs .last .1 .1 .0)
+long c = omega (arith, c .before .before .before .before .before .before .pre .1, c .point-pairs .kept)
 
 slice-aggregate-feed : tie.Need-slice-aggregate-feed
 slice-aggregate-feed c = sym (length-take-le _ _ (long (c .before .before .before)))
@@ -32,13 +29,12 @@ feed-requires c κs =
     let d = c .before .before .before .before .before in
     let s = d .before .before .before .before .before .before in
     let bytes = s .args .bytes .now in
-    let costs = d .point-costs .last .1 .1 .0 in
-    let w = d .point-costs .ensures in (
+    let costs = d .point-pairs .last .1 .1 .0 in
+    let w = d .point-pairs .ensures in (
       s .pre .0,
       points-small bytes costs w (long d),
-      points-fours bytes costs w (long d),
       s .pre .2,
-      omega (arith, length-take-le (4 * (length bytes / 8)) costs (long d), s .pre .3),
+      omega (arith, length-take-le (length bytes / 8) costs (long d), s .pre .3),
     )
 
 mul-whole : tie.Need-mul-whole
@@ -77,7 +73,7 @@ returns c =
     let bytes = a .bytes .now in
     let next : Pass = record { stream = f .feed .result .stream; tail = p .last .1 .1 .0; held = length bytes % 8 } in
     points-taken (a .stream) bytes (a .output .now) next _
-    (points-costed bytes (d .point-costs .last .1 .1 .0) (d .point-costs .ensures) (long d)) (f .feed .ensures)
+    (points-costed bytes (d .point-pairs .last .1 .1 .0) (d .point-pairs .ensures) (long d)) (f .feed .ensures)
     (record {
       size = tail-length bytes _ (p .last .1 .1 .0) refl (p .ensures);
       count = refl;
@@ -88,8 +84,7 @@ pub take-points-spec : {M : Type 1} → statement M
 take-points-spec =
     tie.close
     (tie.spec
-    point-costs-requires
-    mul-end
+    point-pairs-requires
     slice-reshare-prefix-feed
     slice-aggregate-feed
     feed-requires

@@ -6,7 +6,7 @@ use native.Mathlib.Omega.{arith}
 use lib.ListN.{length, take, replicate}
 use lib.Seq.{length-take-le}
 use Rattle.reader_program.specs.declared.Pass.{Pass}
-use Rattle.reader_program.proofs.HardInput.{costs-length, costs-small, costs-fours, costs-costed, symbols-taken}
+use Rattle.reader_program.proofs.HardInput.{costs-length, costs-small, costs-costed, symbols-taken}
 use borrow.Author.Needs.{needs}
 use Rattle.reader_program.proofs.symbols.take_symbols.Statement.{statement}
 use Rattle.reader_program.proofs.symbols.take_symbols.Tie as tie
@@ -18,25 +18,22 @@ symbols-in-requires c κs = search needs
 front-length : (c : tie.After-symbols-in) → length (take (c .symbols-in .result) (c .before .before .before .before .before .args .bytes .now)) ≡ c .symbols-in .result
 front-length c = length-take-le (c .symbols-in .result) (c .before .before .before .before .before .args .bytes .now) (c .symbols-in .ensures .most)
 
-slice-aggregate-decision-costs : tie.Need-slice-aggregate-decision-costs
-slice-aggregate-decision-costs c = sym (front-length (c .before))
+slice-aggregate-hard-pairs : tie.Need-slice-aggregate-hard-pairs
+slice-aggregate-hard-pairs c = sym (front-length (c .before))
 
-decision-costs-requires : tie.Need-decision-costs-requires
-decision-costs-requires c κs =
+hard-pairs-requires : tie.Need-hard-pairs-requires
+hard-pairs-requires c κs =
     let s = c .before .before in
     (s .symbols-in .ensures .symbols, omega (arith, front-length s, s .symbols-in .ensures .most, s .before .before .before .before .before .pre .1))
-
-mul-end : tie.Need-mul-end
-mul-end c = search needs
 
 slice-reshare-prefix-feed : tie.Need-slice-reshare-prefix-feed
 slice-reshare-prefix-feed c = search needs
 
 -- the costs of all of them were written
-long : (c : tie.After-decision-costs) → 4 * c .before .before .before .symbols-in .result ≤ length (c .decision-costs .last .1 .0)
+long : (c : tie.After-hard-pairs) → c .before .before .before .symbols-in .result ≤ length (c .hard-pairs .last .1 .0)
 long c =
     let s = c .before .before .before in
-    omega (arith, s .symbols-in .ensures .most, s .before .before .before .before .before .pre .1, c .decision-costs .kept)
+    omega (arith, s .symbols-in .ensures .most, s .before .before .before .before .before .pre .1, c .hard-pairs .kept)
 
 slice-aggregate-feed : tie.Need-slice-aggregate-feed
 slice-aggregate-feed c = sym (length-take-le _ _ (long (c .before .before .before)))
@@ -48,13 +45,12 @@ feed-requires c κs =
     let a = s .before .before .before .before .before in
     let n = s .symbols-in .result in
     let symbols = take n (a .args .bytes .now) in
-    let costs = d .decision-costs .last .1 .0 in
-    let w = d .decision-costs .ensures in (
+    let costs = d .hard-pairs .last .1 .0 in
+    let w = d .hard-pairs .ensures in (
       a .pre .0,
-      costs-small symbols costs w n (front-length s) (long d),
-      costs-fours symbols costs w n (front-length s) (long d),
+      costs-small symbols costs (s .symbols-in .ensures .symbols) w n (front-length s) (long d),
       a .pre .2,
-      omega (arith, costs-length symbols costs w n (front-length s) (long d), s .symbols-in .ensures .most, a .pre .3),
+      omega (arith, costs-length symbols costs (s .symbols-in .ensures .symbols) w n (front-length s) (long d), s .symbols-in .ensures .most, a .pre .3),
     )
 
 same-length : tie.Need-same-length
@@ -75,16 +71,15 @@ returns c =
     let n = s .symbols-in .result in
     let next : Pass = record { stream = f .feed .result .stream; tail = replicate 8 0; held = 0 } in
     symbols-taken (a .stream) (a .bytes .now) (a .output .now) next n _ (s .symbols-in .ensures)
-    (costs-costed (take n (a .bytes .now)) (d .decision-costs .last .1 .0) (d .decision-costs .ensures) n (front-length s) (long d)) (f .feed .ensures) refl refl
+    (costs-costed (take n (a .bytes .now)) (d .hard-pairs .last .1 .0) (s .symbols-in .ensures .symbols) (d .hard-pairs .ensures) n (front-length s) (long d)) (f .feed .ensures) refl refl
 
 pub take-symbols-spec : {M : Type 1} → statement M
 take-symbols-spec =
     tie.close
     (tie.spec
     symbols-in-requires
-    slice-aggregate-decision-costs
-    decision-costs-requires
-    mul-end
+    slice-aggregate-hard-pairs
+    hard-pairs-requires
     slice-reshare-prefix-feed
     slice-aggregate-feed
     feed-requires
