@@ -1,7 +1,7 @@
 -- Facts of the steps.
 -- Assumes nothing.
 use mathlib.Core.Bool.{Bool, true, false}
-use mathlib.Core.Path.{_≡_, refl, sym, _∙_, ap}
+use mathlib.Core.Path.{_≡_, refl, sym, _∙_, ap, ap₂}
 use mathlib.Core.List.{List, [], _∷_, _++_, flatten}
 use Prim.Native.Nat.{ℕ, zero, suc, _+_, _-_, _*_, _/_, _%_, _<_, _≤_}
 use native.Mathlib.Omega.{arith}
@@ -16,54 +16,73 @@ use Rattle.puncturing.specs.Mode.{modeOf}
 use Rattle.puncturing.specs.Step.{patternLength}
 use Rattle.puncturing.proofs.Places.{tested-at, agreed-at}
 use Rattle.common.specs.Choice.{pick}
-use Rattle.convolutional_code.proofs.Bits.{coded-lt}
 use Rattle.convolutional_code.specs.Code.{tapsX, tapsY, coded, nextMemory}
-use Rattle.convolutional_code.specs.Costs.{Costs, costFrom, at, decided, stepCost, stepCosts}
-use Rattle.branch_metrics.specs.Steps.{kind, width, kindCost, kindAt, first, puncturedCosts, pairCost, value, stepValue}
+use Rattle.convolutional_code.specs.Costs.{Costs, costFrom, decisionCost, pairCost, stepCosts, Pairs}
+use Rattle.branch_metrics.specs.Steps.{kind, width, kindCost, kindAt, first, puncturedCosts, decisionAt, codedCost, stepPair, runStep}
 
--- a step's four numbers cost what its coded bits do
+-- ---- decisions
 
-none : (v : ℕ) → decided 0 0 v ≡ 0
+pub decision-lt : (l : List ℕ) → Pairs l → (j : ℕ) → decisionAt l j < 9
+decision-lt l h j = go (eqb (j % 2) 0)
+  where
+    p : getD l (j / 2) 0 < 81
+    p = h (j / 2)
+
+    go : (t : Bool) → pick t (getD l (j / 2) 0 / 9) (getD l (j / 2) 0 % 9) < 9
+    go true = omega (arith, p)
+    go false = omega arith
+
+-- I and Q of symbol i
+pub decision-i : (l : List ℕ) (i : ℕ) → decisionAt l (2 * i) ≡ getD l i 0 / 9
+decision-i l i =
+    let a : 2 * i / 2 ≡ i = omega arith in
+    let b : 2 * i % 2 ≡ 0 = omega arith in
+    rw (a, b)
+
+pub decision-q : (l : List ℕ) (i : ℕ) → decisionAt l (2 * i + 1) ≡ getD l i 0 % 9
+decision-q l i =
+    let a : (2 * i + 1) / 2 ≡ i = omega arith in
+    let b : (2 * i + 1) % 2 ≡ 1 = omega arith in
+    rw (a, b)
+
+-- of what is not known nothing costs anything
+none : (v : ℕ) → decisionCost 8 v ≡ 0
 none v = go (eqb v 0)
   where
     go : (t : Bool) → pick {A = ℕ} t 0 0 ≡ 0
     go true = refl
     go false = refl
 
-two : (l : List ℕ) (j v : ℕ) → v < 2 → decided (getD l (2 * j + 0) 0) (getD l (2 * j + 1) 0) v ≡ pairCost l j v
-two l j zero h = refl
-two l j (suc zero) h = refl
-two l j (suc (suc v)) h = absurd (omega arith)
+-- a pair costs what its decisions do
+pub pair-is : (a b v w : ℕ) → b < 9 → pairCost (9 * a + b) v w ≡ decisionCost a v + decisionCost b w
+unfolding pairCost
+pair-is a b v w h =
+    let x : (9 * a + b) / 9 ≡ a = omega arith in
+    let y : (9 * a + b) % 9 ≡ b = omega arith in
+    rw (x, y)
 
-kind-is : (l : List ℕ) (q j m b : ℕ)
-    → stepCost (value l q j 0) (value l q j 1) (value l q j 2) (value l q j 3) m b ≡ kindCost (pairCost l) q j (coded tapsX m b) (coded tapsY m b)
-unfolding stepCost
-kind-is l zero j m b = omega (arith, none (coded tapsX m b), none (coded tapsY m b))
-kind-is l (suc zero) j m b = omega (arith, none (coded tapsX m b), two l j (coded tapsY m b) (coded-lt tapsY m b))
-kind-is l (suc (suc zero)) j m b = omega (arith, none (coded tapsY m b), two l j (coded tapsX m b) (coded-lt tapsX m b))
-kind-is l (suc (suc (suc q))) j m b =
-    let e : 2 * j + 2 ≡ 2 * (j + 1) + 0 = omega arith in
-    let f : 2 * j + 3 ≡ 2 * (j + 1) + 1 = omega arith in
-    rw (e, f) (omega (arith, two l j (coded tapsX m b) (coded-lt tapsX m b), two l (j + 1) (coded tapsY m b) (coded-lt tapsY m b)))
+module _ (l : List ℕ) (h : Pairs l) where
+  kind-is : (q j x y : ℕ) → pairCost (stepPair l q j) x y ≡ kindCost (codedCost l) q j x y
+  kind-is zero j x y = pair-is 8 8 x y (omega arith) ∙ ap₂ (λ (v w : ℕ). v + w) (none x) (none y)
+  kind-is (suc zero) j x y = omega (arith, pair-is 8 (decisionAt l j) x y (decision-lt l h j), none x)
+  kind-is (suc (suc zero)) j x y = pair-is (decisionAt l j) 8 x y (omega arith) ∙ (ap (λ (v : ℕ). codedCost l j x + v) (none y) ∙ add-zero (codedCost l j x))
+  kind-is (suc (suc (suc q))) j x y = pair-is (decisionAt l j) (decisionAt l (j + 1)) x y (decision-lt l h (j + 1))
 
--- steps that are spread out cost what the run does
-pub steps-are : (l steps : List ℕ) (rate n : ℕ) → ((t : ℕ) → t < 4 * n → getD steps t 0 ≡ stepValue l rate t)
-    → (k m b : ℕ) → k < n → stepCosts steps k m b ≡ puncturedCosts rate (pairCost l) k m b
-unfolding stepCosts puncturedCosts stepValue
-steps-are l steps rate n h k m b lt =
-    let z : 4 * k + 0 ≡ 4 * k = omega arith in
-    let e0 : getD steps (4 * k) 0 ≡ value l (kindAt rate k) (first rate k) 0 = sym (ap (λ (t : ℕ). getD steps t 0) z) ∙ at-step 0 (omega arith) (omega arith) in
-    rw (e0, at-step 1 (omega arith) (omega arith), at-step 2 (omega arith) (omega arith), at-step 3 (omega arith) (omega arith))
-    (kind-is l (kindAt rate k) (first rate k) m b)
-  where
-    whole : (i : ℕ) → (4 * k + i) / 4 ≡ k → (4 * k + i) % 4 ≡ i → stepValue l rate (4 * k + i) ≡ value l (kindAt rate k) (first rate k) i
-    whole i p q = rw (p, q)
+  pair-lt : (q j : ℕ) → stepPair l q j < 81
+  pair-lt zero j = omega arith
+  pair-lt (suc zero) j = omega (arith, decision-lt l h j)
+  pair-lt (suc (suc zero)) j = omega (arith, decision-lt l h j)
+  pair-lt (suc (suc (suc q))) j = omega (arith, decision-lt l h j, decision-lt l h (j + 1))
 
-    at-step : (i : ℕ) → i < 4 → 4 * k + i < 4 * n → getD steps (4 * k + i) 0 ≡ value l (kindAt rate k) (first rate k) i
-    at-step i hi hn =
-        let p : (4 * k + i) / 4 ≡ k = omega arith in
-        let q : (4 * k + i) % 4 ≡ i = omega arith in
-        h (4 * k + i) hn ∙ whole i p q
+  -- steps that are spread out cost what the run does
+  module _ (steps : List ℕ) (rate n : ℕ) (spread : (t : ℕ) → t < n → getD steps t 0 ≡ runStep l rate t) where
+    pub steps-are : (k m b : ℕ) → k < n → stepCosts steps k m b ≡ puncturedCosts rate (codedCost l) k m b
+    unfolding stepCosts puncturedCosts runStep
+    steps-are k m b lt = rw (spread k lt) (kind-is (kindAt rate k) (first rate k) (coded tapsX m b) (coded tapsY m b))
+
+    pub steps-small : (k : ℕ) → k < n → getD steps k 0 < 81
+    unfolding runStep
+    steps-small k lt = rw (spread k lt) (pair-lt (kindAt rate k) (first rate k))
 
 pub cost-same : (F G : Costs) (k m : ℕ) (bs : List ℕ) → ((j s b : ℕ) → j < k + length bs → F j s b ≡ G j s b) → costFrom F k m bs ≡ costFrom G k m bs
 unfolding costFrom
@@ -120,16 +139,16 @@ unfolding first
 half-first zero = refl
 half-first (suc n) = let e : width (kindAt 0 n) ≡ 2 = ap width (half-kind n) in omega (arith, half-first n)
 
-half-value : (l : List ℕ) (t : ℕ) → getD l t 0 ≡ stepValue l 0 t
-unfolding stepValue
-half-value l t =
-    let e : t ≡ 2 * first 0 (t / 4) + t % 4 = omega (arith, half-first (t / 4)) in
-    ap (λ (k : ℕ). getD l k 0) e ∙ ap (λ (q : ℕ). value l q (first 0 (t / 4)) (t % 4)) (sym (half-kind (t / 4)))
+half-step : (l : List ℕ) (k : ℕ) → getD l k 0 ≡ runStep l 0 k
+unfolding runStep
+half-step l k =
+    let e : 9 * (getD l k 0 / 9) + getD l k 0 % 9 ≡ getD l k 0 = omega arith in
+    sym (rw (half-kind k, half-first k, decision-i l k, decision-q l k) e)
 
--- so the costs are put as they are
-pub half-spread : (l output exit : List ℕ) (n m : ℕ) → m ≡ 4 * n → 4 * n ≤ length l → 4 * n ≤ length output
+-- so the symbols are put as they are
+pub half-spread : (l output exit : List ℕ) (n m : ℕ) → m ≡ n → n ≤ length l → n ≤ length output
     → exit ≡ take 0 output ++ take m l ++ drop (0 + length (take m l)) output
-    → (length exit ≡ length output) × ((t : ℕ) → t < 4 * n → getD exit t 0 ≡ stepValue l 0 t)
+    → (length exit ≡ length output) × ((t : ℕ) → t < n → getD exit t 0 ≡ runStep l 0 t)
 half-spread l output exit n m q h k e =
     let part = take m l in
     let size : length part ≡ m = length-take-le m l (omega arith) in (
@@ -138,54 +157,43 @@ half-spread l output exit n m q h k e =
           let i : 0 + t ≡ t = omega arith in
           ap (λ (x : List ℕ). getD x t 0) e
           ∙ (ap (λ (j : ℕ). getD (part ++ drop (0 + length part) output) j 0) (sym i) ∙ put-own output part 0 t (omega (arith, size)) (omega (arith, size)))
-          ∙ (getD-take m l t 0 (omega arith) ∙ half-value l t),
+          ∙ (getD-take m l t 0 (omega arith) ∙ half-step l t),
     )
 
 -- ---- the loop
 
-pub record Spreading (l : List ℕ) (rate n k place j at : ℕ) (output₀ output : List ℕ) : Type 0 where
+pub record Spreading (l : List ℕ) (rate n k place j : ℕ) (output₀ output : List ℕ) : Type 0 where
   pub most : k ≤ n
   pub here : place ≡ k % patternLength rate
   pub bit : j ≡ first rate k
-  pub end : at ≡ 4 * k
-  pub written : Each (λ t v. v ≡ stepValue l rate t) (length output₀) output at
+  pub written : Each (λ t v. v ≡ runStep l rate t) (length output₀) output k
 
-pub spreading-none : (l : List ℕ) (rate n : ℕ) (output : List ℕ) → Spreading l rate n 0 0 0 0 output output
+pub spreading-none : (l : List ℕ) (rate n : ℕ) (output : List ℕ) → Spreading l rate n 0 0 0 output output
 unfolding first
-spreading-none l rate n output = record { most = omega arith; here = sym (zero-mod (patternLength rate)); bit = refl; end = refl; written = each-none refl }
+spreading-none l rate n output = record { most = omega arith; here = sym (zero-mod (patternLength rate)); bit = refl; written = each-none refl }
 
-pub spreading-more : (l : List ℕ) (rate n : ℕ) {k place j a : ℕ} {output₀ output : List ℕ} → Spreading l rate n k place j a output₀ output → k < n → 4 * n ≤ length output₀
-    → (q x0 x1 y0 y1 after : ℕ) → q ≡ kind rate place
-    → x0 ≡ value l q j 0 → x1 ≡ value l q j 1 → y0 ≡ value l q j 2 → y1 ≡ value l q j 3 → after ≡ j + width q
-    → Spreading l rate n (k + 1) ((place + 1) % patternLength rate) after (a + 1 + 1 + 1 + 1) output₀ (set (set (set (set output a x0) (a + 1) x1) (a + 1 + 1) y0) (a + 1 + 1 + 1) y1)
-unfolding first stepValue
-spreading-more l rate n {k} {place} {j} {a} {output₀} {output} g h fits q x0 x1 y0 y1 after eq e0 e1 e2 e3 ea =
+pub spreading-more : (l : List ℕ) (rate n : ℕ) {k place j : ℕ} {output₀ output : List ℕ} → Spreading l rate n k place j output₀ output → k < n → n ≤ length output₀
+    → (q pair after : ℕ) → q ≡ kind rate place → pair ≡ stepPair l q j → after ≡ j + width q
+    → Spreading l rate n (k + 1) ((place + 1) % patternLength rate) after output₀ (set output k pair)
+unfolding first runStep
+spreading-more l rate n {k} {place} {j} {output₀} {output} g h fits q pair after eq ep ea =
     let eq′ : q ≡ kindAt rate k = eq ∙ ap (kind rate) (g .here) in
-    let en = g .end in
     record {
       most = omega arith;
       here = ap (λ (p : ℕ). (p + 1) % patternLength rate) (g .here) ∙ mod-add-mod k (patternLength rate) 1;
       bit = rw add-one (ea ∙ rw (g .bit, eq′));
-      end = omega arith;
-      written =
-          each-more y1 (omega arith) (e3 ∙ is (a + 1 + 1 + 1) 3 (omega arith) (omega arith) eq′)
-          (each-more y0 (omega arith) (e2 ∙ is (a + 1 + 1) 2 (omega arith) (omega arith) eq′)
-          (each-more x1 (omega arith) (e1 ∙ is (a + 1) 1 (omega arith) (omega arith) eq′)
-          (each-more x0 (omega arith) (e0 ∙ is a 0 (omega arith) (omega arith) eq′) (g .written))));
+      written = each-more pair (omega arith) (ep ∙ ap₂ (stepPair l) eq′ (g .bit)) (g .written);
     }
-  where
-    is : (t i : ℕ) → t / 4 ≡ k → t % 4 ≡ i → q ≡ kindAt rate k → value l q j i ≡ value l (kindAt rate (t / 4)) (first rate (t / 4)) (t % 4)
-    is t i p r s = rw (p, r, s, g .bit)
 
-pub in-pattern : (l : List ℕ) (rate n p : ℕ) {k place j a : ℕ} {output₀ output : List ℕ} → Spreading l rate n k place j a output₀ output → p ≡ patternLength rate → 0 < p
+pub in-pattern : (l : List ℕ) (rate n p : ℕ) {k place j : ℕ} {output₀ output : List ℕ} → Spreading l rate n k place j output₀ output → p ≡ patternLength rate → 0 < p
     → (place < patternLength rate) × (place < p)
 in-pattern l rate n p {k} {place} g e h =
     let z : 0 < patternLength rate = rw e at h in
     let lt : place < patternLength rate = rw (g .here) (mod-lt k z) in
     (lt, rw e lt)
 
-pub asks : (l : List ℕ) (rate n len : ℕ) {k place j a : ℕ} {output₀ output : List ℕ} → Spreading l rate n k place j a output₀ output → k < n → rate < 5
-    → place < patternLength rate → 2 * first rate n ≤ len → (q : ℕ) → q ≡ kind rate place → (2 * (j + width q) ≤ len) × (0 < q) × (q ≤ 3)
+pub asks : (l : List ℕ) (rate n len : ℕ) {k place j : ℕ} {output₀ output : List ℕ} → Spreading l rate n k place j output₀ output → k < n → rate < 5
+    → place < patternLength rate → first rate n ≤ 2 * len → (q : ℕ) → q ≡ kind rate place → (j + width q ≤ 2 * len) × (0 < q) × (q ≤ 3)
 asks l rate n len {k} {place} {j} g h hr hp fits q e =
     let w : width q ≡ width (kindAt rate k) = ap width (e ∙ ap (kind rate) (g .here)) in
     let u = kind-lt rate place hr hp in

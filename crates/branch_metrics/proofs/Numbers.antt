@@ -1,20 +1,22 @@
 -- Levels and costs of numbers: of any, and of particular ones by their bit patterns.
 -- Assumes nothing.
-use mathlib.Core.Path.{_≡_, refl}
+use mathlib.Core.Path.{_≡_, refl, _∙_, ap, ap₂}
 use mathlib.Core.Bool.{Bool, true, false, cond}
 use mathlib.Core.List.{List, [], _∷_}
-use Prim.Native.Nat.{ℕ, zero, suc, _*_, _≤_}
+use Prim.Native.Nat.{ℕ, _+_, _-_, _*_, _/_, _%_, _≤_, _<_}
 use native.Mathlib.Omega.{arith}
 use mir.Val.{boolByte}
+use borrow.Author.Tests.{lt-ltb}
 use lib.Dec.{T, eqb, eqb-refl}
 use lib.Ieee.{Float, nan, inf, fin, le, ne, isNan, ofBits, binary32, up, down}
 use lib.ListN.{length}
-use Rattle.common.specs.Choice.{indicator}
+use Rattle.common.specs.Choice.{pick, indicator}
 use Rattle.common.specs.Lists.{total}
 use Rattle.branch_metrics.specs.Level.{thresholds, levelOf}
-use Rattle.branch_metrics.specs.Cost.{numberCosts, symbolCosts, free, byLevel}
-use Rattle.branch_metrics.specs.PointCosts.{costAt}
-use Rattle.branch_metrics.specs.declared.soft_decision.BitCosts.{BitCosts}
+use Rattle.convolutional_code.specs.Costs.{oneCost, decisionCost, pairCost}
+use Rattle.branch_metrics.specs.Cost.{BitCosts, numberCosts, symbolCosts, free, byLevel, decidedAs, softly}
+use Rattle.branch_metrics.specs.SoftPairs.{numberDecision, marked, symbolPair}
+use Rattle.branch_metrics.proofs.Facts.{pair-is}
 use Rattle.branch_metrics.specs.declared.soft_decision.Received.{Received}
 use Rattle.branch_metrics.specs.declared.soft_decision.Received.the-variants.{At, Lost}
 
@@ -35,9 +37,9 @@ ne-nan (inf false) = refl
 ne-nan (fin true m e) = rw (true-of (eqb (m * up e * down e) (m * up e * down e)) (eqb-refl (m * up e * down e)))
 ne-nan (fin false m e) = rw (true-of (eqb (m * up e * down e) (m * up e * down e)) (eqb-refl (m * up e * down e)))
 
--- ---- every cost is at most 7
+-- ---- levels, and the decisions on numbers and symbols
 
-count-le : (b : Bool) → indicator b ≤ 1
+pub count-le : (b : Bool) → indicator b ≤ 1
 count-le true = omega arith
 count-le false = omega arith
 
@@ -45,7 +47,7 @@ at-most : (ts : List Float) (x : Float) → total (λ t. indicator (le t x)) ts 
 at-most [] x = omega arith
 at-most (t ∷ ts) x = omega (arith, count-le (le t x), at-most ts x)
 
-level-le : (x : Float) → levelOf x ≤ 7
+pub level-le : (x : Float) → levelOf x ≤ 7
 unfolding levelOf
 level-le x = at-most thresholds x
 
@@ -53,7 +55,7 @@ pub record Small (c : BitCosts) : Type 0 where
   pub zero-le : c .zero ≤ 7
   pub one-le : c .one ≤ 7
 
-number-small : (x : Float) → Small (numberCosts x)
+pub number-small : (x : Float) → Small (numberCosts x)
 unfolding numberCosts
 number-small x = by (isNan x)
   where
@@ -61,16 +63,46 @@ number-small x = by (isNan x)
     by true = record { zero-le = omega arith; one-le = omega arith }
     by false = record { zero-le = omega (arith, level-le x); one-le = level-le x }
 
-pub costs-small : (r : Received) (n : ℕ) → costAt (symbolCosts r) n ≤ 7
-unfolding symbolCosts
-costs-small (At p) zero = number-small (p .i) .zero-le
-costs-small (At p) (suc zero) = number-small (p .i) .one-le
-costs-small (At p) (suc (suc zero)) = number-small (p .q) .zero-le
-costs-small (At p) (suc (suc (suc n))) = number-small (p .q) .one-le
-costs-small Lost zero = omega arith
-costs-small Lost (suc zero) = omega arith
-costs-small Lost (suc (suc zero)) = omega arith
-costs-small Lost (suc (suc (suc n))) = omega arith
+number-lt : (x : Float) → numberDecision x < 9
+unfolding numberDecision
+number-lt x = by (isNan x)
+  where
+    by : (b : Bool) → cond b 8 (levelOf x) < 9
+    by true = omega arith
+    by false = omega (arith, level-le x)
+
+pub symbol-lt : (r : Received) → symbolPair r < 81
+unfolding symbolPair
+symbol-lt (At p) = omega (arith, number-lt (p .i), number-lt (p .q))
+symbol-lt Lost = omega arith
+
+-- nothing is known of a NaN, whatever the mark of its symbol
+pub marked-nan : (mark : ℕ) → marked mark 8 ≡ 8
+marked-nan mark = by (eqb mark 0)
+  where
+    by : (b : Bool) → pick {A = ℕ} b 8 8 ≡ 8
+    by true = refl
+    by false = refl
+
+-- the decision on a number costs what the number does
+number-is : (x : Float) (v : ℕ) → decisionCost (numberDecision x) v ≡ decidedAs (numberCosts x) v
+unfolding numberDecision numberCosts
+number-is x v = by (isNan x)
+  where
+    level : oneCost (levelOf x) ≡ levelOf x
+    level = simp (lt-ltb (levelOf x) 8 (omega (arith, level-le x)))
+
+    by : (b : Bool) → decisionCost (cond b 8 (levelOf x)) v ≡ decidedAs (cond b free (byLevel (levelOf x))) v
+    by true = refl
+    by false = ap (λ (o : ℕ). pick (eqb v 0) (7 - levelOf x) o) level
+
+-- and the pair of a symbol what the symbol does
+pub symbol-is : (r : Received) (sent : ℕ) → pairCost (symbolPair r) (sent / 2) (sent % 2) ≡ softly r sent
+unfolding symbolPair symbolCosts
+symbol-is (At p) sent =
+    pair-is (numberDecision (p .i)) (numberDecision (p .q)) (sent / 2) (sent % 2) (number-lt (p .q))
+    ∙ ap₂ (λ (x y : ℕ). x + y) (number-is (p .i) (sent / 2)) (number-is (p .q) (sent % 2))
+symbol-is Lost sent = pair-is 8 8 (sent / 2) (sent % 2) (omega arith)
 
 -- ---- particular numbers
 

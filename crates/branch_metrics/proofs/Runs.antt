@@ -1,20 +1,27 @@
--- The symbols of three lists, and the loop that writes their costs.
+-- The symbols of three lists, and the loops that write their pairs.
 -- Assumes nothing.
-use mathlib.Core.Path.{_≡_, refl, ap}
-use mathlib.Core.List.{List, [], _∷_}
-use Prim.Native.Nat.{ℕ, zero, suc, _+_, _*_, _/_, _%_, _≤_, _<_}
+use mathlib.Core.Path.{_≡_, refl, _∙_, ap, subst}
+use mathlib.Core.Bool.{Bool, false}
+use mathlib.Core.Logic.{inl}
+use mathlib.Core.List.{List, [], _∷_, _++_}
+use Prim.Native.Nat.{ℕ, zero, suc, _+_, _-_, _*_, _≤_, _<_}
+use native.Mathlib.Decide.{decLt}
 use native.Mathlib.Omega.{arith}
+use borrow.Author.Tests.{ne-eqb}
+use lib.Dec.{eqb}
 use lib.Ieee.{Float}
-use lib.ListN.{length, getD, take, length-take}
+use lib.ListN.{length, getD, take, drop, length-take}
 use lib.Seq.{getD-take}
+use Rattle.common.specs.Choice.{pick}
 use Rattle.common.specs.Lists.{All}
-use Rattle.common.proofs.Each.{Each, each-more}
-use Rattle.common.proofs.Lists.{All-of}
-use Rattle.branch_metrics.specs.Cost.{symbolCosts, received, receivedOf}
-use Rattle.branch_metrics.specs.PointCosts.{costAt, costsAlong, symbolAt, putCosts}
+use Rattle.common.proofs.Each.{Each}
+use Rattle.common.proofs.Lists.{All-of, put-own, put-other}
+use Rattle.common.proofs.Outputs.{length-placed}
+use Rattle.branch_metrics.specs.Cost.{received, receivedOf}
+use Rattle.branch_metrics.specs.SoftPairs.{numberDecision, marked, symbolPair, symbolAt}
 use Rattle.branch_metrics.specs.declared.soft_decision.Received.{Received}
 use Rattle.branch_metrics.specs.declared.soft_decision.Received.the-variants.{Lost}
-use Rattle.branch_metrics.proofs.Numbers.{costs-small}
+use Rattle.branch_metrics.proofs.Numbers.{symbol-lt}
 
 pub is-lost : (i q : Float) (n : ℕ) → (n ≡ 0 → ⊥) → Lost ≡ received i q n
 is-lost i q zero h = absurd (h refl)
@@ -38,30 +45,38 @@ received-at (i ∷ is) (q ∷ qs) [] a b k h = absurd (omega arith)
 received-at (i ∷ is) (q ∷ qs) (m ∷ lost) a b zero h = refl
 received-at (i ∷ is) (q ∷ qs) (m ∷ lost) a b (suc k) h = received-at is qs lost (omega arith) (omega arith) k (omega arith)
 
--- ---- a loop over symbols that are given by their places
+-- ---- symbols that are given by their places, and their pairs
 
 abbrev pub Holds : (ℕ → Received) → ℕ → ℕ → Type 0
-Holds f t v = v ≡ costsAlong f t
+Holds f t v = v ≡ symbolPair (f t)
 
-pub four-more : (f : ℕ → Received) (size : ℕ) {output : List ℕ} (k : ℕ) (r : Received) → 4 * k + 4 ≤ size → r ≡ f k
-    → Each (Holds f) size output (4 * k) → Each (Holds f) size (putCosts output (4 * k) (symbolCosts r)) (4 * (k + 1))
-unfolding costsAlong
-four-more f size {output} k r h er e =
-    let c = symbolCosts r in
-    let a : ℕ = 4 * k in
-    let n : 4 * (k + 1) ≡ a + 1 + 1 + 1 + 1 = omega arith in
-    rw n
-    (each-more (c .q .one) (omega arith) (value (a + 1 + 1 + 1) 3 (omega arith) (omega arith))
-    (each-more (c .q .zero) (omega arith) (value (a + 1 + 1) 2 (omega arith) (omega arith))
-    (each-more (c .i .one) (omega arith) (value (a + 1) 1 (omega arith) (omega arith))
-    (each-more (c .i .zero) (omega arith) (value a 0 (omega arith) (omega arith)) e))))
+-- a symbol of the three lists, by its numbers and its mark
+pub place-pair : (i q : Float) (mark : ℕ) → 9 * marked mark (numberDecision i) + marked mark (numberDecision q) ≡ symbolPair (received i q mark)
+unfolding symbolPair
+place-pair i q zero = refl
+place-pair i q (suc mark) =
+    let e : eqb (suc mark) 0 ≡ false = ne-eqb (suc mark) 0 (λ h. absurd (omega arith)) in
+    ap (λ (b : Bool). 9 * pick b (numberDecision i) 8 + pick b (numberDecision q) 8) e
+
+-- sixteen pairs are put
+pub sixteen-more : (f : ℕ → Received) (size : ℕ) {output : List ℕ} (k : ℕ) (pairs exit : List ℕ) → length pairs ≡ 16 → k + 16 ≤ size
+    → ((i : ℕ) → i < 16 → getD pairs i 0 ≡ symbolPair (f (k + i))) → Each (Holds f) size output k
+    → exit ≡ take k output ++ pairs ++ drop (k + length pairs) output → Each (Holds f) size exit (k + 16)
+sixteen-more f size {output} k pairs exit l h w e x =
+    record { len = ap length x ∙ (length-placed output k pairs fits ∙ e .len); most = h; each = λ t b. ap (λ (y : List ℕ). getD y t 0) x ∙ by t b (decLt t k) }
   where
-    value : (t j : ℕ) → t / 4 ≡ k → t % 4 ≡ j → costAt (symbolCosts r) j ≡ costAt (symbolCosts (f (t / 4))) (t % 4)
-    value t j p q = rw (p, q, er)
+    fits : k + length pairs ≤ length output
+    fits = omega (arith, l, e .len)
 
--- what it writes is at most 7
-pub along-small : (f : ℕ → Received) (n : ℕ) (l : List ℕ) → 4 * n ≤ length l → ((t : ℕ) → t < 4 * n → getD l t 0 ≡ costsAlong f t) → All (λ c. c ≤ 7) (take (4 * n) l)
-unfolding costsAlong
+    by : (t : ℕ) → t < k + 16 → Dec (t < k) → getD (take k output ++ pairs ++ drop (k + length pairs) output) t 0 ≡ symbolPair (f t)
+    by t b (yes c) = put-other output pairs k t fits (omega (arith, e .len)) (inl c) ∙ e .each t c
+    by t b (no c) =
+        let i : k + (t - k) ≡ t = omega arith in
+        subst (λ (j : ℕ). getD (take k output ++ pairs ++ drop (k + length pairs) output) j 0 ≡ symbolPair (f j)) i
+        (put-own output pairs k (t - k) fits (omega (arith, l)) ∙ w (t - k) (omega arith))
+
+-- every pair that is written is one
+pub along-small : (f : ℕ → Received) (n : ℕ) (l : List ℕ) → n ≤ length l → ((t : ℕ) → t < n → getD l t 0 ≡ symbolPair (f t)) → All (λ p. p < 81) (take n l)
 along-small f n l long w =
-    All-of (λ c. c ≤ 7) (take (4 * n) l) 0
-    (λ t h. let b : t < 4 * n = omega (arith, length-take (4 * n) l) in rw (getD-take (4 * n) l t 0 b, w t b) (costs-small (f (t / 4)) (t % 4)))
+    All-of (λ p. p < 81) (take n l) 0
+    (λ t h. let b : t < n = omega (arith, length-take n l) in rw (getD-take n l t 0 b, w t b) (symbol-lt (f t)))

@@ -10,8 +10,15 @@ use Rattle.common.specs.Choice.{pick}
 use Rattle.branch_metrics.specs.Level.{levelOf}
 use Rattle.branch_metrics.specs.declared.soft_decision.Received.{Received}
 use Rattle.branch_metrics.specs.declared.soft_decision.Received.the-variants.{At, Lost}
-use Rattle.branch_metrics.specs.declared.soft_decision.BitCosts.{BitCosts}
-use Rattle.branch_metrics.specs.declared.soft_decision.SymbolCosts.{SymbolCosts}
+
+-- what deciding a bit as 0, and as 1, costs; and the costs of I and of Q
+pub record BitCosts : Type 0 where
+  pub zero : ℕ
+  pub one : ℕ
+
+pub record SymbolCosts : Type 0 where
+  pub i : BitCosts
+  pub q : BitCosts
 
 abbrev pub free : BitCosts
 free = record { zero = 0; one = 0 }

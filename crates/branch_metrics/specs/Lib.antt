@@ -1,4 +1,4 @@
 pub mod Steps
 pub mod Cost
 pub mod Level
-pub mod PointCosts
+pub mod SoftPairs

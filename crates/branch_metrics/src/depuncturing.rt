@@ -1,10 +1,11 @@
-// Depuncturing: the costs of the coded bits received, put where the steps of the trellis want them.
+// Depuncturing: the decisions on the coded bits received, put where the steps of the trellis want them.
 // Inner: its functions may require what the crates above have tested. docs/ARCHITECTURE.md names the public surface.
 ghost use mathlib.Core.Path.{_≡_};
-ghost use Prim.Native.Nat.{ℕ, _+_, _*_, _%_, _<_, _≤_};
+ghost use Prim.Native.Nat.{ℕ, _+_, _*_, _/_, _%_, _<_, _≤_};
 ghost use lib.ListN.{length, getD};
+ghost use Rattle.convolutional_code.specs.Costs.{Pairs};
 ghost use Rattle.puncturing.specs.Step.{patternLength};
-ghost use Rattle.branch_metrics.specs.Steps.{width, first, value, stepValue};
+ghost use Rattle.branch_metrics.specs.Steps.{width, first, decisionAt, stepPair, runStep};
 use common::put;
 
 // For each rate, seven to a row, and each place of its pattern: which coded bits of a step are sent. 0 none, 1 Y, 2 X, 3 both.
@@ -46,45 +47,42 @@ const SENT_KINDS: [u8; 35] = [
     2,
 ];
 
-// The costs of a step's coded bits, X as 0 and as 1 and then Y, of which the decoder makes its branch metrics; and the first coded bit after it.
-struct Four {
-    x0: u8,
-    x1: u8,
-    y0: u8,
-    y1: u8,
+// The decisions on the coded bits of a step as one number, 9 x + y, of which the decoder takes its branch metrics; and the first coded bit after it.
+struct Step {
+    pair: u8,
     next: usize,
 }
 
-// The four costs of a step of kind q, whose first coded bit is j, and the coded bit after it.
-fn four_of(costs: &[u8], q: u8, j: usize) -> Four
-    requires { ⌜ (2 * (j + width q) ≤ length (now costs)) × (0 < q) × (q ≤ 3) ⌝ }
-    ensures { λ r. ⌜ (r .x0 ≡ value (now (costs .entry)) q j 0) × (r .x1 ≡ value (now (costs .entry)) q j 1) × (r .y0 ≡ value (now (costs .entry)) q j 2) × (r .y1 ≡ value (now (costs .entry)) q j 3) × (r .next ≡ j + width q) ⌝ }
+// The decision on coded bit j: on I of a symbol, or on its Q.
+fn decision_at(pairs: &[u8], j: usize) -> u8
+    requires { ⌜ (j / 2 < length (now pairs)) × Pairs (now pairs) ⌝ }
+    ensures { λ r. ⌜ (r ≡ decisionAt (now (pairs .entry)) j) × (r ≤ 8) ⌝ }
 {
-    let a = costs[2 * j + 0];
-    let b = costs[2 * j + 1];
+    let pair = pairs[j / 2];
+    if j % 2 == 0 { pair / 9 } else { pair % 9 }
+}
+
+// A step of kind q, whose first coded bit is j. The decision on one that is not sent is 8.
+fn step_of(pairs: &[u8], q: u8, j: usize) -> Step
+    requires { ⌜ (j + width q ≤ 2 * length (now pairs)) × (0 < q) × (q ≤ 3) × Pairs (now pairs) ⌝ }
+    ensures { λ r. ⌜ (r .pair ≡ stepPair (now (pairs .entry)) q j) × (r .next ≡ j + width q) ⌝ }
+{
+    let a = decision_at(pairs, j);
     if q == 1 {
-        return Four {
-            x0: 0,
-            x1: 0,
-            y0: a,
-            y1: b,
+        return Step {
+            pair: 72 + a,
             next: j + 1,
         };
     }
     if q == 2 {
-        return Four {
-            x0: a,
-            x1: b,
-            y0: 0,
-            y1: 0,
+        return Step {
+            pair: 9 * a + 8,
             next: j + 1,
         };
     }
-    Four {
-        x0: a,
-        x1: b,
-        y0: costs[2 * j + 2],
-        y1: costs[2 * j + 3],
+    let b = decision_at(pairs, j + 1);
+    Step {
+        pair: 9 * a + b,
         next: j + 2,
     }
 }
@@ -98,42 +96,33 @@ fn following(place: usize, pattern: usize) -> usize
     if next < pattern { next } else { 0 }
 }
 
-// Writes the four costs of each of n steps, place by place of the pattern.
-fn spread_places(costs: &[u8], rate: usize, pattern: usize, n: usize, output: &mut [u8])
-    requires { ⌜ (rate < 5) × (pattern ≡ patternLength rate) × (0 < pattern) × (pattern ≤ 7) × (2 * first rate n ≤ length (now costs)) × (4 * n ≤ length (now output)) ⌝ }
-    ensures { λ _. ⌜ (length (now (output .exit)) ≡ length (now (output .entry))) × ((t : ℕ) → t < 4 * n → getD (now (output .exit)) t 0 ≡ stepValue (now (costs .entry)) rate t) ⌝ }
+// Writes the decisions of n steps, place by place of the pattern.
+fn spread_places(pairs: &[u8], rate: usize, pattern: usize, n: usize, output: &mut [u8])
+    requires { ⌜ (rate < 5) × (pattern ≡ patternLength rate) × (0 < pattern) × (pattern ≤ 7) × (first rate n ≤ 2 * length (now pairs)) × (n ≤ length (now output)) × Pairs (now pairs) ⌝ }
+    ensures { λ _. ⌜ (length (now (output .exit)) ≡ length (now (output .entry))) × ((t : ℕ) → t < n → getD (now (output .exit)) t 0 ≡ runStep (now (pairs .entry)) rate t) ⌝ }
 {
     let kinds = SENT_KINDS;
     let mut k = 0;
     let mut place = 0;
     let mut j = 0;
-    let mut at = 0;
     while k < n {
         let q = kinds[7 * rate + place];
-        let f = four_of(costs, q, j);
-        output[at] = f.x0;
-        let at1 = at + 1;
-        output[at1] = f.x1;
-        let at2 = at1 + 1;
-        output[at2] = f.y0;
-        let at3 = at2 + 1;
-        output[at3] = f.y1;
-        at = at3 + 1;
-        j = f.next;
+        let step = step_of(pairs, q, j);
+        output[k] = step.pair;
+        j = step.next;
         place = following(place, pattern);
         k += 1;
     }
 }
 
-// Writes the four costs of each of n steps. At rate 1/2 every coded bit is sent, and the costs stand as they are wanted.
-pub fn spread_costs(costs: &[u8], rate: usize, pattern: usize, n: usize, output: &mut [u8])
-    requires { ⌜ (rate < 5) × (pattern ≡ patternLength rate) × (0 < pattern) × (pattern ≤ 7) × (2 * first rate n ≤ length (now costs)) × (4 * n ≤ length (now output)) ⌝ }
-    ensures { λ _. ⌜ (length (now (output .exit)) ≡ length (now (output .entry))) × ((t : ℕ) → t < 4 * n → getD (now (output .exit)) t 0 ≡ stepValue (now (costs .entry)) rate t) ⌝ }
+// Writes the decisions of n steps. At rate 1/2 every coded bit is sent, and a symbol is a step.
+pub fn spread_pairs(pairs: &[u8], rate: usize, pattern: usize, n: usize, output: &mut [u8])
+    requires { ⌜ (rate < 5) × (pattern ≡ patternLength rate) × (0 < pattern) × (pattern ≤ 7) × (first rate n ≤ 2 * length (now pairs)) × (n ≤ length (now output)) × Pairs (now pairs) ⌝ }
+    ensures { λ _. ⌜ (length (now (output .exit)) ≡ length (now (output .entry))) × ((t : ℕ) → t < n → getD (now (output .exit)) t 0 ≡ runStep (now (pairs .entry)) rate t) ⌝ }
 {
     if rate == 0 {
-        let end = 4 * n;
-        put(&costs[0..end], 0, output);
+        put(&pairs[0..n], 0, output);
     } else {
-        spread_places(costs, rate, pattern, n, output);
+        spread_places(pairs, rate, pattern, n, output);
     }
 }

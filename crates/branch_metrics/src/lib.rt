@@ -1,4 +1,4 @@
-// Branch metrics: what the decisions of received points cost, and the costs of the coded bits put where the decoder wants them.
+// Branch metrics: the decisions on received points, and those on the coded bits put where the decoder wants them.
 // Inner: its functions may require what the crates above have tested. docs/ARCHITECTURE.md names the public surface.
 
 pub mod depuncturing;

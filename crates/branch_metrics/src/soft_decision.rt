@@ -1,13 +1,14 @@
-// Soft decisions: the levels of a received point, and what a received symbol makes each decision on its I and its Q cost.
+// Soft decisions: the levels of a received point, and the decisions on I and Q of received symbols as the decoder takes them.
 // Inner: its functions may require what the crates above have tested. docs/ARCHITECTURE.md names the public surface.
+ghost use mathlib.Core.Bool.{cond};
 ghost use mathlib.Core.Path.{_≡_};
 ghost use Prim.Native.Nat.{ℕ, _+_, _*_, _<_, _≤_};
-ghost use lib.Ieee.{le};
+ghost use lib.Ieee.{le, nan, isNan};
 ghost use lib.ListN.{length, getD};
 ghost use Rattle.common.specs.Choice.{indicator};
 ghost use Rattle.branch_metrics.specs.Level.{levelOf};
-ghost use Rattle.branch_metrics.specs.Cost.{numberCosts, symbolCosts};
-ghost use Rattle.branch_metrics.specs.PointCosts.{symbolAt, costsAlong, putCosts};
+ghost use Rattle.branch_metrics.specs.SoftPairs.{numberDecision, marked, symbolPair, symbolAt};
+use common::put;
 
 // A received point.
 pub struct Point {
@@ -21,24 +22,6 @@ pub enum Received {
     At(Point),
     // The symbol was lost.
     Lost,
-}
-
-// The levels of the two numbers of a point.
-struct Levels {
-    i: u8,
-    q: u8,
-}
-
-// What deciding a bit as 0, and as 1, costs.
-pub struct BitCosts {
-    pub zero: u8,
-    pub one: u8,
-}
-
-// The costs of I and of Q.
-pub struct SymbolCosts {
-    pub i: BitCosts,
-    pub q: BitCosts,
 }
 
 // 1 where the threshold is at or below x, else 0.
@@ -61,58 +44,33 @@ fn number_level(x: f32) -> u8
         + reaches(0.75, x)
 }
 
-// The levels of a point.
-fn level(point: Point) -> Levels
-    ensures { λ r. ⌜ (r .i ≡ levelOf (point .i)) × (r .q ≡ levelOf (point .q)) × (r .i ≤ 7) × (r .q ≤ 7) ⌝ }
-{
-    let i = point.i;
-    let q = point.q;
-    Levels {
-        i: number_level(i),
-        q: number_level(q),
-    }
-}
-
-// What a number at a level makes its bit cost. A NaN, which alone differs from itself, costs nothing.
-fn number_costs(x: f32, level: u8) -> BitCosts
-    requires { ⌜ (level ≡ levelOf x) × (level ≤ 7) ⌝ }
-    ensures { λ r. ⌜ r ≡ numberCosts x ⌝ }
+// The decision on a number at a level, in a symbol that has a mark. Nothing is known of a lost one, nor of a NaN, which alone differs from itself.
+fn decision(x: f32, mark: u8, level: u8) -> u8
+    requires { ⌜ level ≤ 7 ⌝ }
+    ensures { λ r. ⌜ (r ≡ marked mark (cond (isNan x) 8 level)) × (r ≤ 8) ⌝ }
 {
     if x != x {
-        BitCosts { zero: 0, one: 0 }
-    } else {
-        BitCosts {
-            zero: 7 - level,
-            one: level,
-        }
+        return 8;
     }
+    if mark != 0 {
+        return 8;
+    }
+    level
 }
 
-// The point that stands for a received symbol: its own, or for a lost one that of two NaNs, which costs as little. So a symbol that is lost takes
-// the same way through the code as any other.
-fn point_of(symbol: Received) -> Point
-    ensures { λ r. ⌜ (numberCosts (r .i) ≡ symbolCosts symbol .i) × (numberCosts (r .q) ≡ symbolCosts symbol .q) ⌝ }
+fn number_decision(x: f32) -> u8
+    ensures { λ r. ⌜ (r ≡ numberDecision x) × (r ≤ 8) ⌝ }
+{
+    decision(x, 0, number_level(x))
+}
+
+// The decisions on I and Q of a received symbol as one number, 9 i + q.
+pub fn symbol_pair(symbol: Received) -> u8
+    ensures { λ r. ⌜ r ≡ symbolPair symbol ⌝ }
 {
     match symbol {
-        Received::At(point) => point,
-        Received::Lost => Point {
-            i: 0.0 / 0.0,
-            q: 0.0 / 0.0,
-        },
-    }
-}
-
-// What a received symbol makes its two bits cost.
-fn costs(symbol: Received) -> SymbolCosts
-    ensures { λ r. ⌜ r ≡ symbolCosts symbol ⌝ }
-{
-    let point = point_of(symbol);
-    let levels = level(point);
-    let a = point.i;
-    let b = point.q;
-    SymbolCosts {
-        i: number_costs(a, levels.i),
-        q: number_costs(b, levels.q),
+        Received::At(point) => 9 * number_decision(point.i) + number_decision(point.q),
+        Received::Lost => 80,
     }
 }
 
@@ -130,32 +88,102 @@ fn received_at(is: &[f32], qs: &[f32], lost: &[u8], at: usize) -> Received
     }
 }
 
-// Writes what deciding the I of a symbol as 0 and as 1 costs, and then its Q.
-pub fn put_costs(symbol: Received, at: usize, output: &mut [u8])
-    requires { ⌜ at + 4 ≤ length (now output) ⌝ }
-    ensures { λ _. ⌜ now (output .exit) ≡ putCosts (now (output .entry)) at (symbolCosts symbol) ⌝ }
+// What follows does the same to sixteen symbols at once.
+
+// What one threshold adds to the levels of sixteen numbers, from a place of a list on.
+fn raised(levels: &[u8; 16], threshold: f32, list: &[f32], at: usize) -> [u8; 16]
+    requires { ⌜ (at + 16 ≤ length (now list)) × ((i : ℕ) → i < 16 → getD (now levels) i 0 ≤ 6) ⌝ }
+    ensures { λ r. ⌜
+        ((i : ℕ) → i < 16 → (getD r i 0 ≡ getD (now (levels .entry)) i 0 + indicator (le threshold (getD (now (list .entry)) (at + i) nan))) × (getD r i 0 ≤ getD (now (levels .entry)) i 0 + 1)) ⌝ }
 {
-    let c = costs(symbol);
-    let i = c.i;
-    let q = c.q;
-    output[at] = i.zero;
-    let at1 = at + 1;
-    output[at1] = i.one;
-    let at2 = at1 + 1;
-    output[at2] = q.zero;
-    let at3 = at2 + 1;
-    output[at3] = q.one;
+    let mut r = [0u8; 16];
+    let mut i = 0;
+    while i < 16 {
+        r[i] = levels[i] + reaches(threshold, list[at + i]);
+        i += 1;
+    }
+    r
 }
 
-// Writes those of each symbol of a run.
-pub fn write_costs(is: &[f32], qs: &[f32], lost: &[u8], output: &mut [u8])
-    requires { ⌜ (length (now qs) ≡ length (now is)) × (length (now lost) ≡ length (now is)) × (4 * length (now is) ≤ length (now output)) ⌝ }
-    ensures { λ _. ⌜
-        ((t : ℕ) → t < 4 * length (now (is .entry)) → getD (now (output .exit)) t 0 ≡ costsAlong (symbolAt (now (is .entry)) (now (qs .entry)) (now (lost .entry))) t) ⌝ }
+// The levels of sixteen numbers: of all after one threshold, before those after the next.
+fn sixteen_levels(list: &[f32], at: usize) -> [u8; 16]
+    requires { ⌜ at + 16 ≤ length (now list) ⌝ }
+    ensures { λ r. ⌜ ((i : ℕ) → i < 16 → (getD r i 0 ≡ levelOf (getD (now (list .entry)) (at + i) nan)) × (getD r i 0 ≤ 7)) ⌝ }
+{
+    let none = [0u8; 16];
+    let one = raised(&none, -0.75, list, at);
+    let two = raised(&one, -0.5, list, at);
+    let three = raised(&two, -0.25, list, at);
+    let four = raised(&three, 0.0, list, at);
+    let five = raised(&four, 0.25, list, at);
+    let six = raised(&five, 0.5, list, at);
+    raised(&six, 0.75, list, at)
+}
+
+// The decisions on them, by the marks of their symbols.
+fn sixteen_decisions(list: &[f32], marks: &[u8], at: usize) -> [u8; 16]
+    requires { ⌜ (at + 16 ≤ length (now list)) × (at + 16 ≤ length (now marks)) ⌝ }
+    ensures { λ r. ⌜
+        ((i : ℕ) → i < 16 → (getD r i 0 ≡ marked (getD (now (marks .entry)) (at + i) 0) (numberDecision (getD (now (list .entry)) (at + i) nan))) × (getD r i 0 ≤ 8)) ⌝ }
+{
+    let levels = sixteen_levels(list, at);
+    let mut r = [0u8; 16];
+    let mut i = 0;
+    while i < 16 {
+        r[i] = decision(list[at + i], marks[at + i], levels[i]);
+        i += 1;
+    }
+    r
+}
+
+fn paired(is: &[u8; 16], qs: &[u8; 16]) -> [u8; 16]
+    requires { ⌜ ((k : ℕ) → k < 16 → (getD (now is) k 0 ≤ 8) × (getD (now qs) k 0 ≤ 8)) ⌝ }
+    ensures { λ r. ⌜ ((k : ℕ) → k < 16 → getD r k 0 ≡ 9 * getD (now (is .entry)) k 0 + getD (now (qs .entry)) k 0) ⌝ }
+{
+    let mut r = [0u8; 16];
+    let mut k = 0;
+    while k < 16 {
+        r[k] = 9 * is[k] + qs[k];
+        k += 1;
+    }
+    r
+}
+
+// The pairs of sixteen symbols.
+fn sixteen_pairs(is: &[f32], qs: &[f32], lost: &[u8], at: usize) -> [u8; 16]
+    requires { ⌜ (at + 16 ≤ length (now is)) × (at + 16 ≤ length (now qs)) × (at + 16 ≤ length (now lost)) ⌝ }
+    ensures { λ r. ⌜
+        ((k : ℕ) → k < 16 → getD r k 0 ≡ symbolPair (symbolAt (now (is .entry)) (now (qs .entry)) (now (lost .entry)) (at + k))) ⌝ }
+{
+    let a = sixteen_decisions(is, lost, at);
+    let b = sixteen_decisions(qs, lost, at);
+    paired(&a, &b)
+}
+
+// Writes the pairs of whole sixteens of symbols: how many these are.
+fn write_sixteens(is: &[f32], qs: &[f32], lost: &[u8], output: &mut [u8]) -> usize
+    requires { ⌜ (length (now qs) ≡ length (now is)) × (length (now lost) ≡ length (now is)) × (length (now is) ≤ length (now output)) ⌝ }
+    ensures { λ r. ⌜
+        (r ≤ length (now (is .entry))) × ((t : ℕ) → t < r → getD (now (output .exit)) t 0 ≡ symbolPair (symbolAt (now (is .entry)) (now (qs .entry)) (now (lost .entry)) t)) ⌝ }
 {
     let mut k = 0;
+    while is.len() - k >= 16 {
+        let pairs = sixteen_pairs(is, qs, lost, k);
+        put(&pairs, k, output);
+        k += 16;
+    }
+    k
+}
+
+// Writes the pair of each symbol of a run.
+pub fn soft_pairs(is: &[f32], qs: &[f32], lost: &[u8], output: &mut [u8])
+    requires { ⌜ (length (now qs) ≡ length (now is)) × (length (now lost) ≡ length (now is)) × (length (now is) ≤ length (now output)) ⌝ }
+    ensures { λ _. ⌜
+        ((t : ℕ) → t < length (now (is .entry)) → getD (now (output .exit)) t 0 ≡ symbolPair (symbolAt (now (is .entry)) (now (qs .entry)) (now (lost .entry)) t)) ⌝ }
+{
+    let mut k = write_sixteens(is, qs, lost, output);
     while k < is.len() {
-        put_costs(received_at(is, qs, lost, k), 4 * k, output);
+        output[k] = symbol_pair(received_at(is, qs, lost, k));
         k += 1;
     }
 }

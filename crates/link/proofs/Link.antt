@@ -1,6 +1,6 @@
 -- Demand 2 from end to end, as one statement: packets, symbols, runs or a stream, bits, bytes, blocks, packets.
 -- Assumes nothing.
-use mathlib.Core.Path.{_≡_, sym, ap, _∙_, subst}
+use mathlib.Core.Path.{_≡_, sym, ap, _∙_, subst, subst₂}
 use mathlib.Core.Bool.{true}
 use mathlib.Core.List.{List, [], _∷_, _++_, map, flatten}
 use Prim.Native.Nat.{ℕ, zero, suc, _+_, _-_, _*_, _/_, _%_, _≤_, _<_}
@@ -22,9 +22,6 @@ use Rattle.interleaver.specs.declared.branches.Side.the-variants.{Sending}
 use Rattle.interleaver.proofs.Streams.{delayed-bytes}
 use Rattle.convolutional_code.specs.Bits.{bitsOf}
 use Rattle.convolutional_code.proofs.Bits.{length-bits, bits-bits}
-use Rattle.bit_packing.specs.Packing.{packedBytes}
-use Rattle.bit_packing.proofs.Bytes.{bytes-back}
-use Rattle.bit_packing.proofs.Pieces.{every-packing}
 use Rattle.puncturing.specs.Mode.{modeOf}
 use Rattle.puncturing.specs.Step.{patternLength}
 use Rattle.puncturing.proofs.Steps.{some-bits}
@@ -32,8 +29,12 @@ use Rattle.puncturing.proofs.Places.{up, length-le}
 use Rattle.inner_code.specs.Step.{symbolsOf}
 use Rattle.inner_code.specs.Encode.{coderAt}
 use Rattle.reader.specs.Read.{symbolsPerPattern, runBits, runLength}
-use Rattle.reader.proofs.Unharmed.{clear-length}
-use Rattle.symbol_stream.proofs.Unharmed.{stream-whole, last-pattern}
+use Rattle.reader.specs.Clear.{AllClear}
+use Rattle.reader_stream.specs.Packing.{packedBytes}
+use Rattle.reader_stream.specs.History.{SymbolsEnded}
+use Rattle.reader_stream.proofs.Bytes.{length-bytes, bytes-back}
+use Rattle.reader_stream.proofs.Histories.{every-end}
+use Rattle.reader_stream.proofs.Unharmed.{WholeStream, read-whole, last-pattern}
 use Rattle.sender.specs.Input.{Input, packetFor, packetsFor}
 use Rattle.sender.proofs.Inputs.{packets-sent}
 use Rattle.receiver.specs.Receive.{freshReceiver}
@@ -45,7 +46,7 @@ use Rattle.receiver.proofs.Promised.{kept-calls}
 use Rattle.sent_blocks.specs.Blocks.{codedBlocks, interleavedBlocks, sentBytes}
 use Rattle.sender.proofs.Counts.{block-bits}
 use Rattle.sent_blocks.proofs.Lengths.{interleaved-count, interleaved-whole}
-use Rattle.link.specs.Link.{Link, StreamLink, blocksInBits, BroughtBack, Arrived, StreamArrived}
+use Rattle.link.specs.Link.{Link, StreamLink, bytesRead, bitCount, blocksInBits, BroughtBack, Arrived, StreamArrived}
 use Rattle.link.proofs.Sent.{sent-coded, sent-front, front-within, front-last}
 
 -- ---- the interleaved blocks are of bytes
@@ -139,25 +140,42 @@ module _ (inputs : List (List ℕ)) (g : All Input inputs) (bs : All Bytes input
         }
 
     -- by a stream
-    pub stream-arrived : {R : Type 0} (cost : R → ℕ → ℕ) (l : StreamLink cost rate inputs) → StreamArrived cost rate inputs l
+    module _ {R : Type 0} {cost : R → ℕ → ℕ} {Came : List R → List ℕ → Type 0} (l : StreamLink cost Came rate inputs) where
+      abbrev all : List ℕ
+      all = bitsOf (sentBytes packets)
+
+      pub coded : l .came ++ l .unread ≡ symbolsOf (coderAt rate 0) all
+      coded = l .cut ∙ sent-coded rate hr q g (l .sent)
+
+      pub read-ended : SymbolsEnded cost rate (l .points) (bytesRead l) (l .finished .rest) (l .finished .bits)
+      read-ended = every-end cost (l .fed) (l .points) (l .costed) (l .ended)
+
+      pub bit-count : length (read-ended .bits) ≡ bitCount l
+      bit-count = omega (arith, read-ended .bits-left, ap length (read-ended .bytes-are), length-bytes (read-ended .bits))
+
+      -- where all that was read is what was sent
+      pub all-arrived : WholeStream rate all (length (l .points)) (read-ended .bits) (l .finished .rest) → StreamArrived l
+      all-arrived w =
+          let bits : List ℕ = read-ended .bits in
+          let p : packedBytes bits ≡ bytesRead l = sym (read-ended .bytes-are) in
+          let far = runBits rate (length (l .points)) in
+          record {
+            back =
+                subst₂ (λ (n : ℕ) (x : List ℕ). BroughtBack inputs n (chunksOf 204 x) (l .numbers) (l .given)) bit-count p
+                (brought-back bits far (w .given) (w .within)
+                (subst (λ (x : List ℕ). Kept freshReceiver (chunksOf 204 x) (l .numbers) (l .given) (l .receiver)) (sym p) (l .received)));
+            behind = w .behind ∙ ap (λ (n : ℕ). n % symbolsPerPattern rate) (l .as-long);
+            to-the-last = λ all-came.
+                let whole : length (l .came) ≡ length (symbolsOf (coderAt rate 0) all) = omega (arith, length-append (l .came) (l .unread), ap length coded) in
+                sym bit-count ∙ ap length (w .given) ∙ length-take-le far all (w .within)
+                ∙ ap (runBits rate) (l .as-long ∙ whole) ∙ last-pattern rate hr all (bits-bits (sentBytes packets))
+                ∙ ap (λ (k : ℕ). patternLength rate * (k / patternLength rate)) sent-length-is;
+          }
+
+    -- by a stream of symbols that are clear about those that were sent
+    pub stream-arrived : {R : Type 0} (cost : R → ℕ → ℕ) (l : StreamLink cost (AllClear cost) rate inputs) → StreamArrived l
     stream-arrived cost l =
-        let coded = sent-coded rate hr q g (l .sent) in
-        let w = stream-whole cost rate (bitsOf (sentBytes packets)) (bits-bits (sentBytes packets)) (l .points) (l .came) (l .unread) (l .clear) (l .cut ∙ coded) (l .fed) (l .costed) (l .closed) in
-        let bits : List ℕ = l .decided ++ take (l .count) (l .exit) in
-        let n : length (l .points) ≡ length (l .came) = clear-length (l .clear) in
-        let p : packedBytes bits ≡ l .bytes = sym (every-packing (l .packed) .0) in
-        record {
-          back =
-              subst (λ (x : List ℕ). BroughtBack inputs (length bits) (chunksOf 204 x) (l .numbers) (l .given)) p
-              (brought-back bits (runBits rate (length (l .points))) (w .given) (w .within)
-              (subst (λ (x : List ℕ). Kept freshReceiver (chunksOf 204 x) (l .numbers) (l .given) (l .receiver)) (sym p) (l .received)));
-          behind = w .behind ∙ ap (λ (k : ℕ). k % symbolsPerPattern rate) n;
-          to-the-last = λ all-came.
-              let all : length (l .came) ≡ length (symbolsOf (coderAt rate 0) (bitsOf (sentBytes packets))) = omega (arith, length-append (l .came) (l .unread), ap length (l .cut ∙ coded)) in
-              ap length (w .given) ∙ length-take-le (runBits rate (length (l .points))) (bitsOf (sentBytes packets)) (w .within)
-              ∙ ap (runBits rate) (n ∙ all) ∙ last-pattern rate hr (bitsOf (sentBytes packets)) (bits-bits (sentBytes packets))
-              ∙ ap (λ (k : ℕ). patternLength rate * (k / patternLength rate)) sent-length-is;
-        }
+        all-arrived l (read-whole cost rate (bitsOf (sentBytes packets)) (bits-bits (sentBytes packets)) (l .points) (l .came) (l .unread) (l .assumed) (coded l) (read-ended l .read))
 
 -- ---- how many blocks that is
 

@@ -4,19 +4,19 @@
 -- Assumes nothing.
 use mathlib.Core.Path.{_≡_}
 use mathlib.Core.List.{List, _++_, flatten}
-use Prim.Native.Nat.{ℕ, _-_, _*_, _/_, _%_, _≤_, _<_}
+use Prim.Native.Nat.{ℕ, _+_, _-_, _*_, _/_, _%_, _≤_, _<_}
 use lib.ListN.{length, take, replicate}
 use Rattle.common.specs.Lists.{All, chunksOf}
-use Rattle.bit_packing.specs.Packing.{packedBytes, Packings}
+use Rattle.reader_stream.specs.Packing.{packedBytes}
 use Rattle.puncturing.specs.Mode.{modeOf}
 use Rattle.puncturing.specs.Step.{patternLength}
-use Rattle.reader.specs.Clear.{AllClear}
 use Rattle.reader.specs.Cost.{Costed}
 use Rattle.reader.specs.Read.{symbolsPerPattern}
 use Rattle.reader.specs.Runs.{Run, Readings}
-use Rattle.symbol_stream.specs.Stream.{Closes}
-use Rattle.symbol_stream.specs.History.{SymbolFeedings}
-use Rattle.symbol_stream.specs.declared.SymbolStream.{SymbolStream}
+use Rattle.reader_stream.specs.Stream.{FinishesReader}
+use Rattle.reader_stream.specs.History.{ReaderFeedings}
+use Rattle.reader_stream.specs.declared.ReaderStream.{ReaderStream}
+use Rattle.reader_stream.specs.declared.Finished.{Finished}
 use Rattle.sender.specs.Input.{packetsFor}
 use Rattle.sender.specs.Send.{freshSender}
 use Rattle.sender.specs.Calls.{SendCalls}
@@ -47,39 +47,42 @@ pub record Link (rate : ℕ) (inputs : List (List ℕ)) : Type 0 where
   pub receiver : Receiver
   pub received : Kept freshReceiver (chunksOf 204 (packedBytes bits)) numbers given receiver
 
--- The same where the symbols are read as a stream, as the programs do. `cost r` says what a received symbol, of whatever kind, makes each sent one cost.
-pub record StreamLink {R : Type 0} (cost : R → ℕ → ℕ) (rate : ℕ) (inputs : List (List ℕ)) : Type 0 where
+-- The same where the symbols are read as a stream, as the programs do. `cost r` says what a received symbol, of whatever kind, makes each sent one cost;
+-- `Came` is what is assumed of those that came.
+pub record StreamLink {R : Type 0} (cost : R → ℕ → ℕ) (Came : List R → List ℕ → Type 0) (rate : ℕ) (inputs : List (List ℕ)) : Type 0 where
   -- a fresh sender is given the inputs, call after call, and these are its symbols
   pub symbols : List ℕ
   pub sender : Sender
   pub sent : SendCalls modeOf (freshSender rate) inputs symbols sender
-  -- so far they came, and what was received is clear about them; any number of them may be left unread at the end
+  -- so far they came; any number of them may be left unread at the end
   pub came : List ℕ
   pub unread : List ℕ
   pub cut : came ++ unread ≡ symbols
   pub points : List R
-  pub clear : AllClear cost points came
-  -- a fresh stream is fed with their costs, in any pieces, and closed
+  pub as-long : length points ≡ length came
+  pub assumed : Came points came
+  -- a fresh reader is fed with their costs, in any pieces, and finished: it gives bytes while it is fed, and the last ones at the end
   pub costs : List ℕ
   pub costed : Costed cost points costs
-  pub decided : List ℕ
-  pub stream : SymbolStream
-  pub fed : SymbolFeedings rate costs decided stream
+  pub first : List ℕ
+  pub stream : ReaderStream
+  pub fed : ReaderFeedings rate costs first stream
   pub output : List ℕ
   pub exit : List ℕ
-  pub count : ℕ
-  pub rest : ℕ
-  pub closed : Closes stream output count rest exit
-  -- the bits that it gave are packed, in any pieces
-  pub bytes : List ℕ
-  pub carry : ℕ
-  pub held : ℕ
-  pub packed : Packings (decided ++ take count exit) bytes carry held
+  pub finished : Finished
+  pub ended : FinishesReader stream output finished exit
   -- a fresh receiver is given the whole blocks of those bytes, call after call: the numbers of its answers, and its packets
   pub numbers : List ℕ
   pub given : List (List ℕ)
   pub receiver : Receiver
-  pub received : Kept freshReceiver (chunksOf 204 bytes) numbers given receiver
+  pub received : Kept freshReceiver (chunksOf 204 (first ++ take (finished .count) exit)) numbers given receiver
+
+-- the bytes that were read, and how many bits, with those that fill no byte
+abbrev pub bytesRead : {R : Type 0} {cost : R → ℕ → ℕ} {Came : List R → List ℕ → Type 0} {rate : ℕ} {inputs : List (List ℕ)} → StreamLink cost Came rate inputs → List ℕ
+bytesRead l = l .first ++ take (l .finished .count) (l .exit)
+
+abbrev pub bitCount : {R : Type 0} {cost : R → ℕ → ℕ} {Came : List R → List ℕ → Type 0} {rate : ℕ} {inputs : List (List ℕ)} → StreamLink cost Came rate inputs → ℕ
+bitCount l = 8 * length (bytesRead l) + l .finished .bits
 
 -- the whole blocks in so many bits
 abbrev pub blocksInBits : ℕ → ℕ
@@ -105,7 +108,7 @@ pub record Arrived (rate : ℕ) (inputs : List (List ℕ)) (l : Link rate inputs
 
 -- Read as a stream. The symbols behind the last whole pattern that came are told as the rest; where all of them came, the blocks are those up to the last
 -- whole pattern.
-pub record StreamArrived {R : Type 0} (cost : R → ℕ → ℕ) (rate : ℕ) (inputs : List (List ℕ)) (l : StreamLink cost rate inputs) : Type 0 where
-  pub back : BroughtBack inputs (length (l .decided ++ take (l .count) (l .exit))) (chunksOf 204 (l .bytes)) (l .numbers) (l .given)
-  pub behind : l .rest ≡ length (l .came) % symbolsPerPattern rate
-  pub to-the-last : length (l .unread) ≡ 0 → ToTheLast rate inputs (length (l .decided ++ take (l .count) (l .exit)))
+pub record StreamArrived {R : Type 0} {cost : R → ℕ → ℕ} {Came : List R → List ℕ → Type 0} {rate : ℕ} {inputs : List (List ℕ)} (l : StreamLink cost Came rate inputs) : Type 0 where
+  pub back : BroughtBack inputs (bitCount l) (chunksOf 204 (bytesRead l)) (l .numbers) (l .given)
+  pub behind : l .finished .rest ≡ length (l .came) % symbolsPerPattern rate
+  pub to-the-last : length (l .unread) ≡ 0 → ToTheLast rate inputs (bitCount l)

@@ -13,16 +13,13 @@ use Rattle.puncturing.specs.Step.{patternLength}
 use Rattle.inner_code.specs.Step.{symbolsOf}
 use Rattle.inner_code.specs.Encode.{coderAt}
 use Rattle.viterbi_decoder.specs.Best.{Best}
-use Rattle.reader.specs.Cost.{totalCost, runCost, Costed}
+use Rattle.reader.specs.Cost.{totalCost, runCost}
 use Rattle.reader.specs.Read.{symbolsPerPattern, runBits, runLength}
 use Rattle.reader.proofs.Patterns.{some-symbols, memory-in-range, run-whole}
 use Rattle.reader.proofs.Streams.{take-bits, drop-bits, fits, front-is}
-use Rattle.symbol_stream.specs.Stream.{fullSymbols, keptBits, Decided, Closes}
-use Rattle.symbol_stream.specs.History.{SymbolFeedings, Ended}
-use Rattle.symbol_stream.specs.declared.SymbolStream.{SymbolStream}
-use Rattle.symbol_stream.proofs.Histories.{fed, every-history, every-end}
-use Rattle.symbol_stream.proofs.Costs.{map-take, map-drop}
-use Rattle.symbol_stream.proofs.Unharmed.{WholeStream, no-more}
+use Rattle.reader_stream.specs.Runs.{fullSymbols, keptBits, Decided, Ended, ReadToEnd}
+use Rattle.reader_stream.proofs.Costs.{map-take, map-drop}
+use Rattle.reader_stream.proofs.Unharmed.{WholeStream, no-more}
 use Rattle.noise_tolerance.specs.Noise.{SparseSymbols, QuietEnd, StreamBack}
 use Rattle.noise_tolerance.proofs.Runs.{Tolerable}
 use Rattle.noise_tolerance.proofs.Received.{Kind, kind-agrees, kind-agrees-whole}
@@ -172,28 +169,18 @@ module _ {R : Type 0} {cost doubt : R → ℕ → ℕ} {u : ℕ} (kind : Kind co
           behind = decided-back .behind;
         }
 
-  -- Whatever pieces the costs of the symbols came in: where the doubt about what was sent is sparse, the bits are those that were sent, up to the last
-  -- ones before the end.
+  -- A stream that is read to its end: where the doubt about what was sent is sparse, the bits are those that were sent, up to the last ones before the end.
   pub stream-back : (bits : List ℕ) → Bits bits → (rs : List R) (ss unread : List ℕ) → length rs ≡ length ss
       → SparseSymbols (symbolsPerPattern rate * ps) (u * most) (map doubt rs) ss → ss ++ unread ≡ symbolsOf (coderAt rate 0) bits
-      → {costs out : List ℕ} {s : SymbolStream} → SymbolFeedings rate costs out s → Costed cost rs costs
-      → {output exit : List ℕ} {count rest : ℕ} → Closes s output count rest exit → StreamBack rate depth bits (length rs) (out ++ take count exit) rest
-  stream-back bits w rs ss unread size g e {s = s} feedings c {output} {exit} {count} {rest} closes =
-      let f = fed feedings in
-      let came = every-history cost feedings rs c in
-      let end = every-end cost s (f .ready) (came .left) (came .held) closes in
-      decided-back bits w rs (came .left) ss unread size g e (came .decided)
-      (subst (λ (r : ℕ). Ended cost r (s .memory) (came .left) output count rest exit) (f .rate-is) end)
+      → {out : List ℕ} {rest : ℕ} → ReadToEnd cost rate rs out rest → StreamBack rate depth bits (length rs) out rest
+  stream-back bits w rs ss unread size g e {rest = rest} r =
+      subst (λ (l : List ℕ). StreamBack rate depth bits (length rs) l rest) (sym (r .bits-are)) (decided-back bits w rs (r .left) ss unread size g e (r .runs) (r .end))
 
   -- and all of them, where nothing is doubted at the end
   pub stream-whole : (bits : List ℕ) → Bits bits → (rs : List R) (ss unread : List ℕ) → length rs ≡ length ss
       → SparseSymbols (symbolsPerPattern rate * ps) (u * most) (map doubt rs) ss → (tail : ℕ) → depth ≤ patternLength rate * tail
       → QuietEnd (symbolsPerPattern rate * suc tail) (map doubt rs) ss → ss ++ unread ≡ symbolsOf (coderAt rate 0) bits
-      → {costs out : List ℕ} {s : SymbolStream} → SymbolFeedings rate costs out s → Costed cost rs costs
-      → {output exit : List ℕ} {count rest : ℕ} → Closes s output count rest exit → WholeStream rate bits (length rs) (out ++ take count exit) rest
-  stream-whole bits w rs ss unread size g tail deep quiet e {s = s} feedings c {output} {exit} {count} {rest} closes =
-      let f = fed feedings in
-      let came = every-history cost feedings rs c in
-      let end = every-end cost s (f .ready) (came .left) (came .held) closes in
-      decided-whole bits w rs (came .left) ss unread size g e (came .decided)
-      (subst (λ (r : ℕ). Ended cost r (s .memory) (came .left) output count rest exit) (f .rate-is) end) tail deep quiet
+      → {out : List ℕ} {rest : ℕ} → ReadToEnd cost rate rs out rest → WholeStream rate bits (length rs) out rest
+  stream-whole bits w rs ss unread size g tail deep quiet e {rest = rest} r =
+      subst (λ (l : List ℕ). WholeStream rate bits (length rs) l rest) (sym (r .bits-are))
+      (decided-whole bits w rs (r .left) ss unread size g e (r .runs) (r .end) tail deep quiet)

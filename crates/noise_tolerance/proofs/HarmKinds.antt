@@ -8,8 +8,7 @@ use borrow.Author.Tests.{eqb-true}
 use lib.Dec.{eqb}
 use lib.Ieee.{ofBits, binary32}
 use Rattle.common.specs.Choice.{pick}
-use Rattle.branch_metrics.specs.Cost.{symbolCosts, decidedAs, softly}
-use Rattle.branch_metrics.specs.declared.soft_decision.BitCosts.{BitCosts}
+use Rattle.branch_metrics.specs.Cost.{BitCosts, symbolCosts, decidedAs, softly}
 use Rattle.branch_metrics.specs.declared.soft_decision.Received.{Received}
 use Rattle.branch_metrics.specs.declared.soft_decision.Received.the-variants.{At}
 use Rattle.branch_metrics.proofs.Numbers.{costs-one}

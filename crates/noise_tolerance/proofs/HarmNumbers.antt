@@ -10,7 +10,7 @@ use Rattle.common.proofs.Computed.{below-at}
 use Rattle.puncturing.specs.Mode.{modeOf}
 use Rattle.puncturing.specs.Step.{patternLength}
 use Rattle.reader.specs.Read.{symbolsPerPattern, runBits}
-use Rattle.symbol_stream.specs.Stream.{keptPatterns, runPatterns, fullSymbols, keptBits}
+use Rattle.reader_stream.specs.Runs.{keptPatterns, runPatterns, fullSymbols, keptBits}
 use Rattle.noise_tolerance.specs.Table.{table, atRate, hardLimits, softLimits}
 use Rattle.noise_tolerance.specs.Harm.{Spoils, harmTable, harmAt, harmWindow, harmDistance}
 use Rattle.noise_tolerance.proofs.Tables.{free, slope, rise, lead, lag, top, homing}

@@ -21,10 +21,9 @@ use Rattle.reader.specs.Cost.{runCost}
 use Rattle.reader.specs.Read.{symbolsPerPattern, runBits, runLength}
 use Rattle.reader.proofs.Patterns.{some-symbols}
 use Rattle.reader.proofs.Streams.{take-bits, drop-bits, fits, front-is, back-is, memory-append}
-use Rattle.symbol_stream.specs.Stream.{runPatterns, keptPatterns, fullSymbols, keptSymbols, keptBits, Decided, few, run}
-use Rattle.symbol_stream.specs.History.{Ended}
-use Rattle.symbol_stream.proofs.Streams.{numbers}
-use Rattle.symbol_stream.proofs.Unharmed.{kept-symbols, kept-bits, no-more}
+use Rattle.reader_stream.specs.Runs.{runPatterns, keptPatterns, fullSymbols, keptSymbols, keptBits, Decided, few, run, Ended}
+use Rattle.reader_stream.proofs.Runs.{numbers}
+use Rattle.reader_stream.proofs.Unharmed.{kept-symbols, kept-bits, no-more}
 use Rattle.noise_tolerance.specs.Noise.{SparseSymbols}
 use Rattle.noise_tolerance.proofs.Exchange.{memory-lt}
 use Rattle.noise_tolerance.proofs.Recovery.{six-settle, Astray, near, last, AstrayOpen, early, across, later}

@@ -14,19 +14,16 @@ use Rattle.inner_code.specs.Encode.{coderAt}
 use Rattle.viterbi_decoder.specs.Best.{Best}
 use Rattle.branch_metrics.specs.Cost.{softly, receivedOf}
 use Rattle.branch_metrics.specs.declared.soft_decision.Received.{Received}
-use Rattle.reader.specs.Cost.{differing, totalCost, runCost, hardCost, softCost, Costed}
+use Rattle.reader.specs.Cost.{differing, totalCost, runCost, hardCost, softCost}
 use Rattle.reader.specs.Read.{symbolsPerPattern, runBits, runLength, sound, readNumber, softNumber, BestRead, AnswersRun, refused, read, ReadsHard, ReadsSoft}
 use Rattle.reader.proofs.Patterns.{sent-whole}
 use Rattle.branch_metrics.proofs.Runs.{length-received}
 use Rattle.reader.proofs.SoftDecisions.{sound-lists}
 use Rattle.reader.proofs.Outcome.{passes}
 use Rattle.reader.proofs.Laws.{all-valid}
-use Rattle.symbol_stream.specs.Stream.{Closes}
-use Rattle.symbol_stream.specs.History.{SymbolFeedings}
-use Rattle.symbol_stream.specs.declared.SymbolStream.{SymbolStream}
-use Rattle.symbol_stream.proofs.Costs.{map-take, map-drop}
-use Rattle.symbol_stream.proofs.Histories.{fed}
-use Rattle.symbol_stream.proofs.Unharmed.{WholeStream}
+use Rattle.reader_stream.specs.Runs.{ReadToEnd}
+use Rattle.reader_stream.proofs.Costs.{map-take, map-drop}
+use Rattle.reader_stream.proofs.Unharmed.{WholeStream}
 use Rattle.noise_tolerance.specs.Noise.{SparseSymbols, QuietEnd, softDoubt, NoisyRun, NoisyStream, StreamBack}
 use Rattle.noise_tolerance.specs.Table.{Limits, hardLimits, softLimits}
 use Rattle.noise_tolerance.proofs.Numbers.{Fits, hard-fits, soft-fits}
@@ -140,29 +137,23 @@ noisy-read {rate} {m} {bits} {received} n most four output fits r =
     call-reads (hardLimits rate .unsure) bits z l (λ o. noisy-run n o) r
 
 module _ {rate : ℕ} {bits received came unread : List ℕ} (n : NoisyStream differing (hardLimits rate) rate bits received came unread)
-    {costs out : List ℕ} {s : SymbolStream} (feedings : SymbolFeedings rate costs out s) (c : Costed differing received costs)
-    {output exit : List ℕ} {count rest : ℕ} (closes : Closes s output count rest exit) where
-  known : rate < 5
-  known = rw (sym (fed feedings .rate-is)) (fed feedings .ready .known)
-
+    {out : List ℕ} {rest : ℕ} (r : ReadToEnd differing rate received out rest) where
   abbrev fits : Fits rate 1 (2 * hardLimits rate .tolerated) (hardLimits rate)
-  fits = hard-fits rate known
+  fits = hard-fits rate (r .known)
 
   sparse : SparseSymbols (symbolsPerPattern rate * fits .patterns) (1 * fits .units) (map hardDoubt received) came
   sparse = in-patterns hardDoubt fits received came (twice-sparse hardDoubt differing hard-twice (hardLimits rate .window) (hardLimits rate .tolerated) received came (n .sparse))
 
   -- A stream of such symbols, in overlapping runs and in any pieces, gives all bits that were sent but the last so many.
-  pub noisy-stream : StreamBack rate (hardLimits rate .unsure) bits (length received) (out ++ take count exit) rest
+  pub noisy-stream : StreamBack rate (hardLimits rate .unsure) bits (length received) out rest
   noisy-stream =
-      stream-back hard-kind rate known (fits .tolerable) (fits .patterns) (fits .covers) (fits .overlap) bits (n .binary) received came unread (n .as-long) sparse (n .coded)
-      feedings c closes
+      stream-back hard-kind rate (r .known) (fits .tolerable) (fits .patterns) (fits .covers) (fits .overlap) bits (n .binary) received came unread (n .as-long) sparse (n .coded) r
 
   -- It gives all of them up to the last whole pattern that came, where the last 22, 21, 28, 21 or 36 symbols are unharmed.
-  pub noisy-stream-whole : QuietEnd (hardLimits rate .quiet-stream) (map differing received) came → WholeStream rate bits (length received) (out ++ take count exit) rest
+  pub noisy-stream-whole : QuietEnd (hardLimits rate .quiet-stream) (map differing received) came → WholeStream rate bits (length received) out rest
   noisy-stream-whole quiet =
-      stream-whole hard-kind rate known (fits .tolerable) (fits .patterns) (fits .covers) (fits .overlap) bits (n .binary) received came unread (n .as-long) sparse
-      (fits .tail) (fits .tail-covers) (quiet-stream hardDoubt fits received came (twice-quiet hardDoubt differing hard-twice (hardLimits rate .quiet-stream) received came quiet)) (n .coded)
-      feedings c closes
+      stream-whole hard-kind rate (r .known) (fits .tolerable) (fits .patterns) (fits .covers) (fits .overlap) bits (n .binary) received came unread (n .as-long) sparse
+      (fits .tail) (fits .tail-covers) (quiet-stream hardDoubt fits received came (twice-quiet hardDoubt differing hard-twice (hardLimits rate .quiet-stream) received came quiet)) (n .coded) r
 
 -- ---- soft decisions
 
@@ -211,25 +202,21 @@ noisy-soft-read {rate} {m} {bits} is qs lost lists n most output fits r =
     (λ o. soft-front n (subst (λ (j : ℕ). Best (softCost (receivedOf is qs lost) rate m) (runBits rate j) (o .bits)) (sym k ∙ n .as-long) (o .decoded .best))) r
 
 module _ {rate : ℕ} {bits : List ℕ} {received : List Received} {came unread : List ℕ} (n : NoisyStream softDoubt (softLimits rate) rate bits received came unread)
-    {costs out : List ℕ} {s : SymbolStream} (feedings : SymbolFeedings rate costs out s) (c : Costed softly received costs)
-    {output exit : List ℕ} {count rest : ℕ} (closes : Closes s output count rest exit) where
-  soft-known : rate < 5
-  soft-known = rw (sym (fed feedings .rate-is)) (fed feedings .ready .known)
-
+    {out : List ℕ} {rest : ℕ} (r : ReadToEnd softly rate received out rest) where
   abbrev soft-fit : Fits rate 7 (softLimits rate .tolerated) (softLimits rate)
-  soft-fit = soft-fits rate soft-known
+  soft-fit = soft-fits rate (r .known)
 
   soft-sparse : SparseSymbols (symbolsPerPattern rate * soft-fit .patterns) (7 * soft-fit .units) (map softDoubt received) came
   soft-sparse = in-patterns softDoubt soft-fit received came (n .sparse)
 
   -- So does a stream of such points, in overlapping runs and in any pieces.
-  pub noisy-soft-stream : StreamBack rate (softLimits rate .unsure) bits (length received) (out ++ take count exit) rest
+  pub noisy-soft-stream : StreamBack rate (softLimits rate .unsure) bits (length received) out rest
   noisy-soft-stream =
-      stream-back soft-kind rate soft-known (soft-fit .tolerable) (soft-fit .patterns) (soft-fit .covers) (soft-fit .overlap) bits (n .binary) received came unread (n .as-long)
-      soft-sparse (n .coded) feedings c closes
+      stream-back soft-kind rate (r .known) (soft-fit .tolerable) (soft-fit .patterns) (soft-fit .covers) (soft-fit .overlap) bits (n .binary) received came unread (n .as-long)
+      soft-sparse (n .coded) r
 
   -- And all of them up to the last whole pattern that came, where nothing is doubted in the last 26, 27, 28, 33 or 36 points.
-  pub noisy-soft-stream-whole : QuietEnd (softLimits rate .quiet-stream) (map softDoubt received) came → WholeStream rate bits (length received) (out ++ take count exit) rest
+  pub noisy-soft-stream-whole : QuietEnd (softLimits rate .quiet-stream) (map softDoubt received) came → WholeStream rate bits (length received) out rest
   noisy-soft-stream-whole quiet =
-      stream-whole soft-kind rate soft-known (soft-fit .tolerable) (soft-fit .patterns) (soft-fit .covers) (soft-fit .overlap) bits (n .binary) received came unread (n .as-long)
-      soft-sparse (soft-fit .tail) (soft-fit .tail-covers) (quiet-stream softDoubt soft-fit received came quiet) (n .coded) feedings c closes
+      stream-whole soft-kind rate (r .known) (soft-fit .tolerable) (soft-fit .patterns) (soft-fit .covers) (soft-fit .overlap) bits (n .binary) received came unread (n .as-long)
+      soft-sparse (soft-fit .tail) (soft-fit .tail-covers) (quiet-stream softDoubt soft-fit received came quiet) (n .coded) r

@@ -11,7 +11,7 @@ use Rattle.common.proofs.Computed.{both, both-left, both-right, below-at}
 use Rattle.puncturing.specs.Mode.{modeOf}
 use Rattle.puncturing.specs.Step.{patternLength}
 use Rattle.reader.specs.Read.{symbolsPerPattern, runBits}
-use Rattle.symbol_stream.specs.Stream.{keptPatterns, runPatterns, fullSymbols, keptBits}
+use Rattle.reader_stream.specs.Runs.{keptPatterns, runPatterns, fullSymbols, keptBits}
 use Rattle.noise_tolerance.specs.Table.{Limits, table, atRate, hardLimits, softLimits}
 use Rattle.noise_tolerance.proofs.Tables.{free, slope, rise, lead, lag}
 use Rattle.noise_tolerance.proofs.Runs.{Tolerable}

@@ -17,8 +17,7 @@ use Rattle.puncturing.specs.Step.{patternLength}
 use Rattle.inner_code.specs.Step.{symbolsOf}
 use Rattle.inner_code.specs.Encode.{coderAt}
 use Rattle.branch_metrics.specs.Steps.{puncturedCosts}
-use Rattle.branch_metrics.specs.Cost.{symbolCosts, decidedAs, softly}
-use Rattle.branch_metrics.specs.declared.soft_decision.BitCosts.{BitCosts}
+use Rattle.branch_metrics.specs.Cost.{BitCosts, symbolCosts, decidedAs, softly}
 use Rattle.branch_metrics.specs.declared.soft_decision.Received.{Received}
 use Rattle.branch_metrics.specs.declared.soft_decision.Received.the-variants.{Lost}
 use Rattle.reader.specs.Cost.{differing, runCost}

@@ -17,13 +17,10 @@ use Rattle.inner_code.specs.Step.{symbolsOf}
 use Rattle.inner_code.specs.Encode.{coderAt}
 use Rattle.branch_metrics.specs.Cost.{softly}
 use Rattle.branch_metrics.specs.declared.soft_decision.Received.{Received}
-use Rattle.reader.specs.Cost.{differing, runCost, softCost, Costed}
+use Rattle.reader.specs.Cost.{differing, runCost, softCost}
 use Rattle.reader.specs.Read.{symbolsPerPattern, runBits}
 use Rattle.reader.proofs.Patterns.{some-symbols}
-use Rattle.symbol_stream.specs.Stream.{runPatterns, Closes}
-use Rattle.symbol_stream.specs.History.{SymbolFeedings, Ended}
-use Rattle.symbol_stream.specs.declared.SymbolStream.{SymbolStream}
-use Rattle.symbol_stream.proofs.Histories.{fed, every-history, every-end}
+use Rattle.reader_stream.specs.Runs.{runPatterns, ReadToEnd}
 use Rattle.noise_tolerance.specs.Noise.{SparseSymbols, softDoubt}
 use Rattle.noise_tolerance.specs.Table.{hardLimits, softLimits}
 use Rattle.noise_tolerance.specs.Harm.{Came, fine, struck, isStruck, costOf, doubtOf, isLost, doubtUnlost, HarmedAt, Gathered, Spoils, harmAt, harmWindow, harmDistance, BesideHarm, NearHarm, HarmedRun, RunRecovered, HarmedStream, Recovered}
@@ -117,33 +114,33 @@ module _ {R : Type 0} {cost doubt : R → ℕ → ℕ} {harmed : R → Bool} {u 
   sparse : SparseSymbols (symbolsPerPattern rate * f .patterns) (u * f .units) (map doubt points) came
   sparse = in-patterns kind points f came doubted
 
-  module _ {costs out : List ℕ} {s : SymbolStream} (feedings : SymbolFeedings rate costs out s) (c : Costed cost points costs)
-      {output exit : List ℕ} {count rest : ℕ} (closes : Closes s output count rest exit) where
-    pub recovered : Recovered harmed l rate depth bits points (out ++ take count exit) rest
+  module _ {out : List ℕ} {rest : ℕ} (r : ReadToEnd cost rate points out rest) where
+    abbrev all : List ℕ
+    all = r .decided ++ take (r .count) (r .exit)
+
+    pub recovered : Recovered harmed l rate depth bits points out rest
     recovered =
-        let g = fed feedings in
-        let came′ = every-history cost feedings points c in
-        let end = subst (λ (r : ℕ). Ended cost r (s .memory) (came′ .left) output count rest exit) (g .rate-is) (every-end cost s (g .ready) (came′ .left) (came′ .held) closes) in
         let n = f .recoverable in
         let z = decided-size kind rate hr (l .longest) n (f .patterns) (f .covers) (harmDistance rate) (f .spans) (f .distant) (f .overlap) (f .room)
-        bits w points came unread size sparse coded rain (came′ .decided) end in
+        bits w points came unread size sparse coded rain (r .runs) (r .end) in
         let astray = decided-wrong kind rate hr (l .longest) n (f .patterns) (f .covers) (harmDistance rate) (f .spans) (f .distant) (f .overlap) (f .room)
-        bits w points came unread size sparse coded rain (came′ .decided) end in
-        record {
+        bits w points came unread size sparse coded rain (r .runs) (r .end) in
+        subst (λ (x : List ℕ). Recovered harmed l rate depth bits points x rest) (sym (r .bits-are))
+        (record {
           size = z;
           within = subst (λ (k : ℕ). k ≤ length bits) (sym z)
               (decided-within kind rate hr (l .longest) n (f .patterns) (f .covers) (harmDistance rate) (f .spans) (f .distant) (f .overlap) (f .room)
-              bits w points came unread size sparse coded rain (came′ .decided) end);
+              bits w points came unread size sparse coded rain (r .runs) (r .end));
           behind =
               decided-rest kind rate hr (l .longest) n (f .patterns) (f .covers) (harmDistance rate) (f .spans) (f .distant) (f .overlap) (f .room)
-              bits w points came unread size sparse coded rain (came′ .decided) end;
+              bits w points came unread size sparse coded rain (r .runs) (r .end);
           wrong = λ i m e. told i z (astray i (subst (λ (k : ℕ). i < k) z m) e);
-        }
+        })
       where
-        told : (i : ℕ) → length (out ++ take count exit) ≡ runBits rate (length points)
+        told : (i : ℕ) → length all ≡ runBits rate (length points)
             → (Beside (patternLength rate) (symbolsPerPattern rate) (l .ahead) (l .ahead + 6 + f .opening) (patternLength rate * runPatterns rate) (λ x. harmed (getD points x (kind .some)) ≡ true) i)
             ⊎ (runBits rate (length points) ≤ i + depth)
-            → (NearHarm harmed rate l points i) ⊎ (length (out ++ take count exit) ≤ i + depth)
+            → (NearHarm harmed rate l points i) ⊎ (length all ≤ i + depth)
         told i z (inr x) = inr (omega (arith, z))
         told i z (inl x) =
             inl (record {
@@ -165,10 +162,6 @@ module _ {R : Type 0} {cost doubt : R → ℕ → ℕ} {harmed : R → Bool} {u 
 twice-struck : (r : Came ℕ) (s : ℕ) → doubtOf hardDoubt r s ≡ 2 * doubtOf differing r s
 twice-struck (fine r) s = hard-twice r s
 twice-struck (struck r) s = refl
-
--- the rate of a stream that was fed is known
-fed-rate : {rate : ℕ} {costs out : List ℕ} {s : SymbolStream} → SymbolFeedings rate costs out s → rate < 5
-fed-rate f = rw (sym (fed f .rate-is)) (fed f .ready .known)
 
 -- Runs, by what they are read as: the same of each kind of harm.
 pub hard-run-recovered : {rate m : ℕ} {bits : List ℕ} {points : List (Came ℕ)} → HarmedRun (doubtOf differing) isStruck (harmAt rate .hard-struck) rate m bits points
@@ -194,27 +187,24 @@ lost-run-recovered {rate} {m} {bits} {points} h b =
 -- within 31, 12, 7, 3 or 1 symbols wherever they are not far apart, every wrong bit is near these or one of the last.
 pub hard-recovered : {rate : ℕ} {bits : List ℕ} {points : List (Came ℕ)} {came unread : List ℕ}
     → HarmedStream (doubtOf differing) isStruck (harmAt rate .hard-struck) rate bits points came unread
-    → {costs out : List ℕ} {s : SymbolStream} → SymbolFeedings rate costs out s → Costed (costOf differing) points costs
-    → {output exit : List ℕ} {count rest : ℕ} → Closes s output count rest exit
-    → Recovered isStruck (harmAt rate .hard-struck) rate (hardLimits rate .unsure) bits points (out ++ take count exit) rest
-hard-recovered {rate} {bits} {points} {came} {unread} h f c closes =
-    recovered hard-struck-kind rate (fed-rate f) (hard-struck-fits rate (fed-rate f)) bits points came unread (h .binary) (h .coded) (h .as-long)
-    (twice-sparse (doubtOf hardDoubt) (doubtOf differing) twice-struck harmWindow (harmAt rate .hard-struck .elsewhere) points came (h .sparse)) (h .gathered) f c closes
+    → {out : List ℕ} {rest : ℕ} → ReadToEnd (costOf differing) rate points out rest
+    → Recovered isStruck (harmAt rate .hard-struck) rate (hardLimits rate .unsure) bits points out rest
+hard-recovered {rate} {bits} {points} {came} {unread} h r =
+    recovered hard-struck-kind rate (r .known) (hard-struck-fits rate (r .known)) bits points came unread (h .binary) (h .coded) (h .as-long)
+    (twice-sparse (doubtOf hardDoubt) (doubtOf differing) twice-struck harmWindow (harmAt rate .hard-struck .elsewhere) points came (h .sparse)) (h .gathered) r
 
 -- The same by soft decisions, with a doubt of at most 63, 35, 28, 21 or 14 elsewhere, and harm within 30, 12, 7, 2 or 1 symbols.
 pub soft-recovered : {rate : ℕ} {bits : List ℕ} {points : List (Came Received)} {came unread : List ℕ}
     → HarmedStream (doubtOf softDoubt) isStruck (harmAt rate .soft-struck) rate bits points came unread
-    → {costs out : List ℕ} {s : SymbolStream} → SymbolFeedings rate costs out s → Costed (costOf softly) points costs
-    → {output exit : List ℕ} {count rest : ℕ} → Closes s output count rest exit
-    → Recovered isStruck (harmAt rate .soft-struck) rate (softLimits rate .unsure) bits points (out ++ take count exit) rest
-soft-recovered {rate} {bits} {points} {came} {unread} h f c closes =
-    recovered soft-struck-kind rate (fed-rate f) (soft-struck-fits rate (fed-rate f)) bits points came unread (h .binary) (h .coded) (h .as-long) (h .sparse) (h .gathered) f c closes
+    → {out : List ℕ} {rest : ℕ} → ReadToEnd (costOf softly) rate points out rest
+    → Recovered isStruck (harmAt rate .soft-struck) rate (softLimits rate .unsure) bits points out rest
+soft-recovered {rate} {bits} {points} {came} {unread} h r =
+    recovered soft-struck-kind rate (r .known) (soft-struck-fits rate (r .known)) bits points came unread (h .binary) (h .coded) (h .as-long) (h .sparse) (h .gathered) r
 
 -- Symbols lost, by soft decisions: with a doubt of at most 63, 35, 28, 21 or 14 elsewhere, an outage of up to 625, 424, 339, 223 or 185 symbols.
 pub lost-recovered : {rate : ℕ} {bits : List ℕ} {points : List Received} {came unread : List ℕ}
     → HarmedStream doubtUnlost isLost (harmAt rate .soft-lost) rate bits points came unread
-    → {costs out : List ℕ} {s : SymbolStream} → SymbolFeedings rate costs out s → Costed softly points costs
-    → {output exit : List ℕ} {count rest : ℕ} → Closes s output count rest exit
-    → Recovered isLost (harmAt rate .soft-lost) rate (softLimits rate .unsure) bits points (out ++ take count exit) rest
-lost-recovered {rate} {bits} {points} {came} {unread} h f c closes =
-    recovered lost-kind rate (fed-rate f) (lost-fits rate (fed-rate f)) bits points came unread (h .binary) (h .coded) (h .as-long) (h .sparse) (h .gathered) f c closes
+    → {out : List ℕ} {rest : ℕ} → ReadToEnd softly rate points out rest
+    → Recovered isLost (harmAt rate .soft-lost) rate (softLimits rate .unsure) bits points out rest
+lost-recovered {rate} {bits} {points} {came} {unread} h r =
+    recovered lost-kind rate (r .known) (lost-fits rate (r .known)) bits points came unread (h .binary) (h .coded) (h .as-long) (h .sparse) (h .gathered) r

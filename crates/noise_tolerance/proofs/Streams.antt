@@ -17,10 +17,10 @@ use Rattle.reader.specs.Cost.{totalCost, runCost}
 use Rattle.reader.specs.Read.{symbolsPerPattern, runBits, runLength}
 use Rattle.reader.proofs.Patterns.{memory-in-range, run-whole}
 use Rattle.reader.proofs.Streams.{take-bits, drop-bits, fits, front-is, back-is, memory-append}
-use Rattle.symbol_stream.specs.Stream.{keptPatterns, fullSymbols, keptSymbols, keptBits, Decided, few, run}
-use Rattle.symbol_stream.proofs.Costs.{map-take, map-drop}
-use Rattle.symbol_stream.proofs.Streams.{numbers}
-use Rattle.symbol_stream.proofs.Unharmed.{kept-mod, kept-length, kept-symbols, kept-bits}
+use Rattle.reader_stream.specs.Runs.{keptPatterns, fullSymbols, keptSymbols, keptBits, Decided, few, run}
+use Rattle.reader_stream.proofs.Costs.{map-take, map-drop}
+use Rattle.reader_stream.proofs.Runs.{numbers}
+use Rattle.reader_stream.proofs.Unharmed.{kept-mod, kept-length, kept-symbols, kept-bits}
 use Rattle.noise_tolerance.specs.Noise.{SparseSymbols}
 use Rattle.noise_tolerance.proofs.Runs.{Tolerable}
 use Rattle.noise_tolerance.proofs.Received.{Kind, kind-agrees}

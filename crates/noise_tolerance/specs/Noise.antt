@@ -8,8 +8,7 @@ use Rattle.convolutional_code.specs.Bits.{Bits}
 use Rattle.puncturing.specs.Step.{patternLength}
 use Rattle.inner_code.specs.Step.{symbolsOf}
 use Rattle.inner_code.specs.Encode.{coderAt}
-use Rattle.branch_metrics.specs.Cost.{symbolCosts, decidedAs}
-use Rattle.branch_metrics.specs.declared.soft_decision.BitCosts.{BitCosts}
+use Rattle.branch_metrics.specs.Cost.{BitCosts, symbolCosts, decidedAs}
 use Rattle.branch_metrics.specs.declared.soft_decision.Received.{Received}
 use Rattle.reader.specs.Cost.{totalCost}
 use Rattle.reader.specs.Read.{symbolsPerPattern, runBits}

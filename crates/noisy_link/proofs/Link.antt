@@ -3,10 +3,10 @@
 use mathlib.Core.Path.{_≡_, refl, sym, ap, _∙_, subst}
 use mathlib.Core.Bool.{true}
 use mathlib.Core.List.{List, [], _∷_, _++_, map, append-assoc}
-use Prim.Native.Nat.{ℕ, zero, suc, _-_, _*_, _/_, _%_, _≤_, _<_}
+use Prim.Native.Nat.{ℕ, zero, suc, _-_, _≤_, _<_}
 use native.Mathlib.Omega.{arith}
 use lib.Dec.{eqb, leb, leb→le}
-use lib.ListN.{length, take, drop, replicate, length-map, length-append, take-append-drop}
+use lib.ListN.{length, take, drop, replicate, length-map, take-append-drop}
 use lib.Seq.{length-take-le, take-at}
 use Rattle.common.specs.Choice.{pick}
 use Rattle.common.specs.Lists.{All, Bytes, chunksOf, restOf}
@@ -15,29 +15,24 @@ use Rattle.common.proofs.Computed.{below-at}
 use Rattle.answer.specs.Number.{numberOf}
 use Rattle.convolutional_code.specs.Bits.{bitsOf}
 use Rattle.convolutional_code.proofs.Bits.{bits-bits}
-use Rattle.bit_packing.specs.Packing.{packedBytes}
-use Rattle.bit_packing.proofs.Bytes.{packed-pieces, length-bytes}
-use Rattle.bit_packing.proofs.Pieces.{every-packing}
 use Rattle.puncturing.specs.Mode.{modeOf}
-use Rattle.puncturing.specs.Step.{patternLength}
-use Rattle.inner_code.specs.Step.{symbolsOf}
-use Rattle.inner_code.specs.Encode.{coderAt}
 use Rattle.branch_metrics.specs.Cost.{softly}
 use Rattle.reader.specs.Cost.{differing}
-use Rattle.reader.specs.Read.{symbolsPerPattern, runBits}
-use Rattle.symbol_stream.proofs.Unharmed.{WholeStream, last-pattern}
+use Rattle.reader.specs.Read.{runBits}
+use Rattle.reader_stream.specs.Packing.{packedBytes}
+use Rattle.reader_stream.proofs.Bytes.{packed-pieces, length-bytes}
 use Rattle.sender.specs.Input.{Input, packetFor, packetsFor}
 use Rattle.receiver.specs.Receive.{freshReceiver}
 use Rattle.receiver.specs.Kept.{Kept, none, call}
 use Rattle.receiver.specs.declared.Receiver.{Receiver}
 use Rattle.sent_blocks.specs.Blocks.{interleavedBlocks, sentBytes}
-use Rattle.link.specs.Link.{blocksInBits, BroughtBack}
-use Rattle.link.proofs.Sent.{sent-coded}
-use Rattle.link.proofs.Link.{sent-length-is, brought-back}
+use Rattle.link.specs.Link.{StreamLink, StreamArrived, bytesRead, bitCount, blocksInBits}
+use Rattle.reader_stream.specs.History.{SymbolsEnded}
+use Rattle.link.proofs.Link.{brought-back, coded, read-ended, bit-count, all-arrived}
 use Rattle.noise_tolerance.specs.Noise.{QuietEnd, softDoubt, NoisyStream, StreamBack}
 use Rattle.noise_tolerance.specs.Table.{Limits, table, atRate, hardLimits, softLimits}
 use Rattle.noise_tolerance.proofs.Noise.{noisy-stream, noisy-stream-whole, noisy-soft-stream, noisy-soft-stream-whole}
-use Rattle.noisy_link.specs.Link.{Sparsely, NoisyLink, bitsRead, NoisyArrived, FrontArrived}
+use Rattle.noisy_link.specs.Link.{Sparsely, FrontArrived}
 
 -- ---- the first calls of a receiver
 
@@ -85,33 +80,21 @@ module _ (inputs : List (List ℕ)) (g : All Input inputs) (bs : All Bytes input
   abbrev all : List ℕ
   all = bitsOf (sentBytes packets)
 
-  module _ {R : Type 0} {cost : R → ℕ → ℕ} {Noise : List R → List ℕ → Type 0} (k : NoisyLink cost Noise rate inputs) where
+  module _ {R : Type 0} {cost : R → ℕ → ℕ} {Came : List R → List ℕ → Type 0} (k : StreamLink cost Came rate inputs) where
+    abbrev pub read-of : SymbolsEnded cost rate (k .points) (bytesRead k) (k .finished .rest) (k .finished .bits)
+    read-of = read-ended inputs g bs limit rate hr sent k
+
     abbrev bits : List ℕ
-    bits = bitsRead k
+    bits = read-of .bits
 
-    pub bytes-are : packedBytes bits ≡ k .bytes
-    bytes-are = sym (every-packing (k .packed) .0)
+    bytes-are : packedBytes bits ≡ bytesRead k
+    bytes-are = sym (read-of .bytes-are)
 
-    pub coded : k .came ++ k .unread ≡ symbolsOf (coderAt rate 0) all
-    coded = k .cut ∙ sent-coded rate hr sent g (k .sent)
-
-    -- where all that was read is what was sent
-    all-arrived : WholeStream rate all (length (k .points)) bits (k .rest) → NoisyArrived k
-    all-arrived w = record {
-      back =
-          subst (λ (x : List ℕ). BroughtBack inputs (length bits) (chunksOf 204 x) (k .numbers) (k .given)) bytes-are
-          (brought-back inputs g bs limit bits (runBits rate (length (k .points))) (w .given) (w .within)
-          (subst (λ (x : List ℕ). Kept freshReceiver (chunksOf 204 x) (k .numbers) (k .given) (k .receiver)) (sym bytes-are) (k .received)));
-      behind = w .behind ∙ ap (λ (n : ℕ). n % symbolsPerPattern rate) (k .as-long);
-      to-the-last = λ all-came.
-          let whole : length (k .came) ≡ length (symbolsOf (coderAt rate 0) all) = omega (arith, length-append (k .came) (k .unread), ap length coded) in
-          ap length (w .given) ∙ length-take-le (runBits rate (length (k .points))) all (w .within)
-          ∙ ap (runBits rate) (k .as-long ∙ whole) ∙ last-pattern rate hr all (bits-bits (sentBytes packets))
-          ∙ ap (λ (n : ℕ). patternLength rate * (n / patternLength rate)) (sent-length-is inputs g bs limit);
-    }
+    count-is : length bits ≡ bitCount k
+    count-is = bit-count inputs g bs limit rate hr sent k
 
     -- where all but the last bits is
-    front-arrived : (unsure : ℕ) → unsure ≤ 1632 → StreamBack rate unsure all (length (k .points)) bits (k .rest) → FrontArrived unsure k
+    front-arrived : (unsure : ℕ) → unsure ≤ 1632 → StreamBack rate unsure all (length (k .points)) bits (k .finished .rest) → FrontArrived unsure k
     front-arrived unsure few w =
         let f : ℕ = length bits - unsure in
         let n : ℕ = blocksInBits f in
@@ -119,7 +102,7 @@ module _ (inputs : List (List ℕ)) (g : All Input inputs) (bs : All Bytes input
         let front : take f bits ≡ take f all = rw far at (w .given) in
         let size : length (take f bits) ≡ f = length-take-le f bits (omega arith) in
         let c = kept-front n (k .received) in
-        let blocks : chunksOf 204 (packedBytes (take f bits)) ≡ take n (chunksOf 204 (k .bytes)) =
+        let blocks : chunksOf 204 (packedBytes (take f bits)) ≡ take n (chunksOf 204 (bytesRead k)) =
         front-blocks f bits (omega arith) ∙ ap (λ (x : List ℕ). take n (chunksOf 204 x)) bytes-are in
         let b = brought-back inputs g bs limit (take f bits) f front (omega (arith, w .size, w .within))
         (subst (λ (x : List (List ℕ)). Kept freshReceiver x (take n (k .numbers)) (c .front) (c .middle)) (sym blocks) (c .kept)) in
@@ -130,8 +113,8 @@ module _ (inputs : List (List ℕ)) (g : All Input inputs) (bs : All Bytes input
           front =
               record {
                 surely = n;
-                surely-is = refl;
-                all-but-one = omega (arith, length-chunks 204 (k .bytes), ap length bytes-are, length-bytes bits);
+                surely-is = ap (λ (i : ℕ). blocksInBits (i - unsure)) count-is;
+                all-but-one = omega (arith, length-chunks 204 (bytesRead k), ap length bytes-are, length-bytes bits);
                 answered = b .answered ∙ ap (λ (i : ℕ). take i (replicate 11 9 ++ replicate i 0)) m;
                 packets =
                     ap (take (n - 11)) (c .packets-are) ∙ take-at (c .front) (c .later) (n - 11) lf ∙ b .packets ∙ ap (λ (i : ℕ). take (i - 11) packets) m;
@@ -142,19 +125,19 @@ module _ (inputs : List (List ℕ)) (g : All Input inputs) (bs : All Bytes input
         length-packets : length packets ≡ length inputs
         length-packets = length-map inputs packetFor
 
-  module _ {R : Type 0} {cost : R → ℕ → ℕ} (doubt : R → ℕ → ℕ) (l : Limits) (k : NoisyLink cost (Sparsely doubt l) rate inputs) where
+  module _ {R : Type 0} {cost : R → ℕ → ℕ} (doubt : R → ℕ → ℕ) (l : Limits) (k : StreamLink cost (Sparsely doubt l) rate inputs) where
     stream : NoisyStream doubt l rate all (k .points) (k .came) (k .unread)
-    stream = record { binary = bits-bits (sentBytes packets); coded = coded k; as-long = k .as-long; sparse = k .noise }
+    stream = record { binary = bits-bits (sentBytes packets); coded = coded inputs g bs limit rate hr sent k; as-long = k .as-long; sparse = k .assumed }
 
   -- By hard decisions: where any 48, 42, 56 or 48 symbols in a row have at most 4, 2, 2 or 1 wrong I and Q bits, and the last 22, 21, 28 or 21 have none.
-  pub noisy-arrived : (k : NoisyLink differing (Sparsely differing (hardLimits rate)) rate inputs) → QuietEnd (hardLimits rate .quiet-stream) (map differing (k .points)) (k .came)
-      → NoisyArrived k
-  noisy-arrived k quiet = all-arrived k (noisy-stream-whole (stream differing (hardLimits rate) k) (k .fed) (k .costed) (k .closed) quiet)
+  pub noisy-arrived : (k : StreamLink differing (Sparsely differing (hardLimits rate)) rate inputs) → QuietEnd (hardLimits rate .quiet-stream) (map differing (k .points)) (k .came)
+      → StreamArrived k
+  noisy-arrived k quiet = all-arrived inputs g bs limit rate hr sent k (noisy-stream-whole (stream differing (hardLimits rate) k) (read-of k .read) quiet)
 
   -- By soft decisions: where any 55, 54, 56 or 75 points in a row leave a doubt of at most 63, 35, 28 or 21, and the last 26, 27, 28 or 33 none.
-  pub noisy-soft-arrived : (k : NoisyLink softly (Sparsely softDoubt (softLimits rate)) rate inputs) → QuietEnd (softLimits rate .quiet-stream) (map softDoubt (k .points)) (k .came)
-      → NoisyArrived k
-  noisy-soft-arrived k quiet = all-arrived k (noisy-soft-stream-whole (stream softDoubt (softLimits rate) k) (k .fed) (k .costed) (k .closed) quiet)
+  pub noisy-soft-arrived : (k : StreamLink softly (Sparsely softDoubt (softLimits rate)) rate inputs) → QuietEnd (softLimits rate .quiet-stream) (map softDoubt (k .points)) (k .came)
+      → StreamArrived k
+  noisy-soft-arrived k quiet = all-arrived inputs g bs limit rate hr sent k (noisy-soft-stream-whole (stream softDoubt (softLimits rate) k) (read-of k .read) quiet)
 
   -- ---- whatever the end
 
@@ -166,8 +149,8 @@ module _ (inputs : List (List ℕ)) (g : All Input inputs) (bs : All Bytes input
   unfolding table atRate
   soft-few = leb→le _ _ (below-at (λ r. leb (softLimits r .unsure) 1632) 5 tt rate hr)
 
-  pub noisy-front : (k : NoisyLink differing (Sparsely differing (hardLimits rate)) rate inputs) → FrontArrived (hardLimits rate .unsure) k
-  noisy-front k = front-arrived k (hardLimits rate .unsure) hard-few (noisy-stream (stream differing (hardLimits rate) k) (k .fed) (k .costed) (k .closed))
+  pub noisy-front : (k : StreamLink differing (Sparsely differing (hardLimits rate)) rate inputs) → FrontArrived (hardLimits rate .unsure) k
+  noisy-front k = front-arrived k (hardLimits rate .unsure) hard-few (noisy-stream (stream differing (hardLimits rate) k) (read-of k .read))
 
-  pub noisy-soft-front : (k : NoisyLink softly (Sparsely softDoubt (softLimits rate)) rate inputs) → FrontArrived (softLimits rate .unsure) k
-  noisy-soft-front k = front-arrived k (softLimits rate .unsure) soft-few (noisy-soft-stream (stream softDoubt (softLimits rate) k) (k .fed) (k .costed) (k .closed))
+  pub noisy-soft-front : (k : StreamLink softly (Sparsely softDoubt (softLimits rate)) rate inputs) → FrontArrived (softLimits rate .unsure) k
+  noisy-soft-front k = front-arrived k (softLimits rate .unsure) soft-few (noisy-soft-stream (stream softDoubt (softLimits rate) k) (read-of k .read))

@@ -1,6 +1,6 @@
 -- Rain on symbols from packets to packets: symbols struck, by hard and by soft decisions, and symbols lost.
 -- Assumes nothing.
-use mathlib.Core.Path.{_≡_, refl, sym, ap, _∙_, subst}
+use mathlib.Core.Path.{_≡_, sym, ap, _∙_, subst}
 use mathlib.Core.Bool.{Bool, true}
 use mathlib.Core.List.{List, [], _∷_, _++_}
 use Prim.{tt}
@@ -17,8 +17,8 @@ use Rattle.common.proofs.Computed.{below-at}
 use Rattle.randomizer.specs.Stream.{Packet}
 use Rattle.convolutional_code.specs.Bits.{bitsOf}
 use Rattle.convolutional_code.proofs.Bits.{bits-bits}
-use Rattle.bit_packing.specs.Packing.{packedBytes}
-use Rattle.bit_packing.proofs.Bytes.{length-bytes}
+use Rattle.reader_stream.specs.Packing.{packedBytes}
+use Rattle.reader_stream.proofs.Bytes.{length-bytes}
 use Rattle.puncturing.specs.Mode.{modeOf}
 use Rattle.puncturing.specs.Step.{patternLength}
 use Rattle.branch_metrics.specs.Cost.{softly}
@@ -30,15 +30,15 @@ use Rattle.receiver.specs.Receive.{freshReceiver}
 use Rattle.receiver.specs.Kept.{Kept}
 use Rattle.sent_blocks.specs.Blocks.{sentBytes}
 use Rattle.link.proofs.Bursts.{burst-promised}
-use Rattle.link.specs.Link.{blocksInBits}
-use Rattle.link.proofs.Link.{interleaved-bytes, sent-length-is}
+use Rattle.link.specs.Link.{StreamLink, bytesRead, bitCount, blocksInBits}
+use Rattle.link.proofs.Link.{interleaved-bytes, sent-length-is, coded, bit-count}
 use Rattle.noise_tolerance.specs.Noise.{softDoubt}
 use Rattle.noise_tolerance.specs.Table.{hardLimits, softLimits}
 use Rattle.noise_tolerance.specs.Harm.{isStruck, costOf, doubtOf, isLost, doubtUnlost, Spoils, harmTable, harmAt, HarmedStream, Recovered}
 use Rattle.noise_tolerance.proofs.Numbers.{allPass, pass}
 use Rattle.noise_tolerance.proofs.Recovered.{hard-recovered, soft-recovered, lost-recovered}
-use Rattle.noisy_link.specs.Link.{Rained, NoisyLink, bitsRead, FrontGiven}
-use Rattle.noisy_link.proofs.Link.{kept-front, bytes-are, coded, hard-few, soft-few}
+use Rattle.noisy_link.specs.Link.{Rained, FrontGiven}
+use Rattle.noisy_link.proofs.Link.{kept-front, read-of, hard-few, soft-few}
 use Rattle.noisy_link.proofs.Rain.{Close, blocks-whole, blocks-count, within-bursts}
 
 -- ---- the numbers
@@ -99,42 +99,45 @@ module _ (inputs : List (List ℕ)) (g : All Input inputs) (bs : All Bytes input
   ws : All Packet packets
   ws = packets-sent inputs g bs
 
-  module _ {R : Type 0} {cost doubt : R → ℕ → ℕ} {harmed : R → Bool} {l : Spoils} (k : NoisyLink cost (Rained doubt harmed l rate) rate inputs) where
+  module _ {R : Type 0} {cost doubt : R → ℕ → ℕ} {harmed : R → Bool} {l : Spoils} (k : StreamLink cost (Rained doubt harmed l rate) rate inputs) where
     harmed-stream : HarmedStream doubt harmed l rate all (k .points) (k .came) (k .unread)
     harmed-stream = record {
       binary = bits-bits (sentBytes packets);
       coded = coded inputs g bs limit rate hr sent k;
       as-long = k .as-long;
-      sparse = k .noise .sparse;
-      gathered = k .noise .gathered;
+      sparse = k .assumed .sparse;
+      gathered = k .assumed .gathered;
     }
 
     abbrev bits : List ℕ
-    bits = bitsRead k
+    bits = read-of inputs g bs limit rate hr sent k .bits
 
-    abbrev bytes-read : packedBytes bits ≡ k .bytes
-    bytes-read = bytes-are inputs g bs limit rate hr sent k
+    bytes-read : packedBytes bits ≡ bytesRead k
+    bytes-read = sym (read-of inputs g bs limit rate hr sent k .bytes-are)
 
-    rained : Close rate l → (unsure : ℕ) → unsure ≤ 1632 → Recovered harmed l rate unsure all (k .points) bits (k .rest) → FrontGiven unsure k
+    count-is : length bits ≡ bitCount k
+    count-is = bit-count inputs g bs limit rate hr sent k
+
+    rained : Close rate l → (unsure : ℕ) → unsure ≤ 1632 → Recovered harmed l rate unsure all (k .points) bits (k .finished .rest) → FrontGiven unsure k
     rained c unsure few r = by (decLe unsure (length bits))
       where
         n : ℕ
         n = blocksInBits (length bits - unsure)
 
-        most : length (chunksOf 204 (k .bytes)) ≤ n + 1
-        most = omega (arith, length-chunks 204 (k .bytes), ap length bytes-read, length-bytes bits)
+        most : length (chunksOf 204 (bytesRead k)) ≤ n + 1
+        most = omega (arith, length-chunks 204 (bytesRead k), ap length bytes-read, length-bytes bits)
 
         given : 1632 * n + unsure ≤ length bits → FrontGiven unsure k
         given whole =
             let b = k .received in
             let f = kept-front n b in
-            let e : take n (chunksOf 204 (packedBytes bits)) ≡ take n (chunksOf 204 (k .bytes)) = ap (λ (x : List ℕ). take n (chunksOf 204 x)) bytes-read in
+            let e : take n (chunksOf 204 (packedBytes bits)) ≡ take n (chunksOf 204 (bytesRead k)) = ap (λ (x : List ℕ). take n (chunksOf 204 x)) bytes-read in
             let q : length (take n (chunksOf 204 (packedBytes bits))) ≡ n =
-            blocks-count harmed rate l c (k .points) (k .noise .gathered) (sentBytes packets) bits (interleaved-bytes packets ws) unsure n (r .within) whole (r .wrong) in
+            blocks-count harmed rate l c (k .points) (k .assumed .gathered) (sentBytes packets) bits (interleaved-bytes packets ws) unsure n (r .within) whole (r .wrong) in
             let m : length packets ≡ length inputs = length-map inputs packetFor in
             let p = burst-promised packets ws 0 (take n (chunksOf 204 (packedBytes bits))) (omega (arith, q, m, whole, r .within, sent-length-is inputs g bs limit)) (omega (arith, q, m, whole, r .within, sent-length-is inputs g bs limit, limit))
-            (blocks-whole harmed rate l c (k .points) (k .noise .gathered) (sentBytes packets) bits (interleaved-bytes packets ws) unsure n (r .within) whole (r .wrong))
-            (within-bursts harmed rate l c (k .points) (k .noise .gathered) (sentBytes packets) bits (interleaved-bytes packets ws) unsure n (r .within) whole (r .wrong))
+            (blocks-whole harmed rate l c (k .points) (k .assumed .gathered) (sentBytes packets) bits (interleaved-bytes packets ws) unsure n (r .within) whole (r .wrong))
+            (within-bursts harmed rate l c (k .points) (k .assumed .gathered) (sentBytes packets) bits (interleaved-bytes packets ws) unsure n (r .within) whole (r .wrong))
             (take n (k .numbers)) (f .front) (f .middle)
             (subst (λ (x : List (List ℕ)). Kept freshReceiver x (take n (k .numbers)) (f .front) (f .middle)) (sym e) (f .kept)) in
             let z : length (take n (chunksOf 204 (packedBytes bits))) - 11 - 0 ≡ n - 11 = omega (arith, q) in
@@ -142,7 +145,7 @@ module _ (inputs : List (List ℕ)) (g : All Input inputs) (bs : All Bytes input
             let lf : length (f .front) ≡ n - 11 = ap length front ∙ length-take-le (n - 11) packets (omega (arith, m, whole, r .within, sent-length-is inputs g bs limit)) in
             record {
               surely = n;
-              surely-is = refl;
+              surely-is = ap (λ (i : ℕ). blocksInBits (i - unsure)) count-is;
               all-but-one = most;
               answered = p .answered ∙ ap (λ (i : ℕ). take i (replicate 11 9 ++ replicate i 0)) q;
               packets = ap (take (n - 11)) (f .packets-are) ∙ take-at (f .front) (f .later) (n - 11) lf ∙ front;
@@ -153,7 +156,7 @@ module _ (inputs : List (List ℕ)) (g : All Input inputs) (bs : All Bytes input
             let y : n - 11 ≡ 0 = omega arith in
             record {
               surely = n;
-              surely-is = refl;
+              surely-is = ap (λ (i : ℕ). blocksInBits (i - unsure)) count-is;
               all-but-one = most;
               answered = ap (λ (i : ℕ). take i (k .numbers)) z ∙ sym (ap (λ (i : ℕ). take i (replicate 11 9 ++ replicate n 0)) z);
               packets = ap (λ (i : ℕ). take i (k .given)) y ∙ sym (ap (λ (i : ℕ). take i packets) y);
@@ -165,16 +168,16 @@ module _ (inputs : List (List ℕ)) (g : All Input inputs) (bs : All Bytes input
 
   -- By hard decisions: where harmed symbols that are not as far apart as those of 13 blocks lie within 31, 12, 7 or 3 symbols, and the others have at most 4, 2, 2
   -- or 1 wrong I and Q bits in any 900 symbols, every block that is whole is corrected to what was sent, and the packets of all but the last eleven are given.
-  pub rain-hard : (k : NoisyLink (costOf differing) (Rained (doubtOf differing) isStruck (harmAt rate .hard-struck) rate) rate inputs) → FrontGiven (hardLimits rate .unsure) k
+  pub rain-hard : (k : StreamLink (costOf differing) (Rained (doubtOf differing) isStruck (harmAt rate .hard-struck) rate) rate inputs) → FrontGiven (hardLimits rate .unsure) k
   rain-hard k =
-      rained k (hard-close rate hr sent) (hardLimits rate .unsure) (hard-few inputs g bs limit rate hr sent) (hard-recovered (harmed-stream k) (k .fed) (k .costed) (k .closed))
+      rained k (hard-close rate hr sent) (hardLimits rate .unsure) (hard-few inputs g bs limit rate hr sent) (hard-recovered (harmed-stream k) (read-of inputs g bs limit rate hr sent k .read))
 
   -- By soft decisions: within 30, 12, 7 or 2 symbols, and a doubt of at most 63, 35, 28 or 21 elsewhere.
-  pub rain-soft : (k : NoisyLink (costOf softly) (Rained (doubtOf softDoubt) isStruck (harmAt rate .soft-struck) rate) rate inputs) → FrontGiven (softLimits rate .unsure) k
+  pub rain-soft : (k : StreamLink (costOf softly) (Rained (doubtOf softDoubt) isStruck (harmAt rate .soft-struck) rate) rate inputs) → FrontGiven (softLimits rate .unsure) k
   rain-soft k =
-      rained k (soft-close rate hr sent) (softLimits rate .unsure) (soft-few inputs g bs limit rate hr sent) (soft-recovered (harmed-stream k) (k .fed) (k .costed) (k .closed))
+      rained k (soft-close rate hr sent) (softLimits rate .unsure) (soft-few inputs g bs limit rate hr sent) (soft-recovered (harmed-stream k) (read-of inputs g bs limit rate hr sent k .read))
 
   -- By soft decisions, where the harmed symbols are lost: within 625, 424, 339 or 223 symbols, and a doubt of at most 63, 35, 28 or 21 elsewhere.
-  pub outage-soft : (k : NoisyLink softly (Rained doubtUnlost isLost (harmAt rate .soft-lost) rate) rate inputs) → FrontGiven (softLimits rate .unsure) k
+  pub outage-soft : (k : StreamLink softly (Rained doubtUnlost isLost (harmAt rate .soft-lost) rate) rate inputs) → FrontGiven (softLimits rate .unsure) k
   outage-soft k =
-      rained k (lost-close rate hr sent) (softLimits rate .unsure) (soft-few inputs g bs limit rate hr sent) (lost-recovered (harmed-stream k) (k .fed) (k .costed) (k .closed))
+      rained k (lost-close rate hr sent) (softLimits rate .unsure) (soft-few inputs g bs limit rate hr sent) (lost-recovered (harmed-stream k) (read-of inputs g bs limit rate hr sent k .read))

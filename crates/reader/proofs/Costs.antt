@@ -12,11 +12,12 @@ use Rattle.common.specs.Lists.{All}
 use Rattle.common.proofs.Lists.{length-listOf, getD-listOf}
 use Rattle.convolutional_code.specs.Bits.{Bits, none, more}
 use Rattle.convolutional_code.specs.Code.{tapsX, tapsY, nextMemory, coded}
-use Rattle.convolutional_code.specs.Costs.{costFrom}
+use Rattle.convolutional_code.specs.Costs.{costFrom, pairCost}
 use Rattle.puncturing.specs.Step.{patternLength, nextPlace}
 use Rattle.inner_code.specs.Step.{symbolsOf, coderAfter}
 use Rattle.inner_code.specs.declared.InnerCoder.{InnerCoder}
-use Rattle.branch_metrics.specs.Steps.{width, kindCost, kindAt, first, puncturedCosts, pairCost}
+use Rattle.branch_metrics.specs.Steps.{width, kindCost, kindAt, first, puncturedCosts, codedCost}
+use Rattle.branch_metrics.proofs.Facts.{decision-i, decision-q}
 use Rattle.inner_code.specs.Encode.{coderAt}
 use Rattle.reader.specs.Cost.{totalCost, runCost, symbolCost, costsOf, Costed}
 use Rattle.viterbi_decoder.proofs.Order.{bits-head}
@@ -125,33 +126,48 @@ run-is costs c h rate m {bits} hr hm w e l =
     ∙ (ap (total c 0) (sym (whole-stream rate m hr hm w e))
     ∙ (ap (λ (p : ℕ). total c 0 (stream rate p m bits)) (sym (zero-mod (patternLength rate))) ∙ bridge rate c 0 m bits))
 
--- ---- four costs for each symbol
+-- ---- a pair of decisions for each symbol
 
-pub own-splits : (l : List ℕ) → Splits (costsOf l) (pairCost l) 0
-unfolding costsOf
+pub own-splits : (l : List ℕ) → Splits (costsOf l) (codedCost l) 0
+unfolding costsOf pairCost
 own-splits l = record {
   at = λ i s h four.
-      let k : i < length l / 4 = rw (length-listOf (length l / 4) (symbolCost l)) at h in
-      let a : 4 * i + s / 2 ≡ 2 * (0 + 2 * i) + s / 2 = omega arith in
-      let b : 4 * i + 2 + s % 2 ≡ 2 * (0 + 2 * i + 1) + s % 2 = omega arith in
-      ap (λ (f : ℕ → ℕ). f s) (getD-listOf (length l / 4) (symbolCost l) (λ s. 0) i k) ∙ ap₂ (λ (x y : ℕ). getD l x 0 + getD l y 0) a b;
+      let k : i < length l = rw (length-listOf (length l) (symbolCost l)) at h in
+      let z : 0 + 2 * i ≡ 2 * i = omega arith in
+      ap (λ (f : ℕ → ℕ). f s) (getD-listOf (length l) (symbolCost l) (λ s. 0) i k)
+      ∙ sym (rw (z, decision-i l i, decision-q l i));
 }
 
-costed-splits : {R : Type 0} {cost : R → ℕ → ℕ} {rs : List R} {l : List ℕ} → Costed cost rs l → Splits (map cost rs) (pairCost l) 0
-costed-splits {rs = rs} {l} c = record {
-  at = λ i s h four.
-      let a : 4 * i + s / 2 ≡ 2 * (0 + 2 * i) + s / 2 = omega arith in
-      let b : 4 * i + 2 + s % 2 ≡ 2 * (0 + 2 * i + 1) + s % 2 = omega arith in
-      c .each i s (rw length-map at h) four ∙ ap₂ (λ (x y : ℕ). getD l x 0 + getD l y 0) a b;
-}
+-- the sum of what a list costs more at its first n places
+abbrev pub excess : (ℕ → ℕ) → ℕ → ℕ
+excess extra zero = 0
+excess extra (suc n) = extra 0 + excess (λ i. extra (suc i)) n
 
--- what the list makes a sequence cost is what the symbols do
-pub costs-same : {R : Type 0} (cost : R → ℕ → ℕ) (rs : List R) (l : List ℕ) → Costed cost rs l → (rate m : ℕ) → rate < 5 → m < 64 → (bits : List ℕ) → Bits bits
-    → length bits % patternLength rate ≡ 0 → length (symbolsOf (coderAt rate m) bits) ≡ length rs → runCost (costsOf l) rate m bits ≡ runCost (map cost rs) rate m bits
+total-lifted : (fs gs : List (ℕ → ℕ)) (extra : ℕ → ℕ) (ss : List ℕ) → length fs ≡ length ss → length gs ≡ length ss → All (λ s. s < 4) ss
+    → ((i s : ℕ) → i < length gs → s < 4 → getD gs i (λ s. 0) s + extra i ≡ getD fs i (λ s. 0) s)
+    → totalCost fs ss ≡ totalCost gs ss + excess extra (length ss)
+unfolding totalCost
+total-lifted [] [] extra [] a b w h = refl
+total-lifted [] (g ∷ gs) extra [] a b w h = absurd (omega arith)
+total-lifted (f ∷ fs) gs extra [] a b w h = absurd (omega arith)
+total-lifted [] gs extra (s ∷ ss) a b w h = absurd (omega arith)
+total-lifted (f ∷ fs) [] extra (s ∷ ss) a b w h = absurd (omega arith)
+total-lifted (f ∷ fs) (g ∷ gs) extra (s ∷ ss) a b w h =
+    omega (
+      arith,
+      h 0 s (omega arith) (w .0),
+      total-lifted fs gs (λ i. extra (suc i)) ss (omega arith) (omega arith) (w .1) (λ i t l four. h (suc i) t (omega arith) four),
+    )
+
+-- what the list makes a sequence cost is what the symbols do, and what the list costs more
+pub costs-lifted : {R : Type 0} (cost : R → ℕ → ℕ) (rs : List R) (l : List ℕ) (c : Costed cost rs l) (rate m : ℕ) → rate < 5 → m < 64 → (bits : List ℕ) → Bits bits
+    → length (symbolsOf (coderAt rate m) bits) ≡ length rs → runCost (costsOf l) rate m bits ≡ runCost (map cost rs) rate m bits + excess (c .extra) (length rs)
 unfolding costsOf
-costs-same cost rs l c rate m hr hm bits w e n =
-    run-is (costsOf l) (pairCost l) (own-splits l) rate m hr hm w e (n ∙ sym (length-listOf (length l / 4) (symbolCost l) ∙ quarter (c .size)))
-    ∙ sym (run-is (map cost rs) (pairCost l) (costed-splits c) rate m hr hm w e (n ∙ sym (length-map rs cost)))
-  where
-    quarter : {a b : ℕ} → a ≡ 4 * b → a / 4 ≡ b
-    quarter e = omega arith
+costs-lifted cost rs l c rate m hr hm bits w n =
+    total-lifted (costsOf l) (map cost rs) (c .extra) (symbolsOf (coderAt rate m) bits) (length-listOf (length l) (symbolCost l) ∙ c .size ∙ sym n) (length-map rs cost ∙ sym n)
+    (sent-small rate m hr hm w)
+    (λ i s h four.
+    let k : i < length rs = rw length-map at h in
+    let j : i < length l = omega (arith, c .size) in
+    c .each i s k four ∙ sym (ap (λ (f : ℕ → ℕ). f s) (getD-listOf (length l) (symbolCost l) (λ s. 0) i j)))
+    ∙ ap (λ (k : ℕ). runCost (map cost rs) rate m bits + excess (c .extra) k) n

@@ -1,4 +1,4 @@
--- The steps of a run, and what the tests of a call tell.
+-- What the tests of a call tell.
 -- Assumes nothing.
 use mathlib.Core.Path.{_≡_, refl, sym, _∙_, ap}
 use mathlib.Core.Bool.{Bool, true, false, not}
@@ -18,35 +18,11 @@ use Rattle.common.specs.Lists.{All, largest}
 use Rattle.common.proofs.Choice.{flag-false, flag-true}
 use Rattle.common.proofs.Lists.{All-of}
 use Rattle.common.proofs.Largest.{largest-least}
-use Rattle.branch_metrics.specs.Steps.{kindAt, first, value, stepValue}
 use Rattle.reader.specs.Read.{symbolsPerPattern, runBits, answerNumber, Readable, AnswersRun, refused}
 use Rattle.reader.specs.declared.Read.{Read}
 use Rattle.reader.proofs.Patterns.{some-symbols, symbols-few}
 use Rattle.puncturing.specs.Step.{patternLength}
 use Rattle.puncturing.proofs.Steps.{some-bits}
-
--- ---- the steps
-
-value-le : (l : List ℕ) → ((t : ℕ) → getD l t 0 ≤ 7) → (q j i : ℕ) → value l q j i ≤ 7
-value-le l h zero j i = omega arith
-value-le l h (suc zero) j zero = omega arith
-value-le l h (suc zero) j (suc zero) = omega arith
-value-le l h (suc zero) j (suc (suc i)) = h (2 * j + i)
-value-le l h (suc (suc zero)) j zero = h (2 * j + 0)
-value-le l h (suc (suc zero)) j (suc zero) = h (2 * j + 1)
-value-le l h (suc (suc zero)) j (suc (suc i)) = omega arith
-value-le l h (suc (suc (suc q))) j i = h (2 * j + i)
-
--- the steps that are used cost at most 7
-pub steps-small : (l steps : List ℕ) (rate k : ℕ) → ((t : ℕ) → getD l t 0 ≤ 7) → ((t : ℕ) → t < k → getD steps t 0 ≡ stepValue l rate t)
-    → (t : ℕ) → getD (take k steps) t 0 ≤ 7
-unfolding stepValue
-steps-small l steps rate k h e t = by (decLt t k) (decLt t (length (take k steps)))
-  where
-    by : Dec (t < k) → Dec (t < length (take k steps)) → getD (take k steps) t 0 ≤ 7
-    by (yes a) (yes b) = rw (getD-take k steps t 0 (omega (arith, length-take k steps)), e t a) (value-le l h (kindAt rate (t / 4)) (first rate (t / 4)) (t % 4))
-    by (no a) (yes b) = absurd (omega (arith, length-take k steps))
-    by a (no b) = rw (List·getD-eq-default (take k steps) 0 {n = t} (omega arith)) (omega arith)
 
 -- ---- the test of a list
 
@@ -152,23 +128,20 @@ pub passes : {rate memory : ℕ} {lists : Bool} {n : ℕ} {valid : Bool} {space 
 passes {rate} {memory} {lists} {n} {valid} {space} p =
     simp (lt-ltb rate 5 (p .known), lt-ltb memory 64 (p .in-range), p .lists-pass, eq-eqb _ _ (p .whole), le-ltb 1632 (runBits rate n) (p .most), p .symbols-pass, le-ltb space (runBits rate n) (p .fits))
 
--- the costs of such a run can be read
+-- the decisions on such a run can be read
 pub readable : {rate memory : ℕ} {lists : Bool} {n : ℕ} {valid : Bool} {output : List ℕ} → Passed rate memory lists n valid (length output)
-    → (costs : List ℕ) → length costs ≡ 4 * n → All (λ c. c ≤ 7) costs → Readable rate memory costs output
-readable {rate} {memory} {n = n} p costs size small =
-    let q : length costs / 4 ≡ n = omega arith in
-    record {
-      known = p .known;
-      in-range = p .in-range;
-      fours = omega arith;
-      whole = rw q (p .whole);
-      most = rw q (p .most);
-      small = small;
-      fits = rw q (p .fits);
-    }
+    → (pairs : List ℕ) → length pairs ≡ n → All (λ p. p < 81) pairs → Readable rate memory pairs output
+readable p pairs size small = record {
+  known = p .known;
+  in-range = p .in-range;
+  whole = rw size (p .whole);
+  most = rw size (p .most);
+  small = small;
+  fits = rw size (p .fits);
+}
 
--- a run has no more symbols than bits, so that their costs have room
-pub few : {rate memory : ℕ} {lists : Bool} {n : ℕ} {valid : Bool} {space : ℕ} → Passed rate memory lists n valid space → 4 * n ≤ 6528
+-- a run has no more symbols than bits, so that the decisions on them have room
+pub few : {rate memory : ℕ} {lists : Bool} {n : ℕ} {valid : Bool} {space : ℕ} → Passed rate memory lists n valid space → n ≤ 1632
 few {rate} {n = n} p = omega (arith, symbols-few rate (p .known) n (p .whole), p .most)
 
 -- what a refusal hands back

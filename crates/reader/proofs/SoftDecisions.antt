@@ -1,10 +1,11 @@
--- Soft decisions as costs: what the test of the lists tells, what is written of them, and that they have a best sequence.
+-- Soft decisions: what the test of the lists tells, what is written of them, and that they have a best sequence.
 -- Assumes nothing.
 use mathlib.Core.Bool.{Bool, true, false}
-use mathlib.Core.Path.{_≡_, refl, sym, _∙_, ap, ap₂}
+use mathlib.Core.Path.{_≡_, refl, sym, _∙_, ap}
 use mathlib.Core.List.{List, map}
 use Prim.Native.Nat.{ℕ, zero, suc, _+_, _*_, _/_, _%_, _≤_, _<_}
 use native.Mathlib.Omega.{arith}
+use native.Mathlib.Nat.{add-zero}
 use borrow.Author.Tests.{eqb-true}
 use lib.Dec.{eqb, ltb}
 use lib.Ieee.{Float}
@@ -14,18 +15,17 @@ use Rattle.common.specs.Choice.{pick}
 use Rattle.common.specs.Lists.{All, largest}
 use Rattle.common.proofs.Choice.{both-true}
 use Rattle.common.proofs.Lists.{getD-map-in}
+use Rattle.convolutional_code.specs.Costs.{pairCost}
 use Rattle.viterbi_decoder.proofs.Ends.{SomeDecoded}
-use Rattle.branch_metrics.specs.Cost.{symbolCosts, decidedAs, softly, receivedOf}
-use Rattle.branch_metrics.specs.PointCosts.{costAt, costsAlong, symbolAt}
-use Rattle.branch_metrics.specs.declared.soft_decision.BitCosts.{BitCosts}
+use Rattle.branch_metrics.specs.Cost.{BitCosts, SymbolCosts, symbolCosts, decidedAs, softly, receivedOf}
+use Rattle.branch_metrics.specs.SoftPairs.{symbolPair, symbolAt}
 use Rattle.branch_metrics.specs.declared.soft_decision.Received.{Received}
-use Rattle.branch_metrics.specs.declared.soft_decision.Received.the-variants.{Lost}
-use Rattle.branch_metrics.specs.declared.soft_decision.SymbolCosts.{SymbolCosts}
-use Rattle.branch_metrics.proofs.Numbers.{costs-small}
+use Rattle.branch_metrics.specs.declared.soft_decision.Received.the-variants.{At, Lost}
+use Rattle.branch_metrics.proofs.Numbers.{number-small, symbol-is}
 use Rattle.branch_metrics.proofs.Runs.{length-received, received-at, along-small}
 use Rattle.reader.specs.Cost.{softCost, Costed}
 use Rattle.reader.specs.Read.{symbolsPerPattern, runBits, sound}
-use Rattle.reader.proofs.Costs.{Splits}
+use Rattle.reader.proofs.Costs.{Splits, excess}
 use Rattle.reader.proofs.Existence.{some-best}
 
 -- ---- the test of the lists
@@ -62,10 +62,15 @@ soft-splits rs = record {
 }
 
 pub decided-small : (r : Received) (n : ℕ) (t : Bool) → pick t (half n (symbolCosts r) .zero) (half n (symbolCosts r) .one) ≤ 7
-decided-small r zero true = costs-small r 0
-decided-small r zero false = costs-small r 1
-decided-small r (suc n) true = costs-small r 2
-decided-small r (suc n) false = costs-small r 3
+unfolding symbolCosts
+decided-small (At p) zero true = number-small (p .i) .zero-le
+decided-small (At p) zero false = number-small (p .i) .one-le
+decided-small (At p) (suc n) true = number-small (p .q) .zero-le
+decided-small (At p) (suc n) false = number-small (p .q) .one-le
+decided-small Lost zero true = omega arith
+decided-small Lost zero false = omega arith
+decided-small Lost (suc n) true = omega arith
+decided-small Lost (suc n) false = omega arith
 
 soft-small : (rs : List Received) (j v : ℕ) → soft rs j v ≤ 7
 soft-small rs j v = decided-small (getD rs (j / 2) Lost) (j % 2) (eqb v 0)
@@ -79,47 +84,38 @@ soft-decoded rate m hr hm is qs lost o whole =
 
 -- ---- what is written
 
--- the two costs of I, and of Q
-cost-i : (c : SymbolCosts) (v : ℕ) → v < 2 → costAt c v ≡ decidedAs (c .i) v
-cost-i c zero h = refl
-cost-i c (suc zero) h = refl
-cost-i c (suc (suc v)) h = absurd (omega arith)
-
-cost-q : (c : SymbolCosts) (v : ℕ) → v < 2 → costAt c (2 + v) ≡ decidedAs (c .q) v
-cost-q c zero h = refl
-cost-q c (suc zero) h = refl
-cost-q c (suc (suc v)) h = absurd (omega arith)
-
--- symbols that are given by their places, and the costs along them
-pub along-costed : (f : ℕ → Received) (rs : List Received) (n : ℕ) → length rs ≡ n → ((i : ℕ) → i < n → getD rs i Lost ≡ f i)
-    → (l : List ℕ) → 4 * n ≤ length l → ((t : ℕ) → t < 4 * n → getD l t 0 ≡ costsAlong f t) → Costed softly rs (take (4 * n) l)
-unfolding costsAlong
+-- symbols that are given by their places, and the decisions on them
+unfoldable pub along-costed : (f : ℕ → Received) (rs : List Received) (n : ℕ) → length rs ≡ n → ((i : ℕ) → i < n → getD rs i Lost ≡ f i)
+    → (l : List ℕ) → n ≤ length l → ((t : ℕ) → t < n → getD l t 0 ≡ symbolPair (f t)) → Costed softly rs (take n l)
 along-costed f rs n size is l long w = record {
-  size = length-take-le (4 * n) l long ∙ ap (λ (k : ℕ). 4 * k) (sym size);
+  size = length-take-le n l long ∙ sym size;
+  extra = λ i. 0;
   each = λ i s h four.
       let b : i < n = omega (arith, size) in
-      let c = symbolCosts (f i) in
-      ap (λ (g : ℕ → ℕ). g s) (getD-map-in softly rs Lost (λ s. 0) i h)
-      ∙ (ap (λ (r : Received). softly r s) (is i b)
-      ∙ ap₂ (λ (x y : ℕ). x + y) (sym (at-place (4 * i + s / 2) i (s / 2) refl (omega arith) b ∙ cost-i c (s / 2) (omega arith)))
-      (sym (at-place (4 * i + 2 + s % 2) i (2 + s % 2) (omega arith) (omega arith) b ∙ cost-q c (s % 2) (omega arith))));
+      add-zero _
+      ∙ ap (λ (g : ℕ → ℕ). g s) (getD-map-in softly rs Lost (λ s. 0) i h)
+      ∙ ap (λ (r : Received). softly r s) (is i b)
+      ∙ sym (symbol-is (f i) s)
+      ∙ ap (λ (p : ℕ). pairCost p (s / 2) (s % 2)) (sym (getD-take n l i 0 b ∙ w i b));
 }
-  where
-    -- number j of symbol i
-    at-place : (t i j : ℕ) → t ≡ 4 * i + j → j < 4 → i < n → getD (take (4 * n) l) t 0 ≡ costAt (symbolCosts (f i)) j
-    at-place t i j e h b =
-        let q : t / 4 ≡ i = omega arith in
-        let r : t % 4 ≡ j = omega arith in
-        getD-take (4 * n) l t 0 (omega arith) ∙ (w t (omega arith) ∙ rw (q, r) refl)
+
+none-each : (n : ℕ) → excess (λ i. 0) n ≡ 0
+none-each zero = refl
+none-each (suc n) = omega (arith, none-each n)
 
 abbrev pub Written : List Float → List Float → List ℕ → List ℕ → Type 0
-Written is qs lost l = (t : ℕ) → t < 4 * length is → getD l t 0 ≡ costsAlong (symbolAt is qs lost) t
+Written is qs lost l = (t : ℕ) → t < length is → getD l t 0 ≡ symbolPair (symbolAt is qs lost t)
 
-module _ (is qs : List Float) (lost l : List ℕ) (o : OneLength is qs lost) (w : Written is qs lost l) (long : 4 * length is ≤ length l) where
-  pub written-costed : Costed softly (receivedOf is qs lost) (take (4 * length is) l)
+module _ (is qs : List Float) (lost l : List ℕ) (o : OneLength is qs lost) (w : Written is qs lost l) (long : length is ≤ length l) (k : ℕ) (e : k ≡ length is) where
+  unfoldable pub written-costed : Costed softly (receivedOf is qs lost) (take k l)
   written-costed =
-      along-costed (symbolAt is qs lost) (receivedOf is qs lost) (length is) (length-received is qs lost (o .qs-size) (o .lost-size))
-      (received-at is qs lost (o .qs-size) (o .lost-size)) l long w
+      along-costed (symbolAt is qs lost) (receivedOf is qs lost) k (length-received is qs lost (o .qs-size) (o .lost-size) ∙ sym e)
+      (λ i h. received-at is qs lost (o .qs-size) (o .lost-size) i (omega arith)) l (omega arith) (λ t h. w t (omega arith))
 
-  pub written-small : All (λ c. c ≤ 7) (take (4 * length is) l)
-  written-small = along-small (symbolAt is qs lost) (length is) l long w
+  -- they cost nothing more
+  pub written-excess : (n : ℕ) → excess (written-costed .extra) n ≡ 0
+  unfolding written-costed along-costed
+  written-excess n = none-each n
+
+  pub written-small : All (λ p. p < 81) (take k l)
+  written-small = along-small (symbolAt is qs lost) k l (omega arith) (λ t h. w t (omega arith))

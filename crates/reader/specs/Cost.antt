@@ -3,10 +3,11 @@
 -- Assumes nothing.
 use mathlib.Core.Path.{_≡_}
 use mathlib.Core.List.{List, [], _∷_, map}
-use Prim.Native.Nat.{ℕ, _+_, _*_, _/_, _%_, _<_}
+use Prim.Native.Nat.{ℕ, _+_, _/_, _%_, _<_}
 use lib.ListN.{length, getD}
 use Rattle.common.specs.Choice.{unequal}
 use Rattle.common.specs.Lists.{listOf}
+use Rattle.convolutional_code.specs.Costs.{pairCost}
 use Rattle.inner_code.specs.Encode.{coderAt}
 use Rattle.inner_code.specs.Step.{symbolsOf}
 use Rattle.branch_metrics.specs.Cost.{softly}
@@ -34,14 +35,16 @@ hardCost received = runCost (map differing received)
 abbrev pub softCost : List Received → ℕ → ℕ → List ℕ → ℕ
 softCost received = runCost (map softly received)
 
--- what each symbol costs by a list that has four numbers for it: deciding its I as 0, I as 1, Q as 0 and Q as 1
+-- what each symbol costs by a list that has the decisions on its I and Q as one number
 abbrev pub symbolCost : List ℕ → ℕ → ℕ → ℕ
-symbolCost l i sent = getD l (4 * i + sent / 2) 0 + getD l (4 * i + 2 + sent % 2) 0
+symbolCost l i sent = pairCost (getD l i 0) (sent / 2) (sent % 2)
 
 unfoldable pub costsOf : List ℕ → List (ℕ → ℕ)
-costsOf l = listOf (length l / 4) (symbolCost l)
+costsOf l = listOf (length l) (symbolCost l)
 
--- a list that has so the costs of received symbols, where `cost r` says what each sent symbol would cost
+-- A list that has so the decisions on received symbols, where `cost r` says what each sent symbol would cost. By the list it may cost more, by a number that
+-- depends on the place alone and not on what was sent: that changes what all sequences cost, and not which one is the best.
 pub record Costed {R : Type 0} (cost : R → ℕ → ℕ) (rs : List R) (l : List ℕ) : Type 0 where
-  pub size : length l ≡ 4 * length rs
-  pub each : (i sent : ℕ) → i < length rs → sent < 4 → getD (map cost rs) i (λ s. 0) sent ≡ symbolCost l i sent
+  pub size : length l ≡ length rs
+  pub extra : ℕ → ℕ
+  pub each : (i sent : ℕ) → i < length rs → sent < 4 → getD (map cost rs) i (λ s. 0) sent + extra i ≡ symbolCost l i sent

@@ -1,14 +1,7 @@
--- What each decision on a received symbol costs, four numbers for a symbol: I as 0, I as 1, Q as 0, Q as 1. No public contract rests on it.
+-- Hard decisions as the decoder takes them. No public contract rests on it.
 -- Assumes nothing.
-use mathlib.Core.List.{List}
-use Prim.Native.Nat.{ℕ, zero, suc, _/_, _%_}
-use lib.ListN.{getD}
-use Rattle.common.specs.Choice.{unequal}
+use Prim.Native.Nat.{ℕ, _-_, _*_, _/_, _%_}
 
--- a symbol's I, or its Q
-abbrev pub component : ℕ → ℕ → ℕ
-component zero s = s / 2
-component (suc i) s = s % 2
-
-unfoldable pub decisionCost : List ℕ → ℕ → ℕ
-decisionCost symbols t = unequal (component (t / 2 % 2) (getD symbols (t / 4) 0)) (t % 2)
+-- The decisions on I and Q of a symbol as one number, 9 i + q: level 4 for a 0, and 3 for a 1. Each costs 3, and 1 more where the bit is decided otherwise.
+abbrev pub hardPair : ℕ → ℕ
+hardPair s = 40 - 9 * (s / 2) - s % 2

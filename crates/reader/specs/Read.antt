@@ -87,12 +87,11 @@ ReadsSoft rate memory is qs lost output =
 
 -- ---- the core of both
 
--- costs, four for each symbol, that can be read: whole patterns, no more than a run has, and room for their bits
-pub record Readable (rate memory : ℕ) (costs output : List ℕ) : Type 0 where
+-- decisions, a pair as one number for each symbol, that can be read: whole patterns, no more than a run has, and room for their bits
+pub record Readable (rate memory : ℕ) (pairs output : List ℕ) : Type 0 where
   pub known : rate < 5
   pub in-range : memory < 64
-  pub fours : length costs % 4 ≡ 0
-  pub whole : length costs / 4 % symbolsPerPattern rate ≡ 0
-  pub most : runBits rate (length costs / 4) ≤ 1632
-  pub small : All (λ c. c ≤ 7) costs
-  pub fits : runBits rate (length costs / 4) ≤ length output
+  pub whole : length pairs % symbolsPerPattern rate ≡ 0
+  pub most : runBits rate (length pairs) ≤ 1632
+  pub small : All (λ p. p < 81) pairs
+  pub fits : runBits rate (length pairs) ≤ length output

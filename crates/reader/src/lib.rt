@@ -1,15 +1,15 @@
 // Reading runs of received symbols: the bits whose coding costs the least, by hard or by soft decisions. The two differ in the costs alone.
 ghost use mathlib.Core.Path.{_≡_};
-ghost use Prim.Native.Nat.{ℕ, _*_, _/_, _<_, _≤_};
+ghost use Prim.Native.Nat.{ℕ, _<_, _≤_};
 ghost use lib.ListN.{length, getD};
 ghost use Rattle.answer.specs.Number.{numberOf};
 ghost use Rattle.common.specs.Lists.{All};
 ghost use Rattle.reader.specs.Cost.{runCost, costsOf};
 ghost use Rattle.reader.specs.Read.{symbolsPerPattern, runBits, sound, answerNumber, Readable, BestRead, ReadsHard, ReadsSoft};
-ghost use Rattle.reader.specs.Decisions.{decisionCost};
+ghost use Rattle.reader.specs.Decisions.{hardPair};
 use answer::Answer;
-use branch_metrics::depuncturing::spread_costs;
-use branch_metrics::soft_decision::write_costs;
+use branch_metrics::depuncturing::spread_pairs;
+use branch_metrics::soft_decision::soft_pairs;
 use puncturing::pattern_length;
 use viterbi_decoder::Run;
 use viterbi_decoder::decode;
@@ -20,11 +20,8 @@ const LONGEST: usize = 1632;
 // The symbols of each rate's pattern.
 const SYMBOL_COUNTS: [u8; 5] = [1, 3, 2, 3, 4];
 
-// What deciding the I of each symbol as 0 and as 1 costs, and then its Q.
-const DECISIONS: [[u8; 4]; 4] = [[0, 1, 0, 1], [0, 1, 1, 0], [1, 0, 0, 1], [1, 0, 1, 0]];
-
 // What a call hands back: the answer, the coder's memory after the bits, what they cost, and how many bits were written. Where the answer is not 0,
-// the memory is the one given and both numbers are 0.
+// the memory is the one given and both pairs are 0.
 pub struct Read {
     pub answer: Answer,
     pub memory: u8,
@@ -102,58 +99,49 @@ fn refused(answer: Answer, memory: u8) -> Read
     }
 }
 
-// Hard decisions: writes what deciding the I of each symbol as 0 and as 1 costs, and then its Q.
-pub fn decision_costs(symbols: &[u8], output: &mut [u8])
-    requires { ⌜ (All (λ s. s < 4) (now symbols)) × (4 * length (now symbols) ≤ length (now output)) ⌝ }
-    ensures { λ _. ⌜ ((t : ℕ) → t < 4 * length (now (symbols .entry)) → getD (now (output .exit)) t 0 ≡ decisionCost (now (symbols .entry)) t) ⌝ }
+// Hard decisions: writes the pair of each symbol. They are the two levels in the middle, 4 for a 0 and 3 for a 1, which cost 3 each and 1 more where the bit
+// is decided otherwise.
+pub fn hard_pairs(symbols: &[u8], output: &mut [u8])
+    requires { ⌜ (All (λ s. s < 4) (now symbols)) × (length (now symbols) ≤ length (now output)) ⌝ }
+    ensures { λ _. ⌜ ((t : ℕ) → t < length (now (symbols .entry)) → getD (now (output .exit)) t 0 ≡ hardPair (getD (now (symbols .entry)) t 0)) ⌝ }
 {
-    let decisions = DECISIONS;
     let mut i: usize = 0;
-    let mut at: usize = 0;
     while i < symbols.len() {
-        let four = decisions[symbols[i] as usize];
-        output[at] = four[0];
-        let at1 = at + 1;
-        output[at1] = four[1];
-        let at2 = at1 + 1;
-        output[at2] = four[2];
-        let at3 = at2 + 1;
-        output[at3] = four[3];
-        at = at3 + 1;
+        let s = symbols[i];
+        output[i] = 40 - 9 * (s / 2) - s % 2;
         i += 1;
     }
 }
 
-// Decodes a run from the costs of its symbols, where count is how many bits it has.
-fn decode_costs(rate: u8, memory: u8, costs: &[u8], count: usize, output: &mut [u8]) -> Run
-    requires { ⌜ (Readable rate memory (now costs) (now output)) × (count ≡ runBits rate (length (now costs) / 4)) ⌝ }
+// Decodes a run from the decisions on its symbols, where count is how many bits it has.
+fn decode_pairs(rate: u8, memory: u8, pairs: &[u8], count: usize, output: &mut [u8]) -> Run
+    requires { ⌜ (Readable rate memory (now pairs) (now output)) × (count ≡ runBits rate (length (now pairs))) ⌝ }
     ensures { λ r. ⌜
-        (BestRead (runCost (costsOf (now (costs .entry))) rate memory) (runBits rate (length (now (costs .entry)) / 4)) memory (now (output .entry)) (r .memory) (r .cost) count (now (output .exit)))
+        (BestRead (runCost (costsOf (now (pairs .entry))) rate memory) (runBits rate (length (now (pairs .entry)))) memory (now (output .entry)) (r .memory) (r .cost) count (now (output .exit)))
         × (r .memory < 64) ⌝ }
 {
-    let mut steps = [0u8; 6528];
-    spread_costs(
-        costs,
+    let mut steps = [0u8; 1632];
+    spread_pairs(
+        pairs,
         rate as usize,
         pattern_length(rate) as usize,
         count,
         &mut steps,
     );
-    let end = 4 * count;
-    decode(&steps[0..end], memory as usize, &mut output[0..count])
+    decode(&steps[0..count], memory as usize, &mut output[0..count])
 }
 
-// The core of both calls: reads a run from what deciding the I of each symbol as 0 and as 1 costs, and then its Q.
-pub fn read_costs(rate: u8, memory: u8, costs: &[u8], output: &mut [u8]) -> Read
-    requires { ⌜ Readable rate memory (now costs) (now output) ⌝ }
+// The core of both calls: reads a run from the decisions on I and Q of its symbols, one number for each. The cost is by these decisions.
+pub fn read_pairs(rate: u8, memory: u8, pairs: &[u8], output: &mut [u8]) -> Read
+    requires { ⌜ Readable rate memory (now pairs) (now output) ⌝ }
     ensures { λ r. ⌜
         (numberOf (r .answer) ≡ 0)
-        × (BestRead (runCost (costsOf (now (costs .entry))) rate memory) (runBits rate (length (now (costs .entry)) / 4)) memory (now (output .entry)) (r .memory) (r .cost) (r .count) (now (output .exit))) ⌝ }
+        × (BestRead (runCost (costsOf (now (pairs .entry))) rate memory) (runBits rate (length (now (pairs .entry)))) memory (now (output .entry)) (r .memory) (r .cost) (r .count) (now (output .exit))) ⌝ }
 {
     let bits = pattern_length(rate) as usize;
     let pattern = symbol_count(rate) as usize;
-    let count = bits * (costs.len() / 4 / pattern);
-    let run = decode_costs(rate, memory, costs, count, output);
+    let count = bits * (pairs.len() / pattern);
+    let run = decode_pairs(rate, memory, pairs, count, output);
     Read {
         answer: Answer::Done,
         memory: run.memory as u8,
@@ -173,10 +161,17 @@ pub fn read_run(rate: u8, memory: u8, symbols: &[u8], output: &mut [u8]) -> Read
     if answer.number() != 0 {
         return refused(answer, memory);
     }
-    let mut costs = [0u8; 6528];
-    decision_costs(symbols, &mut costs);
-    let end = 4 * symbols.len();
-    read_costs(rate, memory, &costs[0..end], output)
+    let mut pairs = [0u8; 1632];
+    hard_pairs(symbols, &mut pairs);
+    let end = symbols.len();
+    let read = read_pairs(rate, memory, &pairs[0..end], output);
+    let excess = 6 * symbols.len() as u64;
+    Read {
+        answer: Answer::Done,
+        memory: read.memory,
+        cost: read.cost - excess,
+        count: read.count,
+    }
 }
 
 // The same by soft decisions: of each symbol the two numbers of its point, and 1 where it was lost or 0.
@@ -196,8 +191,8 @@ pub fn read_soft_run(
     if answer.number() != 0 {
         return refused(answer, memory);
     }
-    let mut costs = [0u8; 6528];
-    write_costs(is, qs, lost, &mut costs);
-    let end = 4 * is.len();
-    read_costs(rate, memory, &costs[0..end], output)
+    let mut pairs = [0u8; 1632];
+    soft_pairs(is, qs, lost, &mut pairs);
+    let end = is.len();
+    read_pairs(rate, memory, &pairs[0..end], output)
 }

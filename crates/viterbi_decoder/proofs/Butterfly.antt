@@ -1,36 +1,38 @@
 -- The lanes of a step are the ways into the 64 memories: those into lanes 2 i and 2 i + 1 come from lanes i and i + 32, with the costs exchanged.
 -- Assumes nothing.
 use mathlib.Core.Bool.{Bool, true, false}
-use mathlib.Core.Path.{_≡_, refl, sym, _∙_, ap, ap₂}
+use mathlib.Core.Path.{_≡_, refl, sym, _∙_, ap, ap₂, subst}
 use mathlib.Core.List.{List, [], _∷_}
-use Prim.Native.Nat.{ℕ, zero, _+_, _*_, _/_, _%_, _≤_, _<_}
+use Prim.Native.Nat.{ℕ, zero, suc, _+_, _*_, _/_, _%_, _≤_, _<_}
 use native.Mathlib.Omega.{arith}
 use native.Mathlib.Nat.{add-zero}
 use native.Mathlib.Decide.{ℕ-discrete}
-use borrow.Author.Tests.{eqb-true, eqb-false}
+use borrow.Author.Tests.{eqb-false, eqb-true, ltb-true}
 use lib.Dec.{ltb, eqb}
 use lib.ListN.{length, getD, set, length-set}
 use lib.Seq.{getD-set-same, getD-set-other}
 use Rattle.common.specs.Choice.{pick}
 use Rattle.common.proofs.Computed as computed
 use Rattle.convolutional_code.specs.Code.{tapsX, tapsY, coded}
-use Rattle.convolutional_code.specs.Costs.{at, decided, stepCost}
+use Rattle.convolutional_code.specs.Costs.{at, decided, zeroCost, oneCost, decisionCost, pairCost}
 use Rattle.viterbi_decoder.specs.Metric.{from, via, choice}
-use Rattle.viterbi_decoder.specs.Lanes.{lane, held, CostRows, Tables, lesser, chosen, Stepped}
+use Rattle.viterbi_decoder.specs.Lanes.{lane, held, CostRows, SumRows, Bounded, rowCost, lesser, chosen, Stepped}
 
 -- ---- costs
 
-decided-le : (c0 c1 v : ℕ) → c0 ≤ 7 → c1 ≤ 7 → decided c0 c1 v ≤ 7
-decided-le c0 c1 v h l = go (eqb v 0)
+pub one-cost-le : (d : ℕ) → oneCost d ≤ 7
+one-cost-le d = go (ltb d 8) refl
   where
-    go : (t : Bool) → pick t c0 c1 ≤ 7
-    go true = h
-    go false = l
+    go : (t : Bool) → ltb d 8 ≡ t → pick t d 0 ≤ 7
+    go true e = omega (arith, ltb-true d 8 e)
+    go false e = omega arith
 
-pub stepCost-le : (x0 x1 y0 y1 m b : ℕ) → x0 ≤ 7 → x1 ≤ 7 → y0 ≤ 7 → y1 ≤ 7 → stepCost x0 x1 y0 y1 m b ≤ 14
-unfolding stepCost
-stepCost-le x0 x1 y0 y1 m b h0 h1 h2 h3 =
-    omega (arith, decided-le x0 x1 (coded tapsX m b) h0 h1, decided-le y0 y1 (coded tapsY m b) h2 h3)
+decision-cost-le : (d v : ℕ) → decisionCost d v ≤ 7
+decision-cost-le d v = go (eqb v 0)
+  where
+    go : (t : Bool) → pick t (zeroCost d) (oneCost d) ≤ 7
+    go true = omega arith
+    go false = one-cost-le d
 
 -- ---- lanes
 
@@ -60,24 +62,14 @@ joins i h = record {
   high-bit = computed.agree-at (λ i. lane (2 * i + 1) / 32) (λ i. 1) 32 tt i h;
 }
 
--- bit 1 gives out of one what bit 0 gives out of the other
-record Flipped (taps : List ℕ) (i : ℕ) : Type 0 where
-  odd-one : coded taps (lane i + 1) 1 ≡ coded taps (lane i) 0
-  even-one : coded taps (lane i) 1 ≡ coded taps (lane (i + 32)) 0
-
-x-flipped : (i : ℕ) → i < 32 → Flipped tapsX i
+-- bit 1 gives out of a memory what bit 0 gives out of the one beside it
+x-beside : (s : ℕ) → s < 64 → coded tapsX (lane ((lane s + 32 * 1) % 64)) 0 ≡ coded tapsX s 1
 unfolding lane
-x-flipped i h = record {
-  odd-one = computed.agree-at (λ i. coded tapsX (lane i + 1) 1) (λ i. coded tapsX (lane i) 0) 32 tt i h;
-  even-one = computed.agree-at (λ i. coded tapsX (lane i) 1) (λ i. coded tapsX (lane (i + 32)) 0) 32 tt i h;
-}
+x-beside = computed.agree-at (λ s. coded tapsX (lane ((lane s + 32 * 1) % 64)) 0) (λ s. coded tapsX s 1) 64 tt
 
-y-flipped : (i : ℕ) → i < 32 → Flipped tapsY i
+y-beside : (s : ℕ) → s < 64 → coded tapsY (lane ((lane s + 32 * 1) % 64)) 0 ≡ coded tapsY s 1
 unfolding lane
-y-flipped i h = record {
-  odd-one = computed.agree-at (λ i. coded tapsY (lane i + 1) 1) (λ i. coded tapsY (lane i) 0) 32 tt i h;
-  even-one = computed.agree-at (λ i. coded tapsY (lane i) 1) (λ i. coded tapsY (lane (i + 32)) 0) 32 tt i h;
-}
+y-beside = computed.agree-at (λ s. coded tapsY (lane ((lane s + 32 * 1) % 64)) 0) (λ s. coded tapsY s 1) 64 tt
 
 abbrev xTable : List ℕ
 xTable = 0 ∷ 1 ∷ 1 ∷ 0 ∷ 1 ∷ 0 ∷ 0 ∷ 1 ∷ 0 ∷ 1 ∷ 1 ∷ 0 ∷ 1 ∷ 0 ∷ 0 ∷ 1 ∷ 0 ∷ 1 ∷ 1 ∷ 0 ∷ 1 ∷ 0 ∷ 0 ∷ 1 ∷ 0 ∷ 1 ∷ 1 ∷ 0 ∷ 1 ∷ 0 ∷ 0 ∷ 1 ∷ 1 ∷ 0 ∷ 0 ∷ 1 ∷ 0 ∷ 1 ∷ 1 ∷ 0 ∷ 1 ∷ 0 ∷ 0 ∷ 1 ∷ 0 ∷ 1 ∷ 1 ∷ 0 ∷ 1 ∷ 0 ∷ 0 ∷ 1 ∷ 0 ∷ 1 ∷ 1 ∷ 0 ∷ 1 ∷ 0 ∷ 0 ∷ 1 ∷ 0 ∷ 1 ∷ 1 ∷ 0 ∷ []
@@ -93,37 +85,22 @@ y-bits : (i : ℕ) → i < 64 → at yTable i ≡ coded tapsY (lane i) 0
 unfolding lane
 y-bits = computed.agree-at (at yTable) (λ i. coded tapsY (lane i) 0) 64 tt
 
-pub tables : (xs ys : List (List ℕ)) → CostRows (at xTable) xs → CostRows (at yTable) ys → Tables xs ys
-tables xs ys p q = record {
-  x = record { size = p .size; cost = λ zero one h l i k. p .cost zero one h l i k ∙ ap (decided zero one) (x-bits i k) };
-  y = record { size = q .size; cost = λ zero one h l i k. q .cost zero one h l i k ∙ ap (decided zero one) (y-bits i k) };
-}
-
 -- the rows that are written so far
-pub record Written (bit : ℕ → ℕ) (rows : List (List ℕ)) (n : ℕ) : Type 0 where
-  pub size : length rows ≡ 64
-  pub done : (k : ℕ) → k < n → (i : ℕ) → i < 64 → at (getD rows k []) i ≡ decided (k / 8) (k % 8) (bit i)
+pub record Written (P : ℕ → List ℕ → Type 0) (size : ℕ) (rows : List (List ℕ)) (n : ℕ) : Type 0 where
+  pub len : length rows ≡ size
+  pub done : (k : ℕ) → k < n → P k (getD rows k [])
 
-pub written-none : {bit : ℕ → ℕ} {rows : List (List ℕ)} → length rows ≡ 64 → Written bit rows 0
-written-none e = record { size = e; done = λ k h. absurd (omega arith) }
+module _ {P : ℕ → List ℕ → Type 0} {size : ℕ} {rows : List (List ℕ)} where
+  pub written-none : length rows ≡ size → Written P size rows 0
+  written-none e = record { len = e; done = λ k h. absurd (omega arith) }
 
-pub written-more : {bit : ℕ → ℕ} {rows : List (List ℕ)} {n : ℕ} (row : List ℕ) → n < 64 → ((i : ℕ) → i < 64 → at row i ≡ decided (n / 8) (n % 8) (bit i))
-    → Written bit rows n → Written bit (set rows n row) (n + 1)
-written-more {bit} {rows} {n} row h e w =
-    record { size = length-set rows n row ∙ w .size; done = λ k l. go k l (ℕ-discrete k n) }
-  where
-    go : (k : ℕ) → k < n + 1 → Dec (k ≡ n) → (i : ℕ) → i < 64 → at (getD (set rows n row) k []) i ≡ decided (k / 8) (k % 8) (bit i)
-    go k l (yes q) i g = rw q (ap (λ (x : List ℕ). at x i) (getD-set-same rows n row [] (omega (arith, w .size))) ∙ e i g)
-    go k l (no q) i g = ap (λ (x : List ℕ). at x i) (getD-set-other rows n k row [] q) ∙ w .done k (omega arith) i g
-
-pub written-all : {bit : ℕ → ℕ} {rows : List (List ℕ)} {n : ℕ} → 64 ≤ n → Written bit rows n → CostRows bit rows
-written-all {bit} h w = record {
-  size = w .size;
-  cost = λ zero one z o i g.
-      let a : (8 * zero + one) / 8 ≡ zero = omega arith in
-      let b : (8 * zero + one) % 8 ≡ one = omega arith in
-      w .done (8 * zero + one) (omega arith) i g ∙ ap₂ (λ (v t : ℕ). decided v t (bit i)) a b;
-}
+  pub written-more : {n : ℕ} (row : List ℕ) → n < size → P n row → Written P size rows n → Written P size (set rows n row) (n + 1)
+  written-more {n} row h e w =
+      record { len = length-set rows n row ∙ w .len; done = λ k l. go k l (ℕ-discrete k n) }
+    where
+      go : (k : ℕ) → k < n + 1 → Dec (k ≡ n) → P k (getD (set rows n row) k [])
+      go k l (yes q) = subst (λ (i : ℕ). P i (getD (set rows n row) i [])) (sym q) (subst (P n) (sym (getD-set-same rows n row [] (omega (arith, w .len)))) e)
+      go k l (no q) = subst (P k) (sym (getD-set-other rows n k row [] q)) (w .done k (omega arith))
 
 -- the costs of the two bits out of the two memories
 pub record Costed (f : ℕ → ℕ → ℕ) (a c : ℕ → ℕ) : Type 0 where
@@ -132,37 +109,51 @@ pub record Costed (f : ℕ → ℕ → ℕ) (a c : ℕ → ℕ) : Type 0 where
   pub even-one : (i : ℕ) → i < 32 → f (lane i) 1 ≡ c i
   pub odd-zero : (i : ℕ) → i < 32 → f (lane i + 1) 0 ≡ c i
 
--- a row of X and one of Y
-abbrev pub rowSum : List (List ℕ) → List (List ℕ) → ℕ → ℕ → ℕ → ℕ → ℕ → ℕ
-rowSum xs ys x0 x1 y0 y1 i = at (getD xs (8 * x0 + x1) []) i + at (getD ys (8 * y0 + y1) []) i
+pub costed : (row : List ℕ) (a c : ℕ → ℕ) → ((i : ℕ) → i < 32 → a i ≡ at row i) → ((i : ℕ) → i < 32 → c i ≡ at row (i + 32)) → Costed (rowCost row) a c
+unfolding rowCost
+costed row a c ea ec = record {
+  even-zero = λ i h. ap (at row) (place (lane i) i 0 i (lane-lane i (omega arith)) (omega arith)) ∙ sym (ea i h);
+  odd-one = λ i h. ap (at row) (place (lane i + 1) (i + 32) 1 i (beside i h) (omega arith)) ∙ sym (ea i h);
+  even-one = λ i h. ap (at row) (place (lane i) i 1 (i + 32) (lane-lane i (omega arith)) (omega arith)) ∙ sym (ec i h);
+  odd-zero = λ i h. ap (at row) (place (lane i + 1) (i + 32) 0 (i + 32) (beside i h) (omega arith)) ∙ sym (ec i h);
+}
+  where
+    beside : (i : ℕ) → i < 32 → lane (lane i + 1) ≡ i + 32
+    beside i h = ap lane (sym (joins i h .odd)) ∙ lane-lane (i + 32) (omega arith)
 
-module _ (xs ys : List (List ℕ)) (t : Tables xs ys) (x0 x1 y0 y1 : ℕ) (h0 : x0 ≤ 7) (h1 : x1 ≤ 7) (h2 : y0 ≤ 7) (h3 : y1 ≤ 7) where
+    place : (s l b t : ℕ) → lane s ≡ l → (l + 32 * b) % 64 ≡ t → (lane s + 32 * b) % 64 ≡ t
+    place s l b t e q = ap (λ (x : ℕ). (x + 32 * b) % 64) e ∙ q
+
+-- ---- rows of costs
+
+module _ {xs ys rows : List (List ℕ)} (x : CostRows (at xTable) xs) (y : CostRows (at yTable) ys) (r : SumRows xs ys rows) where
   -- what bit 0 costs
-  zero-cost : (i : ℕ) → i < 64 → stepCost x0 x1 y0 y1 (lane i) 0 ≡ rowSum xs ys x0 x1 y0 y1 i
-  unfolding stepCost
-  zero-cost i h = ap₂ (λ (v w : ℕ). v + w) (sym (t .x .cost x0 x1 h0 h1 i h)) (sym (t .y .cost y0 y1 h2 h3 i h))
+  zero-cost : (n : ℕ) → n < 81 → (i : ℕ) → i < 64 → at (getD rows n []) i ≡ pairCost n (coded tapsX (lane i) 0) (coded tapsY (lane i) 0)
+  unfolding pairCost
+  zero-cost n h i l =
+      r .sum n h i l
+      ∙ ap₂ (λ (v w : ℕ). v + w) (x .cost (n / 9) (omega arith) i l ∙ ap (decisionCost (n / 9)) (x-bits i l))
+      (y .cost (n % 9) (omega arith) i l ∙ ap (decisionCost (n % 9)) (y-bits i l))
 
-  pub row-fits : (i : ℕ) → i < 64 → rowSum xs ys x0 x1 y0 y1 i < 256
-  row-fits i h = omega (arith, zero-cost i h, stepCost-le x0 x1 y0 y1 (lane i) 0 h0 h1 h2 h3)
+  pub rows-bounded : Bounded rows
+  unfolding pairCost
+  rows-bounded n h i l =
+      omega (arith, zero-cost n h i l, decision-cost-le (n / 9) (coded tapsX (lane i) 0), decision-cost-le (n % 9) (coded tapsY (lane i) 0))
 
-  pub costed : (a c : ℕ → ℕ) → ((i : ℕ) → i < 32 → a i ≡ rowSum xs ys x0 x1 y0 y1 i) → ((i : ℕ) → i < 32 → c i ≡ rowSum xs ys x0 x1 y0 y1 (i + 32))
-      → Costed (stepCost x0 x1 y0 y1) a c
-  unfolding stepCost
-  costed a c ea ec = record {
-    even-zero = even;
-    odd-one = λ i h. step (x-flipped i h .odd-one) (y-flipped i h .odd-one) ∙ even i h;
-    even-one = λ i h. step (x-flipped i h .even-one) (y-flipped i h .even-one) ∙ odd i h;
-    odd-zero = λ i h. ap (λ (s : ℕ). stepCost x0 x1 y0 y1 s 0) (sym (joins i h .odd)) ∙ odd i h;
-  }
-    where
-      even : (i : ℕ) → i < 32 → stepCost x0 x1 y0 y1 (lane i) 0 ≡ a i
-      even i h = zero-cost i (omega arith) ∙ sym (ea i h)
+  pub row-cost : (n : ℕ) → n < 81 → (s b : ℕ) → s < 64 → b < 2 → rowCost (getD rows n []) s b ≡ pairCost n (coded tapsX s b) (coded tapsY s b)
+  unfolding rowCost
+  row-cost n h s zero l g =
+      let e : (lane s + 32 * 0) % 64 ≡ lane s = omega (arith, lane-lt s) in
+      ap (at (getD rows n [])) e ∙ zero-cost n h (lane s) (lane-lt s) ∙ ap (λ (t : ℕ). pairCost n (coded tapsX t 0) (coded tapsY t 0)) (lane-lane s l)
+  row-cost n h s (suc zero) l g =
+      zero-cost n h ((lane s + 32 * 1) % 64) (omega arith) ∙ ap₂ (λ (v w : ℕ). pairCost n v w) (x-beside s l) (y-beside s l)
+  row-cost n h s (suc (suc b)) l g = absurd (omega arith)
 
-      odd : (i : ℕ) → i < 32 → stepCost x0 x1 y0 y1 (lane (i + 32)) 0 ≡ c i
-      odd i h = zero-cost (i + 32) (omega arith) ∙ sym (ec i h)
-
-      step : {v v′ w w′ : ℕ} → v ≡ v′ → w ≡ w′ → decided x0 x1 v + decided y0 y1 w ≡ decided x0 x1 v′ + decided y0 y1 w′
-      step e q = ap₂ (λ (v w : ℕ). decided x0 x1 v + decided y0 y1 w) e q
+-- what two rows add up to fits a byte
+pub sums-fit : {bx by : ℕ → ℕ} {xs ys : List (List ℕ)} → CostRows bx xs → CostRows by ys → (x y i : ℕ) → x < 9 → y < 9 → i < 64
+    → at (getD xs x []) i + at (getD ys y []) i < 256
+sums-fit {bx} {by} px py x y i hx hy hi =
+    omega (arith, px .cost x hx i hi, py .cost y hy i hi, decision-cost-le x (bx i), decision-cost-le y (by i))
 
 -- ---- ways
 

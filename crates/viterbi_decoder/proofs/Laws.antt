@@ -2,7 +2,7 @@
 -- Assumes nothing.
 use mathlib.Core.Path.{_≡_, refl, sym, _∙_, ap}
 use mathlib.Core.List.{List, [], _∷_}
-use Prim.Native.Nat.{ℕ, suc, _*_, _/_, _<_}
+use Prim.Native.Nat.{ℕ, suc, _+_, _-_, _*_, _/_, _<_}
 use native.Mathlib.Decide.{ℕ-discrete}
 use native.Mathlib.Omega.{arith}
 use native.Mathlib.Nat.{mul-le-mul-left, mul-div-cancel-left, one-mul}
@@ -92,3 +92,21 @@ best-same {C} {D} n h {bs} b = scale 1 C D n (omega arith) (λ ys w l. sym (one-
 pub decoded-same : {C D : List ℕ → ℕ} (n m : ℕ) → ((ys : List ℕ) → Bits ys → length ys ≡ n → C ys ≡ D ys) → {bs : List ℕ} {total after : ℕ}
     → Decoded C n m bs total after → Decoded D n m bs total after
 decoded-same n m h {bs} d = record { best = best-same n h (d .best); costs = d .costs ∙ h bs (d .best .binary) (d .best .size); ends = d .ends }
+
+-- ---- costs that are higher by one number on every sequence of n bits have the same best sequence
+
+pub decoded-lifted : {C D : List ℕ → ℕ} (by n m : ℕ) → ((ys : List ℕ) → Bits ys → length ys ≡ n → D ys ≡ C ys + by) → {bs : List ℕ} {total after : ℕ}
+    → Decoded D n m bs total after → Decoded C n m bs (total - by) after
+decoded-lifted by n m h {bs} d =
+    let b = d .best in
+    let here = h bs (b .binary) (b .size) in
+    record {
+      best = record {
+        binary = b .binary;
+        size = b .size;
+        least = λ ys w l. omega (arith, here, h ys w l, b .least ys w l);
+        ties = λ ys w l q. b .ties ys w l (omega (arith, here, h ys w l));
+      };
+      costs = omega (arith, here, d .costs);
+      ends = d .ends;
+    }

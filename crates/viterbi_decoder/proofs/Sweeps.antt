@@ -17,13 +17,17 @@ use Rattle.common.specs.Choice.{pick}
 use Rattle.common.specs.Lists.{placed}
 use Rattle.common.proofs.Computed as computed
 use Rattle.common.proofs.Outputs.{length-placed}
+use Rattle.convolutional_code.specs.Bits.{Bits, none, more}
+use Rattle.convolutional_code.specs.Code.{nextMemory}
+use Rattle.convolutional_code.proofs.Bits.{next-lt}
+use Rattle.convolutional_code.specs.Costs.{Costs, costFrom, at, Pairs}
 use Rattle.viterbi_decoder.specs.Best.{Decoded}
-use Rattle.convolutional_code.specs.Costs.{Costs, costFrom, at, stepCosts, Small}
 use Rattle.viterbi_decoder.specs.Metric.{far, from, via, choice, metric, choices, path, survivor, FirstLeast}
 use Rattle.viterbi_decoder.proofs.Paths.{choice-lt, Answer, answer}
 use Rattle.viterbi_decoder.proofs.Spread.{metric-le, spread}
-use Rattle.viterbi_decoder.specs.Lanes.{lane, held, Stepped, origin, Metrics, Origins, Carried, Forward, low, traced}
-use Rattle.viterbi_decoder.proofs.Butterfly.{stepCost-le, lane-lt, lane-lane}
+use Rattle.viterbi_decoder.proofs.Laws.{decoded-same}
+use Rattle.viterbi_decoder.specs.Lanes.{lane, held, Bounded, rowCost, rowCosts, Stepped, origin, Metrics, Origins, Carried, Forward, low, traced}
+use Rattle.viterbi_decoder.proofs.Butterfly.{lane-lt, lane-lane}
 
 pub started : (m l s : ℕ) → m < 64 → l ≡ lane m → s < 64 → held (set (replicate 64 far) l 0) s ≡ pick (eqb s m) 0 far
 started m l s h q lt = rw q (go (eqb s m) refl)
@@ -62,9 +66,9 @@ module _ (M N : ℕ → ℕ) (o : ℕ) (same : (t : ℕ) → t < 64 → M t + o 
 
 -- ---- a block of steps
 
-pub small-costs : (steps : List ℕ) → Small steps → (k s b : ℕ) → stepCosts steps k s b ≤ 14
-unfolding stepCosts
-small-costs steps h k s b = stepCost-le _ _ _ _ s b (h (4 * k)) (h (4 * k + 1)) (h (4 * k + 2)) (h (4 * k + 3))
+pub small-costs : (rows : List (List ℕ)) (steps : List ℕ) → Bounded rows → Pairs steps → (k s b : ℕ) → rowCosts rows steps k s b ≤ 14
+unfolding rowCosts rowCost
+small-costs rows steps h l k s b = h (at steps k) (l k) ((lane s + 32 * b) % 64) (omega arith)
 
 -- each lane is its own origin
 abbrev lanes : List ℕ
@@ -74,13 +78,13 @@ own-lane : (r : ℕ) → r < 64 → at lanes r ≡ r
 own-lane = computed.agree-at (at lanes) (λ r. r) 64 tt
 
 -- after j of the steps, which add at most 14 each
-pub record Carrying (steps : List ℕ) (k j : ℕ) (before metrics origins : List ℕ) : Type 0 where
-  pub sure : Carried (stepCosts steps) k j before metrics origins
+pub record Carrying (F : Costs) (k j : ℕ) (before metrics origins : List ℕ) : Type 0 where
+  pub sure : Carried F k j before metrics origins
   pub bounded : (t : ℕ) → t < 64 → held metrics t ≤ 168 + 14 * j
 
-pub carrying-none : (steps : List ℕ) (k : ℕ) (before : List ℕ) → ((t : ℕ) → t < 64 → at before t ≤ 168) → Carrying steps k 0 before before lanes
+carrying-none : (F : Costs) (k : ℕ) (before : List ℕ) → ((t : ℕ) → t < 64 → at before t ≤ 168) → Carrying F k 0 before before lanes
 unfolding origin
-carrying-none steps k before h = record {
+carrying-none F k before h = record {
   sure = record {
     metrics-are = λ m o e. rw add-zero e;
     origins-are = λ m o e s l. own-lane (lane s) (lane-lt s);
@@ -88,52 +92,85 @@ carrying-none steps k before h = record {
   bounded = λ t l. omega (arith, h (lane t) (lane-lt t));
 }
 
-module _ {steps : List ℕ} {k j : ℕ} {before ms os : List ℕ} (g : Carrying steps k j before ms os) (hs : Small steps) (hj : j < 6) where
-  pub fits-byte : (t : ℕ) → t < 64 → at ms t ≤ 241
+module _ {F : Costs} {k j : ℕ} {before ms os : List ℕ} (g : Carrying F k j before ms os) (hj : j < 6) where
+  fits-byte : (t : ℕ) → t < 64 → at ms t ≤ 241
   fits-byte t h = omega (arith, g .bounded (lane t) (lane-lt t), ap (at ms) (lane-lane t h))
 
-  pub carrying-more : {next from-lanes : List ℕ} → Stepped (held ms) (stepCosts steps (k + j)) os next from-lanes → Carrying steps k (j + 1) before next from-lanes
+  carrying-more : ((k s b : ℕ) → F k s b ≤ 14) → {next from-lanes : List ℕ} → Stepped (held ms) (F (k + j)) os next from-lanes → Carrying F k (j + 1) before next from-lanes
   unfolding metric origin via
-  carrying-more {next} {from-lanes} st =
+  carrying-more hs {next} {from-lanes} st =
       record {
         sure = record { metrics-are = metrics; origins-are = origins };
         bounded = next-le;
       }
     where
-      metrics : (m o : ℕ) → Metrics (stepCosts steps) m k o before → Metrics (stepCosts steps) m (k + (j + 1)) o next
+      metrics : (m o : ℕ) → Metrics F m k o before → Metrics F m (k + (j + 1)) o next
       metrics m o e s q =
           let n : k + (j + 1) ≡ suc (k + j) = omega arith in
-          rw (n, st .metrics s q) (step-same (held ms) (metric (stepCosts steps) m (k + j)) o (g .sure .metrics-are m o e) (stepCosts steps (k + j)) s)
+          rw (n, st .metrics s q) (step-same (held ms) (metric F m (k + j)) o (g .sure .metrics-are m o e) (F (k + j)) s)
 
-      origins : (m o : ℕ) → Metrics (stepCosts steps) m k o before → Origins (stepCosts steps) m k (j + 1) (at from-lanes)
+      origins : (m o : ℕ) → Metrics F m k o before → Origins F m k (j + 1) (at from-lanes)
       origins m o e s q =
-          let d : ℕ = choice (held ms) (stepCosts steps (k + j)) s in
-          let hd : d < 2 = choice-lt (held ms) (stepCosts steps (k + j)) s in
-          let c : d ≡ choices (stepCosts steps) m (k + j) s = choice-same (held ms) (metric (stepCosts steps) m (k + j)) o (g .sure .metrics-are m o e) (stepCosts steps (k + j)) s in
+          let d : ℕ = choice (held ms) (F (k + j)) s in
+          let hd : d < 2 = choice-lt (held ms) (F (k + j)) s in
+          let c : d ≡ choices F m (k + j) s = choice-same (held ms) (metric F m (k + j)) o (g .sure .metrics-are m o e) (F (k + j)) s in
           st .taken s q ∙ g .sure .origins-are m o e (from s d) (omega arith) ∙ rw (add-one, c)
 
       next-le : (t : ℕ) → t < 64 → held next t ≤ 168 + 14 * (j + 1)
       next-le t h =
-          let d : ℕ = choice (held ms) (stepCosts steps (k + j)) t in
-          let hd : d < 2 = choice-lt (held ms) (stepCosts steps (k + j)) t in
-          omega (arith, st .metrics t h, g .bounded (from t d) (omega arith), small-costs steps hs (k + j) (from t d) (t / 32))
+          let d : ℕ = choice (held ms) (F (k + j)) t in
+          let hd : d < 2 = choice-lt (held ms) (F (k + j)) t in
+          omega (arith, st .metrics t h, g .bounded (from t d) (omega arith), hs (k + j) (from t d) (t / 32))
+
+-- k of the steps up to `end` are done, from step k₀ on
+pub record InBlock (F : Costs) (k₀ k end : ℕ) (before metrics origins : List ℕ) : Type 0 where
+  pub begun : k₀ ≤ k
+  pub most : k ≤ end
+  pub few : end ≤ k₀ + 6
+  pub size : length origins ≡ 64
+  pub carrying : Carrying F k₀ (k - k₀) before metrics origins
+
+pub in-block-none : (F : Costs) (k end : ℕ) (before : List ℕ) → k ≤ end → end ≤ k + 6 → ((t : ℕ) → t < 64 → at before t ≤ 168) → InBlock F k k end before before lanes
+in-block-none F k end before l f h =
+    let z : k - k ≡ 0 = omega arith in
+    record { begun = omega arith; most = l; few = f; size = refl; carrying = rw z (carrying-none F k before h) }
+
+module _ {F : Costs} {k₀ k end : ℕ} {before ms os : List ℕ} (g : InBlock F k₀ k end before ms os) where
+  pub in-block-fits : k < end → (t : ℕ) → t < 64 → at ms t ≤ 241
+  in-block-fits h = fits-byte (g .carrying) (omega (arith, g .few, g .begun))
+
+  pub in-block-more : ((k s b : ℕ) → F k s b ≤ 14) → k < end → {next from-lanes : List ℕ} → length from-lanes ≡ 64
+      → Stepped (held ms) (F k) os next from-lanes → InBlock F k₀ (k + 1) end before next from-lanes
+  in-block-more hs h z st =
+      let e : k₀ + (k - k₀) ≡ k = omega (arith, g .begun) in
+      let n : k + 1 - k₀ ≡ k - k₀ + 1 = omega (arith, g .begun) in
+      record {
+        begun = omega (arith, g .begun);
+        most = omega arith;
+        few = g .few;
+        size = z;
+        carrying = rw n (carrying-more (g .carrying) (omega (arith, g .few, g .begun)) hs (rw e st));
+      }
+
+  pub in-block-all : end ≤ k → Carried F k₀ (end - k₀) before ms os
+  in-block-all h = let e : end ≡ k = omega (arith, g .most) in rw e (g .carrying .sure)
 
 -- ---- the forward loop
 
 -- the next block ends with step `end`, and the metrics are bytes again
-pub record Going (steps : List ℕ) (m n size k end : ℕ) (metrics : List ℕ) (offset : ℕ) (rows : List ℕ) : Type 0 where
+pub record Going (F : Costs) (m n size k end : ℕ) (metrics : List ℕ) (offset : ℕ) (rows : List ℕ) : Type 0 where
   pub next : k ≡ end - 6
   pub whole : end % 6 ≡ n % 6
   pub most : end ≤ n + 6
   pub length-is : length rows ≡ size
-  pub metrics-are : Metrics (stepCosts steps) m k offset metrics
-  pub origins-are : (b : ℕ) → b < k / 6 → Origins (stepCosts steps) m (n % 6 + 6 * b) 6 (λ r. at rows (64 * b + r))
+  pub metrics-are : Metrics F m k offset metrics
+  pub origins-are : (b : ℕ) → b < k / 6 → Origins F m (n % 6 + 6 * b) 6 (λ r. at rows (64 * b + r))
   pub bounded : (t : ℕ) → t < 64 → at metrics t ≤ 168
 
-pub going-none : (steps : List ℕ) (m n : ℕ) (ms rows : List ℕ) → ((s : ℕ) → s < 64 → held ms s ≡ pick (eqb s m) 0 far)
-    → Going steps m n (length rows) 0 (n % 6) ms 0 rows
+pub going-none : (F : Costs) (m n : ℕ) (ms rows : List ℕ) → ((s : ℕ) → s < 64 → held ms s ≡ pick (eqb s m) 0 far)
+    → Going F m n (length rows) 0 (n % 6) ms 0 rows
 unfolding metric
-going-none steps m n ms rows h = record {
+going-none F m n ms rows h = record {
   next = omega arith;
   whole = omega arith;
   most = omega arith;
@@ -162,20 +199,17 @@ row-kept rows os p h i l =
     ∙ List·getD-append (take p rows) os 0 i (omega (arith, e))
     ∙ getD-take p rows i 0 l
 
-module _ {steps : List ℕ} {m n size k end : ℕ} {ms : List ℕ} {o : ℕ} {rows : List ℕ} (g : Going steps m n size k end ms o rows) (hs : Small steps) (hn : n ≤ 1632) where
-  abbrev F : Costs
-  F = stepCosts steps
-
+module _ {F : Costs} {m n size k end : ℕ} {ms : List ℕ} {o : ℕ} {rows : List ℕ} (g : Going F m n size k end ms o rows) (hs : (k s b : ℕ) → F k s b ≤ 14) (hn : n ≤ 1632) where
   -- the offset is at most a metric
   pub offset-le : o ≤ 30000
-  offset-le = omega (arith, g .next, g .most, g .metrics-are 0 (omega arith), metric-le F (small-costs steps hs) m k 0)
+  offset-le = omega (arith, g .next, g .most, g .metrics-are 0 (omega arith), metric-le F hs m k 0)
 
   module _ {next os : List ℕ} (c : Carried F k (end - k) ms next os) (l : end ≤ n) where
     after : Metrics F m end o next
     after = let e : k + (end - k) ≡ end = omega (arith, g .next) in rw e at (c .metrics-are m o (g .metrics-are))
 
     -- the steps before the first whole block
-    pub going-first : end < 6 → Going steps m n size end (end + 6) next o rows
+    pub going-first : end < 6 → Going F m n size end (end + 6) next o rows
     going-first h = record {
       next = omega arith;
       whole = omega (arith, g .whole);
@@ -183,7 +217,7 @@ module _ {steps : List ℕ} {m n size k end : ℕ} {ms : List ℕ} {o : ℕ} {ro
       length-is = g .length-is;
       metrics-are = after;
       origins-are = λ b q. absurd (omega arith);
-      bounded = λ t q. omega (arith, ap (at next) (lane-lane t q), after (lane t) (lane-lt t), metric-le F (small-costs steps hs) m end (lane t));
+      bounded = λ t q. omega (arith, ap (at next) (lane-lane t q), after (lane t) (lane-lt t), metric-le F hs m end (lane t));
     }
 
     -- all metrics lie within 84 of each other
@@ -195,12 +229,12 @@ module _ {steps : List ℕ} {m n size k end : ℕ} {ms : List ℕ} {o : ℕ} {ro
           ap (at next) (lane-lane t ht),
           after (lane s) (lane-lt s),
           after (lane t) (lane-lt t),
-          spread F (small-costs steps hs) m end (lane s) (lane t) q (lane-lt s),
+          spread F hs m end (lane s) (lane t) q (lane-lt s),
         )
 
     -- a whole block
     pub going-more : 6 ≤ end → length os ≡ 64 → 64 * (n / 6) ≤ size → (lower : List ℕ) (o′ : ℕ) → ((t : ℕ) → t < 64 → at lower t + o′ ≡ at next t + o)
-        → ((t : ℕ) → t < 64 → at lower t ≤ 168) → Going steps m n size end (end + 6) lower o′ (placed rows (64 * (end / 6 - 1)) os)
+        → ((t : ℕ) → t < 64 → at lower t ≤ 168) → Going F m n size end (end + 6) lower o′ (placed rows (64 * (end / 6 - 1)) os)
     going-more h lo room lower o′ e z =
         record {
           next = omega arith;
@@ -422,3 +456,14 @@ module _ {F : Costs} {m n : ℕ} {ms : List ℕ} {o : ℕ} {rows : List ℕ} (f 
 pub total-le : {F : Costs} {m n : ℕ} {ms : List ℕ} {o : ℕ} {rows : List ℕ} → Forward F m n ms o rows → ((k s b : ℕ) → F k s b ≤ 14) → n ≤ 1632
     → (s v : ℕ) → s < 64 → v ≡ held ms s → v + o ≤ 30000
 total-le {F} {m} {n} f h l s v q e = omega (arith, f .metrics-are s q, metric-le F h m n s)
+
+-- ---- costs that are the same out of every memory
+
+cost-same : (F G : Costs) → ((k s b : ℕ) → s < 64 → b < 2 → F k s b ≡ G k s b) → (k m : ℕ) → m < 64 → {bs : List ℕ} → Bits bs → costFrom F k m bs ≡ costFrom G k m bs
+unfolding costFrom
+cost-same F G e k m h none = refl
+cost-same F G e k m h (more {b} {l} q w) = ap₂ (λ (x y : ℕ). x + y) (e k m b h q) (cost-same F G e (suc k) (nextMemory m b) (next-lt m b h q) w)
+
+pub decoded-by : (F G : Costs) → ((k s b : ℕ) → s < 64 → b < 2 → F k s b ≡ G k s b) → (m n : ℕ) → m < 64 → {bits : List ℕ} {total after : ℕ}
+    → Decoded (costFrom F 0 m) n m bits total after → Decoded (costFrom G 0 m) n m bits total after
+decoded-by F G e m n h d = decoded-same n m (λ ys w l. cost-same F G e 0 m h w) d

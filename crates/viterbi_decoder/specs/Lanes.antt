@@ -6,8 +6,7 @@ use Prim.Native.Nat.{ℕ, zero, suc, _+_, _*_, _/_, _%_, _≤_, _<_}
 use lib.Dec.{ltb}
 use lib.ListN.{length, getD}
 use Rattle.common.specs.Choice.{pick}
-use Rattle.convolutional_code.specs.Code.{tapsX, tapsY, coded}
-use Rattle.convolutional_code.specs.Costs.{Costs, at, decided}
+use Rattle.convolutional_code.specs.Costs.{Costs, at, decisionCost}
 use Rattle.viterbi_decoder.specs.Metric.{from, via, choice, metric, choices}
 
 -- the lane of a memory: its six bits in the other order, so that the newest one counts 1
@@ -18,15 +17,26 @@ lane s = s % 2 * 32 + s / 2 % 2 * 16 + s / 4 % 2 * 8 + s / 8 % 2 * 4 + s / 16 % 
 abbrev pub held : List ℕ → ℕ → ℕ
 held l s = at l (lane s)
 
--- row 8 zero + one of a table has what the coded bits of 64 lanes cost, where deciding one as 0 costs zero, and as 1 one
+-- row d has what a coded bit of each of 64 lanes costs by decision d
 pub record CostRows (bit : ℕ → ℕ) (rows : List (List ℕ)) : Type 0 where
-  pub size : length rows ≡ 64
-  pub cost : (zero one : ℕ) → zero ≤ 7 → one ≤ 7 → (i : ℕ) → i < 64 → at (getD rows (8 * zero + one) []) i ≡ decided zero one (bit i)
+  pub size : length rows ≡ 9
+  pub cost : (d : ℕ) → d < 9 → (i : ℕ) → i < 64 → at (getD rows d []) i ≡ decisionCost d (bit i)
 
--- those of X and of Y that bit 0 gives out of the memories
-pub record Tables (xs ys : List (List ℕ)) : Type 0 where
-  pub x : CostRows (λ i. coded tapsX (lane i) 0) xs
-  pub y : CostRows (λ i. coded tapsY (lane i) 0) ys
+-- row 9 x + y has the sums of row x and row y
+pub record SumRows (xs ys rows : List (List ℕ)) : Type 0 where
+  pub size : length rows ≡ 81
+  pub sum : (n : ℕ) → n < 81 → (i : ℕ) → i < 64 → at (getD rows n []) i ≡ at (getD xs (n / 9) []) i + at (getD ys (n % 9) []) i
+
+-- every cost of 81 rows is at most 14
+abbrev pub Bounded : List (List ℕ) → Type 0
+Bounded rows = (n : ℕ) → n < 81 → (i : ℕ) → i < 64 → at (getD rows n []) i ≤ 14
+
+-- what bit b costs out of memory s, by a row of what bit 0 costs out of each lane: bit 1 costs out of a memory what bit 0 costs out of the one beside it
+unfoldable pub rowCost : List ℕ → ℕ → ℕ → ℕ
+rowCost row s b = at row ((lane s + 32 * b) % 64)
+
+unfoldable pub rowCosts : List (List ℕ) → List ℕ → Costs
+rowCosts rows steps k = rowCost (getD rows (at steps k) [])
 
 -- the lesser of two numbers, and what belongs to it
 abbrev pub lesser : ℕ → ℕ → ℕ

@@ -1,15 +1,15 @@
 // The Viterbi decoder of the mother code, on 64 metrics of a byte each.
 // Inner: its functions may require what the crates above have tested. docs/ARCHITECTURE.md names the public surface.
 ghost use mathlib.Core.Path.{_≡_};
-ghost use mathlib.Core.List.{_++_, reverse};
+ghost use mathlib.Core.List.{[], _++_, reverse};
 ghost use Prim.Native.Nat.{ℕ, _+_, _-_, _*_, _/_, _%_, _<_, _≤_};
 ghost use lib.Dec.{eqb};
-ghost use lib.ListN.{length, take, drop};
+ghost use lib.ListN.{length, getD, take, drop};
 ghost use Rattle.common.specs.Choice.{pick};
 ghost use Rattle.viterbi_decoder.specs.Best.{Decoded};
-ghost use Rattle.convolutional_code.specs.Costs.{costFrom, at, decided, stepCost, stepCosts, Small};
+ghost use Rattle.convolutional_code.specs.Costs.{costFrom, at, decided, zeroCost, oneCost, stepCosts, Pairs};
 ghost use Rattle.viterbi_decoder.specs.Metric.{far, FirstLeast};
-ghost use Rattle.viterbi_decoder.specs.Lanes.{lane, held, Tables, CostRows, lesser as lesserOf, chosen as chosenOf, Stepped, Carried, Forward, low, traced};
+ghost use Rattle.viterbi_decoder.specs.Lanes.{lane, held, CostRows, SumRows, Bounded, rowCost, rowCosts, lesser as lesserOf, chosen as chosenOf, Stepped, Forward, low, traced};
 
 // X of the mother code for a bit 0, out of the memory of each lane.
 const CODED_X: [u8; 64] = [
@@ -258,14 +258,55 @@ fn coded_costs(bits: &[u8; 64], zero: u8, one: u8) -> [u8; 64]
     r
 }
 
-// Tabulates `coded_costs` for all 64 pairs of costs; row 8 zero + one.
-fn write_costs(bits: &[u8; 64], rows: &mut [[u8; 64]; 64])
-    requires { ⌜ length (now rows) ≡ 64 ⌝ }
+// What deciding a coded bit as 0 costs by the decision that was received on it, and as 1.
+fn zero_cost(decision: u8) -> u8
+    ensures { λ r. ⌜ (r ≡ zeroCost decision) × (r ≤ 7) ⌝ }
+{
+    if decision < 8 { 7 - decision } else { 0 }
+}
+
+fn one_cost(decision: u8) -> u8
+    ensures { λ r. ⌜ (r ≡ oneCost decision) × (r ≤ 7) ⌝ }
+{
+    if decision < 8 { decision } else { 0 }
+}
+
+// Tabulates `coded_costs` for the nine decisions.
+fn write_costs(bits: &[u8; 64], rows: &mut [[u8; 64]; 9])
+    requires { ⌜ length (now rows) ≡ 9 ⌝ }
     ensures { λ _. ⌜ CostRows (at (now (bits .entry))) (now (rows .exit)) ⌝ }
 {
     let mut n = 0;
-    while n < 64 {
-        let row = coded_costs(bits, (n / 8) as u8, (n % 8) as u8);
+    while n < 9 {
+        let row = coded_costs(bits, zero_cost(n as u8), one_cost(n as u8));
+        rows[n] = row;
+        n += 1;
+    }
+}
+
+fn sums(x: &[u8; 64], y: &[u8; 64]) -> [u8; 64]
+    requires { ⌜ ((i : ℕ) → i < 64 → at (now x) i + at (now y) i < 256) ⌝ }
+    ensures { λ r. ⌜ ((i : ℕ) → i < 64 → at r i ≡ at (now (x .entry)) i + at (now (y .entry)) i) ⌝ }
+{
+    let mut r = [0u8; 64];
+    let mut i = 0;
+    while i < 64 {
+        r[i] = x[i] + y[i];
+        i += 1;
+    }
+    r
+}
+
+// The branch metrics of each step that there can be: row 9 x + y has the sums of row x of X and row y of Y.
+fn write_sums(xs: &[[u8; 64]; 9], ys: &[[u8; 64]; 9], rows: &mut [[u8; 64]; 81])
+    requires { ⌜ (length (now rows) ≡ 81) × ((x y i : ℕ) → x < 9 → y < 9 → i < 64 → at (getD (now xs) x []) i + at (getD (now ys) y []) i < 256) ⌝ }
+    ensures { λ _. ⌜ SumRows (now (xs .entry)) (now (ys .entry)) (now (rows .exit)) ⌝ }
+{
+    let mut n = 0;
+    while n < 81 {
+        let x = xs[n / 9];
+        let y = ys[n % 9];
+        let row = sums(&x, &y);
         rows[n] = row;
         n += 1;
     }
@@ -277,19 +318,17 @@ struct BranchMetrics {
     odd: [u8; 32],
 }
 
-// They are, for each memory, the cost of X and that of Y.
-fn branch_costs(x: &[u8; 64], y: &[u8; 64]) -> BranchMetrics
-    requires { ⌜ ((i : ℕ) → i < 64 → at (now x) i + at (now y) i < 256) ⌝ }
+fn halves(row: &[u8; 64]) -> BranchMetrics
     ensures { λ r. ⌜
-        ((i : ℕ) → i < 32 → at (r .even) i ≡ at (now (x .entry)) i + at (now (y .entry)) i)
-        × ((i : ℕ) → i < 32 → at (r .odd) i ≡ at (now (x .entry)) (i + 32) + at (now (y .entry)) (i + 32)) ⌝ }
+        ((i : ℕ) → i < 32 → at (r .even) i ≡ at (now (row .entry)) i)
+        × ((i : ℕ) → i < 32 → at (r .odd) i ≡ at (now (row .entry)) (i + 32)) ⌝ }
 {
     let mut even = [0u8; 32];
     let mut odd = [0u8; 32];
     let mut i = 0;
     while i < 32 {
-        even[i] = x[i] + y[i];
-        odd[i] = x[i + 32] + y[i + 32];
+        even[i] = row[i];
+        odd[i] = row[i + 32];
         i += 1;
     }
     BranchMetrics {
@@ -351,19 +390,31 @@ fn woven(low: &[u8; 32], high: &[u8; 32]) -> [u8; 64]
 }
 
 fn above_84(x: u8) -> u8
-    ensures { λ r. ⌜ r ≡ x - 84 ⌝ }
+    ensures { λ r. ⌜ (r ≡ x - 84) × (r ≤ 171) ⌝ }
 {
     if x < 84 { 0 } else { x - 84 }
 }
 
-fn lowered(metrics: &[u8; 64], by: u8) -> [u8; 64]
-    requires { ⌜ ((t : ℕ) → t < 64 → by ≤ at (now metrics) t) ⌝ }
-    ensures { λ r. ⌜ ((t : ℕ) → t < 64 → at r t ≡ at (now (metrics .entry)) t - by) ⌝ }
+fn all_above_84(numbers: &[u8; 64]) -> [u8; 64]
+    ensures { λ r. ⌜ ((t : ℕ) → t < 64 → (at r t ≡ at (now (numbers .entry)) t - 84) × (at r t ≤ 171)) ⌝ }
 {
     let mut r = [0u8; 64];
     let mut s = 0;
     while s < 64 {
-        r[s] = metrics[s] - by;
+        r[s] = above_84(numbers[s]);
+        s += 1;
+    }
+    r
+}
+
+fn lowered(metrics: &[u8; 64], by: &[u8; 64]) -> [u8; 64]
+    requires { ⌜ ((t : ℕ) → t < 64 → at (now by) t ≤ at (now metrics) t) ⌝ }
+    ensures { λ r. ⌜ ((t : ℕ) → t < 64 → at r t ≡ at (now (metrics .entry)) t - at (now (by .entry)) t) ⌝ }
+{
+    let mut r = [0u8; 64];
+    let mut s = 0;
+    while s < 64 {
+        r[s] = metrics[s] - by[s];
         s += 1;
     }
     r
@@ -374,23 +425,12 @@ struct Row {
     origins: [u8; 64],
 }
 
-// One step of the trellis: the path metrics of all memories, and the origins of their paths.
-fn step(
-    xs: &[[u8; 64]; 64],
-    ys: &[[u8; 64]; 64],
-    metrics: &[u8; 64],
-    origins: &[u8; 64],
-    x0: u8,
-    x1: u8,
-    y0: u8,
-    y1: u8,
-) -> Row
-    requires { ⌜ (Tables (now xs) (now ys)) × ((t : ℕ) → t < 64 → at (now metrics) t ≤ 241) × (x0 ≤ 7) × (x1 ≤ 7) × (y0 ≤ 7) × (y1 ≤ 7) ⌝ }
-    ensures { λ r. ⌜ Stepped (held (now (metrics .entry))) (stepCost x0 x1 y0 y1) (now (origins .entry)) (r .metrics) (r .origins) ⌝ }
+// One step of the trellis: the path metrics of all memories, and the origins of their paths, from a row of what bit 0 costs out of each lane.
+fn step(row: &[u8; 64], metrics: &[u8; 64], origins: &[u8; 64]) -> Row
+    requires { ⌜ ((i : ℕ) → i < 64 → at (now row) i ≤ 14) × ((t : ℕ) → t < 64 → at (now metrics) t ≤ 241) ⌝ }
+    ensures { λ r. ⌜ Stepped (held (now (metrics .entry))) (rowCost (now (row .entry))) (now (origins .entry)) (r .metrics) (r .origins) ⌝ }
 {
-    let x = xs[(8 * x0 + x1) as usize];
-    let y = ys[(8 * y0 + y1) as usize];
-    let costs = branch_costs(&x, &y);
+    let costs = halves(row);
     let a = costs.even;
     let c = costs.odd;
     let low = lesser_ways(metrics, &a, &c);
@@ -448,88 +488,54 @@ struct Survivors {
     offset: usize,
 }
 
-// Normalization of the metrics: all are lowered alike, so that lane 0 has at most 84.
+// Normalization of the metrics: all are lowered alike, so that lane 0 has at most 84. What they are lowered by is computed in each lane.
 fn levelled(metrics: &[u8; 64], offset: usize) -> Survivors
     requires { ⌜ (offset ≤ 30000) × ((s t : ℕ) → s < 64 → t < 64 → at (now metrics) s ≤ at (now metrics) t + 84) ⌝ }
     ensures { λ r. ⌜ ((t : ℕ) → t < 64 → at (r .metrics) t + r .offset ≡ at (now (metrics .entry)) t + offset) × ((t : ℕ) → t < 64 → at (r .metrics) t ≤ 168) ⌝ }
 {
-    let by = above_84(metrics[0]);
-    let lower = lowered(metrics, by);
+    let first = [metrics[0]; 64];
+    let by = all_above_84(&first);
+    let lower = lowered(metrics, &by);
     Survivors {
         metrics: lower,
-        offset: offset + by as usize,
+        offset: offset + by[0] as usize,
     }
 }
 
-// At most six steps, from step k on: the path metrics after them, and for each lane its origin, the lane that its path was in before them.
-fn block(
-    xs: &[[u8; 64]; 64],
-    ys: &[[u8; 64]; 64],
+// All n steps: the metrics after them, and a row of 64 origins for each block of six, where the origin of a lane is the lane that its path was in before the
+// block. The steps that are left over make a shorter block, which comes first and needs no row.
+fn forward(
+    costs: &[[u8; 64]; 81],
     steps: &[u8],
-    k: usize,
+    memory: usize,
     n: usize,
-    before: &[u8; 64],
-) -> Row
-    requires { ⌜ (Tables (now xs) (now ys)) × (4 * (k + n) ≤ length (now steps)) × Small (now steps) × (n ≤ 6) × ((t : ℕ) → t < 64 → at (now before) t ≤ 168) ⌝ }
-    ensures { λ r. ⌜ Carried (stepCosts (now (steps .entry))) k n (now (before .entry)) (r .metrics) (r .origins) ⌝ }
+    rows: &mut [u8],
+) -> Survivors
+    requires { ⌜ (Bounded (now costs)) × (n ≤ length (now steps)) × (n ≤ 1632) × (memory < 64) × Pairs (now steps) × (64 * (n / 6) ≤ length (now rows)) ⌝ }
+    ensures { λ r. ⌜ Forward (rowCosts (now (costs .entry)) (now (steps .entry))) memory n (r .metrics) (r .offset) (now (rows .exit)) ⌝ }
 {
-    let mut metrics = *before;
-    let mut origins = LANES;
-    let mut j = 0;
-    while j < n {
-        let i = k + j;
-        let row = step(
-            xs,
-            ys,
-            &metrics,
-            &origins,
-            steps[4 * i],
-            steps[4 * i + 1],
-            steps[4 * i + 2],
-            steps[4 * i + 3],
-        );
-        let next = row.metrics;
-        let from = row.origins;
-        metrics = next;
-        origins = from;
-        j += 1;
-    }
-    Row {
-        metrics: metrics,
-        origins: origins,
-    }
-}
-
-// All n steps: the metrics after them, and a row of 64 origins for each block of six. The steps that are left over make a shorter block, which comes first
-// and needs no row.
-fn forward(steps: &[u8], memory: usize, n: usize, rows: &mut [u8]) -> Survivors
-    requires { ⌜ (4 * n ≤ length (now steps)) × (n ≤ 1632) × (memory < 64) × Small (now steps) × (64 * (n / 6) ≤ length (now rows)) ⌝ }
-    ensures { λ r. ⌜ Forward (stepCosts (now (steps .entry))) memory n (r .metrics) (r .offset) (now (rows .exit)) ⌝ }
-{
-    let xs = CODED_X;
-    let mut x_costs = [[0u8; 64]; 64];
-    write_costs(&xs, &mut x_costs);
-    let ys = CODED_Y;
-    let mut y_costs = [[0u8; 64]; 64];
-    write_costs(&ys, &mut y_costs);
     let mut metrics = start(memory);
     let mut offset = 0;
     let mut k = 0;
     let mut end = n % 6;
     while end <= n {
-        let row = block(&x_costs, &y_costs, steps, k, end - k, &metrics);
-        let next = row.metrics;
-        let origins = row.origins;
-        if end < 6 {
+        let mut origins = LANES;
+        while k < end {
+            let costs_of = costs[steps[k] as usize];
+            let row = step(&costs_of, &metrics, &origins);
+            let next = row.metrics;
+            let from = row.origins;
             metrics = next;
-        } else {
+            origins = from;
+            k += 1;
+        }
+        if end >= 6 {
             common::put(&origins, 64 * (end / 6 - 1), rows);
-            let level = levelled(&next, offset);
+            let level = levelled(&metrics, offset);
             let lower = level.metrics;
             metrics = lower;
             offset = level.offset;
         }
-        k = end;
         end += 6;
     }
     Survivors {
@@ -574,13 +580,13 @@ pub struct Run {
     pub cost: usize,
 }
 
-// The best bits of a run, into the output. There are four costs for each bit: X as 0, X as 1, Y as 0, Y as 1.
-pub fn decode(steps: &[u8], memory: usize, output: &mut [u8]) -> Run
-    requires { ⌜ (4 * length (now output) ≤ length (now steps)) × (length (now output) ≤ 1632) × (memory < 64) × Small (now steps) ⌝ }
-    ensures { λ r. ⌜ Decoded (costFrom (stepCosts (now (steps .entry))) 0 memory) (length (now (output .entry))) memory (now (output .exit)) (r .cost) (r .memory) ⌝ }
+// The best bits of a run by the costs of the rows, into the output.
+fn decode_rows(costs: &[[u8; 64]; 81], steps: &[u8], memory: usize, output: &mut [u8]) -> Run
+    requires { ⌜ (Bounded (now costs)) × (length (now output) ≤ length (now steps)) × (length (now output) ≤ 1632) × (memory < 64) × Pairs (now steps) ⌝ }
+    ensures { λ r. ⌜ Decoded (costFrom (rowCosts (now (costs .entry)) (now (steps .entry))) 0 memory) (length (now (output .entry))) memory (now (output .exit)) (r .cost) (r .memory) ⌝ }
 {
     let mut rows = [0u8; 17408];
-    let last = forward(steps, memory, output.len(), &mut rows);
+    let last = forward(costs, steps, memory, output.len(), &mut rows);
     let lanes = last.metrics;
     let offset = last.offset;
     let metrics = ordered(&lanes);
@@ -590,4 +596,20 @@ pub fn decode(steps: &[u8], memory: usize, output: &mut [u8]) -> Run
         memory: end,
         cost: metrics[end] as usize + offset,
     }
+}
+
+// The best bits of a run, into the output. There is one number for each bit, 9 x + y, where x is the decision on its X and y that on its Y.
+pub fn decode(steps: &[u8], memory: usize, output: &mut [u8]) -> Run
+    requires { ⌜ (length (now output) ≤ length (now steps)) × (length (now output) ≤ 1632) × (memory < 64) × Pairs (now steps) ⌝ }
+    ensures { λ r. ⌜ Decoded (costFrom (stepCosts (now (steps .entry))) 0 memory) (length (now (output .entry))) memory (now (output .exit)) (r .cost) (r .memory) ⌝ }
+{
+    let xs = CODED_X;
+    let mut x_costs = [[0u8; 64]; 9];
+    write_costs(&xs, &mut x_costs);
+    let ys = CODED_Y;
+    let mut y_costs = [[0u8; 64]; 9];
+    write_costs(&ys, &mut y_costs);
+    let mut costs = [[0u8; 64]; 81];
+    write_sums(&x_costs, &y_costs, &mut costs);
+    decode_rows(&costs, steps, memory, output)
 }

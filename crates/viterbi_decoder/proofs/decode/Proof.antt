@@ -1,76 +1,44 @@
 -- `viterbi_decoder::decode` meets its contract.
 -- Assumes nothing.
-use Prim.Native.Nat.{_<_}
-use native.Mathlib.Omega.{arith}
-use Rattle.viterbi_decoder.proofs.Butterfly.{lane-lt}
-use Rattle.viterbi_decoder.proofs.Sweeps.{small-costs, decoded, rows-small, total-le}
+use mathlib.Core.Path.{refl}
+use Rattle.convolutional_code.specs.Costs.{stepCosts}
+use Rattle.viterbi_decoder.specs.Lanes.{rowCosts}
+use Rattle.viterbi_decoder.proofs.Butterfly.{sums-fit, rows-bounded, row-cost}
+use Rattle.viterbi_decoder.proofs.Sweeps.{decoded-by}
 use borrow.Author.Needs.{needs}
 use Rattle.viterbi_decoder.proofs.decode.Statement.{statement}
 use Rattle.viterbi_decoder.proofs.decode.Tie as tie
 
-slice-aggregate-forward : tie.Need-slice-aggregate-forward
-slice-aggregate-forward c = search needs
+write-costs-requires : tie.Need-write-costs-requires
+write-costs-requires c κs = search needs
 
-forward-requires : tie.Need-forward-requires
-forward-requires c κs = search needs
+write-costs-requires-2 : tie.Need-write-costs-requires-2
+write-costs-requires-2 c κs = search needs
 
-ordered-requires : tie.Need-ordered-requires
-ordered-requires c κs = search needs
+write-sums-requires : tie.Need-write-sums-requires
+write-sums-requires c κs = (refl, sums-fit (c .before .before .before .before .before .before .write-costs .ensures) (c .before .before .before .write-costs2 .ensures))
 
-first-least-requires : tie.Need-first-least-requires
-first-least-requires c κs = search needs
-
-slice-aggregate-trace : tie.Need-slice-aggregate-trace
-slice-aggregate-trace c = search needs
-
-lane-of-requires : tie.Need-lane-of-requires
-lane-of-requires c κs = search needs
-
-trace-requires : tie.Need-trace-requires
-trace-requires c κs =
-    let f = c .before .before .before .before .before .before .before .before .before in
-    let h : c .before .lane-of .result < 64 = rw (c .before .lane-of .ensures) (lane-lt (c .before .before .before .first-least .result)) in
-    (omega (arith, f .forward .kept .1 .1 .1 .0), h, rows-small (f .forward .ensures))
-
-array-read-t23 : tie.Need-array-read-t23
-array-read-t23 c = search needs
-
-cast-t10 : tie.Need-cast-t10
-cast-t10 c = search needs
-
-add-t24 : tie.Need-add-t24
-add-t24 c =
-    let s = c .before .before .before .before .before .before .before .before .before .before .before .before .before .before .before .before in
-    let e = c .before .before .before .before .before .before .first-least in
-    omega (
-      arith,
-      total-le (c .before .before .before .before .before .before .before .before .before .before .before .before .forward .ensures) (small-costs (s .args .steps .now) (s .pre .3)) (s .pre .1) (e .result) _ (e .ensures .small) (c .before .before .before .before .before .before .before .before .ordered .ensures (e .result) (e .ensures .small)),
-    )
+decode-rows-requires : tie.Need-decode-rows-requires
+decode-rows-requires c κs =
+    let p = c .before .before .before .before .before .before .before .before .before .before .before .before .before .before .pre in
+    (rows-bounded (c .before .before .before .before .before .before .before .before .before .write-costs .ensures) (c .before .before .before .before .before .before .write-costs2 .ensures) (c .before .before .write-sums .ensures), p .0, p .1, p .2, p .3)
 
 same-length : tie.Need-same-length
 same-length c = search needs
 
 returns : tie.Need-returns
+unfolding stepCosts rowCosts
 returns c =
-    let s = c .before .before .before .before .before .before .before .before .before .before .before .before .before .before .before .before in
-    let l = c .before .before .before .before .lane-of in
-    let o = c .before .before .before .before .before .before .before .before .ordered in
-    rw (c .before .before .trace .ensures)
-    (decoded (c .before .before .before .before .before .before .before .before .before .before .before .before .forward .ensures) (small-costs (s .args .steps .now) (s .pre .3)) (s .pre .2) (o .result) (o .ensures) (c .before .before .before .before .before .before .first-least .ensures) (l .result) (l .ensures))
+    let p = c .before .before .before .before .before .before .before .before .before .before .before .before .before .before .before .before .before .pre in
+    decoded-by _ _ (λ k s b. row-cost (c .before .before .before .before .before .before .before .before .before .before .before .before .write-costs .ensures) (c .before .before .before .before .before .before .before .before .before .write-costs2 .ensures) (c .before .before .before .before .before .write-sums .ensures) _ (p .3 k) s b) _ _ (p .2) (c .before .before .decode-rows .ensures)
 
 pub decode-spec : {M : Type 1} → statement M
 decode-spec =
     tie.close
     (tie.spec
-    slice-aggregate-forward
-    forward-requires
-    ordered-requires
-    first-least-requires
-    slice-aggregate-trace
-    lane-of-requires
-    trace-requires
-    array-read-t23
-    cast-t10
-    add-t24
+    write-costs-requires
+    write-costs-requires-2
+    write-sums-requires
+    decode-rows-requires
     same-length
     returns)

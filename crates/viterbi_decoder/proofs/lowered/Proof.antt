@@ -9,7 +9,7 @@ use Rattle.viterbi_decoder.proofs.lowered.Statement.{statement}
 use Rattle.viterbi_decoder.proofs.lowered.Tie as tie
 
 abbrev Inv-loop : tie.InvT-loop
-Inv-loop metrics by r₀ s₀ r s = Each (λ k v. v ≡ at metrics k - by) 64 r s
+Inv-loop metrics by r₀ s₀ r s = Each (λ k v. v ≡ at metrics k - at by k) 64 r s
 
 abbrev μ-loop : tie.MeasureT-loop
 μ-loop metrics by r₀ s₀ r s = 64 - s
@@ -20,8 +20,11 @@ loop-holds c = each-none refl
 element-copy-out-r : tie.Need-element-copy-out-r Inv-loop μ-loop
 element-copy-out-r c = omega arith
 
+element-copy-out-r-2 : tie.Need-element-copy-out-r-2 Inv-loop μ-loop
+element-copy-out-r-2 c = omega arith
+
 sub-r : tie.Need-sub-r Inv-loop μ-loop
-sub-r c = omega (arith, c .before .before .before .pre (c .before .before .loop .s) (omega arith))
+sub-r c = omega (arith, c .before .before .before .before .pre (c .before .before .before .loop .s) (omega arith))
 
 array-write-r : tie.Need-array-write-r Inv-loop μ-loop
 array-write-r c = omega arith
@@ -33,7 +36,7 @@ loop-less : tie.Need-loop-less Inv-loop μ-loop
 loop-less c = omega arith
 
 loop-again : tie.Need-loop-again Inv-loop μ-loop
-loop-again c = each-more _ (omega arith) (refl) (c .before .before .loop .inv)
+loop-again c = each-more _ (omega arith) refl (c .before .before .before .loop .inv)
 
 returns : tie.Need-returns Inv-loop μ-loop
 returns c = each-all (omega arith) (c .before .loop .inv)
@@ -46,6 +49,7 @@ lowered-spec =
     μ-loop
     loop-holds
     element-copy-out-r
+    element-copy-out-r-2
     sub-r
     array-write-r
     add-s

@@ -1,68 +1,38 @@
 -- `viterbi_decoder::step` meets its contract: proofs/Butterfly.antt says why the lanes are the ways into the memories.
 -- Assumes nothing.
-use Prim.Native.Nat.{ℕ, _+_, _<_, _≤_}
-use Rattle.convolutional_code.specs.Costs.{at, stepCost}
-use Rattle.viterbi_decoder.proofs.Butterfly.{stepCost-le, Costed, row-fits, costed, Lanes, stepped, fits}
+use Prim.Native.Nat.{ℕ, _+_, _*_, _%_, _<_, _≤_}
+use native.Mathlib.Omega.{arith}
+use Rattle.convolutional_code.specs.Costs.{at}
+use Rattle.viterbi_decoder.specs.Lanes.{lane, rowCost}
+use Rattle.viterbi_decoder.proofs.Butterfly.{Costed, costed, Lanes, stepped, fits}
 use borrow.Author.Needs.{needs}
 use Rattle.viterbi_decoder.proofs.step.Statement.{statement}
 use Rattle.viterbi_decoder.proofs.step.Tie as tie
 
-mul-x : tie.Need-mul-x
-mul-x c = search needs
-
-add-x : tie.Need-add-x
-add-x c = search needs
-
-cast-x : tie.Need-cast-x
-cast-x c = search needs
-
-mul-x-2 : tie.Need-mul-x-2
-mul-x-2 c = search needs
-
-element-copy-out-x : tie.Need-element-copy-out-x
-element-copy-out-x c = search needs
-
-mul-y : tie.Need-mul-y
-mul-y c = search needs
-
-add-y : tie.Need-add-y
-add-y c = search needs
-
-cast-y : tie.Need-cast-y
-cast-y c = search needs
-
-mul-y-2 : tie.Need-mul-y-2
-mul-y-2 c = search needs
-
-element-copy-out-y : tie.Need-element-copy-out-y
-element-copy-out-y c = search needs
-
-branch-costs-requires : tie.Need-branch-costs-requires
-branch-costs-requires c κs =
-    let p = c .before .before .before .before .pre in
-    λ i h. row-fits _ _ (p .0) _ _ _ _ (p .2) (p .3) (p .4) (p .5) i h
+halves-requires : tie.Need-halves-requires
+halves-requires c κs = search needs
 
 -- ---- what the branches cost
 
-abbrev start : tie.After-branch-costs → tie.Start
-start c = c .before .before .before .before .before
+abbrev start : tie.After-halves → tie.Start
+start c = c .before
 
-small : (c : tie.After-branch-costs) (m b : ℕ) → stepCost (start c .args .x0) (start c .args .x1) (start c .args .y0) (start c .args .y1) m b ≤ 14
-small c m b = let p = start c .pre in stepCost-le _ _ _ _ m b (p .2) (p .3) (p .4) (p .5)
+small : (c : tie.After-halves) (m b : ℕ) → rowCost (start c .args .row .now) m b ≤ 14
+unfolding rowCost
+small c m b = start c .pre .0 ((lane m + 32 * b) % 64) (omega arith)
 
-costs : (c : tie.After-branch-costs)
-    → Costed (stepCost (start c .args .x0) (start c .args .x1) (start c .args .y0) (start c .args .y1)) (at (c .branch-costs .result .even)) (at (c .branch-costs .result .odd))
-costs c = let p = start c .pre in costed _ _ (p .0) _ _ _ _ (p .2) (p .3) (p .4) (p .5) _ _ (c .branch-costs .ensures .0) (c .branch-costs .ensures .1)
+costs : (c : tie.After-halves) → Costed (rowCost (start c .args .row .now)) (at (c .halves .result .even)) (at (c .halves .result .odd))
+costs c = costed _ _ _ (c .halves .ensures .0) (c .halves .ensures .1)
 
-sums : (c : tie.After-branch-costs) (i : ℕ) → i < 32 → let m = start c .args .metrics .now in let a = c .branch-costs .result .even in let d = c .branch-costs .result .odd in
+sums : (c : tie.After-halves) (i : ℕ) → i < 32 → let m = start c .args .metrics .now in let a = c .halves .result .even in let d = c .halves .result .odd in
     ((at m i + at a i < 256) × (at m (i + 32) + at d i < 256)) × ((at m i + at d i < 256) × (at m (i + 32) + at a i < 256))
 sums c = fits (costs c) (small c) (start c .args .metrics .now) (start c .pre .1)
 
-abbrev costs-of : tie.After-ways-chosen2 → tie.After-branch-costs
+abbrev costs-of : tie.After-ways-chosen2 → tie.After-halves
 costs-of c = c .before .before .before .before .before .before .before .before .before .before .before .before .before .before
 
 lanes : (c : tie.After-ways-chosen2) → let e = costs-of c in
-    Lanes (start e .args .metrics .now) (start e .args .origins .now) (at (e .branch-costs .result .even)) (at (e .branch-costs .result .odd))
+    Lanes (start e .args .metrics .now) (start e .args .origins .now) (at (e .halves .result .even)) (at (e .halves .result .odd))
     (c .before .before .before .before .before .before .before .before .before .lesser-ways .result) (c .before .before .before .before .before .before .lesser-ways2 .result) (c .before .before .before .ways-chosen .result) (c .ways-chosen2 .result)
 lanes c = record {
   low-is = c .before .before .before .before .before .before .before .before .before .lesser-ways .ensures;
@@ -98,17 +68,7 @@ pub step-spec : {M : Type 1} → statement M
 step-spec =
     tie.close
     (tie.spec
-    mul-x
-    add-x
-    cast-x
-    mul-x-2
-    element-copy-out-x
-    mul-y
-    add-y
-    cast-y
-    mul-y-2
-    element-copy-out-y
-    branch-costs-requires
+    halves-requires
     lesser-ways-requires
     lesser-ways-requires-2
     ways-chosen-requires

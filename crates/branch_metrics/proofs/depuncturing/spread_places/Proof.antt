@@ -2,16 +2,15 @@
 -- Assumes nothing.
 use Prim.Native.Nat.{_-_}
 use native.Mathlib.Omega.{arith}
-use lib.ListN.{length-set}
 use Rattle.branch_metrics.proofs.Facts.{Spreading, spreading-none, spreading-more, in-pattern, asks, table-is}
 use Rattle.branch_metrics.proofs.depuncturing.spread_places.Statement.{statement}
 use Rattle.branch_metrics.proofs.depuncturing.spread_places.Tie as tie
 
 abbrev Inv-loop : tie.InvT-loop
-Inv-loop costs rate pattern n output₀ kinds k₀ place₀ j₀ at₀ output k place j at = Spreading costs rate n k place j at output₀ output
+Inv-loop pairs rate pattern n output₀ kinds k₀ place₀ j₀ output k place j = Spreading pairs rate n k place j output₀ output
 
 abbrev μ-loop : tie.MeasureT-loop
-μ-loop costs rate pattern n output₀ kinds k₀ place₀ j₀ at₀ output k place j at = n - k
+μ-loop pairs rate pattern n output₀ kinds k₀ place₀ j₀ output k place j = n - k
 
 loop-holds : tie.Need-loop-holds Inv-loop μ-loop
 loop-holds c = spreading-none _ _ _ _
@@ -25,32 +24,15 @@ add-q c = omega (arith, in-pattern _ _ _ _ ((c .before .loop) .inv) ((c .before 
 array-read-q : tie.Need-array-read-q Inv-loop μ-loop
 array-read-q c = omega (arith, in-pattern _ _ _ _ ((c .before .loop) .inv) ((c .before .before .before .before) .pre .1) ((c .before .before .before .before) .pre .2) .1)
 
-four-of-requires : tie.Need-four-of-requires Inv-loop μ-loop
-four-of-requires c κs = asks _ _ _ _ (c .before .loop .inv) (c .loop-test .taken) ((c .before .before .before .before) .pre .0) (in-pattern _ _ _ _ ((c .before .loop) .inv) ((c .before .before .before .before) .pre .1) ((c .before .before .before .before) .pre .2) .0) ((c .before .before .before .before) .pre .4) _ (table-is _ _ ((c .before .before .before .before) .pre .0) (in-pattern _ _ _ _ ((c .before .loop) .inv) ((c .before .before .before .before) .pre .1) ((c .before .before .before .before) .pre .2) .0))
+step-of-requires : tie.Need-step-of-requires Inv-loop μ-loop
+step-of-requires c κs =
+    let s = c .before .before .before .before in
+    let i = in-pattern _ _ _ _ (c .before .loop .inv) (s .pre .1) (s .pre .2) .0 in
+    let a = asks _ _ _ _ (c .before .loop .inv) (c .loop-test .taken) (s .pre .0) i (s .pre .4) _ (table-is _ _ (s .pre .0) i) in
+    (a .0, a .1, a .2, s .pre .6)
 
 slice-write-output : tie.Need-slice-write-output Inv-loop μ-loop
 slice-write-output c = omega (arith, (c .before .before .loop) .inv .written .len)
-
-add-at1 : tie.Need-add-at1 Inv-loop μ-loop
-add-at1 c = omega arith
-
-slice-write-output-2 : tie.Need-slice-write-output-2 Inv-loop μ-loop
-slice-write-output-2 c = simp length-set (omega (arith, (c .before .before .loop) .inv .written .len))
-
-add-at2 : tie.Need-add-at2 Inv-loop μ-loop
-add-at2 c = omega arith
-
-slice-write-output-3 : tie.Need-slice-write-output-3 Inv-loop μ-loop
-slice-write-output-3 c = simp length-set (omega (arith, (c .before .before .loop) .inv .written .len))
-
-add-at3 : tie.Need-add-at3 Inv-loop μ-loop
-add-at3 c = omega arith
-
-slice-write-output-4 : tie.Need-slice-write-output-4 Inv-loop μ-loop
-slice-write-output-4 c = simp length-set (omega (arith, (c .before .before .loop) .inv .written .len))
-
-add-at : tie.Need-add-at Inv-loop μ-loop
-add-at c = omega arith
 
 following-requires : tie.Need-following-requires Inv-loop μ-loop
 following-requires c κs =
@@ -67,10 +49,9 @@ loop-again : tie.Need-loop-again Inv-loop μ-loop
 loop-again c =
     let l = c .before .before .before .loop in
     let s = c .before .before .before .before .before .before in
-    let f = c .before .four-of .ensures in
+    let f = c .before .step-of .ensures in
     rw (c .following .ensures, s .pre .1)
-    (spreading-more _ _ _ (l .inv) (c .before .before .loop-test .taken) (s .pre .5) _ _ _ _ _ _
-    (table-is _ _ (s .pre .0) (in-pattern _ _ _ _ (l .inv) (s .pre .1) (s .pre .2) .0)) (f .0) (f .1) (f .2) (f .3) (f .4))
+    (spreading-more _ _ _ (l .inv) (c .before .before .loop-test .taken) (s .pre .5) _ _ _ (table-is _ _ (s .pre .0) (in-pattern _ _ _ _ (l .inv) (s .pre .1) (s .pre .2) .0)) (f .0) (f .1))
 
 same-length : tie.Need-same-length Inv-loop μ-loop
 same-length c = c .before .loop .inv .written .len
@@ -88,15 +69,8 @@ spread-places-spec =
     mul-q
     add-q
     array-read-q
-    four-of-requires
+    step-of-requires
     slice-write-output
-    add-at1
-    slice-write-output-2
-    add-at2
-    slice-write-output-3
-    add-at3
-    slice-write-output-4
-    add-at
     following-requires
     add-k
     loop-less

@@ -1,0 +1,62 @@
+-- `branch_metrics::depuncturing::spread_pairs` meets its contract.
+-- Assumes nothing.
+use borrow.Author.Needs.{needs}
+use Prim.Native.Nat.{_-_, _*_, _≤_}
+use native.Mathlib.Omega.{arith}
+use lib.ListN.{length}
+use Rattle.branch_metrics.specs.Steps.{first}
+use Rattle.branch_metrics.proofs.Facts.{half-first, half-spread}
+use Rattle.branch_metrics.proofs.depuncturing.spread_pairs.Statement.{statement}
+use Rattle.branch_metrics.proofs.depuncturing.spread_pairs.Tie as tie
+
+sub-put : tie.Need-sub-put
+sub-put c = search needs
+
+part-put-start : tie.Need-part-put-start
+part-put-start c = search needs
+
+-- at rate 1/2 there are symbols enough
+enough : (c : tie.Then1) → let s = c .before .before .before .args in s .n ≤ length (s .pairs .now)
+enough c =
+    let s = c .before .before .before in
+    let p : first 0 (s .args .n) ≤ 2 * length (s .args .pairs .now) = rw (c .if1 .taken) at (s .pre .4) in
+    omega (arith, half-first (s .args .n))
+
+part-put-end : tie.Need-part-put-end
+part-put-end c = omega (arith, enough c)
+
+put-requires : tie.Need-put-requires
+put-requires c κs = search needs
+
+spread-places-requires : tie.Need-spread-places-requires
+spread-places-requires c κs = search needs
+
+same-length : tie.Need-same-length
+same-length c = search needs
+
+returns : tie.Need-returns
+returns c =
+    let w = c .before .before .before .before .before in
+    let s = c .before .before .before .before .before .before .before .before in
+    rw (w .if1 .taken)
+    (half-spread (s .args .pairs .now) (s .args .output .now) (c .before .before .put .last .1 .1 .0) (s .args .n) (s .args .n - 0) (omega arith) (enough w) (s .pre .5) (c .before .before .put .ensures))
+
+same-length-2 : tie.Need-same-length-2
+same-length-2 c = search needs
+
+returns-2 : tie.Need-returns-2
+returns-2 c = search needs
+
+pub spread-pairs-spec : {M : Type 1} → statement M
+spread-pairs-spec =
+    tie.close
+    (tie.spec
+    sub-put
+    part-put-start
+    part-put-end
+    put-requires
+    spread-places-requires
+    same-length
+    returns
+    same-length-2
+    returns-2)

@@ -1,2 +1,0 @@
-mod Symbols
-pub mod Turning

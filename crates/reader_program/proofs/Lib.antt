@@ -1,0 +1,5 @@
+mod HardInput
+mod SoftInput
+mod Turning
+mod Going
+mod Ending

@@ -1,0 +1,4 @@
+pub mod Received
+pub mod Pass
+pub mod Lines
+pub mod Ends

@@ -1,0 +1,51 @@
+-- A pass over the bytes of received symbols: what is taken of some bytes, and what all of them come to.
+-- Clauses: document 02, P1 and P8.
+-- Assumes nothing.
+use mathlib.Core.Path.{_≡_}
+use mathlib.Core.Bool.{Bool, true, false}
+use mathlib.Core.List.{List}
+use Prim.Native.Nat.{ℕ, _%_, _≤_, _<_}
+use lib.ListN.{length, getD, take}
+use Rattle.common.specs.Lists.{All, restOf}
+use Rattle.reader.specs.Cost.{Costed}
+use Rattle.reader_stream.specs.Stream.{FeedsReader}
+use Rattle.reader_stream.specs.History.{ReaderFeedings}
+use Rattle.reader_stream.specs.declared.ReaderStream.{ReaderStream}
+use Rattle.reader_program.specs.Received.{costOf, width, symbolsIn, Valid}
+use Rattle.reader_program.specs.declared.Pass.{Pass}
+use Rattle.reader_program.specs.declared.Taken.{Taken}
+
+-- the bytes that make no whole symbol are held
+pub record Held (soft : Bool) (p : Pass) (bytes : List ℕ) : Type 0 where
+  pub size : length (p .tail) ≡ 8
+  pub count : p .held ≡ length bytes % width soft
+  pub bytes-are : take (p .held) (p .tail) ≡ restOf (width soft) bytes
+
+-- So many bytes at the front of some are symbols: all of them, or all up to the first byte that is none.
+pub record SymbolsAtFront (bytes : List ℕ) (count : ℕ) : Type 0 where
+  pub most : count ≤ length bytes
+  pub symbols : All (λ x. x < 4) (take count bytes)
+  pub ends : count < length bytes → 4 ≤ getD bytes count 0
+
+-- What is taken of bytes that are all fit: the reader is fed with their whole symbols, and the bytes that are left are held.
+pub record TakesAll (soft : Bool) (s : ReaderStream) (bytes output : List ℕ) (next : Pass) (count : ℕ) (exit : List ℕ) : Type 0 where
+  pub valid : Valid soft bytes
+  pub costs : List ℕ
+  pub costed : Costed (costOf soft) (symbolsIn soft bytes) costs
+  pub fed : FeedsReader s costs output (next .stream) count exit
+  pub holds : Held soft next bytes
+
+-- What is taken of some bytes: all of them, or all up to the first that is no symbol.
+pub record TakesBytes (soft : Bool) (s : ReaderStream) (bytes output : List ℕ) (t : Taken) (exit : List ℕ) : Type 0 where
+  pub most : t .taken ≤ length bytes
+  pub takes : TakesAll soft s (take (t .taken) bytes) output (t .pass) (t .count) exit
+  pub all : t .stopped ≡ false → t .taken ≡ length bytes
+  pub stops : t .stopped ≡ true → (soft ≡ false) × (t .taken < length bytes) × (4 ≤ getD bytes (t .taken) 0)
+
+-- What all bytes come to: a fresh reader was fed with the costs of their symbols, and gave these bytes.
+pub record BytesTaken (soft : Bool) (rate : ℕ) (bytes written : List ℕ) (p : Pass) : Type 0 where
+  pub valid : Valid soft bytes
+  pub costs : List ℕ
+  pub costed : Costed (costOf soft) (symbolsIn soft bytes) costs
+  pub fed : ReaderFeedings rate costs written (p .stream)
+  pub holds : Held soft p bytes

@@ -1,0 +1,126 @@
+// Soft decisions: the bytes of received points, two f32 each, I and then Q, the lowest byte first: the complex numbers of GNU Radio's files. A point whose
+// numbers are both NaN is a lost symbol.
+ghost use mathlib.Core.Path.{_≡_};
+ghost use mathlib.Core.Bool.{true};
+ghost use Prim.Native.Nat.{ℕ, _+_, _*_, _/_, _<_, _≤_};
+ghost use lib.Ieee.{isNan, ofBits, binary32, nanBits};
+ghost use lib.ListN.{length, getD};
+ghost use Rattle.branch_metrics.specs.SoftPairs.{symbolPair};
+ghost use Rattle.reader_stream.specs.Stream.{ReaderReady};
+ghost use Rattle.reader_program.specs.Received.{wordAt, number, point, pointAt};
+ghost use Rattle.reader_program.specs.Pass.{TakesBytes};
+use crate::Pass;
+use crate::Taken;
+use branch_metrics::soft_decision::Point;
+use branch_metrics::soft_decision::Received;
+use branch_metrics::soft_decision::symbol_pair;
+use common::put;
+use reader_stream::ReaderStream;
+
+// The number of four bytes, the lowest first.
+fn word_of(a: u8, b: u8, c: u8, d: u8) -> u32
+    ensures { λ r. ⌜ r ≡ a + 256 * b + 65536 * c + 16777216 * d ⌝ }
+{
+    a as u32 + 256 * b as u32 + 65536 * c as u32 + 16777216 * d as u32
+}
+
+// The number whose lowest byte is at a place.
+fn word_at(bytes: &[u8], at: usize) -> u32
+    requires { ⌜ at + 4 ≤ length (now bytes) ⌝ }
+    ensures { λ r. ⌜ r ≡ wordAt (now (bytes .entry)) at ⌝ }
+{
+    word_of(bytes[at], bytes[at + 1], bytes[at + 2], bytes[at + 3])
+}
+
+// Whether a pattern is that of a NaN: the field of the exponent is all ones, and that of the digits is not 0.
+fn is_nan_pattern(bits: u32) -> bool
+    ensures { λ r. ⌜ r ≡ nanBits binary32 bits ⌝ }
+{
+    if bits % 2147483648 / 8388608 != 255 {
+        return false;
+    }
+    bits % 8388608 != 0
+}
+
+// The f32 of a pattern. `from_bits` is not defined for that of a NaN, so a NaN is made.
+fn number_of(bits: u32) -> f32
+    ensures { λ r. ⌜ r ≡ ofBits binary32 bits ⌝ }
+{
+    if is_nan_pattern(bits) {
+        return 0.0 / 0.0;
+    }
+    f32::from_bits(bits)
+}
+
+// A NaN alone differs from itself.
+fn is_nan(x: f32) -> bool
+    ensures { λ r. ⌜ r ≡ isNan x ⌝ }
+{
+    x != x
+}
+
+// The symbol that two numbers stand for.
+fn point_of(i: f32, q: f32) -> Received
+    ensures { λ r. ⌜ r ≡ point i q ⌝ }
+{
+    if !is_nan(i) {
+        return Received::At(Point { i, q });
+    }
+    if !is_nan(q) {
+        return Received::At(Point { i, q });
+    }
+    Received::Lost
+}
+
+// The symbol whose point is at a place.
+fn point_at(bytes: &[u8], at: usize) -> Received
+    requires { ⌜ at + 8 ≤ length (now bytes) ⌝ }
+    ensures { λ r. ⌜ r ≡ point (number (now (bytes .entry)) at) (number (now (bytes .entry)) (at + 4)) ⌝ }
+{
+    let i = number_of(word_at(bytes, at));
+    let q = number_of(word_at(bytes, at + 4));
+    point_of(i, q)
+}
+
+// Writes the decisions on so many points, one number for each.
+fn point_pairs(bytes: &[u8], count: usize, output: &mut [u8])
+    requires { ⌜ (8 * count ≤ length (now bytes)) × (count ≤ length (now output)) ⌝ }
+    ensures { λ _. ⌜ ((t : ℕ) → t < count → getD (now (output .exit)) t 0 ≡ symbolPair (pointAt (now (bytes .entry)) t)) ⌝ }
+{
+    let mut k: usize = 0;
+    while k < count {
+        output[k] = symbol_pair(point_at(bytes, 8 * k));
+        k += 1;
+    }
+}
+
+// Takes the whole points of some bytes, and holds the bytes that are left.
+pub fn take_points(
+    stream: ReaderStream,
+    bytes: &[u8],
+    costs: &mut [u8],
+    bits: &mut [u8],
+    output: &mut [u8],
+) -> Taken
+    requires { ⌜ (ReaderReady stream) × (length (now bytes) / 8 ≤ length (now costs)) × (1632 ≤ length (now bits)) × (length (now bytes) / 8 + 1632 ≤ 4 * length (now output)) ⌝ }
+    ensures { λ r. ⌜ TakesBytes true stream (now (bytes .entry)) (now (output .entry)) r (now (output .exit)) ⌝ }
+{
+    let points = bytes.len() / 8;
+    point_pairs(bytes, points, costs);
+    let fed = stream.feed(&costs[..points], bits, output);
+    let next = fed.stream;
+    let count = fed.count;
+    let whole = 8 * points;
+    let mut tail = [0u8; 8];
+    put(&bytes[whole..], 0, &mut tail);
+    Taken {
+        pass: Pass {
+            stream: next,
+            tail,
+            held: bytes.len() % 8,
+        },
+        taken: bytes.len(),
+        stopped: false,
+        count,
+    }
+}

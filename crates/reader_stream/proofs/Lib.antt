@@ -1,0 +1,7 @@
+pub mod Bytes
+pub mod Packing
+pub mod Costs
+pub mod Runs
+mod Feeding
+pub mod Histories
+pub mod Unharmed

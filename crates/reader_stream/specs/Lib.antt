@@ -1,0 +1,4 @@
+pub mod Packing
+pub mod Runs
+pub mod Stream
+pub mod History

@@ -1,4 +1,0 @@
-pub mod Costs
-pub mod Streams
-pub mod Histories
-pub mod Unharmed
