@@ -57,7 +57,7 @@ taken-on {soft} {rate} {bytes} {written} {p} {next} b more {output} {exit} {coun
       costed =
           subst (λ (l : List (Symbol soft)). Costed (costOf soft) l (b .costs ++ k .costs)) (sym (symbols-pieces soft bytes more))
           (costed-append (costOf soft) (b .costed) (k .costed));
-      fed = feeding (k .costs) output exit count (b .fed) (omega (arith, k .costed .size)) (k .fed);
+      fed = feeding (k .costs) output exit count (b .fed) (k .fed);
       holds = record {
         size = k .holds .size;
         count = k .holds .count ∙ (sym (length-rest n (restOf n bytes ++ more)) ∙ (ap length (sym q) ∙ length-rest n (bytes ++ more)));
@@ -67,8 +67,8 @@ taken-on {soft} {rate} {bytes} {written} {p} {next} b more {output} {exit} {coun
 
 none-costed : (soft : Bool) → Costed (costOf soft) (symbolsIn soft []) []
 unfolding chunksOf chunks
-none-costed true = record { size = omega arith; each = λ i s h four. absurd (omega arith) }
-none-costed false = record { size = omega arith; each = λ i s h four. absurd (omega arith) }
+none-costed true = record { size = omega arith; extra = λ i. 0; each = λ i s h four. absurd (omega arith) }
+none-costed false = record { size = omega arith; extra = λ i. 0; each = λ i s h four. absurd (omega arith) }
 
 none-valid : (soft : Bool) → Valid soft []
 none-valid true = tt

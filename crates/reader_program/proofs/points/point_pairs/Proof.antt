@@ -31,7 +31,7 @@ symbol-pair-requires : tie.Need-symbol-pair-requires Inv-loop μ-loop
 symbol-pair-requires c κs = search needs
 
 slice-write-output : tie.Need-slice-write-output Inv-loop μ-loop
-slice-write-output c = ?
+slice-write-output c = omega (arith, c .before .before .before .loop .inv .1 .len)
 
 add-k : tie.Need-add-k Inv-loop μ-loop
 add-k c = omega arith
@@ -40,7 +40,7 @@ loop-less : tie.Need-loop-less Inv-loop μ-loop
 loop-less c = omega arith
 
 loop-again : tie.Need-loop-again Inv-loop μ-loop
-loop-again c = ?
+loop-again c = (omega arith, each-more _ (omega arith) (c .symbol-pair .ensures ∙ ap symbolPair (c .before .point-at .ensures)) (c .before .before .before .loop .inv .1))
 
 same-length : tie.Need-same-length Inv-loop μ-loop
 same-length c = c .before .loop .inv .1 .len
