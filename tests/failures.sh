@@ -64,7 +64,7 @@ part "a failed read of dvbs_send" symbols "standard input: $io_error" failing "r
 says "a failed first read of dvbs_receive" "standard input: $io_error" failing "read 0 1 -5" "$bin/dvbs_receive" < blocks
 says "a failed last read of pass_report" "standard input: $io_error" failing "read 0 2 -5" "$bin/pass_report" < blocks
 says "a directory as input of dvbs_read" "standard input: Is a directory" "$bin/dvbs_read" 2 < .
-for place in 0 7 16383 16384 40000; do
+for place in 0 7 32767 32768 40000; do
     cp symbols bad
     fill bad 004 $place 1
     part "a byte above 3 at $place" bytes "symbol=$place answer=14" "$bin/dvbs_read" 2 < bad

@@ -98,7 +98,7 @@ echo "dvbs_send in 300 cuttings: one stream of symbols, one text on standard err
 # is no longer sent: there the symbols are GNU Radio's.
 for rate in 0 1 2 3 4; do
     if [ $rate = 4 ]; then cp "$recorded" symbols; else "$bin/dvbs_send" $rate < packets.40 > symbols; fi
-    "$reference/pieces" 12 16384 "$bin/dvbs_read" $rate < symbols > blocks 2> told || fail "dvbs_read $rate in pieces"
+    "$reference/pieces" 12 32768 "$bin/dvbs_read" $rate < symbols > blocks 2> told || fail "dvbs_read $rate in pieces"
     "$reference/channel" $rate inf 1 < symbols > points
     { cat points; head -c 5 points; } > points.more
     { cat told; echo "bytes=5"; } > told.soft

@@ -27,7 +27,7 @@ pub few-held : (soft : Bool) {n : ℕ} → n < width soft → n < 8
 few-held true h = h
 few-held false h = omega arith
 
-pub most-few : (soft : Bool) → mostOf soft ≤ 65536
+pub most-few : (soft : Bool) → mostOf soft ≤ 262144
 most-few true = omega arith
 most-few false = omega arith
 
@@ -37,7 +37,7 @@ most-some false = omega arith
 
 -- the costs of a piece, behind the bytes that are held, and the bytes that its bits fill
 pub room : (soft : Bool) (size held came : ℕ) {most : ℕ} → size ≡ held + came → held < width soft → came ≤ most → most ≡ mostOf soft
-    → (size / width soft ≤ 16384) × (size / width soft + 1632 ≤ 18016)
+    → (size / width soft ≤ 32768) × (size / width soft + 1632 ≤ 34400)
 room true size held came e f c m = (omega arith, omega arith)
 room false size held came e f c m = (omega arith, omega arith)
 

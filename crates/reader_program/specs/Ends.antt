@@ -32,9 +32,9 @@ use Rattle.reader_program.specs.declared.Ended.{Ended}
 
 -- ---- a turn
 
--- the most bytes that one read is asked for
+-- the most bytes that one read is asked for: 32,768 symbols
 abbrev pub mostOf : Bool → ℕ
-mostOf soft = pick soft 65536 16384
+mostOf soft = pick soft 262144 32768
 
 -- One read into a buffer from byte 8 on, with the bytes that were held right before those that came.
 pub record ReadsBehind (i : Input) (held : List ℕ) (most : ℕ) (buffer : List ℕ) (r : Filled) : Type 0 where
@@ -46,10 +46,10 @@ pub record Buffers (soft : Bool) (p : Pass) (buffer costs bits output : List ℕ
   pub ready : ReaderReady (p .stream)
   pub few : p .held < width soft
   pub size : length (p .tail) ≡ 8
-  pub piece : length buffer ≡ 65544
-  pub numbers : length costs ≡ 16384
+  pub piece : length buffer ≡ 262152
+  pub numbers : length costs ≡ 32768
   pub run : length bits ≡ 1632
-  pub bytes : length output ≡ 4504
+  pub bytes : length output ≡ 8600
 
 -- One read, and what is taken of the bytes that were held and of those that came. The bytes to be written stand at the front of the output.
 pub record Turns (soft : Bool) (i : Input) (p : Pass) (output : List ℕ) (t : Turn) (exit : List ℕ) : Type 0 where
@@ -58,7 +58,7 @@ pub record Turns (soft : Bool) (i : Input) (p : Pass) (output : List ℕ) (t : T
   pub origin : inputOrigin (t .input) ≡ inputOrigin i
   pub trace : inputTrace (t .input) ≡ traced (inputTrace i) piece
   pub none : t .length ≡ 0 → inputOver (t .input) ≡ true
-  pub short : t .length ≤ 65536
+  pub short : t .length ≤ 262144
   pub takes : TakesBytes soft (p .stream) (take (p .held) (p .tail) ++ piece) output (t .taken) exit
   pub fits : t .taken .count ≤ length exit
 

@@ -76,14 +76,14 @@ fn take_bytes(
     crate::symbols::take_symbols(stream, bytes, costs, bits, output)
 }
 
-// The most bytes that one read is asked for.
+// The most bytes that one read is asked for: 32,768 symbols, whose bits fill 4,096 bytes or more.
 fn most_of(soft: bool) -> usize
     ensures { λ r. ⌜ r ≡ mostOf soft ⌝ }
 {
     if soft {
-        return 65536;
+        return 262144;
     }
-    16384
+    32768
 }
 
 // Reads once, from byte 8 of the buffer on, and lays the bytes that are held right before those that came.
@@ -223,10 +223,10 @@ fn read_all(soft: bool, rate: u8, input: Input, output: Output, errors: Output) 
     requires { ⌜ (rate < 5) × (StandardInput input) × (FreshOutput (pos 1) output) × (FreshOutput (pos 2) errors) ⌝ }
     ensures { λ r. ⌜ Ends soft rate r ⌝ }
 {
-    let mut buffer = [0u8; 65544];
-    let mut costs = [0u8; 16384];
+    let mut buffer = [0u8; 262152];
+    let mut costs = [0u8; 32768];
     let mut bits = [0u8; 1632];
-    let mut bytes = [0u8; 4504];
+    let mut bytes = [0u8; 8600];
     let mut input = input;
     let mut output = output;
     let stream = ReaderStream::new(rate);

@@ -14,11 +14,11 @@ use Rattle.reader_program.proofs.read_all.Tie as tie
 
 abbrev Inv-loop : tie.InvT-loop
 Inv-loop soft rate errors buffer₀ costs₀ bits₀ bytes₀ input₀ output₀ pass₀ came₀ t22 buffer costs bits bytes input output pass came =
-    (Going soft rate input output pass came) × (Files input output errors) × (length buffer ≡ 65544) × (length costs ≡ 16384) × (length bits ≡ 1632) × (length bytes ≡ 4504)
-    × (came ≤ 9223372036854841343)
+    (Going soft rate input output pass came) × (Files input output errors) × (length buffer ≡ 262152) × (length costs ≡ 32768) × (length bits ≡ 1632) × (length bytes ≡ 8600)
+    × (came ≤ 9223372036855037951)
 
 abbrev μ-loop : tie.MeasureT-loop
-μ-loop soft rate errors buffer₀ costs₀ bits₀ bytes₀ input₀ output₀ pass₀ came₀ t22 buffer costs bits bytes input output pass came = 9223372036854841344 - came
+μ-loop soft rate errors buffer₀ costs₀ bits₀ bytes₀ input₀ output₀ pass₀ came₀ t22 buffer costs bits bytes input output pass came = 9223372036855037952 - came
 
 new-requires : tie.Need-new-requires Inv-loop μ-loop
 new-requires c κs = c .pre .0
@@ -28,10 +28,10 @@ loop-holds c =
     let p = c .before .pre in (
       going-none (c .before .args .soft) (p .1) (p .2) (c .new .ensures) refl refl,
       files-none (p .1) (p .2) (p .3),
-      length-replicate {A = ℕ} 65544 0,
-      length-replicate {A = ℕ} 16384 0,
+      length-replicate {A = ℕ} 262152 0,
+      length-replicate {A = ℕ} 32768 0,
       length-replicate {A = ℕ} 1632 0,
-      length-replicate {A = ℕ} 4504 0,
+      length-replicate {A = ℕ} 8600 0,
       omega arith,
     )
 
@@ -63,7 +63,7 @@ next-turn-requires c κs =
     }
 
 -- how many bytes a turn takes at most
-few-taken : (c : tie.After-next-turn Inv-loop μ-loop) → c .next-turn .result .taken .taken ≤ 65543
+few-taken : (c : tie.After-next-turn Inv-loop μ-loop) → c .next-turn .result .taken .taken ≤ 262151
 few-taken c =
     let t = c .next-turn .ensures in
     let s = c .before .before .before .before .before .before .before .before in
