@@ -10,6 +10,7 @@ use borrow.Author.Tests.{eq-eqb, ne-eqb}
 use lib.ListN.{length, getD, take}
 use lib.Seq.{take-suc, take-all, length-take-le}
 use Rattle.common.specs.Choice.{pick, unequal}
+use Rattle.common.specs.Lists.{largest}
 use Rattle.common.proofs.Choice.{unequal-le}
 use Rattle.program_io.specs.Checksum.{noBytes, traced}
 use Rattle.program_io.specs.Files.{outputTrace, outputFailed, Writes}
@@ -66,6 +67,21 @@ module _ (packet number n : ℕ) {o : Output} where
         subst (λ (b : Bool). Writes o (pick b [] (replacedLine packet number)) r) t w,
         subst (λ (b : Bool). n + 1 ≡ n + pick b 0 1) t refl,
       )
+
+-- no packet was replaced
+pub none-replaced : (first : ℕ) (numbers : List ℕ) (errors : Output) → largest numbers ≡ 0
+    → (Writes errors (answerLines first numbers) errors) × (0 ≡ replacedCount numbers)
+unfolding largest
+none-replaced first numbers errors z = let e = nothing first numbers z in (subst (λ (l : List ℕ). Writes errors l errors) (sym (e .0)) (writes-none errors), sym (e .1))
+  where
+    nothing : (k : ℕ) (l : List ℕ) → largest l ≡ 0 → (answerLines k l ≡ []) × (replacedCount l ≡ 0)
+    nothing k [] h = (refl, refl)
+    nothing k (x ∷ xs) h =
+        let e : x ≡ 0 = omega (arith, h) in
+        let r = nothing (suc k) xs (omega (arith, h)) in (
+          ap (λ (b : Bool). pick b [] (replacedLine k x) ++ answerLines (suc k) xs) (eq-eqb x 0 e) ∙ r .0,
+          ap (λ (b : Bool). pick b 0 1 + replacedCount xs) (eq-eqb x 0 e) ∙ omega (arith, r .1),
+        )
 
 -- what was told of the packets up to a place
 pub record Telling (first : ℕ) (numbers : List ℕ) (before errors : Output) (replaced i : ℕ) : Type 0 where

@@ -74,12 +74,19 @@ fn tell_answer(told: Told, packet: u64, number: u8) -> Told
     }
 }
 
-// Tells of each that was replaced of some packets, of which the first has this number.
+// Tells of each that was replaced of some packets, of which the first has this number. Where none was, which is nearly always, no packet is looked at by
+// itself.
 fn tell_answers(errors: Output, first: u64, answers: &[u8]) -> Told
     requires { ⌜ first + length (now answers) < 18446744073709551616 ⌝ }
     ensures { λ r. ⌜
         (Writes errors (answerLines first (now (answers .entry))) (r .errors)) × (r .replaced ≡ replacedCount (now (answers .entry))) ⌝ }
 {
+    if common::largest_of(answers) == 0 {
+        return Told {
+            errors,
+            replaced: 0,
+        };
+    }
     let mut told = Told {
         errors,
         replaced: 0,
