@@ -16,7 +16,7 @@ use Rattle.report.specs.declared.Bits.the-variants.{Absent, Dash, Number
 use Rattle.report.specs.declared.Report.{Report}
 use Rattle.report.specs.Text.{reportText, writeNumber, Writes}
 use Rattle.report.specs.Read.{ReadsWhole}
-use Rattle.report.specs.Move.{movable, movedBits, moved, moveNumber, Moves, otherForm}
+use Rattle.report.specs.Move.{movable, movedBits, moved, moveNumber, Moves, MovedText, otherForm}
 use Rattle.report.proofs.AsWritten.{written-size, written-output, written-within, read-given, given-read, write-passed, write-done}
 
 -- ---- moving
@@ -95,6 +95,19 @@ move-within {t} {output} {exit} {form} {number} {size} a =
 -- a text placed at the front of an output stands there
 front : (output l : List ℕ) → take (length l) (placed output 0 l) ≡ l
 front output l = take-at l (drop (0 + length l) output) (length l) refl
+
+-- the text that was written
+pub moved-text : {t output exit : List ℕ} {form number size : ℕ} → Moves t form output number size exit → number ≡ 0 → MovedText t form (take size exit)
+moved-text {t} {output} {exit} {form} {number} {size} a z =
+    let r = a .report in
+    let k : moveNumber (a .answer) r form output ≡ 0 = sym (a .writes .number-is) ∙ z in
+    let d = move-passed (a .answer) r form output (sym k) in
+    record {
+      report = r;
+      read = subst (λ (n : ℕ). ReadsWhole t n r) (d .whole) (a .read);
+      may = d .may;
+      text-is = ap₂ take (written-size (a .writes) k) (written-output (a .writes) k) ∙ front output (reportText (moved r));
+    }
 
 -- A text that is moved to a form and then back to the other is the same text, byte for byte, where there is room for it.
 pub there-and-back : (t output exit back last : List ℕ) (form n number m : ℕ)

@@ -1,6 +1,7 @@
 -- A report moved from one form to the other: document 02, P7.
 -- Assumes nothing.
-use mathlib.Core.Bool.{Bool, false}
+use mathlib.Core.Path.{_≡_}
+use mathlib.Core.Bool.{Bool, true, false}
 use mathlib.Core.List.{List, _∷_}
 use Prim.Native.Nat.{ℕ, _-_}
 use lib.Dec.{eqb}
@@ -46,6 +47,13 @@ pub record Moves (t : List ℕ) (form : ℕ) (output : List ℕ) (number size : 
   pub report : Report
   pub read : ReadsWhole t answer report
   pub writes : Writes (moveNumber answer report form output) (reportText (moved report)) output number size exit
+
+-- A text is that of a report which may be moved to a form, and this is its text there.
+pub record MovedText (t : List ℕ) (form : ℕ) (text : List ℕ) : Type 0 where
+  pub report : Report
+  pub read : ReadsWhole t 0 report
+  pub may : movable (report .bits) form ≡ true
+  pub text-is : text ≡ reportText (moved report)
 
 -- the form that is not this one: 2 for 1, and 1 for 2
 abbrev pub otherForm : ℕ → ℕ

@@ -8,31 +8,39 @@ use Prim.Native.Nat.{ℕ, _+_, _/_, _%_}
 use native.Mathlib.Omega.{arith}
 use borrow.Author.Tests.{eq-eqb, ne-eqb}
 use lib.Dec.{eqb}
-use lib.ListN.{length, take, drop, length-append, length-map}
+use lib.ListN.{length, take, drop, replicate, length-append, length-map}
 use lib.Seq.{take-at, take-append-seam}
 use Rattle.common.specs.Choice.{pick}
-use Rattle.common.specs.Lists.{All, Length, chunksOf, restOf}
+use Rattle.common.specs.Lists.{All, Length, chunks, chunksOf, restOf}
 use Rattle.common.proofs.Chunks.{length-chunks, length-rest, chunks-few, cut}
 use Rattle.puncturing.specs.Mode.{modeOf}
 use Rattle.puncturing.specs.WellFormed.{WellFormed}
 use Rattle.puncturing.proofs.Places.{sent-known}
 use Rattle.puncturing.proofs.WellFormed.{well-formed}
 use Rattle.sender.specs.Standard.{onAir}
-use Rattle.sender.specs.Input.{packetFor, packetsFor, sentNumber}
+use Rattle.sender.specs.Input.{nullPacket, packetFor, packetsFor, sentNumber}
 use Rattle.inner_code.specs.Encode.{newNumber}
 use Rattle.sender.specs.Calls.{callsSymbols, callsSender, senderOf}
 use Rattle.sender.specs.declared.Sender.{Sender}
 use Rattle.sender.proofs.Inputs.{packet-lengths, packets-inputs}
 use Rattle.sender.proofs.Stream.{calls-on-air, calls-sender}
+use Rattle.sender.proofs.Ready.{Ready}
 use Rattle.sender.proofs.History.{history, ready-sent, sent-further}
-use Rattle.sender_stream.specs.Feed.{holding, heldBytes, freshSenderStream, canSend, fedSymbols, fedAnswers, FeedsAll, FeedsSender, refused, fed}
+use Rattle.sender_stream.specs.Feed.{holding, heldBytes, freshSenderStream, fedSymbols, fedAnswers, FeedsAll, FeedsSender, refused, fed}
 use Rattle.sender_stream.specs.History.{SenderFeedings, none, feeding, Transmitted}
 use Rattle.sender_stream.specs.declared.SenderStream.{SenderStream}
-use Rattle.sender_stream.proofs.Laws.{holding-range}
 
 -- the bytes held
 held-are : (s : Sender) (bytes : List ℕ) → heldBytes (holding s bytes) ≡ bytes
 held-are s bytes = take-append-seam bytes _
+
+-- eleven packets' length of zeros, for which null packets are sent
+abbrev pub noPackets : List ℕ
+noPackets = replicate 2068 0
+
+null-packets : packetsFor (chunksOf 188 noPackets) ≡ replicate 11 nullPacket
+unfolding chunksOf chunks packetFor nullPacket
+null-packets = refl
 
 module _ (rate : ℕ) (h : modeOf rate .sent ≡ true) where
   formed : WellFormed (modeOf rate)
@@ -41,7 +49,7 @@ module _ (rate : ℕ) (h : modeOf rate .sent ≡ true) where
   sizes : (bytes : List ℕ) → All (Length 188) (packetsFor (chunksOf 188 bytes))
   sizes bytes = packet-lengths (chunksOf 188 bytes) (packets-inputs bytes)
 
-  transmitted-none : Transmitted rate [] [] [] (freshSenderStream rate)
+  pub transmitted-none : Transmitted rate [] [] [] (freshSenderStream rate)
   unfolding freshSenderStream restOf callsSymbols callsSender flatten
   transmitted-none =
       let e = sym (chunks-few 188 (omega arith) [] (omega arith)) in
@@ -121,6 +129,13 @@ module _ (rate : ℕ) (h : modeOf rate .sent ≡ true) where
           ∙ ap₂ holding (further .1 ∙ ap (senderOf modeOf rate) (sym all-packets)) (sym (cut 188 (omega arith) bytes piece .rest-is));
     }
 
+  pub transmitted-all : {bytes symbols numbers : List ℕ} {w : SenderStream} → Transmitted rate bytes symbols numbers w
+      → (piece output answers : List ℕ) {number count packets : ℕ} {next : SenderStream} {left told : List ℕ} → FeedsAll w piece output answers number count packets next left told
+      → Transmitted rate (bytes ++ piece) (symbols ++ take count left) (numbers ++ take packets told) next
+  transmitted-all {bytes} t piece output answers {number} {count} {packets} {next} {left} {told} f =
+      transmitted-more bytes piece output answers (subst (λ (x : SenderStream). FeedsAll x piece output answers number count packets next left told) (t .state) f) (t .on-air)
+      (t .answered)
+
   transmitted-feeds : {bytes symbols numbers : List ℕ} {w : SenderStream} → Transmitted rate bytes symbols numbers w
       → (piece output answers : List ℕ) {number count packets : ℕ} {next : SenderStream} {left told : List ℕ} → FeedsSender w piece output answers number count packets next left told
       → Transmitted rate (bytes ++ pick (eqb number 0) piece []) (symbols ++ take count left) (numbers ++ take packets told) next
@@ -133,7 +148,7 @@ module _ (rate : ℕ) (h : modeOf rate .sent ≡ true) where
       }
   transmitted-feeds {bytes} {symbols} {numbers} {w} t piece output answers (fed {number = n} {count = c} {packets = k} {next = next} {left = left} {told = told} z f) =
       subst (λ (x : Bool). Transmitted rate (bytes ++ pick x piece []) (symbols ++ take c left) (numbers ++ take k told) next) (sym (eq-eqb n 0 (f .done)))
-      (transmitted-more bytes piece output answers (subst (λ (x : SenderStream). FeedsAll x piece output answers n c k next left told) (t .state) f) (t .on-air) (t .answered))
+      (transmitted-all t piece output answers f)
 
   transmitted-feedings : {bytes symbols numbers b s n : List ℕ} {w last : SenderStream} → Transmitted rate bytes symbols numbers w → SenderFeedings w b s n last
       → Transmitted rate (bytes ++ b) (symbols ++ s) (numbers ++ n) last
@@ -175,15 +190,31 @@ module _ (rate : ℕ) (h : modeOf rate .sent ≡ true) where
     held-count = ap (λ (x : SenderStream). x .held) (t .state) ∙ length-rest 188 bytes
 
     -- no call refuses it with 5 or 6
-    transmitted-range : canSend w ≡ true
-    transmitted-range =
+    pub transmitted-ready : Ready modeOf (w .sender)
+    transmitted-ready =
         let packets = packetsFor (chunksOf 188 bytes) in
-        ap canSend (t .state) ∙ holding-range (senderOf modeOf rate packets) bytes (ready-sent rate formed h packets (sizes bytes))
+        subst (λ (x : SenderStream). Ready modeOf (x .sender)) (sym (t .state)) (ready-sent rate formed h packets (sizes bytes))
 
--- a fresh one that was not refused can send
-pub fresh-range : (rate : ℕ) → newNumber rate ≡ 0 → canSend (freshSenderStream rate) ≡ true
-fresh-range rate e = let h = sent (modeOf rate .sent) refl e in transmitted-range rate h (every-history rate h none)
+    -- After the whole packets, eleven inputs that are no packets. The bytes held are not sent.
+    module _ {output answers : List ℕ} {number count packets : ℕ} {next : SenderStream} {left told : List ℕ}
+        (f : FeedsAll (holding (w .sender) []) noPackets output answers number count packets next left told) where
+      pub flushed : symbols ++ take count left ≡ onAir (modeOf rate) (packetsFor (chunksOf 188 bytes) ++ replicate 11 nullPacket)
+      flushed =
+          let before = packetsFor (chunksOf 188 bytes) in
+          let s = senderOf modeOf rate before in
+          let no = packets-inputs noPackets in
+          let same : w .sender ≡ s = ap (λ (x : SenderStream). x .sender) (t .state) in
+          ap₂ (λ (x y : List ℕ). x ++ y) (t .on-air)
+          (ap (take count) (f .written)
+          ∙ take-at (fedSymbols (holding (w .sender) []) noPackets) (drop count output) count (sym (f .counted))
+          ∙ ap (λ (x : Sender). flatten (callsSymbols modeOf x (packetsFor (chunksOf 188 noPackets)))) same)
+          ∙ sent-further rate formed h before (sizes bytes) no (history s (chunksOf 188 noPackets) (ready-sent rate formed h before (sizes bytes)) no) .0
+          ∙ ap (λ (l : List (List ℕ)). onAir (modeOf rate) (before ++ l)) null-packets
+
+-- a constructor that did not refuse a mode: it is sent
+pub new-sent : (rate : ℕ) → newNumber rate ≡ 0 → modeOf rate .sent ≡ true
+new-sent rate e = by (modeOf rate .sent) refl e
   where
-    sent : (t : Bool) → modeOf rate .sent ≡ t → _≡_ {A = ℕ} (pick t 0 6) 0 → modeOf rate .sent ≡ true
-    sent true f e = f
-    sent false f e = absurd (omega arith)
+    by : (t : Bool) → modeOf rate .sent ≡ t → _≡_ {A = ℕ} (pick t 0 6) 0 → modeOf rate .sent ≡ true
+    by true f e = f
+    by false f e = absurd (omega arith)

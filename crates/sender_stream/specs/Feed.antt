@@ -32,10 +32,6 @@ freshSenderStream rate = record { sender = freshSender rate; pending = replicate
 abbrev pub senderStreamInRange : SenderStream → Bool
 senderStreamInRange w = pick (senderInRange modeOf (w .sender)) (ltb (w .held) 188) false
 
--- and its mode is sent
-abbrev pub canSend : SenderStream → Bool
-canSend w = pick (senderStreamInRange w) (isSent modeOf (w .sender)) false
-
 -- the packets that are whole with a piece, and how many they are; the bytes after the last of them are the rest
 abbrev pub wholePackets : SenderStream → List ℕ → List (List ℕ)
 wholePackets w piece = chunksOf 188 (heldBytes w ++ piece)
