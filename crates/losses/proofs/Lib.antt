@@ -1,0 +1,10 @@
+pub mod Steps
+pub mod Lines
+pub mod Stretches
+pub mod Decisions
+pub mod Blocks
+pub mod Watching
+pub mod Pieces
+pub mod Streams
+pub mod Histories
+pub mod Runs
