@@ -8,3 +8,6 @@ pub mod Pieces
 pub mod Streams
 pub mod Histories
 pub mod Runs
+pub mod Truth
+pub mod Gaps
+pub mod Unbroken

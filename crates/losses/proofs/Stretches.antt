@@ -31,16 +31,16 @@ use Rattle.losses.proofs.Steps.{NotGiven, Stepped, passed, starts, foll
 
 -- ---- members
 
-pub in-behind : (x : ℕ) (xs ys : List ℕ) → In x ys → In x (xs ++ ys)
+in-behind : (x : ℕ) (xs ys : List ℕ) → In x ys → In x (xs ++ ys)
 in-behind x [] ys h = h
 in-behind x (y ∷ xs) ys h = inr (in-behind x xs ys h)
 
 -- a block behind the first
-behind : (block i : ℕ) (P : Type 0) (own others : List ℕ) → P ⊎ In (line (block + 1 + i) 0) others → P ⊎ In (line (block + suc i) 0) (own ++ others)
-behind block i P own others (inl y) = inl y
-behind block i P own others (inr y) =
+pub behind : (block i answer : ℕ) (P : Type 0) (own others : List ℕ) → P ⊎ In (line (block + 1 + i) answer) others → P ⊎ In (line (block + suc i) answer) (own ++ others)
+behind block i answer P own others (inl y) = inl y
+behind block i answer P own others (inr y) =
     let z : block + 1 + i ≡ block + suc i = omega arith in
-    inr (in-behind (line (block + suc i) 0) own others (subst (λ (k : ℕ). In (line k 0) others) z y))
+    inr (in-behind (line (block + suc i) answer) own others (subst (λ (k : ℕ). In (line k answer) others) z y))
 
 -- ---- a place and the number of its block
 
@@ -203,7 +203,7 @@ in-place (d ∷ ds) s block sure n r t b zero q e =
     (λ p l k g f. confirmed-place ds (groupStep s d .sync) (λ i. n (suc i)) p (n 0) l k (t .2) (t .1 g) f) sure b
     (linesFrom (block + 1) (sureAfter sure (groupStep s d .outcome)) (outcomes (groupStep s d .sync) ds)) q e
 in-place (d ∷ ds) s block sure n r t b (suc i) q e =
-    behind block i (q ≡ n (suc i) % 8) (lineOf block sure (groupStep s d .outcome) (outcomes (groupStep s d .sync) ds))
+    behind block i 0 (q ≡ n (suc i) % 8) (lineOf block sure (groupStep s d .outcome) (outcomes (groupStep s d .sync) ds))
     (linesFrom (block + 1) (sureAfter sure (groupStep s d .outcome)) (outcomes (groupStep s d .sync) ds))
     (in-place ds (groupStep s d .sync) (block + 1) (sureAfter sure (groupStep s d .outcome)) (λ j. n (suc j)) (sync-in-range s d r) (t .2)
     (next-sure s r block n ds d (groupStep s d) (stepped s d) (t .0) (t .1) sure b) i q e)
