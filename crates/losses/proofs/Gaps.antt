@@ -48,10 +48,10 @@ coded-from n (p ∷ ps) (suc i) h =
     coded-from (n + 1) ps i (omega arith) ∙ ap (λ (k : ℕ). encoded (randomized (k % 8) (getD ps i []))) e
 
 module _ (packets : List (List ℕ)) (ws : All Packet packets) (n : ℕ) (h : n < length packets) where
-  own : Packet (getD packets n [])
+  pub own : Packet (getD packets n [])
   own = All-at Packet packets [] n ws h
 
-  coded-at : getD (codedBlocks packets) n [] ≡ encoded (randomized (n % 8) (getD packets n []))
+  pub coded-at : getD (codedBlocks packets) n [] ≡ encoded (randomized (n % 8) (getD packets n []))
   coded-at =
       let e : 0 + n ≡ n = omega arith in
       ap (λ (l : List (List ℕ)). getD (map encoded l) n []) (sym (randomized-stream packets (packet-lengths packets ws)))

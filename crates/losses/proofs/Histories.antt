@@ -158,7 +158,7 @@ chunk-marks (suc n) l h m =
     are-marks : (x : List ℕ) → length x ≡ 204 → largest x < 2 → areMarks x ≡ true
     are-marks x e k = simp (eq-eqb _ _ e, lt-ltb _ _ k)
 
-all-back : (P : List ℕ → Type 0) (f : Call → List ℕ) (cs : List Call) → All P (map f cs) → All (λ c. P (f c)) cs
+pub all-back : (P : List ℕ → Type 0) (f : Call → List ℕ) (cs : List Call) → All P (map f cs) → All (λ c. P (f c)) cs
 all-back P f [] h = tt
 all-back P f (c ∷ cs) h = (h .0, all-back P f cs (h .1))
 

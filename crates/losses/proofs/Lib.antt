@@ -11,3 +11,4 @@ pub mod Runs
 pub mod Truth
 pub mod Gaps
 pub mod Unbroken
+pub mod SentBlocks

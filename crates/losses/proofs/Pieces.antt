@@ -52,7 +52,7 @@ writes-part {a} {b} {output} {exit} {exit′} {m} {n} h f g e =
 
 -- ---- the marks of a part
 
-zeros-part : (all at size : ℕ) → at + size ≤ all → take {A = ℕ} size (drop at (replicate all 0)) ≡ replicate size 0
+pub zeros-part : (all at size : ℕ) → at + size ≤ all → take {A = ℕ} size (drop at (replicate all 0)) ≡ replicate size 0
 zeros-part all at size h =
     let z : ℕ = 0 in
     let e : at + (size + (all - (at + size))) ≡ all = omega arith in
