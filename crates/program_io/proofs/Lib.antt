@@ -1,2 +1,6 @@
 pub mod Traces
 mod Numerals
+mod Texts
+mod Reading
+mod Writing
+mod Giving

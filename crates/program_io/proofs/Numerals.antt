@@ -1,19 +1,17 @@
 -- Reading a word digit by digit.
 -- Assumes nothing.
-use mathlib.Core.Path.{_≡_, refl, sym, ap, ap₂, subst, _∙_}
+use mathlib.Core.Path.{_≡_, refl, sym, ap, _∙_}
 use mathlib.Core.Bool.{Bool, true, false}
 use mathlib.Core.List.{List, [], _∷_}
-use Prim.Native.Nat.{ℕ, zero, suc, _+_, _-_, _*_, _≤_, _<_}
+use Prim.Native.Nat.{ℕ, suc, _+_, _-_, _*_, _≤_, _<_}
 use native.Mathlib.Decide.{decLt}
 use native.Mathlib.Omega.{arith}
 use borrow.Author.Tests.{lt-ltb, le-ltb}
-use lib.Dec.{ltb}
 use lib.ListN.{length, getD, drop, drop-of-length-le}
 use lib.Seq.{drop-cons}
 use Rattle.common.specs.Choice.{pick}
 use Rattle.program_io.specs.Words.{digits, valueFrom, sized, parsed}
-use Rattle.program_io.specs.declared.Parsed.{Parsed}
-use Rattle.program_io.specs.declared.Parsed.the-variants.{Number, Large, Malformed}
+use Rattle.program_io.specs.declared.words.Parsed.the-variants.{Number, Large, Malformed}
 
 value-grows : (n : ℕ) (l : List ℕ) → n ≤ valueFrom n l
 value-grows n [] = omega arith

@@ -1,3 +1,4 @@
-pub mod Trace
+pub mod Checksum
 pub mod Files
 pub mod Words
+pub mod Calls

@@ -1,12 +1,38 @@
--- A number in decimal digits.
+-- The words of a command line: their bytes, and the number in decimal digits that one may be.
 -- Assumes nothing.
 use mathlib.Core.Bool.{Bool, true, false}
 use mathlib.Core.List.{List, [], _∷_}
 use Prim.Native.Nat.{ℕ, _+_, _-_, _*_}
-use lib.Dec.{ltb}
+use lib.Dec.{ltb, eqb}
+use lib.ListN.{take, getD}
 use Rattle.common.specs.Choice.{pick}
-use Rattle.program_io.specs.declared.Parsed.{Parsed}
-use Rattle.program_io.specs.declared.Parsed.the-variants.{Number, Large, Malformed}
+use Rattle.program_io.specs.declared.words.Arguments.{Arguments}
+use Rattle.program_io.specs.declared.words.Word.{Word}
+use Rattle.program_io.specs.declared.words.Parsed.{Parsed}
+use Rattle.program_io.specs.declared.words.Parsed.the-variants.{Number, Large, Malformed}
+
+-- how many arguments there are; which argument a word is, and its bytes; none where it is longer than 32
+abbrev pub argumentCount : Arguments → ℕ
+argumentCount a = a .count
+
+abbrev pub wordArgument : Word → ℕ
+wordArgument w = w .argument
+
+abbrev pub frontOf : List ℕ → ℕ → List ℕ
+frontOf bytes length = pick (ltb 32 length) [] (take length bytes)
+
+abbrev pub wordBytes : Word → List ℕ
+wordBytes w = frontOf (w .bytes) (w .length)
+
+-- it begins with a dash
+abbrev pub wordIsOption : Word → Bool
+wordIsOption w = eqb (getD (w .bytes) 0 0) 45
+
+abbrev pub sameBytes : List ℕ → List ℕ → Bool
+sameBytes [] [] = true
+sameBytes [] (y ∷ ys) = false
+sameBytes (x ∷ xs) [] = false
+sameBytes (x ∷ xs) (y ∷ ys) = pick (eqb x y) (sameBytes xs ys) false
 
 -- each character is a digit
 abbrev pub digits : List ℕ → Bool

@@ -2,7 +2,7 @@
 // Inner: its functions may require what the crates above have tested. docs/ARCHITECTURE.md names the public surface.
 ghost use Prim.Native.Nat.{_+_, _≤_, _<_};
 ghost use lib.ListN.{length};
-ghost use Rattle.report_lines.specs.Line.{decimal, lineText, Appended};
+ghost use Rattle.report_lines.specs.Line.{decimal, fieldText, lineText, Appended};
 ghost use Rattle.report_lines.specs.Reading.{DigitIs, WordIs, NumberRead, LineIs};
 
 // Writes a number at a place of the output. Gives the place after it.
@@ -16,16 +16,25 @@ fn put_decimal(value: u64, at: usize, output: &mut [u8]) -> usize
     at + n
 }
 
-// Writes a line at a place of the output. Gives the place after it.
+// Writes a key, a number and a character after it at a place of the output. Gives the place after them.
+pub fn put_field(key: &[u8], value: u64, end: u8, at: usize, output: &mut [u8]) -> usize
+    requires { ⌜ at + length (now key) + 21 ≤ length (now output) ⌝ }
+    ensures { λ r. ⌜
+        Appended (fieldText (now (key .entry)) value end) (now (output .entry)) (now (output .exit)) at r (at + length (now (key .entry)) + 21) ⌝ }
+{
+    common::put(key, at, output);
+    let last = put_decimal(value, at + key.len(), output);
+    output[last] = end;
+    last + 1
+}
+
+// The same with a line feed: a line.
 pub fn put_line(key: &[u8], value: u64, at: usize, output: &mut [u8]) -> usize
     requires { ⌜ at + length (now key) + 21 ≤ length (now output) ⌝ }
     ensures { λ r. ⌜
         Appended (lineText (now (key .entry)) value) (now (output .entry)) (now (output .exit)) at r (at + length (now (key .entry)) + 21) ⌝ }
 {
-    common::put(key, at, output);
-    let end = put_decimal(value, at + key.len(), output);
-    output[end] = b'\n';
-    end + 1
+    put_field(key, value, b'\n', at, output)
 }
 
 // The digit that a character is, or 10.
