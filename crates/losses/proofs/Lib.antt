@@ -1,0 +1,14 @@
+pub mod Steps
+pub mod Lines
+pub mod Stretches
+pub mod Decisions
+pub mod Blocks
+pub mod Watching
+pub mod Pieces
+pub mod Streams
+pub mod Histories
+pub mod Runs
+pub mod Truth
+pub mod Gaps
+pub mod Unbroken
+pub mod SentBlocks

@@ -1,0 +1,23 @@
+-- `losses::most_waiting` meets its contract.
+-- Assumes nothing.
+use borrow.Author.Needs.{needs}
+use Rattle.losses.proofs.most_waiting.Statement.{statement}
+use Rattle.losses.proofs.most_waiting.Tie as tie
+
+enum-told : tie.Need-enum-told
+enum-told c = search needs
+
+enum-known-place : tie.Need-enum-known-place
+enum-known-place c = search needs
+
+add-result : tie.Need-add-result
+add-result c = search needs
+
+returns : tie.Need-returns
+returns c = search needs
+
+returns-2 : tie.Need-returns-2
+returns-2 c = simp (c .before .place .given .1)
+
+pub most-waiting-spec : {M : Type 1} → statement M
+most-waiting-spec = tie.close (tie.spec enum-told enum-known-place add-result returns returns-2)

@@ -1,0 +1,20 @@
+-- `losses::start_due` meets its contract.
+-- Assumes nothing.
+use borrow.Author.Needs.{needs}
+use Rattle.losses.proofs.start_due.Statement.{statement}
+use Rattle.losses.proofs.start_due.Tie as tie
+
+enum-told : tie.Need-enum-told
+enum-told c = search needs
+
+enum-known-place : tie.Need-enum-known-place
+enum-known-place c = search needs
+
+returns : tie.Need-returns
+returns c = search needs
+
+returns-2 : tie.Need-returns-2
+returns-2 c = simp (c .before .place .given .1)
+
+pub start-due-spec : {M : Type 1} → statement M
+start-due-spec = tie.close (tie.spec enum-told enum-known-place returns returns-2)
