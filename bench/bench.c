@@ -24,7 +24,8 @@ static void *fec, *viterbi;
 
 #ifdef HAVE_VOLK
 #include <volk/volk.h>
-/* GNU Radio's decoder: VOLK's kernel for constraint length 7, and the way back as GNU Radio's cc_decoder does it. */
+/* GNU Radio's decoder: VOLK's kernel for constraint length 7, and a way back that takes the 64 decisions of a bit as one word. That of GNU Radio's cc_decoder
+ * takes them as two, which are copied to the stack, and is slower. */
 static uint8_t volk_branches[64] __attribute__((aligned(64))), volk_metrics[2][64] __attribute__((aligned(64)));
 static uint8_t volk_decisions[8 * 1632] __attribute__((aligned(64)));
 #endif
@@ -53,8 +54,8 @@ static uint8_t lost[1632];                         /* one symbol in sixteen is l
 static const int run_symbols[5] = {1632, 1224, 1088, 978, 932}, run_bits[5] = {1632, 1632, 1632, 1630, 1631};
 static const int kept_bits[5] = {1531, 1528, 1530, 1525, 1526}; /* of a run, in a stream that is read in runs that overlap */
 #if defined HAVE_LIBFEC || defined HAVE_VOLK
-/* For libfec and VOLK: X and Y of each bit, 0 for a sure 0, 255 for a sure 1 and 128 for one not known. The first are those of the run at 1/2. */
-static uint8_t soft_hard[2 * 1632] __attribute__((aligned(64))), soft[2 * 1632] __attribute__((aligned(64)));
+/* For libfec and VOLK: X and Y of each bit, 0 for a sure 0, 255 for a sure 1 and 128 for one not known. The first are those of the runs at 1/2 and at 3/4. */
+static uint8_t soft_hard[2][2 * 1632] __attribute__((aligned(64))), soft[2 * 1632] __attribute__((aligned(64)));
 #endif
 static volatile uint64_t sink;
 
@@ -144,8 +145,15 @@ static void prepare(void)
     memset(output, 0xa5, sizeof output);
 #if defined HAVE_LIBFEC || defined HAVE_VOLK
     for (int i = 0; i < 1632; i++) {
-        soft_hard[2 * i] = runs[0][i] >> 1 ? 255 : 0;
-        soft_hard[2 * i + 1] = runs[0][i] & 1 ? 255 : 0;
+        soft_hard[0][2 * i] = runs[0][i] >> 1 ? 255 : 0;
+        soft_hard[0][2 * i + 1] = runs[0][i] & 1 ? 255 : 0;
+    }
+    for (int n = 0; n < 544; n++) {
+        uint8_t *three = soft_hard[1] + 6 * n;
+        const uint8_t *two = runs[2] + 2 * n;
+        three[0] = two[0] >> 1 ? 255 : 0, three[1] = two[0] & 1 ? 255 : 0;
+        three[2] = 128, three[3] = two[1] >> 1 ? 255 : 0;
+        three[4] = two[1] & 1 ? 255 : 0, three[5] = 128;
     }
 #endif
 #ifdef HAVE_LIBFEC
@@ -275,10 +283,10 @@ static void read_by_volk(const uint8_t *symbols)
     volk_8u_x4_conv_k7_r2_8u(volk_metrics[1], volk_metrics[0], (uint8_t *)symbols, volk_decisions, 1626, 6, volk_branches);
     unsigned state = 0;
     for (int i = 1632; i-- > 0;) {
-        uint32_t words[2];
-        memcpy(words, volk_decisions + 8 * i, 8);
+        uint64_t decisions;
+        memcpy(&decisions, volk_decisions + 8 * i, 8);
         output[i] = state & 1;
-        state = state >> 1 | (words[state / 32] >> state % 32 & 1) << 5;
+        state = state >> 1 | (unsigned)(decisions >> state & 1) << 5;
     }
 }
 #endif
@@ -327,11 +335,11 @@ static void read_run(const struct kernel *k, int side, int n)
                                                                     (size_t)run_bits[rate], result, 6);
 #ifdef HAVE_LIBFEC
     else if (side == LIBFEC)
-        read_by_libfec(soft_hard);
+        read_by_libfec(soft_hard[rate == 2]);
 #endif
 #ifdef HAVE_VOLK
     else if (side == VOLK)
-        read_by_volk(soft_hard);
+        read_by_volk(soft_hard[rate == 2]);
 #endif
     sink += output[0];
 }
@@ -406,7 +414,7 @@ static const struct kernel kernels[] = {
     {"send_16qam", "send a packet, 16QAM 3/4", RUN, TWO, 5, send},
     {"read_1_2", "read 1,632 bits, 1/2", 1, FOUR, 0, read_run},
     {"read_2_3", "read 1,632 bits, 2/3", 1, TWO, 1, read_run},
-    {"read_3_4", "read 1,632 bits, 3/4", 1, TWO, 2, read_run},
+    {"read_3_4", "read 1,632 bits, 3/4", 1, FOUR, 2, read_run},
     {"read_5_6", "read 1,630 bits, 5/6", 1, TWO, 3, read_run},
     {"read_7_8", "read 1,631 bits, 7/8", 1, TWO, 4, read_run},
     {"read_soft_1_2", "read 1,632 softly, 1/2", 1, FOUR, 0, read_soft_run},
