@@ -24,13 +24,23 @@ static void *fec, *viterbi;
 
 #ifdef HAVE_VOLK
 #include <volk/volk.h>
-/* GNU Radio's decoder: VOLK's kernel for constraint length 7, and the way back as GNU Radio's cc_decoder does it. */
+/* GNU Radio's decoder: VOLK's kernel for constraint length 7, and a way back that takes the 64 decisions of a bit as one word. That of GNU Radio's cc_decoder
+ * takes them as two, which are copied to the stack, and is slower. */
 static uint8_t volk_branches[64] __attribute__((aligned(64))), volk_metrics[2][64] __attribute__((aligned(64)));
 static uint8_t volk_decisions[8 * 1632] __attribute__((aligned(64)));
 #endif
 
-enum { LIBRARY, PLAIN_C, LIBFEC, VOLK, SIDES };
-static const char *const side_names[SIDES] = {"library", "plain", "libfec", "volk"};
+#ifdef HAVE_OSMO
+#include <osmocom/core/conv.h>
+/* libosmocore's decoder, which takes any code by its tables. What is not sent is listed, and not in the input. */
+static uint8_t osmo_output[64][2], osmo_state[64][2];
+static int osmo_unsent[2 * 544 + 1];
+static struct osmo_conv_code osmo_codes[2]; /* at 1/2 and at 3/4 */
+static sbit_t osmo_hard[2][2 * 1632], osmo_soft[2 * 1632]; /* 127 for a sure 0, -127 for a sure 1, 0 for a bit not known */
+#endif
+
+enum { LIBRARY, PLAIN_C, LIBFEC, VOLK, OSMO, SIDES };
+static const char *const side_names[SIDES] = {"library", "plain", "libfec", "volk", "osmo"};
 
 /* A call takes the next of POOL blocks, so that no branch is learnt by heart, or
  * RUN blocks at once. */
@@ -53,8 +63,8 @@ static uint8_t lost[1632];                         /* one symbol in sixteen is l
 static const int run_symbols[5] = {1632, 1224, 1088, 978, 932}, run_bits[5] = {1632, 1632, 1632, 1630, 1631};
 static const int kept_bits[5] = {1531, 1528, 1530, 1525, 1526}; /* of a run, in a stream that is read in runs that overlap */
 #if defined HAVE_LIBFEC || defined HAVE_VOLK
-/* For libfec and VOLK: X and Y of each bit, 0 for a sure 0, 255 for a sure 1 and 128 for one not known. The first are those of the run at 1/2. */
-static uint8_t soft_hard[2 * 1632] __attribute__((aligned(64))), soft[2 * 1632] __attribute__((aligned(64)));
+/* For libfec and VOLK: X and Y of each bit, 0 for a sure 0, 255 for a sure 1 and 128 for one not known. The first are those of the runs at 1/2 and at 3/4. */
+static uint8_t soft_hard[2][2 * 1632] __attribute__((aligned(64))), soft[2 * 1632] __attribute__((aligned(64)));
 #endif
 static volatile uint64_t sink;
 
@@ -144,8 +154,15 @@ static void prepare(void)
     memset(output, 0xa5, sizeof output);
 #if defined HAVE_LIBFEC || defined HAVE_VOLK
     for (int i = 0; i < 1632; i++) {
-        soft_hard[2 * i] = runs[0][i] >> 1 ? 255 : 0;
-        soft_hard[2 * i + 1] = runs[0][i] & 1 ? 255 : 0;
+        soft_hard[0][2 * i] = runs[0][i] >> 1 ? 255 : 0;
+        soft_hard[0][2 * i + 1] = runs[0][i] & 1 ? 255 : 0;
+    }
+    for (int n = 0; n < 544; n++) {
+        uint8_t *three = soft_hard[1] + 6 * n;
+        const uint8_t *two = runs[2] + 2 * n;
+        three[0] = two[0] >> 1 ? 255 : 0, three[1] = two[0] & 1 ? 255 : 0;
+        three[2] = 128, three[3] = two[1] >> 1 ? 255 : 0;
+        three[4] = two[1] & 1 ? 255 : 0, three[5] = 128;
     }
 #endif
 #ifdef HAVE_LIBFEC
@@ -159,6 +176,29 @@ static void prepare(void)
     for (int s = 0; s < 32; s++)
         for (int g = 0; g < 2; g++)
             volk_branches[32 * g + s] = __builtin_parity((unsigned)(2 * s & generators[g])) ? 255 : 0;
+#endif
+#ifdef HAVE_OSMO
+    for (int s = 0; s < 64; s++)
+        for (int b = 0; b < 2; b++) {
+            /* The bit and the six before it, the newest on top: 171 and 133 octal. */
+            int seven = b << 6;
+            for (int i = 0; i < 6; i++)
+                seven |= (s >> i & 1) << (5 - i);
+            osmo_output[s][b] = (uint8_t)(2 * __builtin_parity((unsigned)(seven & 0171)) + __builtin_parity((unsigned)(seven & 0133)));
+            osmo_state[s][b] = (uint8_t)((s << 1 | b) & 63);
+        }
+    for (int n = 0; n < 544; n++)
+        osmo_unsent[2 * n] = 6 * n + 2, osmo_unsent[2 * n + 1] = 6 * n + 5;
+    osmo_unsent[1088] = -1;
+    for (int c = 0; c < 2; c++) {
+        osmo_codes[c] = (struct osmo_conv_code){.N = 2, .K = 7, .len = 1626, .term = CONV_TERM_FLUSH, .next_output = osmo_output, .next_state = osmo_state};
+        int rate = 2 * c;
+        for (int i = 0; i < run_symbols[rate]; i++) {
+            osmo_hard[c][2 * i] = runs[rate][i] >> 1 ? -127 : 127;
+            osmo_hard[c][2 * i + 1] = runs[rate][i] & 1 ? -127 : 127;
+        }
+    }
+    osmo_codes[1].puncture = osmo_unsent;
 #endif
 }
 
@@ -275,10 +315,37 @@ static void read_by_volk(const uint8_t *symbols)
     volk_8u_x4_conv_k7_r2_8u(volk_metrics[1], volk_metrics[0], (uint8_t *)symbols, volk_decisions, 1626, 6, volk_branches);
     unsigned state = 0;
     for (int i = 1632; i-- > 0;) {
-        uint32_t words[2];
-        memcpy(words, volk_decisions + 8 * i, 8);
+        uint64_t decisions;
+        memcpy(&decisions, volk_decisions + 8 * i, 8);
         output[i] = state & 1;
-        state = state >> 1 | (words[state / 32] >> state % 32 & 1) << 5;
+        state = state >> 1 | (unsigned)(decisions >> state & 1) << 5;
+    }
+}
+#endif
+
+#ifdef HAVE_OSMO
+/* It leaves the upper halves of AVX registers in use, which makes SSE code slow until they are cleared. */
+__attribute__((target("avx"))) static void clear_upper_halves(void)
+{
+    __builtin_ia32_vzeroupper();
+}
+
+static void read_by_osmo(int rate, const sbit_t *symbols)
+{
+    osmo_conv_decode(&osmo_codes[rate == 2], symbols, output);
+    memset(output + 1626, 0, 6);
+    if (__builtin_cpu_supports("avx"))
+        clear_upper_halves();
+}
+
+/* The points of a run, on the scale of GNU Radio's decoder. */
+static void soften_osmo(int rate)
+{
+    for (int n = 0; n < run_symbols[rate]; n++) {
+        float i = 48 * points_i[rate][n], q = 48 * points_q[rate][n];
+        i = i > -127 ? i : -127, q = q > -127 ? q : -127;
+        osmo_soft[2 * n] = lost[n] ? 0 : (sbit_t)(int)(i < 127 ? i : 127);
+        osmo_soft[2 * n + 1] = lost[n] ? 0 : (sbit_t)(int)(q < 127 ? q : 127);
     }
 }
 #endif
@@ -327,11 +394,15 @@ static void read_run(const struct kernel *k, int side, int n)
                                                                     (size_t)run_bits[rate], result, 6);
 #ifdef HAVE_LIBFEC
     else if (side == LIBFEC)
-        read_by_libfec(soft_hard);
+        read_by_libfec(soft_hard[rate == 2]);
 #endif
 #ifdef HAVE_VOLK
     else if (side == VOLK)
-        read_by_volk(soft_hard);
+        read_by_volk(soft_hard[rate == 2]);
+#endif
+#ifdef HAVE_OSMO
+    else if (side == OSMO)
+        read_by_osmo(rate, osmo_hard[rate == 2]);
 #endif
     sink += output[0];
 }
@@ -351,6 +422,10 @@ static void read_soft_run(const struct kernel *k, int side, int n)
 #ifdef HAVE_VOLK
     else if (side == VOLK)
         soften(rate), read_by_volk(soft);
+#endif
+#ifdef HAVE_OSMO
+    else if (side == OSMO)
+        soften_osmo(rate), read_by_osmo(rate, osmo_soft);
 #endif
     sink += output[0];
 }
@@ -380,7 +455,7 @@ static void bridge(const struct kernel *k, int side, int n)
     sink += written;
 }
 
-enum { TWO = 3, THREE = 7, FOUR = 15 };
+enum { TWO = 3, THREE = 7, FIVE = 31 };
 static const struct kernel kernels[] = {
     {"scale", "field product, 16 lanes", FACTORS, TWO, 0, scale},
     {"rs_encode", "RS encode", 1, THREE, 0, encode},
@@ -404,13 +479,13 @@ static const struct kernel kernels[] = {
     {"send_3_4", "send a packet, 3/4", RUN, TWO, 2, send},
     {"send_5_6", "send a packet, 5/6", RUN, TWO, 3, send},
     {"send_16qam", "send a packet, 16QAM 3/4", RUN, TWO, 5, send},
-    {"read_1_2", "read 1,632 bits, 1/2", 1, FOUR, 0, read_run},
+    {"read_1_2", "read 1,632 bits, 1/2", 1, FIVE, 0, read_run},
     {"read_2_3", "read 1,632 bits, 2/3", 1, TWO, 1, read_run},
-    {"read_3_4", "read 1,632 bits, 3/4", 1, TWO, 2, read_run},
+    {"read_3_4", "read 1,632 bits, 3/4", 1, FIVE, 2, read_run},
     {"read_5_6", "read 1,630 bits, 5/6", 1, TWO, 3, read_run},
     {"read_7_8", "read 1,631 bits, 7/8", 1, TWO, 4, read_run},
-    {"read_soft_1_2", "read 1,632 softly, 1/2", 1, FOUR, 0, read_soft_run},
-    {"read_soft_3_4", "read 1,632 softly, 3/4", 1, FOUR, 2, read_soft_run},
+    {"read_soft_1_2", "read 1,632 softly, 1/2", 1, FIVE, 0, read_soft_run},
+    {"read_soft_3_4", "read 1,632 softly, 3/4", 1, FIVE, 2, read_soft_run},
     {"receive_clean", "receive a block, clean", RUN, TWO, 0, receive},
     {"receive_harmed", "receive a block, harmed", RUN, TWO, 1, receive},
     {"bridge_clean", "bridge, a clean block", RUN, TWO, 0, bridge},
@@ -454,6 +529,10 @@ static int has(const struct kernel *k, int side)
 #endif
 #ifndef HAVE_VOLK
     if (side == VOLK)
+        return 0;
+#endif
+#ifndef HAVE_OSMO
+    if (side == OSMO)
         return 0;
 #endif
     return k->sides >> side & 1;
@@ -537,8 +616,8 @@ static void stage_table(double instructions[KERNELS][SIDES], double times[KERNEL
     printf("\nThe stages of the link, from the figures above. Useful bits are those of transport packets. The inner decoders read\n"
            "runs that overlap: of a run %d bits are kept at 1/2 and %d at 3/4, which is taken so for every side.\n\n",
            kept_bits[0], kept_bits[2]);
-    printf("%-25s|         Mbit/s of useful bits               |         instructions for a useful bit\n", "");
-    printf("%-25s|    library    plain C     libfec       VOLK |    library    plain C     libfec       VOLK\n", "stage");
+    printf("%-25s|         Mbit/s of useful bits                          |         instructions for a useful bit\n", "");
+    printf("%-25s|    library    plain C     libfec       VOLK    osmocom |    library    plain C     libfec       VOLK    osmocom\n", "stage");
     for (int i = 0; i < STAGES; i++) {
         printf("%-25s|", stages[i].what);
         for (int s = 0; s < SIDES; s++) {
@@ -573,11 +652,11 @@ static int table(const char *counts_file)
            "Interleaver, inner coder, sending, receiving: one call on %d blocks from a fresh state, divided.\n"
            "Data is random. Output buffers are not cleared: they are lent as the call before left them. A block to be\n"
            "decoded is copied in afresh before every call, inside the measure, on every side.\n"
-           "Plain C is built at -O3, libfec and VOLK as their packages have them. Times: best of %d, the sides taking turns.\n"
+           "Plain C is built at -O3, libfec, VOLK and libosmocore as their packages have them. Times: best of %d, the sides taking turns.\n"
            "Ratio: the library's time to the peer's.\n\n",
            RUN, REPEATS);
-    printf("%-25s|                instructions                 |                  time, ns                   |         ratio of times\n", "");
-    printf("%-25s|    library    plain C     libfec       VOLK |    library    plain C     libfec       VOLK | to plain C  to libfec    to VOLK\n", "kernel");
+    printf("%-25s|                     instructions                       |                       time, ns                         |         ratio of times\n", "");
+    printf("%-25s|    library    plain C     libfec       VOLK    osmocom |    library    plain C     libfec       VOLK    osmocom | to plain C  to libfec    to VOLK to osmocom\n", "kernel");
     int bad = 0;
     for (int i = 0; i < KERNELS; i++) {
         const struct kernel *k = &kernels[i];

@@ -1,7 +1,7 @@
 #!/bin/bash
 # Builds the library and its peers, counts instructions with callgrind, takes times side by side, prints a table of kernels and
 # one of the stages of the link, and draws the first: docs/performance.svg. What is built, and the tables, stay in target/bench.
-# libfec, VOLK and valgrind come from Debian where they are missing; what cannot be had is said and skipped. CC may name another
+# libfec, VOLK, libosmocore and valgrind come from Debian where they are missing; what cannot be had is said and skipped. CC may name another
 # compiler.
 set -euo pipefail
 cd "$(dirname "$0")/.."
@@ -24,6 +24,10 @@ has_volk() {
     printf '#include <volk/volk.h>\nint main(void){return volk_8u_x4_conv_k7_r2_8u==0;}\n' | "$cc" -x c - -o "$build/probe" -lvolk 2> /dev/null
 }
 
+has_osmo() {
+    printf '#include <osmocom/core/conv.h>\nint main(void){return osmo_conv_decode==0;}\n' | "$cc" -x c - -o "$build/probe" -losmocore 2> /dev/null
+}
+
 mkdir -p "$build"
 { ./build.sh libdvbs libdvbs_bridge && rt staticlib kernels; } > "$build/libraries.log" 2>&1 || { cat "$build/libraries.log"; exit 1; }
 peers=() flags=()
@@ -38,6 +42,12 @@ if has_volk; then
     flags+=(-DHAVE_VOLK) peers+=(-lvolk)
 else
     echo "VOLK is missing (Debian: libvolk2-dev); its columns are skipped"
+fi
+has_osmo || install libosmocore-dev
+if has_osmo; then
+    flags+=(-DHAVE_OSMO) peers+=(-losmocore)
+else
+    echo "libosmocore is missing (Debian: libosmocore-dev); its columns are skipped"
 fi
 "$cc" -std=gnu11 -O3 -Wall -Wextra -c bench/plain.c -o "$build/plain.o"
 "$cc" -std=gnu11 -O3 -Wall -Wextra "${flags[@]}" bench/bench.c "$build/plain.o" -Ltarget/staticlib -ldvbs -ldvbs_bridge -lkernels "${peers[@]}" -o "$build/bench"

@@ -160,6 +160,84 @@ half-spread l output exit n m q h k e =
           ∙ (getD-take m l t 0 (omega arith) ∙ half-step l t),
     )
 
+-- ---- rate 3/4: both coded bits of one bit are sent, Y of the next and X of the one after it
+
+module _ (k : ℕ) where
+  kind-first : kindAt 2 (3 * k) ≡ 3
+  unfolding kind modeOf flatten
+  kind-first = let e : 3 * k % 3 ≡ 0 = omega arith in ap (kind 2) e
+
+  kind-second : kindAt 2 (suc (3 * k)) ≡ 1
+  unfolding kind modeOf flatten
+  kind-second = let e : suc (3 * k) % 3 ≡ 1 = omega arith in ap (kind 2) e
+
+  kind-third : kindAt 2 (suc (suc (3 * k))) ≡ 2
+  unfolding kind modeOf flatten
+  kind-third = let e : suc (suc (3 * k)) % 3 ≡ 2 = omega arith in ap (kind 2) e
+
+  second-bit : first 2 (suc (3 * k)) ≡ first 2 (3 * k) + 2
+  unfolding first
+  second-bit = ap (λ (q : ℕ). first 2 (3 * k) + width q) kind-first
+
+  third-bit : first 2 (suc (suc (3 * k))) ≡ first 2 (3 * k) + 3
+  unfolding first
+  third-bit = ap (λ (q : ℕ). first 2 (suc (3 * k)) + width q) kind-second ∙ omega (arith, second-bit)
+
+pub three-first : (k : ℕ) → first 2 (3 * k) ≡ 4 * k
+unfolding first
+three-first zero = refl
+three-first (suc k) =
+    let e : 3 * suc k ≡ suc (suc (suc (3 * k))) = omega arith in
+    ap (first 2) e ∙ ap (λ (q : ℕ). first 2 (suc (suc (3 * k))) + width q) (kind-third k) ∙ omega (arith, third-bit k, three-first k)
+
+module _ (l : List ℕ) (k : ℕ) where
+  step-first : getD l (2 * k) 0 ≡ runStep l 2 (3 * k)
+  unfolding runStep
+  step-first =
+      let j : first 2 (3 * k) ≡ 2 * (2 * k) = omega (arith, three-first k) in
+      let e : 9 * (getD l (2 * k) 0 / 9) + getD l (2 * k) 0 % 9 ≡ getD l (2 * k) 0 = omega arith in
+      sym (rw (kind-first k, j, decision-i l (2 * k), decision-q l (2 * k)) e)
+
+  step-second : 72 + getD l (2 * k + 1) 0 / 9 ≡ runStep l 2 (suc (3 * k))
+  unfolding runStep
+  step-second =
+      let j : first 2 (suc (3 * k)) ≡ 2 * (2 * k + 1) = omega (arith, second-bit k, three-first k) in
+      sym (rw (kind-second k, j) (ap (λ (d : ℕ). 72 + d) (decision-i l (2 * k + 1))))
+
+  step-third : 9 * (getD l (2 * k + 1) 0 % 9) + 8 ≡ runStep l 2 (suc (suc (3 * k)))
+  unfolding runStep
+  step-third =
+      let j : first 2 (suc (suc (3 * k))) ≡ 2 * (2 * k + 1) + 1 = omega (arith, third-bit k, three-first k) in
+      sym (rw (kind-third k, j) (ap (λ (d : ℕ). 9 * d + 8) (decision-q l (2 * k + 1))))
+
+-- so many patterns are spread
+pub record Threes (l : List ℕ) (n k s at : ℕ) (output₀ output : List ℕ) : Type 0 where
+  pub most : k ≤ n
+  pub symbol : s ≡ 2 * k
+  pub step : at ≡ 3 * k
+  pub written : Each (λ t v. v ≡ runStep l 2 t) (length output₀) output at
+
+pub threes-none : (l : List ℕ) (n : ℕ) (output : List ℕ) → Threes l n 0 0 0 output output
+threes-none l n output = record { most = omega arith; symbol = refl; step = refl; written = each-none refl }
+
+pub threes-more : (l : List ℕ) (n : ℕ) {k s at : ℕ} {output₀ output : List ℕ} → Threes l n k s at output₀ output → k < n → 3 * n ≤ length output₀
+    → Threes l n (k + 1) (s + 1 + 1) (at + 1 + 1 + 1) output₀
+    (set (set (set output at (getD l s 0)) (at + 1) (72 + getD l (s + 1) 0 / 9)) (at + 1 + 1) (9 * (getD l (s + 1) 0 % 9) + 8))
+threes-more l n {k} {s} {at} {output₀} {output} g h fits =
+    let es = g .symbol in
+    let ea = g .step in
+    let e1 : at + 1 ≡ suc (3 * k) = omega arith in
+    let e2 : at + 1 + 1 ≡ suc (suc (3 * k)) = omega arith in
+    let v1 : getD l s 0 ≡ runStep l 2 at = ap (λ (i : ℕ). getD l i 0) es ∙ step-first l k ∙ ap (runStep l 2) (sym ea) in
+    let v2 : 72 + getD l (s + 1) 0 / 9 ≡ runStep l 2 (at + 1) = ap (λ (i : ℕ). 72 + getD l (i + 1) 0 / 9) es ∙ step-second l k ∙ ap (runStep l 2) (sym e1) in
+    let v3 : 9 * (getD l (s + 1) 0 % 9) + 8 ≡ runStep l 2 (at + 1 + 1) = ap (λ (i : ℕ). 9 * (getD l (i + 1) 0 % 9) + 8) es ∙ step-third l k ∙ ap (runStep l 2) (sym e2) in
+    record {
+      most = omega arith;
+      symbol = omega arith;
+      step = omega arith;
+      written = each-more _ (omega arith) v3 (each-more _ (omega arith) v2 (each-more _ (omega arith) v1 (g .written)));
+    }
+
 -- ---- the loop
 
 pub record Spreading (l : List ℕ) (rate n k place j : ℕ) (output₀ output : List ℕ) : Type 0 where

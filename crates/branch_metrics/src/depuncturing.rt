@@ -115,6 +115,28 @@ fn spread_places(pairs: &[u8], rate: usize, pattern: usize, n: usize, output: &m
     }
 }
 
+// Those of n whole patterns at rate 3/4, which satellites use the most: X1 and Y1, then Y2 and X3.
+fn spread_3_4(pairs: &[u8], n: usize, output: &mut [u8])
+    requires { ⌜ (2 * n ≤ length (now pairs)) × (3 * n ≤ length (now output)) × Pairs (now pairs) ⌝ }
+    ensures { λ _. ⌜ (length (now (output .exit)) ≡ length (now (output .entry))) × ((t : ℕ) → t < 3 * n → getD (now (output .exit)) t 0 ≡ runStep (now (pairs .entry)) 2 t) ⌝ }
+{
+    let mut k = 0;
+    let mut s = 0;
+    let mut at = 0;
+    while k < n {
+        output[at] = pairs[s];
+        let s1 = s + 1;
+        let pair = pairs[s1];
+        let at1 = at + 1;
+        output[at1] = 72 + pair / 9;
+        let at2 = at1 + 1;
+        output[at2] = 9 * (pair % 9) + 8;
+        s = s1 + 1;
+        at = at2 + 1;
+        k += 1;
+    }
+}
+
 // Writes the decisions of n steps. At rate 1/2 every coded bit is sent, and a symbol is a step.
 pub fn spread_pairs(pairs: &[u8], rate: usize, pattern: usize, n: usize, output: &mut [u8])
     requires { ⌜ (rate < 5) × (pattern ≡ patternLength rate) × (0 < pattern) × (pattern ≤ 7) × (first rate n ≤ 2 * length (now pairs)) × (n ≤ length (now output)) × Pairs (now pairs) ⌝ }
@@ -122,7 +144,13 @@ pub fn spread_pairs(pairs: &[u8], rate: usize, pattern: usize, n: usize, output:
 {
     if rate == 0 {
         put(&pairs[0..n], 0, output);
-    } else {
-        spread_places(pairs, rate, pattern, n, output);
+        return;
     }
+    if rate == 2 {
+        if n % 3 == 0 {
+            spread_3_4(pairs, n / 3, output);
+            return;
+        }
+    }
+    spread_places(pairs, rate, pattern, n, output);
 }

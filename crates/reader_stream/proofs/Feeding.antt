@@ -2,7 +2,7 @@
 -- Assumes nothing.
 use mathlib.Core.Path.{_≡_, refl, sym, ap, ap₂, subst, _∙_}
 use mathlib.Core.List.{List, [], _++_, append-nil, append-assoc}
-use Prim.Native.Nat.{ℕ, _+_, _*_, _/_, _-_, _%_, _≤_, _<_}
+use Prim.Native.Nat.{ℕ, _+_, _*_, _-_, _≤_, _<_}
 use native.Mathlib.Omega.{arith}
 use borrow.Rule.Slice.PartMut.{putMid}
 use lib.ListN.{length, take, drop, length-append, length-take, length-drop, drop-of-length-le}
@@ -10,7 +10,7 @@ use lib.Seq.{length-take-le, take-length, take-append-le, take-at, take-add}
 use Rattle.reader_stream.specs.Packing.{carriedBits, Packs}
 use Rattle.reader_stream.proofs.Packing.{carried-length, packs-fit, packs-all, packs-none, packs-more}
 use Rattle.convolutional_code.specs.Bits.{Bits, none}
-use Rattle.reader_stream.specs.Runs.{fullSymbols, fullSymbols, keptBits, keptSymbols, DecidedCosts, few-costs, run-costs, RunsReady, FeedsSymbols, gathered, read, heldOf, Closes}
+use Rattle.reader_stream.specs.Runs.{fullSymbols, keptBits, keptSymbols, DecidedCosts, few-costs, run-costs, RunsReady, FeedsSymbols, gathered, read, heldOf, Closes}
 use Rattle.reader_stream.specs.declared.symbol_runs.SymbolRuns.{SymbolRuns}
 use Rattle.reader_stream.proofs.Runs.{numbers, held-length, short-run, kept-le}
 use Rattle.reader_stream.proofs.Histories.{joined}

@@ -2,7 +2,7 @@
 -- Assumes nothing.
 use mathlib.Core.Path.{_≡_, refl, sym, _∙_, ap, ap₂, subst}
 use mathlib.Core.List.{List, [], _++_, map, append-assoc}
-use Prim.Native.Nat.{ℕ, _+_, _-_, _*_, _/_, _%_, _<_, _≤_}
+use Prim.Native.Nat.{ℕ, _+_, _-_, _*_, _%_, _<_, _≤_}
 use native.Mathlib.Nat.{mul-mod-right}
 use native.Mathlib.Omega.{arith}
 use lib.ListN.{length, take, drop, length-append}
@@ -19,7 +19,7 @@ use Rattle.reader.proofs.Costs.{excess}
 use Rattle.reader.proofs.Reading.{decoded-as, read-as}
 use Rattle.reader.proofs.Streams.{take-bits}
 use Rattle.reader_stream.specs.Packing.{packedBytes, carriedBits}
-use Rattle.reader_stream.specs.Runs.{fullSymbols, keptSymbols, keptBits, fullSymbols, keptSymbols, Decided, few, run, DecidedCosts, few-costs, run-costs, Ended, heldOf, Closes}
+use Rattle.reader_stream.specs.Runs.{fullSymbols, keptSymbols, keptBits, Decided, few, run, DecidedCosts, few-costs, run-costs, Ended, heldOf, Closes}
 use Rattle.reader_stream.specs.Stream.{heldCosts, heldBits, FinishesReader}
 use Rattle.reader_stream.specs.History.{ReaderFeedings, none, feeding, CostsRead, SymbolsRead, SymbolsEnded}
 use Rattle.reader_stream.specs.declared.ReaderStream.{ReaderStream}

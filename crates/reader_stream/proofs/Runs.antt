@@ -21,7 +21,7 @@ use Rattle.puncturing.specs.Mode.{modeOf}
 use Rattle.puncturing.specs.Step.{patternLength}
 use Rattle.reader.specs.Cost.{runCost, costsOf}
 use Rattle.reader.specs.Read.{symbolsPerPattern, runBits, Readable, BestRead}
-use Rattle.reader_stream.specs.Runs.{runPatterns, keptPatterns, fullSymbols, keptSymbols, keptBits, fullSymbols, keptSymbols, heldOf, FullRead, RunsReady, FeedsSymbols, gathered, read, Closes}
+use Rattle.reader_stream.specs.Runs.{runPatterns, keptPatterns, fullSymbols, keptSymbols, keptBits, heldOf, FullRead, RunsReady, FeedsSymbols, gathered, read, Closes}
 
 -- ---- the memory after bits, one after the other
 

@@ -2,7 +2,7 @@
 // symbols that are not decided yet are held, and the bits that fill no byte yet.
 // The costs of a symbol come as one number, which stands for the decisions on its I and Q, whether they are hard or soft ones.
 // Inner: its functions may require what the crates above have tested. docs/ARCHITECTURE.md names the public surface.
-ghost use mathlib.Core.Path.{_≡_};
+
 ghost use Prim.Native.Nat.{_+_, _*_, _<_, _≤_};
 ghost use lib.ListN.{length};
 ghost use Rattle.common.specs.Lists.{All};

@@ -14,7 +14,7 @@ use lib.Seq.{getD-set-same, getD-set-other}
 use Rattle.common.specs.Choice.{pick}
 use Rattle.common.proofs.Computed as computed
 use Rattle.convolutional_code.specs.Code.{tapsX, tapsY, coded}
-use Rattle.convolutional_code.specs.Costs.{at, decided, zeroCost, oneCost, decisionCost, pairCost}
+use Rattle.convolutional_code.specs.Costs.{at, zeroCost, oneCost, decisionCost, pairCost}
 use Rattle.viterbi_decoder.specs.Metric.{from, via, choice}
 use Rattle.viterbi_decoder.specs.Lanes.{lane, held, CostRows, SumRows, Bounded, rowCost, lesser, chosen, Stepped}
 

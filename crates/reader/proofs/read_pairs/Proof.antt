@@ -1,6 +1,5 @@
 -- `reader::read_pairs` meets its contract.
 -- Assumes nothing.
-use Prim.Native.Nat.{_/_}
 use native.Mathlib.Omega.{arith}
 use lib.ListN.{length}
 use Rattle.reader.proofs.Patterns.{some-symbols, run-count}

@@ -1,7 +1,7 @@
 -- `reader_program::points::take_points` meets its contract.
 -- Assumes nothing.
 use mathlib.Core.Path.{refl, sym}
-use Prim.Native.Nat.{_*_, _/_, _%_, _≤_}
+use Prim.Native.Nat.{_/_, _%_, _≤_}
 use native.Mathlib.Omega.{arith}
 use lib.ListN.{length}
 use lib.Seq.{length-take-le}
