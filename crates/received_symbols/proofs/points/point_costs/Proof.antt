@@ -1,4 +1,4 @@
--- `reader_program::points::point_costs` meets its contract.
+-- `received_symbols::points::point_costs` meets its contract.
 -- Assumes nothing.
 use mathlib.Core.Path.{refl}
 use Prim.Native.Nat.{_-_, _*_, _≤_}
@@ -6,9 +6,9 @@ use native.Mathlib.Omega.{arith}
 use lib.ListN.{length}
 use Rattle.common.proofs.Each.{Each, each-none}
 use Rattle.branch_metrics.proofs.Runs.{Holds, four-more}
-use Rattle.reader_program.specs.Received.{pointAt}
-use Rattle.reader_program.proofs.points.point_costs.Statement.{statement}
-use Rattle.reader_program.proofs.points.point_costs.Tie as tie
+use Rattle.received_symbols.specs.Received.{pointAt}
+use Rattle.received_symbols.proofs.points.point_costs.Statement.{statement}
+use Rattle.received_symbols.proofs.points.point_costs.Tie as tie
 
 abbrev Inv-loop : tie.InvT-loop
 Inv-loop bytes count output₀ k₀ output k = (k ≤ count) × Each (Holds (pointAt bytes)) (length output₀) output (4 * k)
