@@ -15,10 +15,10 @@ use Rattle.program_io.specs.declared.input.Input.{Input}
 use Rattle.program_io.specs.declared.output.Output.{Output}
 use Rattle.program_io.specs.declared.trace.Trace.{Trace}
 use Rattle.program_io.proofs.Traces.{traced-on}
-use Rattle.reader_program.specs.Received.{costOf, symbolsIn}
+use Rattle.received_symbols.specs.Received.{costOf, symbolsIn}
 use Rattle.reader_program.specs.Lines.{refusalLine, closingLines, tooLong}
 use Rattle.reader_program.specs.Ends.{Untold, Going, Whole, Refused, Failed, errors-failed, refused, too-long}
-use Rattle.reader_program.specs.declared.Pass.{Pass}
+use Rattle.received_symbols.specs.declared.Pass.{Pass}
 use Rattle.reader_program.specs.declared.Ended.{Ended}
 
 -- a text that was told

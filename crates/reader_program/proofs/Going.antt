@@ -2,93 +2,23 @@
 -- Assumes nothing.
 use mathlib.Core.Path.{_≡_, refl, sym, ap, subst, _∙_}
 use mathlib.Core.Bool.{Bool, true, false}
-use mathlib.Core.List.{List, [], _∷_, _++_, map, map-append, append-nil}
-use Prim.{tt}
-use Prim.Native.Nat.{ℕ, _+_, _%_, _≤_, _<_}
+use mathlib.Core.List.{List, [], _∷_, _++_, append-nil}
+use Prim.Native.Nat.{ℕ, _+_, _≤_, _<_}
 use native.Mathlib.Omega.{arith}
 use lib.IntN.{pos}
 use lib.ListN.{length, getD, take, length-append}
 use lib.Seq.{take-length, take-append-add, getD-append-add}
-use Rattle.common.specs.Lists.{All, chunks, chunksOf, restOf}
-use Rattle.common.proofs.Chunks.{length-rest, rest-few, cut}
-use Rattle.common.proofs.Lists.{All-append}
-use Rattle.reader.specs.Cost.{Costed}
-use Rattle.reader_stream.specs.Stream.{ReaderReady, FreshReader}
-use Rattle.reader_stream.specs.History.{none, feeding}
-use Rattle.reader_stream.proofs.Costs.{costed-append}
-use Rattle.reader_stream.proofs.Histories.{every-history}
+use Rattle.reader_stream.specs.Stream.{FreshReader}
 use Rattle.program_io.specs.Checksum.{noBytes, traced}
 use Rattle.program_io.specs.Files.{inputOrigin, originFile, originArgument, originStart, inputTrace, outputFile, outputTrace, outputFailed, StandardInput, FreshOutput, Writes}
 use Rattle.program_io.specs.declared.input.Input.{Input}
 use Rattle.program_io.specs.declared.output.Output.{Output}
 use Rattle.program_io.proofs.Traces.{traced-on}
-use Rattle.reader_program.specs.Received.{pointOf, Symbol, costOf, width, symbolsIn, Valid}
-use Rattle.reader_program.specs.Pass.{TakesAll, BytesTaken}
+use Rattle.received_symbols.specs.Pass.{TakesAll, BytesTaken}
 use Rattle.reader_program.specs.Ends.{Turns, Files, Untold, Going, Refused}
-use Rattle.reader_program.specs.declared.Pass.{Pass}
+use Rattle.received_symbols.specs.declared.Pass.{Pass}
 use Rattle.reader_program.specs.declared.Turn.{Turn}
-use Rattle.reader_program.proofs.HardInput.{no-rest}
-
--- ---- the symbols of bytes that come in pieces
-
-some-width : (soft : Bool) → 0 < width soft
-some-width true = omega arith
-some-width false = omega arith
-
-symbols-pieces : (soft : Bool) (a b : List ℕ) → symbolsIn soft (a ++ b) ≡ symbolsIn soft a ++ symbolsIn soft (restOf (width soft) a ++ b)
-symbols-pieces true a b = ap (map pointOf) (cut 8 (omega arith) a b .chunks-are) ∙ map-append pointOf (chunksOf 8 a) (chunksOf 8 (restOf 8 a ++ b))
-symbols-pieces false a b = ap (λ (l : List ℕ). a ++ (l ++ b)) (sym (no-rest a))
-
-valid-pieces : (soft : Bool) (a b : List ℕ) → Valid soft a → Valid soft (restOf (width soft) a ++ b) → Valid soft (a ++ b)
-valid-pieces true a b v w = tt
-valid-pieces false a b v w = All-append (λ x. x < 4) a b v (subst (λ (l : List ℕ). All (λ x. x < 4) (l ++ b)) (no-rest a) w)
-
--- bytes that were taken, and then more of them
-pub taken-on : {soft : Bool} {rate : ℕ} {bytes written : List ℕ} {p next : Pass} → BytesTaken soft rate bytes written p → (more : List ℕ) {output exit : List ℕ} {count : ℕ}
-    → TakesAll soft (p .stream) (take (p .held) (p .tail) ++ more) output next count exit → BytesTaken soft rate (bytes ++ more) (written ++ take count exit) next
-taken-on {soft} {rate} {bytes} {written} {p} {next} b more {output} {exit} {count} t =
-    let n = width soft in
-    let e : take (p .held) (p .tail) ++ more ≡ restOf n bytes ++ more = ap (λ (l : List ℕ). l ++ more) (b .holds .bytes-are) in
-    let k : TakesAll soft (p .stream) (restOf n bytes ++ more) output next count exit = subst (λ (l : List ℕ). TakesAll soft (p .stream) l output next count exit) e t in
-    let q : restOf n (bytes ++ more) ≡ restOf n (restOf n bytes ++ more) = cut n (some-width soft) bytes more .rest-is in
-    record {
-      valid = valid-pieces soft bytes more (b .valid) (k .valid);
-      costs = b .costs ++ k .costs;
-      costed =
-          subst (λ (l : List (Symbol soft)). Costed (costOf soft) l (b .costs ++ k .costs)) (sym (symbols-pieces soft bytes more))
-          (costed-append (costOf soft) (b .costed) (k .costed));
-      fed = feeding (k .costs) output exit count (b .fed) (k .fed);
-      holds = record {
-        size = k .holds .size;
-        count = k .holds .count ∙ (sym (length-rest n (restOf n bytes ++ more)) ∙ (ap length (sym q) ∙ length-rest n (bytes ++ more)));
-        bytes-are = k .holds .bytes-are ∙ sym q;
-      };
-    }
-
-none-costed : (soft : Bool) → Costed (costOf soft) (symbolsIn soft []) []
-unfolding chunksOf chunks
-none-costed true = record { size = omega arith; extra = λ i. 0; each = λ i s h four. absurd (omega arith) }
-none-costed false = record { size = omega arith; extra = λ i. 0; each = λ i s h four. absurd (omega arith) }
-
-none-valid : (soft : Bool) → Valid soft []
-none-valid true = tt
-none-valid false = tt
-
-none-mod : (soft : Bool) → 0 % width soft ≡ 0
-none-mod true = refl
-none-mod false = refl
-
--- ---- a reader that goes on
-
-pub taken-ready : {soft : Bool} {rate : ℕ} {bytes written : List ℕ} {p : Pass} → BytesTaken soft rate bytes written p → ReaderReady (p .stream)
-taken-ready b = every-history (b .fed) .ready
-
-few-left : (soft : Bool) (n : ℕ) → n % width soft < width soft
-few-left true n = omega arith
-few-left false n = omega arith
-
-pub taken-few : (soft : Bool) {rate : ℕ} {bytes written : List ℕ} {p : Pass} → BytesTaken soft rate bytes written p → p .held < width soft
-taken-few soft {bytes = bytes} b = rw (b .holds .count) (few-left soft (length bytes))
+use Rattle.received_symbols.proofs.Pieces.{taken-none, taken-on, none-left}
 
 -- ---- the files
 
@@ -121,18 +51,7 @@ pub going-none : (soft : Bool) {rate : ℕ} {input : Input} {output : Output} {p
 going-none soft {p = p} i o f size e = record {
   bytes = [];
   written = [];
-  taken =
-      record {
-        valid = none-valid soft;
-        costs = [];
-        costed = none-costed soft;
-        fed = none f;
-        holds = record {
-          size = size;
-          count = e ∙ sym (none-mod soft);
-          bytes-are = ap (λ (k : ℕ). take k (p .tail)) e ∙ sym (rest-few (width soft) (some-width soft) [] (some-width soft));
-        };
-      };
+  taken = taken-none soft f size e;
   counted = refl;
   read = i .trace;
   written-is = o .trace;
@@ -192,7 +111,7 @@ module _ {soft : Bool} {rate : ℕ} {input : Input} {output : Output} {p : Pass}
     going-refused s =
         let k = u .takes .stops s in
         let n = t .taken .taken in
-        let z : take (p .held) (p .tail) ≡ [] = g .taken .holds .bytes-are ∙ none-left (k .0) in
+        let z : take (p .held) (p .tail) ≡ [] = g .taken .holds .bytes-are ∙ none-left (k .0) (g .bytes) in
         let e : both ≡ u .piece = ap (λ (l : List ℕ). l ++ u .piece) z in
         let here : n < length (u .piece) = subst (λ (l : List ℕ). n < length l) e (k .1) in
         let at : came + n ≡ length (g .bytes) + n = ap (λ (j : ℕ). j + n) (g .counted) in
@@ -215,6 +134,3 @@ module _ {soft : Bool} {rate : ℕ} {input : Input} {output : Output} {p : Pass}
               (subst (λ (l : List ℕ). TakesAll soft (p .stream) l lent (t .taken .pass) (t .taken .count) exit) f (u .takes .takes)));
           written-is = written-more;
         }
-      where
-        none-left : soft ≡ false → restOf (width soft) (g .bytes) ≡ []
-        none-left e = subst (λ (b : Bool). restOf (width b) (g .bytes) ≡ []) (sym e) (no-rest (g .bytes))

@@ -1,5 +1,3 @@
-mod HardInput
-mod SoftInput
 mod Turning
 mod Going
 mod Ending

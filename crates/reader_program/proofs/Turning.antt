@@ -11,17 +11,10 @@ use lib.Seq.{length-take-le, drop-at, take-append-add}
 use Rattle.program_io.specs.Files.{Reads}
 use Rattle.program_io.specs.declared.input.Input.{Input}
 use Rattle.program_io.specs.declared.input.Filled.{Filled}
-use Rattle.reader_program.specs.Received.{width}
+use Rattle.received_symbols.specs.Received.{width}
 use Rattle.reader_program.specs.Ends.{mostOf, ReadsBehind}
 
 -- ---- hard or soft decisions
-
-module _ {soft : Bool} where
-  pub as-soft : soft ≡ true → (n : ℕ) (l : List ℕ) (a b : ℕ) → n / width soft + a ≤ b * length l → n / 8 + a ≤ b * length l
-  as-soft e n l a b = subst (λ (t : Bool). n / width t + a ≤ b * length l) e
-
-  pub as-hard : soft ≡ false → (n : ℕ) (l : List ℕ) (a b : ℕ) → n / width soft + a ≤ b * length l → n + a ≤ b * length l
-  as-hard e n l a b h = let g : n / 1 + a ≤ b * length l = subst (λ (t : Bool). n / width t + a ≤ b * length l) e h in let q : n / 1 ≡ n = omega arith in rw (← q) g
 
 pub few-held : (soft : Bool) {n : ℕ} → n < width soft → n < 8
 few-held true h = h

@@ -23,10 +23,10 @@ use Rattle.program_io.specs.declared.words.Word.{Word}
 use Rattle.program_io.specs.declared.calls.Answered.{Answered}
 use Rattle.program_io.specs.declared.calls.Asked.the-variants.{Help, Version, Work}
 use Rattle.rate_words.specs.Words.{modeNamed}
-use Rattle.reader_program.specs.Received.{costOf, width, symbolsIn, Valid}
-use Rattle.reader_program.specs.Pass.{TakesBytes, BytesTaken}
+use Rattle.received_symbols.specs.Received.{costOf, width, symbolsIn, Valid}
+use Rattle.received_symbols.specs.Pass.{TakesBytes, BytesTaken}
 use Rattle.reader_program.specs.Lines.{refusalLine, closingLines, tooLong}
-use Rattle.reader_program.specs.declared.Pass.{Pass}
+use Rattle.received_symbols.specs.declared.Pass.{Pass}
 use Rattle.reader_program.specs.declared.Turn.{Turn}
 use Rattle.reader_program.specs.declared.Ended.{Ended}
 

@@ -1,4 +1,2 @@
-pub mod Received
-pub mod Pass
 pub mod Lines
 pub mod Ends

@@ -3,14 +3,11 @@
 // Inner: its functions may require what the crates above have tested. docs/ARCHITECTURE.md names the public surface.
 ghost use mathlib.Core.Path.{_≡_};
 ghost use mathlib.Core.Bool.{true};
-ghost use Prim.Native.Nat.{_+_, _*_, _/_, _≤_, _<_};
+ghost use Prim.Native.Nat.{_+_, _≤_, _<_};
 ghost use lib.IntN.{pos};
 ghost use lib.ListN.{length};
-ghost use Rattle.reader_stream.specs.Stream.{ReaderReady};
 ghost use Rattle.program_io.specs.Files.{inputOver, StandardInput, FreshOutput};
 ghost use Rattle.program_io.specs.Words.{argumentCount, wordBytes};
-ghost use Rattle.reader_program.specs.Received.{width};
-ghost use Rattle.reader_program.specs.Pass.{TakesBytes};
 ghost use Rattle.reader_program.specs.Ends.{mostOf, ReadsBehind, Buffers, Turns, Files, Untold, Going, Refused, Ends, rateAsked, Exits};
 use common::put;
 use program_io::Arguments;
@@ -20,25 +17,11 @@ use program_io::Input;
 use program_io::Output;
 use program_io::Word;
 use reader_stream::ReaderStream;
+use received_symbols::Pass;
+use received_symbols::Taken;
+use received_symbols::take_bytes;
 
 mod lines;
-mod points;
-mod symbols;
-
-// A reader, and the bytes of a point that is not whole yet: so many of the tail.
-pub struct Pass {
-    pub stream: ReaderStream,
-    pub tail: [u8; 8],
-    pub held: usize,
-}
-
-// What was taken of some bytes: the pass after it, how many bytes, whether the byte behind them is no symbol, and how many bytes stand in the output.
-pub struct Taken {
-    pub pass: Pass,
-    pub taken: usize,
-    pub stopped: bool,
-    pub count: usize,
-}
 
 // The input after one read, how many bytes came, and what was taken.
 struct Turn {
@@ -57,24 +40,6 @@ pub struct Ended {
 
 // The most bytes that can be counted.
 const MOST: u64 = 9223372036854775807;
-
-// Takes the symbols of some bytes.
-fn take_bytes(
-    soft: bool,
-    stream: ReaderStream,
-    bytes: &[u8],
-    costs: &mut [u8],
-    bits: &mut [u8],
-    output: &mut [u8],
-) -> Taken
-    requires { ⌜ (ReaderReady stream) × (length (now bytes) / width soft ≤ length (now costs)) × (1632 ≤ length (now bits)) × (length (now bytes) / width soft + 1632 ≤ 4 * length (now output)) ⌝ }
-    ensures { λ r. ⌜ TakesBytes soft stream (now (bytes .entry)) (now (output .entry)) r (now (output .exit)) ⌝ }
-{
-    if soft {
-        return crate::points::take_points(stream, bytes, costs, bits, output);
-    }
-    crate::symbols::take_symbols(stream, bytes, costs, bits, output)
-}
 
 // The most bytes that one read is asked for: 32,768 symbols, whose bits fill 4,096 bytes or more.
 fn most_of(soft: bool) -> usize

@@ -7,7 +7,8 @@ use lib.ListN.{length}
 use lib.Seq.{length-take-le}
 use Rattle.reader_stream.proofs.Packing.{packs-fit}
 use Rattle.reader_program.specs.Ends.{input-failed, output-failed, errors-failed, whole, part}
-use Rattle.reader_program.proofs.Going.{taken-ready, files-written, files-told}
+use Rattle.received_symbols.proofs.Pieces.{taken-ready}
+use Rattle.reader_program.proofs.Going.{files-written, files-told}
 use Rattle.reader_program.proofs.Ending.{whole-run}
 use borrow.Author.Needs.{needs}
 use Rattle.reader_program.proofs.finish.Statement.{statement}

@@ -7,7 +7,8 @@ use lib.ListN.{length, take, length-append, length-take, length-replicate}
 use lib.Seq.{length-take-le}
 use Rattle.reader_program.specs.Ends.{Files, Going, output-failed, part}
 use Rattle.reader_program.proofs.Turning.{few-held}
-use Rattle.reader_program.proofs.Going.{taken-ready, taken-few, files-none, untold-none, files-read, files-written, going-none, going-over, going-more, going-refused}
+use Rattle.received_symbols.proofs.Pieces.{taken-ready, taken-few}
+use Rattle.reader_program.proofs.Going.{files-none, untold-none, files-read, files-written, going-none, going-over, going-more, going-refused}
 use borrow.Author.Needs.{needs}
 use Rattle.reader_program.proofs.read_all.Statement.{statement}
 use Rattle.reader_program.proofs.read_all.Tie as tie

@@ -1,15 +1,15 @@
--- `reader_program::points::take_points` meets its contract.
+-- `received_symbols::points::take_points` meets its contract.
 -- Assumes nothing.
 use mathlib.Core.Path.{refl, sym}
 use Prim.Native.Nat.{_/_, _%_, _≤_}
 use native.Mathlib.Omega.{arith}
 use lib.ListN.{length}
 use lib.Seq.{length-take-le}
-use Rattle.reader_program.proofs.SoftInput.{points-small, points-costed, points-taken, tail-length, tail-is}
-use Rattle.reader_program.specs.declared.Pass.{Pass}
+use Rattle.received_symbols.proofs.SoftInput.{points-small, points-costed, points-taken, tail-length, tail-is}
+use Rattle.received_symbols.specs.declared.Pass.{Pass}
 use borrow.Author.Needs.{needs}
-use Rattle.reader_program.proofs.points.take_points.Statement.{statement}
-use Rattle.reader_program.proofs.points.take_points.Tie as tie
+use Rattle.received_symbols.proofs.points.take_points.Statement.{statement}
+use Rattle.received_symbols.proofs.points.take_points.Tie as tie
 
 point-pairs-requires : tie.Need-point-pairs-requires
 point-pairs-requires c κs = search needs

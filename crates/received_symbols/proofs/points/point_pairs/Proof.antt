@@ -1,4 +1,4 @@
--- `reader_program::points::point_pairs` meets its contract.
+-- `received_symbols::points::point_pairs` meets its contract.
 -- Assumes nothing.
 use borrow.Author.Needs.{needs}
 use mathlib.Core.Path.{refl, _∙_, ap}
@@ -8,9 +8,9 @@ use lib.ListN.{length}
 use Rattle.common.proofs.Each.{Each, each-none, each-more}
 use Rattle.branch_metrics.specs.SoftPairs.{symbolPair}
 use Rattle.branch_metrics.proofs.Runs.{Holds}
-use Rattle.reader_program.specs.Received.{pointAt}
-use Rattle.reader_program.proofs.points.point_pairs.Statement.{statement}
-use Rattle.reader_program.proofs.points.point_pairs.Tie as tie
+use Rattle.received_symbols.specs.Received.{pointAt}
+use Rattle.received_symbols.proofs.points.point_pairs.Statement.{statement}
+use Rattle.received_symbols.proofs.points.point_pairs.Tie as tie
 
 abbrev Inv-loop : tie.InvT-loop
 Inv-loop bytes count output₀ k₀ output k = (k ≤ count) × Each (Holds (pointAt bytes)) (length output₀) output k

@@ -1,11 +1,11 @@
--- `reader_program::points::point_at` meets its contract.
+-- `received_symbols::points::point_at` meets its contract.
 -- Assumes nothing.
 use mathlib.Core.Path.{ap, ap₂, _∙_}
 use lib.Ieee.{ofBits, binary32}
-use Rattle.reader_program.specs.Received.{point}
+use Rattle.received_symbols.specs.Received.{point}
 use borrow.Author.Needs.{needs}
-use Rattle.reader_program.proofs.points.point_at.Statement.{statement}
-use Rattle.reader_program.proofs.points.point_at.Tie as tie
+use Rattle.received_symbols.proofs.points.point_at.Statement.{statement}
+use Rattle.received_symbols.proofs.points.point_at.Tie as tie
 
 word-at-requires : tie.Need-word-at-requires
 word-at-requires c κs = search needs

@@ -15,8 +15,8 @@ use Rattle.reader.specs.Cost.{differing, Costed}
 use Rattle.reader.proofs.Decisions.{Written, written-costed, written-small}
 use Rattle.reader_stream.specs.Stream.{FeedsReader}
 use Rattle.reader_stream.specs.declared.ReaderStream.{ReaderStream}
-use Rattle.reader_program.specs.Pass.{Held, SymbolsAtFront, TakesBytes}
-use Rattle.reader_program.specs.declared.Pass.{Pass}
+use Rattle.received_symbols.specs.Pass.{Held, SymbolsAtFront, TakesBytes}
+use Rattle.received_symbols.specs.declared.Pass.{Pass}
 
 -- ---- up to the first byte that is none
 

@@ -1,8 +1,8 @@
--- `reader_program::points::is_nan` meets its contract.
+-- `received_symbols::points::is_nan` meets its contract.
 -- Assumes nothing.
 use Rattle.branch_metrics.proofs.Numbers.{ne-nan}
-use Rattle.reader_program.proofs.points.is_nan.Statement.{statement}
-use Rattle.reader_program.proofs.points.is_nan.Tie as tie
+use Rattle.received_symbols.proofs.points.is_nan.Statement.{statement}
+use Rattle.received_symbols.proofs.points.is_nan.Tie as tie
 
 returns : tie.Need-returns
 returns c = ne-nan (c .args .x)

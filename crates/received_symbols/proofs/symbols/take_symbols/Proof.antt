@@ -1,15 +1,15 @@
--- `reader_program::symbols::take_symbols` meets its contract.
+-- `received_symbols::symbols::take_symbols` meets its contract.
 -- Assumes nothing.
 use mathlib.Core.Path.{_≡_, refl, sym}
 use Prim.Native.Nat.{_≤_}
 use native.Mathlib.Omega.{arith}
 use lib.ListN.{length, take, replicate}
 use lib.Seq.{length-take-le}
-use Rattle.reader_program.specs.declared.Pass.{Pass}
-use Rattle.reader_program.proofs.HardInput.{costs-length, costs-small, costs-costed, symbols-taken}
+use Rattle.received_symbols.specs.declared.Pass.{Pass}
+use Rattle.received_symbols.proofs.HardInput.{costs-length, costs-small, costs-costed, symbols-taken}
 use borrow.Author.Needs.{needs}
-use Rattle.reader_program.proofs.symbols.take_symbols.Statement.{statement}
-use Rattle.reader_program.proofs.symbols.take_symbols.Tie as tie
+use Rattle.received_symbols.proofs.symbols.take_symbols.Statement.{statement}
+use Rattle.received_symbols.proofs.symbols.take_symbols.Tie as tie
 
 symbols-in-requires : tie.Need-symbols-in-requires
 symbols-in-requires c κs = search needs

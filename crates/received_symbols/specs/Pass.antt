@@ -11,9 +11,9 @@ use Rattle.reader.specs.Cost.{Costed}
 use Rattle.reader_stream.specs.Stream.{FeedsReader}
 use Rattle.reader_stream.specs.History.{ReaderFeedings}
 use Rattle.reader_stream.specs.declared.ReaderStream.{ReaderStream}
-use Rattle.reader_program.specs.Received.{costOf, width, symbolsIn, Valid}
-use Rattle.reader_program.specs.declared.Pass.{Pass}
-use Rattle.reader_program.specs.declared.Taken.{Taken}
+use Rattle.received_symbols.specs.Received.{costOf, width, symbolsIn, Valid}
+use Rattle.received_symbols.specs.declared.Pass.{Pass}
+use Rattle.received_symbols.specs.declared.Taken.{Taken}
 
 -- the bytes that make no whole symbol are held
 pub record Held (soft : Bool) (p : Pass) (bytes : List ℕ) : Type 0 where

@@ -3,7 +3,7 @@ ghost use Prim.Native.Nat.{_+_, _*_, _≤_};
 ghost use mathlib.Core.Bool.{false};
 ghost use lib.ListN.{length};
 ghost use Rattle.reader_stream.specs.Stream.{ReaderReady};
-ghost use Rattle.reader_program.specs.Pass.{SymbolsAtFront, TakesBytes};
+ghost use Rattle.received_symbols.specs.Pass.{SymbolsAtFront, TakesBytes};
 use crate::Pass;
 use crate::Taken;
 use reader::hard_pairs;

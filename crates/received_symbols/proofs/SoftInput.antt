@@ -23,9 +23,9 @@ use Rattle.branch_metrics.specs.Cost.{softly}
 use Rattle.reader.specs.Cost.{Costed}
 use Rattle.reader_stream.specs.Stream.{FeedsReader}
 use Rattle.reader_stream.specs.declared.ReaderStream.{ReaderStream}
-use Rattle.reader_program.specs.Pass.{Held, TakesAll, TakesBytes}
-use Rattle.reader_program.specs.declared.Pass.{Pass}
-use Rattle.reader_program.specs.Received.{pointOf, pointAt, pointsOf}
+use Rattle.received_symbols.specs.Pass.{Held, TakesAll, TakesBytes}
+use Rattle.received_symbols.specs.declared.Pass.{Pass}
+use Rattle.received_symbols.specs.Received.{pointOf, pointAt, pointsOf}
 
 -- ---- the patterns of NaNs
 

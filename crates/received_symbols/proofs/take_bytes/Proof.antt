@@ -1,14 +1,14 @@
--- `reader_program::take_bytes` meets its contract.
+-- `received_symbols::take_bytes` meets its contract.
 -- Assumes nothing.
 use mathlib.Core.Path.{sym, subst}
 use mathlib.Core.Bool.{Bool}
 use native.Mathlib.Omega.{arith}
 use lib.ListN.{length}
-use Rattle.reader_program.specs.Pass.{TakesBytes}
-use Rattle.reader_program.proofs.Turning.{as-soft, as-hard}
+use Rattle.received_symbols.specs.Pass.{TakesBytes}
+use Rattle.received_symbols.proofs.Pieces.{as-soft, as-hard}
 use borrow.Author.Needs.{needs}
-use Rattle.reader_program.proofs.take_bytes.Statement.{statement}
-use Rattle.reader_program.proofs.take_bytes.Tie as tie
+use Rattle.received_symbols.proofs.take_bytes.Statement.{statement}
+use Rattle.received_symbols.proofs.take_bytes.Tie as tie
 
 take-points-requires : tie.Need-take-points-requires
 take-points-requires c κs =

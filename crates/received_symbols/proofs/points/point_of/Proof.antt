@@ -1,10 +1,10 @@
--- `reader_program::points::point_of` meets its contract.
+-- `received_symbols::points::point_of` meets its contract.
 -- Assumes nothing.
 use mathlib.Core.Path.{sym, _∙_}
 use Rattle.reader.proofs.Outcome.{not-true, not-false}
 use borrow.Author.Needs.{needs}
-use Rattle.reader_program.proofs.points.point_of.Statement.{statement}
-use Rattle.reader_program.proofs.points.point_of.Tie as tie
+use Rattle.received_symbols.proofs.points.point_of.Statement.{statement}
+use Rattle.received_symbols.proofs.points.point_of.Tie as tie
 
 is-nan-requires : tie.Need-is-nan-requires
 is-nan-requires c κs = search needs

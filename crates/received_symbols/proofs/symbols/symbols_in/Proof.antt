@@ -1,12 +1,12 @@
--- `reader_program::symbols::symbols_in` meets its contract.
+-- `received_symbols::symbols::symbols_in` meets its contract.
 -- Assumes nothing.
 use Prim.Native.Nat.{_-_}
 use native.Mathlib.Omega.{arith}
 use borrow.Author.Needs.{needs}
 use lib.ListN.{length}
-use Rattle.reader_program.proofs.HardInput.{Front, front-none, front-more, front-ends, front-all}
-use Rattle.reader_program.proofs.symbols.symbols_in.Statement.{statement}
-use Rattle.reader_program.proofs.symbols.symbols_in.Tie as tie
+use Rattle.received_symbols.proofs.HardInput.{Front, front-none, front-more, front-ends, front-all}
+use Rattle.received_symbols.proofs.symbols.symbols_in.Statement.{statement}
+use Rattle.received_symbols.proofs.symbols.symbols_in.Tie as tie
 
 abbrev Inv-loop : tie.InvT-loop
 Inv-loop bytes i₀ i = Front bytes i

@@ -1,11 +1,11 @@
--- `reader_program::points::number_of` meets its contract.
+-- `received_symbols::points::number_of` meets its contract.
 -- Assumes nothing.
 use mathlib.Core.Path.{sym, _∙_}
 use lib.Ieee.{ofBits, div, binary32, nanBits}
-use Rattle.reader_program.proofs.SoftInput.{nan-pattern, no-nan}
+use Rattle.received_symbols.proofs.SoftInput.{nan-pattern, no-nan}
 use borrow.Author.Needs.{needs}
-use Rattle.reader_program.proofs.points.number_of.Statement.{statement}
-use Rattle.reader_program.proofs.points.number_of.Tie as tie
+use Rattle.received_symbols.proofs.points.number_of.Statement.{statement}
+use Rattle.received_symbols.proofs.points.number_of.Tie as tie
 
 is-nan-pattern-requires : tie.Need-is-nan-pattern-requires
 is-nan-pattern-requires c κs = search needs

@@ -1,10 +1,10 @@
--- `reader_program::points::is_nan_pattern` meets its contract.
+-- `received_symbols::points::is_nan_pattern` meets its contract.
 -- Assumes nothing.
 use mathlib.Core.Path.{sym}
 use borrow.Author.Tests.{eq-eqb, ne-eqb}
 use lib.Ieee.{nanBits}
-use Rattle.reader_program.proofs.points.is_nan_pattern.Statement.{statement}
-use Rattle.reader_program.proofs.points.is_nan_pattern.Tie as tie
+use Rattle.received_symbols.proofs.points.is_nan_pattern.Statement.{statement}
+use Rattle.received_symbols.proofs.points.is_nan_pattern.Tie as tie
 
 returns : tie.Need-returns
 unfolding nanBits

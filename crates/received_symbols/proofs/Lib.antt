@@ -1,0 +1,3 @@
+mod HardInput
+mod SoftInput
+pub mod Pieces
