@@ -34,6 +34,14 @@ part() {
     [ "$(cat err)" = "$wanted" ] || fail "$what: $(cat err), not $wanted"
 }
 
+# ends STATUS COMMAND..: the command ends with this status.
+ends() {
+    local wanted=$1 status=0
+    shift
+    "$@" || status=$?
+    [ $status = "$wanted" ] || fail "status $status of $*, not $wanted"
+}
+
 # failing "CALL DESCRIPTOR WHICH ANSWER" COMMAND..: the command, with one call answered so (tests/failing.c).
 failing() {
     local call=$1
@@ -49,7 +57,8 @@ fill() {
 # 120 packets, their blocks, symbols and points.
 cat "$data/packets.ts" "$data/packets.ts" "$data/packets.ts" > packets
 "$reference/interleaved" < packets > blocks
-"$bin/dvbs_send" 2 < packets > symbols
+"$bin/dvbs_send" 2 < packets > symbols 2> told.send
+[ "$(cat told.send)" = "packets=120 replaced=0 rest=0" ] || fail "what dvbs_send tells: $(cat told.send)"
 "$reference/channel" 2 inf 1 < symbols > points
 "$bin/dvbs_receive" < blocks > received 2> report
 "$bin/dvbs_read" 2 < symbols > bytes 2> told
@@ -61,6 +70,7 @@ io_error="Input/output error"
 part "a failed read of dvbs_read" bytes "standard input: $io_error" failing "read 0 3 -5" "$bin/dvbs_read" 2 < symbols
 part "a failed read of dvbs_read_soft" bytes "standard input: $io_error" failing "read 0 3 -5" "$bin/dvbs_read_soft" 2 < points
 part "a failed read of dvbs_send" symbols "standard input: $io_error" failing "read 0 2 -5" "$bin/dvbs_send" 2 < packets
+ends 1 failing "read 0 2 -5" "$bin/dvbs_send" 2 < packets > out 2> err
 says "a failed first read of dvbs_receive" "standard input: $io_error" failing "read 0 1 -5" "$bin/dvbs_receive" < blocks
 says "a failed last read of pass_report" "standard input: $io_error" failing "read 0 2 -5" "$bin/pass_report" < blocks
 says "a directory as input of dvbs_read" "standard input: Is a directory" "$bin/dvbs_read" 2 < .
@@ -90,9 +100,9 @@ done
 cut_off() {
     local input=$1 name=$2 what=${3##*/}
     shift 2
-    failing "write 1 1 20" "$@" < "$input" > out 2> err
+    failing "write 1 1 20" "$@" < "$input" > out 2> err || true
     [ "$(wc -c < out)" = 20 ] && [ "$(cat err)" = "$name: not written whole" ] || fail "a short write of $what: $(cat err)"
-    failing "close 1 1 -5" "$@" < "$input" > out 2> err
+    failing "close 1 1 -5" "$@" < "$input" > out 2> err || true
     [ "$(cat err)" = "standard output: $io_error" ] || fail "an output of $what that is lost when closed: $(cat err)"
 }
 "$bin/pass_report" < blocks > told.report
@@ -100,6 +110,20 @@ sed 's/^bits=.*/bits=-/' told.report > second
 cut_off blocks report "$bin/pass_report"
 cut_off told.report season "$bin/season"
 cut_off second report "$bin/report_form" 1
+# No program that failed ends as if it had not: a write that fails, one that is short, an output that is lost when closed, and standard error, which has
+# the lines of dvbs_send and the number of a refusal. dvbs_send still sends all where it cannot tell.
+for call in "write 1 1 -28" "write 1 1 0" "close 1 1 -5" "read 0 1 -5"; do
+    ends 1 failing "$call" "$bin/dvbs_send" 2 < packets > out 2> err
+    ends 1 failing "$call" "$bin/dvbs_send" --flush 2 < packets > out 2> err
+    ends 1 failing "$call" "$bin/season" < told.report > out 2> err
+    ends 1 failing "$call" "$bin/report_form" 1 < second > out 2> err
+done
+for call in "write 2 1 -5" "write 2 1 5"; do
+    ends 1 failing "$call" "$bin/dvbs_send" 2 < packets > out 2> err
+    cmp out symbols && ! grep -q '^packets=' err || fail "dvbs_send with a standard error that fails: $(cat err)"
+    ends 1 failing "$call" "$bin/report_form" 1 < told.report > out 2> err
+    [ ! -s out ] || fail "report_form with a standard error that fails: $(cat out)"
+done
 # The report of dvbs_receive goes to standard error.
 failing "write 2 1 20" "$bin/dvbs_receive" < blocks 2> err > /dev/null
 ! grep -q '^rest=' err && grep -q 'report: not written whole$' err || fail "a short write of the report of dvbs_receive"
@@ -225,7 +249,7 @@ echo "blocks beyond the first million: as the first"
 
 # ---- each mode of dvbs_send: GNU Radio's symbols
 for mode in 0 1 2 3; do
-    "$bin/dvbs_send" $mode < "$data/packets.ts" | cmp - "$data/symbols_rate$mode.bin" || fail "dvbs_send $mode beside GNU Radio's symbols"
+    "$bin/dvbs_send" $mode < "$data/packets.ts" 2> err | cmp - "$data/symbols_rate$mode.bin" || fail "dvbs_send $mode beside GNU Radio's symbols"
 done
 echo "dvbs_send in each mode: as GNU Radio"
 

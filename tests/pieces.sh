@@ -80,24 +80,32 @@ null_packet() {
 for _ in 1 2 3 4 5 6 7; do cat "$packets"; done > good
 { head -c 188 /dev/zero; cat good; head -c 188 /dev/zero; head -c 57 "$packets"; } > mixed
 { null_packet; cat good; null_packet; } > put_in
-printf 'packet=0 answer=15\npacket=281 answer=15\nrest=57\n' > told
+printf 'packet=0 answer=15\npacket=281 answer=15\npackets=282 replaced=2 rest=57\n' > told
 for rate in 0 1 2 3 5; do
     "$bin/dvbs_send" $rate < put_in > symbols 2> err
-    [ -s symbols ] && [ ! -s err ] || fail "dvbs_send $rate on packets"
+    [ -s symbols ] && [ "$(cat err)" = "packets=282 replaced=0 rest=0" ] || fail "dvbs_send $rate on packets"
     "$reference/pieces" 60 12032 "$bin/dvbs_send" $rate < mixed > out 2> err || fail "dvbs_send $rate in pieces"
     cmp out symbols || fail "dvbs_send $rate in pieces: symbols"
     diff told err || fail "dvbs_send $rate in pieces: standard error"
 done
+# A rate is the same as its number. Flushed, the symbols are those of the packets and of eleven null packets after them, without the rest.
+rates=(1/2 2/3 3/4 5/6)
+{ cat put_in; for _ in 1 2 3 4 5 6 7 8 9 10 11; do null_packet; done; } > flushed
+for rate in 0 1 2 3; do
+    "$bin/dvbs_send" $rate < flushed > symbols 2> err
+    "$bin/dvbs_send" --flush ${rates[$rate]} < mixed > out 2> err || fail "dvbs_send --flush ${rates[$rate]}"
+    cmp out symbols && diff told err || fail "dvbs_send --flush ${rates[$rate]}: symbols, standard error"
+done
 no_report "a directory as input of dvbs_send" "standard input: Is a directory" bash -c "'$bin/dvbs_send' 0 < ."
 no_report "a closed input of dvbs_send" "standard input: Bad file descriptor" bash -c "'$bin/dvbs_send' 0 <&-"
 no_report "a full device for symbols" "standard output: No space left on device" bash -c "'$bin/dvbs_send' 0 < good > /dev/full"
-echo "dvbs_send in 300 cuttings: one stream of symbols, one text on standard error"
+echo "dvbs_send in 300 cuttings: one stream of symbols, one text on standard error; flushed, with eleven null packets"
 
 # The readers of symbols, over more than their buffers take. In all pieces the bytes and the text on standard error are the same; points of 1.0 and
 # -1.0 are read as the symbols are; and points with noise, some of them lost, give the bits that were sent. 7/8
 # is no longer sent: there the symbols are GNU Radio's.
 for rate in 0 1 2 3 4; do
-    if [ $rate = 4 ]; then cp "$recorded" symbols; else "$bin/dvbs_send" $rate < packets.40 > symbols; fi
+    if [ $rate = 4 ]; then cp "$recorded" symbols; else "$bin/dvbs_send" $rate < packets.40 > symbols 2> err; fi
     "$reference/pieces" 12 32768 "$bin/dvbs_read" $rate < symbols > blocks 2> told || fail "dvbs_read $rate in pieces"
     "$reference/channel" $rate inf 1 < symbols > points
     { cat points; head -c 5 points; } > points.more

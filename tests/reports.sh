@@ -20,9 +20,17 @@ sed 's/^bits=.*/bits=-/' told > second
 sed -e 's/^form=2/form=1/' -e '/^bits=/d' told > first
 head -c 1000000 /dev/zero > long
 
-# refused WANTED FORM < text: nothing on standard output, and this line on standard error.
+# ends STATUS COMMAND..: the command ends with this status.
+ends() {
+    local wanted=$1 status=0
+    shift
+    "$@" || status=$?
+    [ $status = "$wanted" ] || fail "status $status of $*, not $wanted"
+}
+
+# refused WANTED FORM < text: status 1, nothing on standard output, and this line on standard error.
 refused() {
-    "$bin/report_form" "$2" > out 2> err || true
+    ends 1 "$bin/report_form" "$2" > out 2> err
     [ ! -s out ] && [ "$(cat err)" = "$1" ] || fail "report_form $2: $(cat out err), not $1"
 }
 
@@ -39,7 +47,7 @@ done
 refused 19 1 < first
 refused 19 2 < second
 refused "standard input: Is a directory" 1 < .
-"$bin/report_form" 2 < first > /dev/full 2> err || true
+ends 1 "$bin/report_form" 2 < first > /dev/full 2> err
 [ "$(cat err)" = "report: No space left on device" ] || fail "a full device for report_form: $(cat err)"
 echo "report_form: there and back, in pieces, and refused where a report is cut off or spelt otherwise"
 
@@ -53,15 +61,19 @@ head -c 200000 most > cut
 head -n $((38 * 230)) most > part
 for input in part cut most /dev/null; do
     "$reference/season" < "$input" > wanted
-    "$bin/season" < "$input" | cmp - wanted || fail "season of $input"
+    if [ $input = cut ]; then status=1; else status=0; fi
+    ends $status "$bin/season" < "$input" > out
+    cmp out wanted || fail "season of $input"
 done
 "$reference/season" < part > wanted
 grep -q '^passes=' wanted && "$reference/pieces" 100 65536 "$bin/season" < part | cmp - wanted || fail "season in pieces"
-[ "$("$bin/season" < cut)" = 17 ] || fail "season of a report that is cut off"
+ends 1 "$bin/season" < cut > out
+[ "$(cat out)" = 17 ] || fail "season of a report that is cut off"
 [ "$("$bin/season" < most | head -n 1)" = passes=4096 ] || fail "season of 4,096 reports"
-[ "$(cat most first | "$bin/season")" = 21 ] || fail "season of 4,097 reports"
-"$bin/season" < . > out 2> err || true
+cat most first | ends 1 "$bin/season" > out
+[ "$(cat out)" = 21 ] || fail "season of 4,097 reports"
+ends 1 "$bin/season" < . > out 2> err
 [ ! -s out ] && [ "$(cat err)" = "standard input: Is a directory" ] || fail "a directory as input of season: $(cat out err)"
-"$bin/season" < part > /dev/full 2> err || true
+ends 1 "$bin/season" < part > /dev/full 2> err
 [ "$(cat err)" = "season: No space left on device" ] || fail "a full device for season: $(cat err)"
 echo "season: as the reference, in pieces, and refused at the first bad report"

@@ -4,12 +4,12 @@
 // came after the last. The last eleven packets stay in the delays of the interleaver: --flush sends eleven null packets after them, which take them out.
 // Status 0: all was read, sent and told; 1: something failed, and the counts are not told; 2: a wrong call.
 ghost use mathlib.Core.Path.{_≡_};
-ghost use mathlib.Core.Bool.{true, false};
+ghost use mathlib.Core.Bool.{true};
 ghost use Prim.Native.Nat.{_+_, _≤_, _<_};
 ghost use lib.IntN.{pos};
 ghost use lib.ListN.{length};
 ghost use Rattle.inner_code.specs.Encode.{newNumber};
-ghost use Rattle.program_io.specs.Words.{argumentCount, wordArgument, wordBytes};
+ghost use Rattle.program_io.specs.Words.{wordBytes};
 ghost use Rattle.program_io.specs.Files.{StandardInput, FreshOutput, inputOver, Writes};
 ghost use Rattle.common.specs.Choice.{unequal};
 ghost use Rattle.dvbs_send.specs.Lines.{answerLine, answerLines, replacedCount, countsLine};

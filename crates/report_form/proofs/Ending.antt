@@ -14,7 +14,7 @@ use lib.ListN.{length, take, length-append}
 use lib.Seq.{length-take-le}
 use Rattle.common.specs.Choice.{pick}
 use Rattle.report_lines.specs.Line.{lineText}
-use Rattle.report.specs.Read.{blank, ReadsWhole}
+use Rattle.report.specs.Read.{blank, ReadsWhole, wholeNone}
 use Rattle.report.specs.Move.{Moves, MovedText, moveNumber}
 use Rattle.report.proofs.Fronts.{report-short}
 use Rattle.report.proofs.AsWritten.{read-unique}
@@ -31,13 +31,7 @@ use Rattle.report_form.specs.Ends.{lent, input-failed, output-failed, wh
 -- ---- a text that is longer than any report
 
 no-report : (t : List ℕ) → 310 < length t → ReadsWhole t 17 blank
-no-report t h = record {
-  done = λ e. absurd (omega (arith, e));
-  wrong = λ e. absurd (omega (arith, e));
-  none = λ e s f k. let l = report-short s in let m = ap length k in omega (arith, h, l, m);
-  one = inr (inl refl);
-  blanked = λ e. refl;
-}
+no-report t h = wholeNone refl refl (λ s f k. let l = report-short s in let m = ap length k in omega (arith, h, l, m))
 
 -- where nothing is refused before it, moving answers 17 to a text that is none, whatever follows
 module _ {t exit : List ℕ} {form number size : ℕ} (a : Moves t form lent number size exit) where
