@@ -51,6 +51,10 @@ numbered c2 c1 uncoded coded n =
 abbrev pub mostGroups : ℕ
 mostGroups = 68
 
+-- a grouping of these numbers
+abbrev pub grouping : ℕ → ℕ → ℕ → ℕ → Grouping
+grouping others base c2 c1 = record { others = others; base = base; c2 = c2; c1 = c1 }
+
 -- The numbers of a grouping fit: per digits a byte are eight a group, a digit fits into a byte beside two coded bits, and the groups make up a block.
 pub record Fitting (g : Grouping) (per groups : ℕ) : Type 0 where
   pub others-some : 0 < g .others

@@ -6,8 +6,7 @@ ghost use Prim.Native.Nat.{ℕ, _+_, _*_, _/_, _<_, _≤_};
 ghost use lib.ListN.{length, getD, drop};
 ghost use Rattle.convolutional_code.specs.Bits.{Bits, bitsOf};
 ghost use Rattle.convolutional_code.specs.Code.{memoryAfter, blockMother};
-ghost use Rattle.inner_code.specs.Groups.{firsts, digitsOf, byteDigits, groupDigits, codedAs, numbered, Fitting};
-use code_tables::Grouping;
+ghost use Rattle.inner_code.specs.Groups.{firsts, digitsOf, byteDigits, groupDigits, codedAs, numbered, grouping, Fitting};
 use convolutional_code::code_bytes;
 
 // A block has at most so many groups.
@@ -126,7 +125,10 @@ fn sequence(uncoded: &[u8], coded: &[u8], c2: usize, c1: usize, output: &mut [u8
 fn code_groups(
     memory: u8,
     block: &[u8],
-    grouping: Grouping,
+    others: usize,
+    base: u8,
+    c2: usize,
+    c1: usize,
     per: usize,
     bytes: &mut [u8],
     uncoded: &mut [u8],
@@ -136,23 +138,19 @@ fn code_groups(
 ) -> u8
     requires { ⌜
         (memory < 64)
-        × (Fitting grouping per (length (now bytes)))
+        × (Fitting (grouping others base c2 c1) per (length (now bytes)))
         × (length (now block) ≡ 204)
         × (length (now uncoded) ≡ 8 * length (now bytes))
         × (length (now history) ≡ 8 * length (now bytes) + 6)
         × (length (now coded) ≡ 16 * length (now bytes))
         × (8 * length (now bytes) ≤ length (now output)) ⌝ }
     ensures { λ r. ⌜
-        (r ≡ memoryAfter memory (bitsOf (firsts ((grouping .others + 1)) (length (now (bytes .entry))) (now (block .entry)))))
+        (r ≡ memoryAfter memory (bitsOf (firsts ((others + 1)) (length (now (bytes .entry))) (now (block .entry)))))
         × (now (output .exit)
-        ≡ numbered (grouping .c2) (grouping .c1) (groupDigits (grouping .others) (grouping .base) per (length (now (bytes .entry))) (now (block .entry)))
-        (blockMother memory (bitsOf (firsts ((grouping .others + 1)) (length (now (bytes .entry))) (now (block .entry))))) (8 * length (now (bytes .entry)))
+        ≡ numbered c2 c1 (groupDigits others base per (length (now (bytes .entry))) (now (block .entry)))
+        (blockMother memory (bitsOf (firsts ((others + 1)) (length (now (bytes .entry))) (now (block .entry))))) (8 * length (now (bytes .entry)))
         ++ drop (8 * length (now (bytes .entry))) (now (output .entry))) ⌝ }
 {
-    let others = grouping.others;
-    let base = grouping.base;
-    let c2 = grouping.c2;
-    let c1 = grouping.c1;
     let groups = bytes.len();
     encoded_bytes(block, others + 1, bytes);
     uncoded_digits(block, others, base, per, groups, uncoded);
@@ -162,21 +160,28 @@ fn code_groups(
 }
 
 // Codes a block by the grouping of its mode, and gives the memory after it.
-pub fn code_grouped(memory: u8, block: &[u8], grouping: Grouping, output: &mut [u8]) -> u8
+pub fn code_grouped(
+    memory: u8,
+    block: &[u8],
+    others: usize,
+    base: u8,
+    c2: usize,
+    c1: usize,
+    output: &mut [u8],
+) -> u8
     requires { ⌜
         (memory < 64)
-        × (Fitting grouping (8 / grouping .others) (204 / (grouping .others + 1)))
+        × (Fitting (grouping others base c2 c1) (8 / others) (204 / (others + 1)))
         × (length (now block) ≡ 204)
-        × (8 * (204 / (grouping .others + 1)) ≤ length (now output)) ⌝ }
+        × (8 * (204 / (others + 1)) ≤ length (now output)) ⌝ }
     ensures { λ r. ⌜
-        (r ≡ memoryAfter memory (bitsOf (firsts ((grouping .others + 1)) (204 / (grouping .others + 1)) (now (block .entry)))))
+        (r ≡ memoryAfter memory (bitsOf (firsts ((others + 1)) (204 / (others + 1)) (now (block .entry)))))
         × (now (output .exit)
-        ≡ numbered (grouping .c2) (grouping .c1)
-        (groupDigits (grouping .others) (grouping .base) (8 / grouping .others) (204 / (grouping .others + 1)) (now (block .entry)))
-        (blockMother memory (bitsOf (firsts ((grouping .others + 1)) (204 / (grouping .others + 1)) (now (block .entry))))) (8 * (204 / (grouping .others + 1)))
-        ++ drop (8 * (204 / (grouping .others + 1))) (now (output .entry))) ⌝ }
+        ≡ numbered c2 c1
+        (groupDigits others base (8 / others) (204 / (others + 1)) (now (block .entry)))
+        (blockMother memory (bitsOf (firsts ((others + 1)) (204 / (others + 1)) (now (block .entry))))) (8 * (204 / (others + 1)))
+        ++ drop (8 * (204 / (others + 1))) (now (output .entry))) ⌝ }
 {
-    let others = grouping.others;
     let per = 8 / others;
     let groups = 204 / (others + 1);
     let mut bytes = [0u8; MOST_GROUPS];
@@ -186,7 +191,10 @@ pub fn code_grouped(memory: u8, block: &[u8], grouping: Grouping, output: &mut [
     code_groups(
         memory,
         block,
-        grouping,
+        others,
+        base,
+        c2,
+        c1,
         per,
         &mut bytes[..groups],
         &mut uncoded[..8 * groups],

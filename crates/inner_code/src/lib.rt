@@ -4,14 +4,13 @@ ghost use Prim.Native.Nat.{_<_};
 ghost use Rattle.answer.specs.Number.{numberOf};
 ghost use Rattle.puncturing.specs.Mode.{modeOf, qpskCount};
 ghost use Rattle.inner_code.specs.Step.{coderInRange};
-ghost use Rattle.inner_code.specs.Groups.{Grouped};
+ghost use Rattle.inner_code.specs.Groups.{grouping, Grouped};
 ghost use Rattle.common.specs.Choice.{indicator};
 ghost use Rattle.inner_code.specs.Encode.{freshCoder, newNumber, stepNumber, stepCoder, stepSymbol, symbolCount, innerEncodeNumber, encodeCoder, encodeCount, innerEncodeOutput, Encodable, Encodes};
 
 mod grouped;
 
 use answer::Answer;
-use code_tables::Grouping;
 use convolutional_code::code_bytes;
 use convolutional_code::next_memory;
 use convolutional_code::x_of;
@@ -225,14 +224,22 @@ fn encode_qpsk(coder: InnerCoder, block: &[u8], output: &mut [u8]) -> Encoded
 }
 
 // Codes a block in a mode with uncoded bits: nothing is held, and the place stays 0.
-fn encode_grouped(coder: InnerCoder, grouping: Grouping, block: &[u8], output: &mut [u8]) -> Encoded
-    requires { ⌜ (Encodable coder (now block) (now output)) × (Grouped (modeOf (coder .rate)) grouping) ⌝ }
+fn encode_grouped(
+    coder: InnerCoder,
+    others: usize,
+    base: u8,
+    c2: usize,
+    c1: usize,
+    block: &[u8],
+    output: &mut [u8],
+) -> Encoded
+    requires { ⌜ (Encodable coder (now block) (now output)) × (Grouped (modeOf (coder .rate)) (grouping others base c2 c1)) ⌝ }
     ensures { λ r. ⌜ Encodes coder (now (block .entry)) (now (output .entry)) r (now (output .exit)) ⌝ }
 {
     let rate = coder.rate;
     let memory = coder.memory;
-    let others = grouping.others;
-    let next = code_grouped(memory, block, grouping, output);
+    let next = code_grouped(memory, block, others, base, c2, c1, output);
+    let count = 8 * (204 / (others + 1));
     Encoded {
         answer: Answer::Done,
         coder: InnerCoder {
@@ -241,7 +248,7 @@ fn encode_grouped(coder: InnerCoder, grouping: Grouping, block: &[u8], output: &
             place: 0,
             held: 0,
         },
-        count: 8 * (204 / (others + 1)),
+        count,
     }
 }
 
@@ -254,5 +261,6 @@ fn encode_block(coder: InnerCoder, block: &[u8], output: &mut [u8]) -> Encoded
     if (rate as usize) < code_tables::QPSK_MODES {
         return encode_qpsk(coder, block, output);
     }
-    encode_grouped(coder, code_tables::GROUPING_16QAM, block, output)
+    let g = code_tables::GROUPING_16QAM;
+    encode_grouped(coder, g.others, g.base, g.c2, g.c1, block, output)
 }

@@ -18,14 +18,14 @@ code-grouped-requires c κs =
     let count = grouped-count d (formed (a .args .coder) (e .range)) (a .args .coder) (e .range) (a .args .block .now) (e .size) in
     (e .range .memory, d .fits, e .size, rw count at (e .enough))
 
-add-t13 : tie.Need-add-t13
-add-t13 c = search needs
+add-count : tie.Need-add-count
+add-count c = search needs
 
-div-t14 : tie.Need-div-t14
-div-t14 c = search needs
+div-count : tie.Need-div-count
+div-count c = search needs
 
-mul-t15 : tie.Need-mul-t15
-mul-t15 c = search needs
+mul-count : tie.Need-mul-count
+mul-count c = search needs
 
 same-length : tie.Need-same-length
 same-length c = search needs
@@ -49,4 +49,4 @@ returns c =
 
 pub encode-grouped-spec : {M : Type 1} → statement M
 encode-grouped-spec =
-    tie.close (tie.spec code-grouped-requires add-t13 div-t14 mul-t15 same-length returns)
+    tie.close (tie.spec code-grouped-requires add-count div-count mul-count same-length returns)

@@ -9,7 +9,7 @@ use lib.ListN.{length, drop}
 use lib.Seq.{length-take-le}
 use Rattle.convolutional_code.specs.Bits.{bitsOf}
 use Rattle.convolutional_code.specs.Code.{memoryAfter, blockMother}
-use Rattle.inner_code.specs.Groups.{firsts, groupDigits, numbered, mostGroups, Fitting}
+use Rattle.inner_code.specs.Groups.{firsts, groupDigits, numbered, mostGroups, grouping, Fitting}
 use Rattle.inner_code.proofs.grouped.code_grouped.Statement.{statement}
 use Rattle.inner_code.proofs.grouped.code_grouped.Tie as tie
 
@@ -28,7 +28,7 @@ array-borrow-prefix-bytes c = search needs
 slice-aggregate-code-groups : tie.Need-slice-aggregate-code-groups
 slice-aggregate-code-groups c =
     let a = c .before .before .before in
-    let h : 204 / (a .args .grouping .others + 1) ≤ mostGroups = omega (arith, a .pre .1 .few) in
+    let h : 204 / (a .args .others + 1) ≤ mostGroups = omega (arith, a .pre .1 .few) in
     sym (length-take-le _ _ h)
 
 mul-uncoded : tie.Need-mul-uncoded
@@ -40,7 +40,7 @@ array-borrow-prefix-uncoded c = search needs
 slice-aggregate-code-groups-2 : tie.Need-slice-aggregate-code-groups-2
 slice-aggregate-code-groups-2 c =
     let a = c .before .before .before .before in
-    let h : 8 * (204 / (a .args .grouping .others + 1)) ≤ 8 * mostGroups = omega (arith, a .pre .1 .few) in
+    let h : 8 * (204 / (a .args .others + 1)) ≤ 8 * mostGroups = omega (arith, a .pre .1 .few) in
     sym (length-take-le _ _ h)
 
 mul-history : tie.Need-mul-history
@@ -55,7 +55,7 @@ array-borrow-prefix-history c = search needs
 slice-aggregate-code-groups-3 : tie.Need-slice-aggregate-code-groups-3
 slice-aggregate-code-groups-3 c =
     let a = c .before .before .before .before .before in
-    let h : 8 * (204 / (a .args .grouping .others + 1)) + 6 ≤ 8 * mostGroups + 6 = omega (arith, a .pre .1 .few) in
+    let h : 8 * (204 / (a .args .others + 1)) + 6 ≤ 8 * mostGroups + 6 = omega (arith, a .pre .1 .few) in
     sym (length-take-le _ _ h)
 
 mul-coded : tie.Need-mul-coded
@@ -67,7 +67,7 @@ array-borrow-prefix-coded c = search needs
 slice-aggregate-code-groups-4 : tie.Need-slice-aggregate-code-groups-4
 slice-aggregate-code-groups-4 c =
     let a = c .before .before .before .before .before .before in
-    let h : 16 * (204 / (a .args .grouping .others + 1)) ≤ 16 * mostGroups = omega (arith, a .pre .1 .few) in
+    let h : 16 * (204 / (a .args .others + 1)) ≤ 16 * mostGroups = omega (arith, a .pre .1 .few) in
     sym (length-take-le _ _ h)
 
 code-groups-requires : tie.Need-code-groups-requires
@@ -75,7 +75,7 @@ code-groups-requires c κs =
     let a = c .before .before .before .before .before .before .before in
     let n = slice-aggregate-code-groups (c .before .before .before .before) in (
       a .pre .0,
-      subst (λ (k : ℕ). Fitting (a .args .grouping) (8 / a .args .grouping .others) k) n (a .pre .1),
+      subst (λ (k : ℕ). Fitting (grouping (a .args .others) (a .args .base) (a .args .c2) (a .args .c1)) (8 / a .args .others) k) n (a .pre .1),
       a .pre .2,
       sym (slice-aggregate-code-groups-2 (c .before .before .before)) ∙ ap (λ (k : ℕ). 8 * k) n,
       sym (slice-aggregate-code-groups-3 (c .before .before)) ∙ ap (λ (k : ℕ). 8 * k + 6) n,
@@ -90,15 +90,15 @@ returns : tie.Need-returns
 returns c =
     let a = c .before .before .before .before .before .before .before .before .before .before .before .before .before .before in
     let m = a .args .memory in
-    let g = a .args .grouping in
+    let others = a .args .others in
     let block = a .args .block .now in
     let r = c .before .before .before .before .before .before .code-groups .ensures in
     let n = sym (slice-aggregate-code-groups (c .before .before .before .before .before .before .before .before .before .before .before)) in (
-      r .0 ∙ ap (λ (k : ℕ). memoryAfter m (bitsOf (firsts (g .others + 1) k block))) n,
+      r .0 ∙ ap (λ (k : ℕ). memoryAfter m (bitsOf (firsts (others + 1) k block))) n,
       r .1
           ∙ ap
           (λ (k : ℕ).
-          numbered (g .c2) (g .c1) (groupDigits (g .others) (g .base) (8 / g .others) k block) (blockMother m (bitsOf (firsts (g .others + 1) k block))) (8 * k)
+          numbered (a .args .c2) (a .args .c1) (groupDigits others (a .args .base) (8 / others) k block) (blockMother m (bitsOf (firsts (others + 1) k block))) (8 * k)
           ++ drop (8 * k) (a .args .output .now))
           n,
     )

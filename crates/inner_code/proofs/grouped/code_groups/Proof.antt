@@ -61,14 +61,13 @@ returns : tie.Need-returns
 returns c =
     let a = c .before .before .before .before .before .before .before .before .before .before .before .before .before .before .before .before .before .before .before .before .before .before .before .before .before .before .before .before in
     let m = a .args .memory in
-    let g = a .args .grouping in
     let eb = c .before .before .before .before .before .before .before .before .before .before .before .before .before .before .before .before .before .before .before .before .encoded-bytes .ensures in
     let ud = c .before .before .before .before .before .before .before .before .before .before .before .before .before .before .before .before .uncoded-digits in
     let cb = c .before .before .before .before .before .before .before .before .before .before .code-bytes .ensures in
     let n = ud .kept .1 .1 .1 .1 .1 .0 ∙ a .pre .3 in
     let mother = cb .1 ∙ ap (λ (l : List ℕ). blockMother m (bitsOf l)) eb in (
       cb .0 ∙ ap (λ (l : List ℕ). memoryAfter m (bitsOf l)) eb,
-      c .before .before .sequence .ensures ∙ (λ i. numbered (g .c2) (g .c1) (ud .ensures i) (mother i) (n i) ++ drop (n i) (a .args .output .now)),
+      c .before .before .sequence .ensures ∙ (λ i. numbered (a .args .c2) (a .args .c1) (ud .ensures i) (mother i) (n i) ++ drop (n i) (a .args .output .now)),
     )
 
 pub code-groups-spec : {M : Type 1} → statement M
