@@ -158,6 +158,22 @@ uint8_t dvbs_recording_block(const uint8_t *recording, size_t recording_len,
                              uint8_t *output, size_t output_len,
                              uint8_t *count, size_t count_len);
 
+/* What to ask for again of a recording: a line for each block of which a fresh
+ * receiver gave no packet, and for each packet whose place in its group is in
+ * doubt, in the order of the blocks. A line is one number: 16 times the block, as
+ * dvbs_recording_block counts them, and its answer: 8, 10 (waiting for a group
+ * start) or 11 (out of step), or 0, which says that a packet was given and is in
+ * doubt. Behind a gap these are the packets that were never sent. Returns how many
+ * lines were written; answer[0] is the answer. marks_len is 0, for no mark, or
+ * blocks_len, otherwise 20, as for a mark above 1. Lend a number for each whole
+ * block, otherwise 4. More than 4,294,967,295 blocks: 7. Then nothing else is
+ * written, and 0 is returned. Where no byte is lent for the answer: returns 0,
+ * writes nothing. */
+uint64_t dvbs_losses_run(const uint8_t *blocks, size_t blocks_len,
+                         const uint8_t *marks, size_t marks_len,
+                         uint64_t *lines, size_t lines_len,
+                         uint8_t *answer, size_t answer_len);
+
 #ifdef __cplusplus
 }
 #endif

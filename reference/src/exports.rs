@@ -12,6 +12,7 @@ pub mod expected {
     use super::*;
     use crate::answer::Answer;
     use crate::inner_decoder;
+    use crate::losses;
     use crate::receiver::Receiver;
     use crate::sender::Sender;
     use crate::{randomizer, recording, reed_solomon, BLOCK_LENGTH, PACKET_LENGTH};
@@ -181,6 +182,28 @@ pub mod expected {
         written as u64
     }
 
+    /// A number for each whole block is lent, or 4; no mark, or one for each byte, or
+    /// 20. Where no byte is lent for the answer, nothing is done.
+    pub fn losses_run(blocks: &[u8], marks: &[u8], lines: &mut [u64], answer: &mut [u8]) -> u64 {
+        if answer.is_empty() {
+            return 0;
+        }
+        if !marks.is_empty() && !reed_solomon::are_marks(marks, blocks.len()) {
+            answer[0] = Answer::MarkValue.number();
+            return 0;
+        }
+        if lines.len() < blocks.len() / BLOCK_LENGTH {
+            answer[0] = Answer::ShortOutput.number();
+            return 0;
+        }
+        let listed = losses::losses(blocks, marks);
+        for (number, line) in lines.iter_mut().zip(&listed) {
+            *number = line.number();
+        }
+        answer[0] = Answer::Done.number();
+        listed.len() as u64
+    }
+
     /// Fewer than two bytes for the count are room too short: 4, after 5 and 16.
     /// The count, changed bytes and changed bits, is written only where the answer
     /// is 0.
@@ -290,6 +313,16 @@ pub mod library {
                 count: *mut u8,
                 count_len: usize,
             ) -> u8;
+            pub fn dvbs_losses_run(
+                blocks: *const u8,
+                blocks_len: usize,
+                marks: *const u8,
+                marks_len: usize,
+                lines: *mut u64,
+                lines_len: usize,
+                answer: *mut u8,
+                answer_len: usize,
+            ) -> u64;
         }
     }
 
@@ -426,6 +459,21 @@ pub mod library {
                 output.len(),
                 count.as_mut_ptr(),
                 count.len(),
+            )
+        }
+    }
+
+    pub fn losses_run(blocks: &[u8], marks: &[u8], lines: &mut [u64], answer: &mut [u8]) -> u64 {
+        unsafe {
+            c::dvbs_losses_run(
+                blocks.as_ptr(),
+                blocks.len(),
+                marks.as_ptr(),
+                marks.len(),
+                lines.as_mut_ptr(),
+                lines.len(),
+                answer.as_mut_ptr(),
+                answer.len(),
             )
         }
     }

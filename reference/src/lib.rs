@@ -15,6 +15,7 @@ pub mod inner_code;
 pub mod inner_decoder;
 pub mod interleaver;
 pub mod kernels;
+pub mod losses;
 pub mod randomizer;
 pub mod receiver;
 pub mod recording;

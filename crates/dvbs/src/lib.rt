@@ -15,6 +15,7 @@ ghost use Rattle.dvbs.specs.Decode.{countAfter, DecodeExported, DecodeMa
 ghost use Rattle.dvbs.specs.SendRun.{sendRunCount, sendRunOutput, sendRunAnswer};
 ghost use Rattle.dvbs.specs.ReceiveRun.{ReceiveRunExported, ReceiveMarkedRunExported};
 ghost use Rattle.dvbs.specs.RecordingBlock.{RecordingBlockExported};
+ghost use Rattle.dvbs.specs.LossesRun.{LossesExported};
 use reception_counts::count_bytes::put_counts;
 use recording::Recorded;
 use reed_solomon::Decoded;
@@ -225,4 +226,25 @@ pub extern "C" fn dvbs_recording_block(
         count[1] = decoded.changed.bits;
     }
     number
+}
+
+// The list of what to ask for again of a recording, with a mark, 0 or 1, for each byte or none at all: the number of lines written. A line is 16
+// times the block, and its answer: 8, 10, 11, or 0 for a packet in doubt. The first byte of answer has the number of the answer.
+#[no_mangle]
+pub extern "C" fn dvbs_losses_run(
+    blocks: &[u8],
+    marks: &[u8],
+    lines: &mut [u64],
+    answer: &mut [u8],
+) -> u64
+    ensures { λ r. ⌜
+        LossesExported (now (blocks .entry)) (now (marks .entry)) (now (lines .entry)) (now (lines .exit)) (now (answer .entry)) (now (answer .exit)) r ⌝ }
+{
+    if answer.len() < 1 {
+        return 0;
+    }
+    let listed = losses::list_losses(blocks, marks, lines);
+    let number = listed.answer;
+    answer[0] = number.number();
+    listed.count as u64
 }

@@ -1,0 +1,155 @@
+//! What to ask for again: a line for each block of which no packet was given, and
+//! for each packet in doubt. From the whole list of blocks, looking back and ahead.
+
+use crate::answer::Answer;
+use crate::receiver::{Receiver, FILLING};
+use crate::{BLOCK_LENGTH, PACKET_LENGTH};
+
+/// A line: the block, document 02's P5 number, and its answer; Done for a packet
+/// that was given and is in doubt.
+#[derive(Clone, Copy, Debug, PartialEq, Eq)]
+pub struct Line {
+    pub block: u64,
+    pub answer: Answer,
+}
+
+impl Line {
+    pub fn number(self) -> u64 {
+        16 * self.block + self.answer.number() as u64
+    }
+}
+
+/// What a fresh receiver made of a block: its answer and the place of its group
+/// that it had; the packet, where one was given.
+pub struct Block {
+    pub answer: Answer,
+    pub place: usize,
+    pub packet: Vec<u8>,
+}
+
+impl Block {
+    fn given(&self) -> bool {
+        self.answer == Answer::Done
+    }
+
+    /// It began with B8.
+    fn starts(&self) -> bool {
+        self.given() && self.place == 0
+    }
+}
+
+/// The blocks of a recording, those that came whole: after the eleven that fill
+/// the delays. Marks that are missing are 0.
+pub fn blocks(recording: &[u8], marks: &[u8]) -> Vec<Block> {
+    let mut receiver = Receiver::fresh();
+    let mut all = Vec::new();
+    for (i, block) in recording.chunks_exact(BLOCK_LENGTH).enumerate() {
+        let from = i * BLOCK_LENGTH;
+        let own: Vec<u8> = (from..from + BLOCK_LENGTH).map(|at| marks.get(at).copied().unwrap_or(0)).collect();
+        let mut packet = vec![0; PACKET_LENGTH];
+        let answer = receiver.receive_marked(block, &own, &mut packet);
+        if i as u64 >= FILLING {
+            // Behind a packet the receiver expects the place after the packet's.
+            let place = receiver.place.map_or(0, |next| (next + 7) % 8);
+            all.push(Block { answer, place, packet });
+        }
+    }
+    all
+}
+
+/// A B8 fixes the place, and packets that follow it without a break are sure.
+fn sure(blocks: &[Block], at: usize) -> bool {
+    let unbroken = blocks[..=at].iter().rev().take_while(|block| block.given());
+    for block in unbroken {
+        if block.starts() {
+            return true;
+        }
+    }
+    false
+}
+
+/// The next sync byte that can tell: a B8 where it is due, with a packet from every
+/// block on the way. Behind another break it could not: that break may be a gap too.
+fn confirmed(blocks: &[Block], at: usize) -> bool {
+    let until = 8 - blocks[at].place;
+    let ahead = &blocks[at + 1..];
+    ahead.len() >= until && ahead[..until - 1].iter().all(|block| block.given() && !block.starts()) && ahead[until - 1].starts()
+}
+
+pub fn losses(recording: &[u8], marks: &[u8]) -> Vec<Line> {
+    let blocks = blocks(recording, marks);
+    let mut lines = Vec::new();
+    for (at, block) in blocks.iter().enumerate() {
+        if !block.given() || !(sure(&blocks, at) || confirmed(&blocks, at)) {
+            lines.push(Line { block: at as u64, answer: block.answer });
+        }
+    }
+    lines
+}
+
+#[cfg(test)]
+mod tests {
+    use super::*;
+    use crate::sender::interleaved_stream;
+    use crate::xorshift::Xorshift;
+    use crate::SYNC;
+
+    fn sent(count: usize) -> Vec<Vec<u8>> {
+        let mut packets = Xorshift::new(40).bytes(PACKET_LENGTH * count);
+        packets.iter_mut().step_by(PACKET_LENGTH).for_each(|byte| *byte = SYNC);
+        interleaved_stream(&packets).chunks(BLOCK_LENGTH).map(<[u8]>::to_vec).collect()
+    }
+
+    fn listed(blocks: &[Vec<u8>]) -> Vec<(u64, u8)> {
+        losses(&blocks.concat(), &[]).iter().map(|line| (line.block, line.answer.number())).collect()
+    }
+
+    /// Block 57 left out: the eleven that it harmed, and the six packets behind them
+    /// that are given at the place before theirs.
+    #[test]
+    fn block_57_left_out() {
+        let mut blocks = sent(120);
+        blocks.remove(57);
+        let want: Vec<(u64, u8)> = (46..57).map(|k| (k, 8)).chain((57..63).map(|k| (k, 0))).collect();
+        assert_eq!(listed(&blocks), want);
+    }
+
+    /// Three blocks left out, and further on three doubled: the B8 after both is
+    /// where it is due, and the packets between them are wrong all the same.
+    #[test]
+    fn a_second_gap_that_makes_up_for_the_first() {
+        let mut blocks = sent(160);
+        for at in [76, 77, 78] {
+            let again = blocks[at].clone();
+            blocks.insert(2 * at - 75, again);
+        }
+        blocks.drain(57..60);
+        let wrong: Vec<u64> = self::blocks(&blocks.concat(), &[])
+            .iter()
+            .enumerate()
+            .filter(|(at, block)| block.given() && block.place != (at + if *at < 57 { 0 } else { 3 }) % 8 && *at < 64)
+            .map(|(at, _)| at as u64)
+            .collect();
+        let lines = listed(&blocks);
+        assert!(!wrong.is_empty());
+        assert!(wrong.iter().all(|&at| lines.contains(&(at, 0))));
+    }
+
+    #[test]
+    fn begun_anywhere_without_gap() {
+        for from in 0..9 {
+            let blocks = sent(60).split_off(from);
+            let want: Vec<(u64, u8)> = (0..(8 - from as u64 % 8) % 8).map(|k| (k, 10)).collect();
+            assert_eq!(listed(&blocks), want);
+        }
+    }
+
+    /// A packet that waits at the end of the input is in doubt.
+    #[test]
+    fn the_end_of_the_input() {
+        let mut blocks = sent(120);
+        blocks.remove(57);
+        blocks.truncate(57 + 3 + 11);
+        assert_eq!(listed(&blocks)[11..], [(57, 0), (58, 0), (59, 0)]);
+    }
+}
