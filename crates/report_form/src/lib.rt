@@ -17,10 +17,10 @@ use program_io::Word;
 
 // How a run ended, with the files as it left them.
 pub struct Ended {
-    pub input: Input,
-    pub output: Output,
-    pub errors: Output,
     pub status: i32,
+    pub input: Input,
+    pub errors: Output,
+    pub output: Output,
 }
 
 // Tells the number of a refusal.
