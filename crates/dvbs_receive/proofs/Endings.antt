@@ -41,9 +41,9 @@ same-came g t u = record {
 pub stream-came : {start : Input} {p : Pass} → pass.Ends true start p → p .ending ≡ Whole → ReceiverCame (p .stream) × (outputFailed (p .output) ≡ false)
 stream-came (whole e g n) w = (record { bytes = g .bytes; marks = _; written = g .packets; reception = g .reception }, g .unfailed)
 stream-came (input-failed e f) w = let z : _≡_ {A = ℕ} 0 1 = cc in absurd (omega arith)
-stream-came (marks-failed e f) w = let z : _≡_ {A = ℕ} 0 1 = cc in absurd (omega arith)
-stream-came (output-failed e f) w = let z : _≡_ {A = ℕ} 0 1 = cc in absurd (omega arith)
-stream-came (refused b e f) w = let z : _≡_ {A = ℕ} 0 1 = cc in absurd (omega arith)
+stream-came (marks-failed e f q) w = let z : _≡_ {A = ℕ} 0 1 = cc in absurd (omega arith)
+stream-came (output-failed e f q) w = let z : _≡_ {A = ℕ} 0 1 = cc in absurd (omega arith)
+stream-came (refused b e f q) w = let z : _≡_ {A = ℕ} 0 1 = cc in absurd (omega arith)
 
 module _ {start input : Input} {output errors : Output} {p : Pass} (k : Passes input start output true p) (i : StandardInput input) (o : FreshOutput (pos 1) output)
     (f : FreshOutput (pos 2) errors) where
@@ -61,9 +61,9 @@ module _ {start input : Input} {output errors : Output} {p : Pass} (k : Passes i
         status = own.whole (q ∙ s) (record { stream = p .stream; all = same-came g b u; ended = n; closed = c; told-whole = v; told = r });
       }
       by (input-failed e x) = let z : _≡_ {A = ℕ} 0 1 = cc in absurd (omega arith)
-      by (marks-failed e x) = let z : _≡_ {A = ℕ} 0 1 = cc in absurd (omega arith)
-      by (output-failed e x) = let z : _≡_ {A = ℕ} 0 1 = cc in absurd (omega arith)
-      by (refused b e x) = let z : _≡_ {A = ℕ} 0 1 = cc in absurd (omega arith)
+      by (marks-failed e x y) = let z : _≡_ {A = ℕ} 0 1 = cc in absurd (omega arith)
+      by (output-failed e x y) = let z : _≡_ {A = ℕ} 0 1 = cc in absurd (omega arith)
+      by (refused b e x y) = let z : _≡_ {A = ℕ} 0 1 = cc in absurd (omega arith)
   ends-told w (lost s a u d r) q = record {
     input-is = ap originFile (k .input-origin) ∙ i .file;
     marks-are = k .marks-origin;
@@ -92,9 +92,9 @@ module _ {start input : Input} {output errors : Output} {p : Pass} (k : Passes i
       by : pass.Ends true start p → own.Failed (record { status = pos 1; input = p .input; marks = p .marks; output = p .output; errors = errors })
       by (whole e g n) = let z : _≡_ {A = ℕ} 0 1 = cc in absurd (omega arith)
       by (input-failed e x) = own.input-failed x (f .trace)
-      by (marks-failed e x) = own.marks-failed x (f .trace)
-      by (output-failed e x) = own.output-failed x (f .trace)
-      by (refused b e x) = let z : _≡_ {A = ℕ} 0 1 = cc in absurd (omega arith)
+      by (marks-failed e x y) = own.marks-failed x (f .trace)
+      by (output-failed e x y) = own.output-failed x (f .trace)
+      by (refused b e x y) = let z : _≡_ {A = ℕ} 0 1 = cc in absurd (omega arith)
 
   -- a mark above 1
   pub ends-refused : (block : ℕ) → p .ending ≡ Refused block → {r : Output} → Writes errors (refusalText block 20) r
@@ -109,13 +109,13 @@ module _ {start input : Input} {output errors : Output} {p : Pass} (k : Passes i
     where
       by : (b : Bool) → outputFailed r ≡ b → pass.Ends true start p → own.Failed (record { status = pos 1; input = p .input; marks = p .marks; output = p .output; errors = r })
       by true u e = own.errors-failed u
-      by false u (refused b e x) =
+      by false u (refused b e x y) =
           let same : b ≡ block = cc in
           own.mark-refused block (subst (BadMark (p .marks)) same x) (h .whole u ∙ ap (λ (t : Trace). traced t (refusalText block 20)) (f .trace))
       by false u (whole e g n) = let z : _≡_ {A = ℕ} 0 1 = cc in absurd (omega arith)
       by false u (input-failed e x) = let z : _≡_ {A = ℕ} 0 1 = cc in absurd (omega arith)
-      by false u (marks-failed e x) = let z : _≡_ {A = ℕ} 0 1 = cc in absurd (omega arith)
-      by false u (output-failed e x) = let z : _≡_ {A = ℕ} 0 1 = cc in absurd (omega arith)
+      by false u (marks-failed e x y) = let z : _≡_ {A = ℕ} 0 1 = cc in absurd (omega arith)
+      by false u (output-failed e x y) = let z : _≡_ {A = ℕ} 0 1 = cc in absurd (omega arith)
 
 -- before anything is read of the marks
 pub made-fresh : {count : ℕ} {marks : Input} → Made count marks → inputTrace marks ≡ noBytes

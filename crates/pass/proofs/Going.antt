@@ -1,7 +1,7 @@
 -- The loop of a pass: what a turn leaves, and what the last one leaves.
 -- Assumes nothing.
 use mathlib.Core.Path.{_≡_, refl, sym, ap, ap₂, subst, _∙_}
-use mathlib.Core.Bool.{Bool, true, false}
+use mathlib.Core.Bool.{Bool, true, false, true≢false}
 use mathlib.Core.List.{List, [], _++_, flatten}
 use mathlib.Core.Logic.{_⊎_, inl, inr}
 use Prim.Native.Nat.{ℕ, _+_, _-_, _*_, _/_, _%_, _≤_, _<_, min}
@@ -9,7 +9,7 @@ use native.Mathlib.Decide.{decLt}
 use native.Mathlib.Omega.{arith}
 use borrow.Author.Tests.{eq-eqb, lt-ltb, le-ltb}
 use lib.IntN.{ℤ, pos}
-use lib.Signed.{leZ}
+use lib.Signed.{ltZ, leZ}
 use lib.ListN.{length, take, drop, length-append}
 use lib.Seq.{length-take-le}
 use Rattle.common.specs.Choice.{pick}
@@ -44,7 +44,7 @@ came-none wanted {stream = stream} i m o u s = record {
   marks-read = m;
   marks-fit = omega arith;
   marks-all = inl refl;
-  unmarked = λ h. (refl, h);
+  unmarked = λ h. (refl, refl);
   unfailed = u;
   written = o ∙ ap (traced noBytes) (sym (nothing wanted));
 }
@@ -56,9 +56,20 @@ came-none wanted {stream = stream} i m o u s = record {
 less : {before after : ℕ} (a b n : ℕ) → before ≡ 204 * 4294967295 - a → after ≡ 204 * 4294967295 - b → b ≡ a + n → 0 < n → b ≤ 204 * 4294967295 → after < before
 less a b n p q e s l = omega arith
 
+ended-over : (i : Input) → inputEnded i ≡ true → (inputOver i ≡ true) × (inputFailed i ≡ false)
+ended-over i e = by (inputFailed i) refl
+  where
+    by : (b : Bool) → inputFailed i ≡ b → (inputOver i ≡ true) × (inputFailed i ≡ false)
+    by true f = absurd (true≢false (sym e ∙ ap (λ (t : Bool). pick t false (inputOver i)) f))
+    by false f = (sym (ap (λ (t : Bool). pick t false (inputOver i)) f) ∙ e, f)
+
 module _ {wanted : Bool} {start input marks : Input} {output : Output} {stream : ReceiverStream} (g : Came wanted start input marks output stream) where
   pub came-taken : (stream .held < 204) × (stream .receiver .counts .taken ≤ 4294967295)
   came-taken = (omega (arith, reception-held (g .reception)), omega (arith, reception-taken (g .reception), g .reception .few))
+
+  -- where the marks were over from the start, they still are
+  still-over : inputOver start ≡ true → inputOver marks ≡ true
+  still-over e = ap (λ (x : ℤ). leZ x (pos 0)) (g .unmarked e .1) ∙ e
 
   -- ---- nothing more came
 
@@ -114,6 +125,13 @@ module _ {wanted : Bool} {start input marks : Input} {output : Output} {stream :
 
       marks-now : inputTrace (m .input) ≡ traced noBytes (g .came ++ new)
       marks-now = traced-on (g .came) new (g .marks-read) (k .trace)
+
+      -- marks that had ended at the start neither fail nor come
+      pub ended-read : inputEnded start ≡ true → (inputFailed (m .input) ≡ false) × (m .length ≡ 0)
+      ended-read e =
+          let o = ended-over start e in
+          let z = k .over (still-over (o .0)) in
+          (ap (λ (x : ℤ). ltZ x (pos 0)) (z .1 ∙ g .unmarked (o .0) .1) ∙ o .1, z .0)
 
       -- a mark above 1
       pub came-bad : (place block : ℕ) → place ≡ firstAbove new → place < m .length → block ≡ stream .receiver .counts .taken + (stream .held + place) / 204
@@ -217,9 +235,9 @@ module _ {wanted : Bool} {start input marks : Input} {output : Output} {stream :
           marks-fit = omega (arith, length-append (g .came) new, length-append (g .bytes) piece, new-length, piece-length, k .within, g .marks-fit);
           marks-all = still-all;
           unmarked = λ e.
-              let z = g .unmarked e in
-              let n : new ≡ [] = ap (λ (j : ℕ). take j own) (k .over (z .1) .0) in
-              (ap₂ (λ (x y : List ℕ). x ++ y) (z .0) n, ap (λ (y : ℤ). leZ y (pos 0)) (k .over (z .1) .1) ∙ z .1);
+              let z = k .over (still-over e) in
+              let n : new ≡ [] = ap (λ (j : ℕ). take j own) (z .0) in
+              (ap₂ (λ (x y : List ℕ). x ++ y) (g .unmarked e .0) n, z .1 ∙ g .unmarked e .1);
           unfailed = u;
           written = by w;
         }
@@ -244,3 +262,8 @@ feeds-within (refused e p c s x) = omega (arith, c)
 feeds-within {output = output} {exit = exit} {count = count} (fed e p t) =
     let k = t .takes in
     omega (arith, ap length (k .written), length-append (flatten (k .packets)) (drop count output), k .counted)
+
+-- packets that were to be written
+pub hands-wanted : {o r : Output} {wanted : Bool} {packets : List ℕ} → HandsOn o wanted packets r → outputFailed o ≡ false → outputFailed r ≡ true → wanted ≡ true
+hands-wanted (written e w) u f = e
+hands-wanted (kept e w) u f = absurd (true≢false (sym f ∙ ap outputFailed w ∙ u))

@@ -56,7 +56,7 @@ pub record Came (wanted : Bool) (start input marks : Input) (output : Output) (s
   pub marks-read : inputTrace marks ≡ traced noBytes came
   pub marks-fit : length came ≤ length bytes
   pub marks-all : (length came ≡ length bytes) ⊎ (inputOver marks ≡ true)
-  pub unmarked : inputOver start ≡ true → (came ≡ []) × (inputOver marks ≡ true)
+  pub unmarked : inputOver start ≡ true → (came ≡ []) × (inputLast marks ≡ inputLast start)
   pub unfailed : outputFailed output ≡ false
   pub written : outputTrace output ≡ traced noBytes (pick wanted packets [])
 
@@ -70,9 +70,9 @@ pub record BadMark (marks : Input) (block : ℕ) : Type 0 where
 pub data Ends (wanted : Bool) (start : Input) (r : Pass) : Type 0 where
   whole : r .ending ≡ Whole → Came wanted start (r .input) (r .marks) (r .output) (r .stream) → (inputEnded (r .input) ≡ true) ⊎ (capacityOf (r .stream) ≡ 0) → Ends wanted start r
   input-failed : r .ending ≡ Failed → inputFailed (r .input) ≡ true → Ends wanted start r
-  marks-failed : r .ending ≡ Failed → inputFailed (r .marks) ≡ true → Ends wanted start r
-  output-failed : r .ending ≡ Failed → outputFailed (r .output) ≡ true → Ends wanted start r
-  refused : (block : ℕ) → r .ending ≡ Refused block → BadMark (r .marks) block → Ends wanted start r
+  marks-failed : r .ending ≡ Failed → inputFailed (r .marks) ≡ true → (inputEnded start ≡ true → ⊥) → Ends wanted start r
+  output-failed : r .ending ≡ Failed → outputFailed (r .output) ≡ true → wanted ≡ true → Ends wanted start r
+  refused : (block : ℕ) → r .ending ≡ Refused block → BadMark (r .marks) block → (inputEnded start ≡ true → ⊥) → Ends wanted start r
 
 -- The inputs and the output stay what they are. Whole is all of the input up to its end, or to the last block that can be counted.
 pub record Passes (input marks : Input) (output : Output) (wanted : Bool) (r : Pass) : Type 0 where

@@ -24,6 +24,8 @@ use Rattle.receiver_stream.specs.Feed.{capacityOf}
 use Rattle.receiver_stream.specs.History.{Reception}
 use Rattle.receiver_stream.specs.Reporting.{streamReport}
 use Rattle.receiver_stream.specs.declared.ReceiverStream.{ReceiverStream}
+use Rattle.pass.specs.declared.Ending.{Ending}
+use Rattle.pass.specs.declared.Ending.the-variants.{Whole as All, Failed as Failure, Refused}
 use Rattle.pass_report.specs.declared.Ended.{Ended}
 
 -- pass_report
@@ -42,6 +44,12 @@ abbrev pub rightCall : Asked → ℕ → Bool
 rightCall Help count = false
 rightCall Version count = false
 rightCall Work count = eqb count 0
+
+-- a pass that read and took all
+abbrev pub isWhole : Ending → Bool
+isWhole All = true
+isWhole Failure = false
+isWhole (Refused block) = false
 
 -- the report was written whole to standard output, and that was closed; or it failed
 pub data Prints (stream : ReceiverStream) (input : Input) (r : Ended) : Type 0 where

@@ -7,7 +7,7 @@ ghost use Rattle.program_io.specs.Calls.{Answers};
 ghost use Rattle.program_io.specs.Files.{FreshOutput};
 ghost use Rattle.program_io.specs.Words.{argumentCount};
 ghost use Rattle.receiver_stream.specs.History.{ReceiverCame};
-ghost use Rattle.pass_report.specs.Ends.{programName, usageText, rightCall, Prints, Ends, Exits};
+ghost use Rattle.pass_report.specs.Ends.{programName, usageText, rightCall, isWhole, Prints, Ends, Exits};
 use pass::Ending;
 use program_io::Answered;
 use program_io::Arguments;
@@ -22,6 +22,17 @@ pub struct Ended {
     pub status: i32,
     pub input: Input,
     pub output: Output,
+}
+
+// Whether all was read and taken.
+fn is_whole(ending: Ending) -> bool
+    ensures { λ r. ⌜ r ≡ isWhole ending ⌝ }
+{
+    match ending {
+        Ending::Whole => true,
+        Ending::Failed => false,
+        Ending::Refused(_) => false,
+    }
 }
 
 // Prints the report, and closes the output.
@@ -61,7 +72,7 @@ fn run() -> Ended
     let input = pass.input;
     let stream = pass.stream;
     let ending = pass.ending;
-    if let Ending::Whole = ending {
+    if is_whole(ending) {
         return print(stream, input, output);
     }
     Ended {

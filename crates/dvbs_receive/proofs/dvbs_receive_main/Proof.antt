@@ -12,6 +12,7 @@ use Rattle.dvbs_receive.proofs.Endings.{made-fresh}
 use borrow.Author.Needs.{needs}
 use Rattle.dvbs_receive.proofs.dvbs_receive_main.Statement.{statement}
 use Rattle.dvbs_receive.proofs.dvbs_receive_main.Tie as tie
+
 new-requires : tie.Need-new-requires
 new-requires c κs = search needs
 

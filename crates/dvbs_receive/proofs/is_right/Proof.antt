@@ -11,6 +11,7 @@ use Rattle.dvbs_receive.specs.Ends.{rightCall}
 use borrow.Author.Needs.{needs}
 use Rattle.dvbs_receive.proofs.is_right.Statement.{statement}
 use Rattle.dvbs_receive.proofs.is_right.Tie as tie
+
 enum-told : tie.Need-enum-told
 enum-told c = search needs
 

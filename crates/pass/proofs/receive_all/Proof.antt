@@ -1,7 +1,7 @@
 -- `pass::receive_all` meets its contract.
 -- Assumes nothing.
 use mathlib.Core.Path.{_≡_, refl, sym, ap, ap₂, subst, _∙_}
-use mathlib.Core.Bool.{Bool}
+use mathlib.Core.Bool.{Bool, true≢false}
 use Prim.Native.Nat.{ℕ, _≤_, min}
 use native.Mathlib.Omega.{arith}
 use lib.ListN.{length}
@@ -11,7 +11,7 @@ use Rattle.program_io.specs.Files.{inputOrigin, outputFile}
 use Rattle.receiver_stream.specs.Feed.{capacityOf}
 use Rattle.receiver_stream.proofs.Laws.{reception-range}
 use Rattle.pass.specs.Pass.{Came, marks-failed, output-failed, refused}
-use Rattle.pass.proofs.Going.{came-none, came-taken, came-over, came-bad, came-more, came-less, hands-file, feeds-within}
+use Rattle.pass.proofs.Going.{came-none, came-taken, came-over, ended-read, came-bad, came-more, came-less, hands-file, hands-wanted, feeds-within}
 use borrow.Author.Needs.{needs}
 use Rattle.pass.proofs.receive_all.Statement.{statement}
 use Rattle.pass.proofs.receive_all.Tie as tie
@@ -100,11 +100,14 @@ same-length-6 c = c .before .before .before .before .before .before .before .bef
 returns-2 : tie.Need-returns-2 Inv-loop μ-loop
 returns-2 c =
     let l = c .before .before .before .before .before .before .before .before .before .before .before .before .before .before .before .before .loop in
+    let failed = sym (c .before .failed .ensures) ∙ c .if2 .taken in
     record {
       input-origin = c .before .before .before .before .before .before .before .before .before .before .before .read .ensures .origin ∙ l .inv .4;
       marks-origin = c .before .before .before .before .before .read-marks .ensures .origin ∙ l .inv .5;
       file = l .inv .6;
-      ends = marks-failed refl (sym (c .before .failed .ensures) ∙ c .if2 .taken);
+      ends =
+          marks-failed refl failed
+          (λ e. true≢false (sym failed ∙ ended-read (l .inv .0) (most-is (c .before .before .before .before .before .before .before .before .before .before .before .before .before .before)) (c .before .before .before .before .before .before .before .before .before .before .before .read .ensures) (c .before .before .before .before .before .read-marks .ensures) (c .before .before .before .before .before .before .before .before .before .before .before .read .kept .1 .1 .0 ∙ l .inv .1) (c .before .before .before .before .before .read-marks .kept .1 .0 ∙ l .inv .2) e .0));
     }
 
 slice-reshare-prefix-first-above : tie.Need-slice-reshare-prefix-first-above Inv-loop μ-loop
@@ -147,7 +150,8 @@ returns-3 c =
       file = l .inv .6;
       ends =
           refused (c .block-of .result) refl
-          (came-bad (l .inv .0) (most-is (c .before .before .before .before .before .before .before .before .before .before .before .before .before .before .before .before .before .before)) (r .ensures) (m .ensures) (r .kept .1 .1 .0 ∙ l .inv .1) (m .kept .1 .0 ∙ l .inv .2) (c .before .before .first-above .result) (c .block-of .result) (c .before .before .first-above .ensures) (c .before .if3 .taken) (c .block-of .ensures));
+          (came-bad (l .inv .0) (most-is (c .before .before .before .before .before .before .before .before .before .before .before .before .before .before .before .before .before .before)) (r .ensures) (m .ensures) (r .kept .1 .1 .0 ∙ l .inv .1) (m .kept .1 .0 ∙ l .inv .2) (c .before .before .first-above .result) (c .block-of .result) (c .before .before .first-above .ensures) (c .before .if3 .taken) (c .block-of .ensures))
+          (λ e. let t = c .before .if3 .taken in omega (arith, t, ended-read (l .inv .0) (most-is (c .before .before .before .before .before .before .before .before .before .before .before .before .before .before .before .before .before .before)) (r .ensures) (m .ensures) (r .kept .1 .1 .0 ∙ l .inv .1) (m .kept .1 .0 ∙ l .inv .2) e .1));
     }
 
 slice-reshare-prefix-feed : tie.Need-slice-reshare-prefix-feed Inv-loop μ-loop
@@ -198,7 +202,7 @@ returns-4 c =
       input-origin = c .before .before .before .before .before .before .before .before .before .before .before .before .before .before .before .before .before .before .before .before .before .before .before .before .before .read .ensures .origin ∙ l .inv .4;
       marks-origin = c .before .before .before .before .before .before .before .before .before .before .before .before .before .before .before .before .before .before .before .read-marks .ensures .origin ∙ l .inv .5;
       file = hands-file (c .before .before .before .hand-on .ensures) ∙ l .inv .6;
-      ends = output-failed refl (sym (c .before .failed2 .ensures) ∙ c .if4 .taken);
+      ends = output-failed refl (sym (c .before .failed2 .ensures) ∙ c .if4 .taken) (hands-wanted (c .before .before .before .hand-on .ensures) (l .inv .0 .unfailed) (sym (c .before .failed2 .ensures) ∙ c .if4 .taken));
     }
 
 loop-less : tie.Need-loop-less Inv-loop μ-loop

@@ -1,37 +1,37 @@
+-- `pass_report::is_right` meets its contract.
+-- Assumes nothing.
+use mathlib.Core.Path.{_≡_, sym, ap, _∙_}
+use Prim.Native.Nat.{ℕ}
+use lib.Dec.{eqb}
+use Rattle.program_io.specs.Words.{argumentCount}
+use Rattle.program_io.specs.declared.calls.Asked.{Asked}
+use Rattle.pass_report.specs.Ends.{rightCall}
 use borrow.Author.Needs.{needs}
 use Rattle.pass_report.proofs.is_right.Statement.{statement}
 use Rattle.pass_report.proofs.is_right.Tie as tie
-use Rattle.pass_report.proofs.is_right.Reads as reads
-use Rattle.pass_report.proofs.is_right.Lts as lts
-use Rattle.program_io.proofs.words.Arguments.count.Reads as count-reads
 
--- src/lib.rt:86:24
 enum-told : tie.Need-enum-told
 enum-told c = search needs
 
--- src/lib.rt:87:27
 enum-told-2 : tie.Need-enum-told-2
 enum-told-2 c = search needs
 
--- src/lib.rt:88:24
 enum-told-3 : tie.Need-enum-told-3
 enum-told-3 c = search needs
 
--- src/lib.rt:88:24
 count-requires : tie.Need-count-requires
 count-requires c κs = search needs
 
--- src/lib.rt:82:1
 returns : tie.Need-returns
 returns c = search needs
 
--- src/lib.rt:82:1
 returns-2 : tie.Need-returns-2
 returns-2 c = search needs
 
--- src/lib.rt:82:1
 returns-3 : tie.Need-returns-3
-returns-3 c = ?
+returns-3 c =
+    let a = c .before .before .before .args in
+    ap (λ (n : ℕ). eqb n 0) (c .count .ensures) ∙ sym (ap (λ (x : Asked). rightCall x (argumentCount (a .arguments))) (c .before .enum-told3 .given .1))
 
 pub is-right-spec : {M : Type 1} → statement M
 is-right-spec =

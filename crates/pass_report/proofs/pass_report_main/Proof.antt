@@ -1,46 +1,54 @@
+-- `pass_report::pass_report_main` meets its contract.
+-- Assumes nothing.
+use mathlib.Core.Path.{_≡_, sym, ap, subst, _∙_}
+use mathlib.Core.Bool.{true, false}
+use mir.Syntax.{w32}
+use mir.Val.{toZ, ofZ}
+use Rattle.program_io.specs.Calls.{askedOf, Answers}
+use Rattle.program_io.specs.Words.{argumentCount, wordBytes}
+use Rattle.program_io.specs.declared.calls.Asked.{Asked}
+use Rattle.pass_report.specs.Ends.{programName, usageText, rightCall, answered, ran}
 use borrow.Author.Needs.{needs}
 use Rattle.pass_report.proofs.pass_report_main.Statement.{statement}
 use Rattle.pass_report.proofs.pass_report_main.Tie as tie
-use Rattle.pass_report.proofs.pass_report_main.Reads as reads
-use Rattle.pass_report.proofs.pass_report_main.Lts as lts
-use Rattle.pass_report.proofs.answer.Reads as answer-reads
-use Rattle.pass_report.proofs.is_right.Reads as is-right-reads
-use Rattle.pass_report.proofs.run.Reads as run-reads
-use Rattle.program_io.proofs.asked_for.Reads as asked-for-reads
-use Rattle.program_io.proofs.words.Arguments.new.Reads as words-Arguments-new-reads
-use Rattle.program_io.proofs.words.Word.new.Reads as words-Word-new-reads
 
--- src/lib.rt:96:9
 new-requires : tie.Need-new-requires
 new-requires c κs = search needs
 
--- src/lib.rt:97:9
 new-requires-2 : tie.Need-new-requires-2
 new-requires-2 c κs = search needs
 
--- src/lib.rt:98:9
 asked-for-requires : tie.Need-asked-for-requires
 asked-for-requires c κs = search needs
 
--- src/lib.rt:99:8
 is-right-requires : tie.Need-is-right-requires
 is-right-requires c κs = search needs
 
--- src/lib.rt:100:13
 run-requires : tie.Need-run-requires
 run-requires c κs = search needs
 
--- src/lib.rt:101:9
 returns : tie.Need-returns
-returns c = ?
+returns c =
+    let a = c .before .before .before .before .before .before .new .result in
+    let w = c .before .before .before .before .before .new2 .result in
+    let r = c .before .run in
+    let q : toZ w32 (ofZ w32 (r .result .status)) ≡ r .result .status = search needs in
+    let right : rightCall (askedOf (argumentCount a) (wordBytes w)) (argumentCount a) ≡ true
+    = ap (λ (x : Asked). rightCall x (argumentCount a)) (sym (c .before .before .before .before .asked-for .ensures)) ∙ sym (c .before .before .before .is-right .ensures) ∙ c .before .before .if1 .taken in
+    ran a w (r .result) (c .before .before .before .before .before .new2 .ensures) right (r .ensures) q
 
--- src/lib.rt:103:9
 answer-requires : tie.Need-answer-requires
 answer-requires c κs = search needs
 
--- src/lib.rt:92:1
 returns-2 : tie.Need-returns-2
-returns-2 c = ?
+returns-2 c =
+    let a = c .before .before .before .before .before .before .new .result in
+    let w = c .before .before .before .before .before .new2 .result in
+    let r = c .before .answer in
+    let q : toZ w32 (ofZ w32 (r .result .status)) ≡ r .result .status = search needs in
+    let wrong : rightCall (askedOf (argumentCount a) (wordBytes w)) (argumentCount a) ≡ false
+    = ap (λ (x : Asked). rightCall x (argumentCount a)) (sym (c .before .before .before .before .asked-for .ensures)) ∙ sym (c .before .before .before .is-right .ensures) ∙ c .before .before .if1 .left in
+    answered a w (r .result) (c .before .before .before .before .before .new2 .ensures) wrong (subst (λ (x : Asked). Answers x programName usageText (r .result)) (c .before .before .before .before .asked-for .ensures) (r .ensures)) q
 
 pub pass-report-main-spec : {M : Type 1} → statement M
 pass-report-main-spec =
