@@ -1,13 +1,13 @@
 -- How a pass ended, and what the program leaves then.
 -- Assumes nothing.
-use mathlib.Core.Path.{_≡_, refl, sym, ap, subst, _∙_}
-use mathlib.Core.Bool.{Bool, true, false, true≢false}
+use mathlib.Core.Path.{_≡_, refl, ap, subst, _∙_}
+use mathlib.Core.Bool.{Bool, true, false}
 use Prim.Native.Nat.{ℕ}
 use native.Mathlib.Omega.{arith}
 use lib.IntN.{ℤ, pos}
 use Rattle.answer_lines.specs.Lines.{refusalText}
 use Rattle.program_io.specs.Checksum.{noBytes, traced}
-use Rattle.program_io.specs.Files.{originFile, inputTrace, outputFile, outputTrace, outputFailed, StandardInput, FreshOutput, Writes}
+use Rattle.program_io.specs.Files.{originFile, inputTrace, outputTrace, outputFailed, StandardInput, FreshOutput, Writes}
 use Rattle.program_io.specs.declared.trace.Trace.{Trace}
 use Rattle.program_io.specs.declared.input.Input.{Input}
 use Rattle.program_io.specs.declared.output.Output.{Output}

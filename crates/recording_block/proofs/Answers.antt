@@ -1,7 +1,7 @@
 -- What asking for a block answered, of what was read; and that a number which was read is within its limit.
 -- Assumes nothing.
 use mathlib.Core.Path.{_≡_, refl, sym, ap, ap₂, subst, _∙_}
-use mathlib.Core.Bool.{Bool, true, false, true≢false}
+use mathlib.Core.Bool.{Bool, true, false}
 use mathlib.Core.List.{List, [], _∷_}
 use mathlib.Core.Logic.{_⊎_, inl, inr}
 use Prim.Native.Nat.{ℕ, _*_, _≤_, _<_}
@@ -23,6 +23,10 @@ use Rattle.program_io.specs.declared.words.Parsed.the-variants.{Number, Large, 
 use Rattle.program_io.specs.declared.input.Input.{Input}
 use Rattle.program_io.specs.declared.output.Output.{Output}
 use Rattle.program_io.specs.declared.input.Filled.{Filled}
+use Rattle.program_io.specs.declared.calls.Asked.{Asked}
+use Rattle.program_io.specs.declared.calls.Asked.the-variants.{Help, Version, Work}
+use Rattle.reed_solomon.specs.declared.Changed.{Changed}
+use Rattle.recording_block.specs.declared.Request.the-variants.{Block, Other}
 use Rattle.recording.specs.Block.{blockCount, GivesBlock}
 use Rattle.recording.specs.declared.block.DecodedBlock.{DecodedBlock}
 use Rattle.recording_block.specs.Ends.{BlockAnswered, asBlock, blockIn, requestOf}
@@ -95,3 +99,38 @@ nothing-written number block output o h = o .trace ∙ sym (ap (λ (t : Bool). t
 
 pub block-written : (number : ℕ) (block : List ℕ) (t : Trace) → t ≡ traced noBytes block → number ≡ 0 → t ≡ traced noBytes (pick (eqb number 0) block [])
 block-written number block t e z = e ∙ sym (ap (λ (q : Bool). traced noBytes (pick q block [])) (eq-eqb number 0 z))
+
+-- the same with another output of the same bytes
+pub same-answered : {p number : ℕ} {changed : Changed} {input : Input} {output o : Output} → BlockAnswered p number changed input output
+    → outputTrace o ≡ outputTrace output → outputFailed o ≡ false → BlockAnswered p number changed input o
+same-answered b t u = record {
+  file = b .file;
+  start = b .start;
+  part = b .part;
+  read = b .read;
+  all = b .all;
+  decoded = b .decoded;
+  block = b .block;
+  gives = b .gives;
+  number-is = b .number-is;
+  changed-is = b .changed-is;
+  unfailed = u;
+  written = t ∙ b .written;
+}
+
+-- ---- a block that was asked for
+
+as-most : (w : List ℕ) (p : ℕ) (q : Parsed) → parsed w 4294967283 ≡ q → asBlock q ≡ Block p → p ≤ 4294967283
+as-most w p (Number n) e h = let z : n ≡ p = cc in number-most w 4294967283 p (e ∙ ap Number z)
+as-most w p Large e h = let z : _≡_ {A = ℕ} 0 1 = cc in absurd (omega arith)
+as-most w p Malformed e h = let z : _≡_ {A = ℕ} 0 1 = cc in absurd (omega arith)
+
+pub request-most : (asked : Asked) (count : ℕ) (option : Bool) (w : List ℕ) (p : ℕ) → requestOf asked count option w ≡ Block p → p ≤ 4294967283
+request-most Help count option w p h = let z : _≡_ {A = ℕ} 0 1 = cc in absurd (omega arith)
+request-most Version count option w p h = let z : _≡_ {A = ℕ} 0 1 = cc in absurd (omega arith)
+request-most Work count option w p h = by (eqb count 2) option h
+  where
+    by : (s t : Bool) → pick s (pick t Other (blockIn w)) Other ≡ Block p → p ≤ 4294967283
+    by true true k = let z : _≡_ {A = ℕ} 0 1 = cc in absurd (omega arith)
+    by true false k = as-most w p (parsed w 4294967283) refl k
+    by false t k = let z : _≡_ {A = ℕ} 0 1 = cc in absurd (omega arith)

@@ -14,7 +14,7 @@ use Rattle.answer.specs.Number.{numberOf}
 use Rattle.answer_lines.specs.Lines.{blockText}
 use Rattle.program_io.specs.Checksum.{noBytes, traced}
 use Rattle.program_io.specs.Calls.{askedOf, Answers}
-use Rattle.program_io.specs.Files.{inputOrigin, originArgument, originStart, inputTrace, inputEnded, inputFailed, outputFile, outputTrace, outputFailed, outputClosed, OpenedInput}
+use Rattle.program_io.specs.Files.{inputOrigin, originArgument, originStart, inputTrace, inputEnded, inputFailed, outputFile, outputTrace, outputFailed, outputClosed}
 use Rattle.program_io.specs.Words.{argumentCount, wordArgument, wordBytes, wordIsOption, parsed}
 use Rattle.program_io.specs.declared.calls.Answered.{Answered}
 use Rattle.program_io.specs.declared.calls.Asked.{Asked}

@@ -8,7 +8,7 @@ ghost use Prim.Native.Nat.{_*_};
 ghost use lib.IntN.{pos};
 ghost use Rattle.answer_lines.specs.Lines.{blockText};
 ghost use Rattle.program_io.specs.Calls.{Answers};
-ghost use Rattle.program_io.specs.Files.{OpenedInput, FreshOutput, outputFile, Writes};
+ghost use Rattle.program_io.specs.Files.{OpenedInput, outputFile, Writes};
 ghost use Rattle.program_io.specs.Words.{argumentCount, wordBytes, wordIsOption};
 ghost use Rattle.recording_block.specs.Ends.{programName, usageText, blockIn, requestOf, BlockAnswered, Beyond, Ends, Exits};
 use program_io::Answered;

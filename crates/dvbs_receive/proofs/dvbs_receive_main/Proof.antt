@@ -1,7 +1,7 @@
 -- `dvbs_receive::dvbs_receive_main` meets its contract.
 -- Assumes nothing.
 use mathlib.Core.Path.{_≡_, sym, ap, subst, _∙_}
-use mathlib.Core.Bool.{Bool, true, false}
+use mathlib.Core.Bool.{true, false}
 use mir.Syntax.{w32}
 use mir.Val.{toZ, ofZ}
 use Rattle.program_io.specs.Calls.{askedOf, Answers}

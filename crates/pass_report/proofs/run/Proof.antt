@@ -1,10 +1,11 @@
 -- `pass_report::run` meets its contract.
 -- Assumes nothing.
-use mathlib.Core.Path.{_≡_, sym, _∙_}
+use mathlib.Core.Path.{sym, _∙_}
 use Rattle.pass_report.proofs.Endings.{all-whole, came-of, ends-printed, ends-failed}
 use borrow.Author.Needs.{needs}
 use Rattle.pass_report.proofs.run.Statement.{statement}
 use Rattle.pass_report.proofs.run.Tie as tie
+
 standard-requires : tie.Need-standard-requires
 standard-requires c κs = search needs
 

@@ -1,52 +1,100 @@
+-- `recording_block::finish` meets its contract.
+-- Assumes nothing.
+use mathlib.Core.Path.{refl, sym, ap, subst, _∙_}
+use Prim.Native.Nat.{ℕ}
+use native.Mathlib.Omega.{arith}
+use Rattle.answer_lines.specs.Lines.{blockText}
+use Rattle.program_io.specs.Checksum.{noBytes, traced}
+use Rattle.program_io.specs.declared.trace.Trace.{Trace}
+use Rattle.recording_block.specs.Ends.{BlockAnswered, output-failed, errors-failed, given, none, part}
+use Rattle.recording_block.proofs.Answers.{same-answered}
 use borrow.Author.Needs.{needs}
 use Rattle.recording_block.proofs.finish.Statement.{statement}
 use Rattle.recording_block.proofs.finish.Tie as tie
-use Rattle.recording_block.proofs.finish.Reads as reads
-use Rattle.recording_block.proofs.finish.Lts as lts
-use Rattle.program_io.proofs.output.Output.close.Reads as close-reads
-use Rattle.program_io.proofs.output.Output.errors.Reads as errors-reads
-use Rattle.program_io.proofs.output.Output.failed.Reads as failed-reads
-use Rattle.recording_block.proofs.tell.Reads as tell-reads
 
--- src/lib.rt:57:9
 errors-requires : tie.Need-errors-requires
 errors-requires c κs = search needs
 
--- src/lib.rt:58:31
 slice-aggregate-close : tie.Need-slice-aggregate-close
 slice-aggregate-close c = search needs
 
--- src/lib.rt:58:9
 close-requires : tie.Need-close-requires
 close-requires c κs = search needs
 
--- src/lib.rt:59:8
 failed-requires : tie.Need-failed-requires
 failed-requires c κs = search needs
 
--- src/lib.rt:60:9
 returns : tie.Need-returns
-returns c = ?
+returns c =
+    let s = c .before .before .before .before .before in
+    let e = c .before .before .before .before .errors .ensures in
+    record {
+      output-is = c .before .before .close .ensures .file ∙ s .pre .1;
+      errors-are = e .file;
+      status = part refl (output-failed (sym (c .before .failed .ensures) ∙ c .if1 .taken) (e .trace));
+    }
 
--- src/lib.rt:67:9
 tell-requires : tie.Need-tell-requires
 tell-requires c κs = search needs
 
--- src/lib.rt:68:8
 failed-requires-2 : tie.Need-failed-requires-2
 failed-requires-2 c κs = search needs
 
--- src/lib.rt:69:9
 returns-2 : tie.Need-returns-2
-returns-2 c = ?
+returns-2 c =
+    let s = c .before .before .before .before .before .before .before .before in
+    let t = c .before .before .tell .ensures in
+    record {
+      output-is = c .before .before .before .before .before .close .ensures .file ∙ s .pre .1;
+      errors-are = t .file ∙ c .before .before .before .before .before .before .before .errors .ensures .file;
+      status = part refl (errors-failed (sym (c .before .failed2 .ensures) ∙ c .if2 .taken));
+    }
 
--- src/lib.rt:53:1
 returns-3 : tie.Need-returns-3
-returns-3 c = ?
+returns-3 c =
+    let s = c .before .before .before .before .before .before .before .before .before in
+    let k = c .before .before .before .before .before .before .close .ensures in
+    let t = c .before .before .before .tell .ensures in
+    let e = c .before .before .before .before .before .before .before .before .errors .ensures in
+    let u = sym (c .before .before .before .before .before .failed .ensures) ∙ c .before .before .before .before .if1 .left in
+    let v = sym (c .before .before .failed2 .ensures) ∙ c .before .if2 .left in
+    let z = c .if3 .taken in
+    let x = s .args .changed in
+    record {
+      output-is = k .file ∙ s .pre .1;
+      errors-are = t .file ∙ e .file;
+      status =
+          given x refl (subst (λ (n : ℕ). BlockAnswered (s .args .p) n x (s .args .input) (c .before .before .before .before .before .before .close .result)) z (same-answered (s .pre .0) (k .trace) u))
+          (record {
+            closed = k .closed u;
+            unfailed = v;
+            text =
+                t .whole v ∙ ap (λ (y : Trace). traced y (blockText (s .args .number) (x .bytes) (x .bits))) (e .trace)
+                ∙ ap (λ (n : ℕ). traced noBytes (blockText n (x .bytes) (x .bits))) z;
+          });
+    }
 
--- src/lib.rt:53:1
 returns-4 : tie.Need-returns-4
-returns-4 c = ?
+returns-4 c =
+    let s = c .before .before .before .before .before .before .before .before .before in
+    let k = c .before .before .before .before .before .before .close .ensures in
+    let t = c .before .before .before .tell .ensures in
+    let e = c .before .before .before .before .before .before .before .before .errors .ensures in
+    let u = sym (c .before .before .before .before .before .failed .ensures) ∙ c .before .before .before .before .if1 .left in
+    let v = sym (c .before .before .failed2 .ensures) ∙ c .before .if2 .left in
+    let z = c .if3 .left in
+    let x = s .args .changed in
+    record {
+      output-is = k .file ∙ s .pre .1;
+      errors-are = t .file ∙ e .file;
+      status =
+          none (s .args .number) x refl (omega (arith, z)) (same-answered (s .pre .0) (k .trace) u)
+          (record {
+            closed = k .closed u;
+            unfailed = v;
+            text = t .whole v ∙ ap (λ (y : Trace). traced y (blockText (s .args .number) (x .bytes) (x .bits))) (e .trace);
+          });
+    }
 
 pub finish-spec : {M : Type 1} → statement M
 finish-spec =

@@ -1,112 +1,121 @@
+-- `recording_block::give_block` meets its contract.
+-- Assumes nothing.
+use mathlib.Core.Path.{refl, sym, ap, _∙_}
+use lib.Seq.{length-take-le}
+use Rattle.program_io.specs.Checksum.{traced}
+use Rattle.program_io.specs.declared.trace.Trace.{Trace}
+use Rattle.recording_block.specs.Ends.{input-failed, output-failed, part}
+use Rattle.recording_block.proofs.Answers.{answered, nothing-written, block-written}
 use borrow.Author.Needs.{needs}
 use Rattle.recording_block.proofs.give_block.Statement.{statement}
 use Rattle.recording_block.proofs.give_block.Tie as tie
-use Rattle.recording_block.proofs.give_block.Reads as reads
-use Rattle.recording_block.proofs.give_block.Lts as lts
-use Rattle.answer.proofs.Answer.number.Reads as number-reads
-use Rattle.program_io.proofs.input.Input.failed.Reads as input-Input-failed-reads
-use Rattle.program_io.proofs.input.Input.fill.Reads as fill-reads
-use Rattle.program_io.proofs.output.Output.errors.Reads as errors-reads
-use Rattle.program_io.proofs.output.Output.failed.Reads as output-Output-failed-reads
-use Rattle.program_io.proofs.output.Output.standard.Reads as standard-reads
-use Rattle.program_io.proofs.output.Output.write.Reads as write-reads
-use Rattle.recording.proofs.block.decoded_block.Reads as decoded-block-reads
-use Rattle.recording.proofs.block.whole_blocks.Reads as whole-blocks-reads
-use Rattle.recording_block.proofs.finish.Reads as finish-reads
 
--- src/lib.rt:90:9
 standard-requires : tie.Need-standard-requires
 standard-requires c κs = search needs
 
--- src/lib.rt:91:9
 errors-requires : tie.Need-errors-requires
 errors-requires c κs = search needs
 
--- src/lib.rt:94:29
 slice-aggregate-fill : tie.Need-slice-aggregate-fill
 slice-aggregate-fill c = search needs
 
--- src/lib.rt:94:47
 slice-aggregate-fill-2 : tie.Need-slice-aggregate-fill-2
 slice-aggregate-fill-2 c = search needs
 
--- src/lib.rt:94:9
 fill-requires : tie.Need-fill-requires
 fill-requires c κs = search needs
 
--- src/lib.rt:97:8
 failed-requires : tie.Need-failed-requires
 failed-requires c κs = search needs
 
--- src/lib.rt:98:9
 returns : tie.Need-returns
-returns c = ?
+returns c =
+    let e = c .before .before .before .before .before .before .before .errors .ensures in
+    record {
+      output-is = c .before .before .before .before .before .before .before .before .standard .ensures .file;
+      errors-are = e .file;
+      status = part refl (input-failed (sym (c .before .failed .ensures) ∙ c .if1 .taken) (e .trace));
+    }
 
--- src/lib.rt:105:49
 array-share-prefix-buffer : tie.Need-array-share-prefix-buffer
 array-share-prefix-buffer c = search needs
 
--- src/lib.rt:105:49
 slice-aggregate-whole-blocks : tie.Need-slice-aggregate-whole-blocks
-slice-aggregate-whole-blocks c = ?
+slice-aggregate-whole-blocks c =
+    let f = c .before .before .before .before .before .fill in
+    sym (length-take-le (f .result .length) (f .last .1 .1 .0) (f .ensures .within))
 
--- src/lib.rt:105:9
 whole-blocks-requires : tie.Need-whole-blocks-requires
 whole-blocks-requires c κs = search needs
 
--- src/lib.rt:106:51
 array-share-prefix-buffer-2 : tie.Need-array-share-prefix-buffer-2
 array-share-prefix-buffer-2 c = search needs
 
--- src/lib.rt:106:51
 slice-aggregate-decoded-block : tie.Need-slice-aggregate-decoded-block
-slice-aggregate-decoded-block c = ?
+slice-aggregate-decoded-block c =
+    let f = c .before .before .before .before .before .before .before .fill in
+    sym (length-take-le (f .result .length) (f .last .1 .1 .0) (f .ensures .within))
 
--- src/lib.rt:106:76
 slice-aggregate-decoded-block-2 : tie.Need-slice-aggregate-decoded-block-2
 slice-aggregate-decoded-block-2 c = search needs
 
--- src/lib.rt:106:9
 decoded-block-requires : tie.Need-decoded-block-requires
 decoded-block-requires c κs = search needs
 
--- src/lib.rt:109:9
 number-requires : tie.Need-number-requires
 number-requires c κs = search needs
 
--- src/lib.rt:111:9
 finish-requires : tie.Need-finish-requires
-finish-requires c κs = ?
+finish-requires c κs =
+    let f = c .before .before .before .before .before .before .before .before .before .before .before .before .before .fill in
+    let d = c .before .before .before .before .decoded-block in
+    let n = c .before .number in
+    let o = c .before .before .before .before .before .before .before .before .before .before .before .before .before .before .before .before .before .standard .ensures in
+    let u = sym (c .before .before .before .before .before .before .before .before .before .before .failed .ensures) ∙ c .before .before .before .before .before .before .before .before .before .if1 .left in (
+      answered (c .before .before .before .before .before .before .before .before .before .before .before .before .before .before .before .before .before .before .args .p) (c .before .before .before .before .before .before .before .before .before .before .before .before .before .before .before .before .before .before .pre) (f .ensures) (f .kept .1 .1 .0) u (d .result) (d .last .1 .1 .1 .0) (c .before .before .before .before .before .before .before .whole-blocks .result) (n .result) (c .before .before .before .before .before .before .before .before .before .before .before .before .before .before .before .before .before .standard .result)
+          (c .before .before .before .before .before .before .before .whole-blocks .ensures) (d .ensures) (n .ensures) (o .failed) (nothing-written (n .result) (d .last .1 .1 .1 .0) (c .before .before .before .before .before .before .before .before .before .before .before .before .before .before .before .before .before .standard .result) o (c .if2 .taken)),
+      o .file,
+    )
 
--- src/lib.rt:111:9
 returns-2 : tie.Need-returns-2
 returns-2 c = search needs
 
--- src/lib.rt:113:31
 slice-aggregate-write : tie.Need-slice-aggregate-write
 slice-aggregate-write c = search needs
 
--- src/lib.rt:113:51
 slice-aggregate-write-2 : tie.Need-slice-aggregate-write-2
 slice-aggregate-write-2 c = search needs
 
--- src/lib.rt:113:9
 write-requires : tie.Need-write-requires
 write-requires c κs = search needs
 
--- src/lib.rt:114:8
 failed-requires-2 : tie.Need-failed-requires-2
 failed-requires-2 c κs = search needs
 
--- src/lib.rt:115:9
 returns-3 : tie.Need-returns-3
-returns-3 c = ?
+returns-3 c =
+    let e = c .before .before .before .before .before .before .before .before .before .before .before .before .before .before .before .before .before .before .before .before .before .errors .ensures in
+    record {
+      output-is = c .before .before .write .ensures .file ∙ c .before .before .before .before .before .before .before .before .before .before .before .before .before .before .before .before .before .before .before .before .before .before .standard .ensures .file;
+      errors-are = e .file;
+      status = part refl (output-failed (sym (c .before .failed2 .ensures) ∙ c .if3 .taken) (e .trace));
+    }
 
--- src/lib.rt:122:5
 finish-requires-2 : tie.Need-finish-requires-2
-finish-requires-2 c κs = ?
+finish-requires-2 c κs =
+    let f = c .before .before .before .before .before .before .before .before .before .before .before .before .before .before .before .before .before .before .fill in
+    let d = c .before .before .before .before .before .before .before .before .before .decoded-block in
+    let n = c .before .before .before .before .before .before .number in
+    let o = c .before .before .before .before .before .before .before .before .before .before .before .before .before .before .before .before .before .before .before .before .before .before .standard .ensures in
+    let u = sym (c .before .before .before .before .before .before .before .before .before .before .before .before .before .before .before .failed .ensures) ∙ c .before .before .before .before .before .before .before .before .before .before .before .before .before .before .if1 .left in
+    let w = c .before .before .write .ensures in
+    let v = sym (c .before .failed2 .ensures) ∙ c .if3 .left in (
+      answered (c .before .before .before .before .before .before .before .before .before .before .before .before .before .before .before .before .before .before .before .before .before .before .before .args .p) (c .before .before .before .before .before .before .before .before .before .before .before .before .before .before .before .before .before .before .before .before .before .before .before .pre) (f .ensures) (f .kept .1 .1 .0) u (d .result) (d .last .1 .1 .1 .0) (c .before .before .before .before .before .before .before .before .before .before .before .before .whole-blocks .result) (n .result) (c .before .before .write .result)
+          (c .before .before .before .before .before .before .before .before .before .before .before .before .whole-blocks .ensures) (d .ensures) (n .ensures) v
+          (block-written (n .result) (d .last .1 .1 .1 .0) _ (w .whole v ∙ ap (λ (x : Trace). traced x (d .last .1 .1 .1 .0)) (o .trace)) (c .before .before .before .before .before .if2 .left)),
+      w .file ∙ o .file,
+    )
 
--- src/lib.rt:86:1
 returns-4 : tie.Need-returns-4
 returns-4 c = search needs
 

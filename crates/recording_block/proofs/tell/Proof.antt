@@ -1,46 +1,43 @@
+-- `recording_block::tell` meets its contract.
+-- Assumes nothing.
+use mathlib.Core.Path.{sym, subst}
+use mathlib.Core.List.{List}
+use Prim.Native.Nat.{ℕ}
+use native.Mathlib.Omega.{arith}
+use lib.Seq.{length-take-le}
+use Rattle.program_io.specs.Files.{Writes}
 use borrow.Author.Needs.{needs}
 use Rattle.recording_block.proofs.tell.Statement.{statement}
 use Rattle.recording_block.proofs.tell.Tie as tie
-use Rattle.recording_block.proofs.tell.Reads as reads
-use Rattle.recording_block.proofs.tell.Lts as lts
-use Rattle.answer_lines.proofs.block_line.Reads as block-line-reads
-use Rattle.program_io.proofs.output.Output.write_text.Reads as write-text-reads
 
--- src/lib.rt:45:9
 cast-block-line : tie.Need-cast-block-line
 cast-block-line c = search needs
 
--- src/lib.rt:46:9
 cast-block-line-2 : tie.Need-cast-block-line-2
 cast-block-line-2 c = search needs
 
--- src/lib.rt:47:9
 slice-aggregate-block-line : tie.Need-slice-aggregate-block-line
 slice-aggregate-block-line c = search needs
 
--- src/lib.rt:43:9
 block-line-requires : tie.Need-block-line-requires
 block-line-requires c κs = search needs
 
--- src/lib.rt:49:23
 slice-aggregate-write-text : tie.Need-slice-aggregate-write-text
 slice-aggregate-write-text c = search needs
 
--- src/lib.rt:49:42
 array-share-prefix-text : tie.Need-array-share-prefix-text
 array-share-prefix-text c = search needs
 
--- src/lib.rt:49:42
 slice-aggregate-write-text-2 : tie.Need-slice-aggregate-write-text-2
-slice-aggregate-write-text-2 c = ?
+slice-aggregate-write-text-2 c =
+    let r = c .before .before .before .block-line in
+    sym (length-take-le (r .result) (r .last .1 .1 .1 .0) (omega (arith, r .ensures .bound, r .kept .1 .1 .1 .0)))
 
--- src/lib.rt:49:5
 write-text-requires : tie.Need-write-text-requires
 write-text-requires c κs = search needs
 
--- src/lib.rt:39:1
 returns : tie.Need-returns
-returns c = ?
+returns c = subst (λ (l : List ℕ). Writes (c .before .before .before .before .before .before .before .before .args .errors) l (c .write-text .result)) (c .before .before .before .before .block-line .ensures .text) (c .write-text .ensures)
 
 pub tell-spec : {M : Type 1} → statement M
 tell-spec =
