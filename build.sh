@@ -2,6 +2,7 @@
 # Proves and builds the programs, into target/bin, and the libraries for C, into target/staticlib.
 #   ./build.sh            all of them
 #   ./build.sh NAME..     some: a program, or libdvbs or libdvbs_bridge
+# A program is a function of a proved library, and programs/main.c is its main.
 # libdvbs.a has every function that include/dvbs.h declares. They are two proved crates, since one that reaches both directions takes too much memory to
 # prove; here their objects become one archive.
 set -euo pipefail
@@ -24,13 +25,25 @@ libdvbs() {
     rm -r "$parts"
 }
 
+# The kit's C functions, which programs are linked with.
+kit=$(dirname "$(dirname "$(readlink -f "$(command -v rt)")")")
+
+program() {
+    # One that is not a library yet is built by its check.
+    if [ -f "crates/$1/src/main.rt" ]; then
+        rt check "$1"
+        return
+    fi
+    rt staticlib "$1"
+    mkdir -p target/bin
+    cc -O2 -Wall -Wextra -Werror -DPROGRAM="$1_main" programs/main.c -Ltarget/staticlib -l"$1" "$kit/lib/libos_c.a" -o "target/bin/$1"
+}
+
 [ $# -gt 0 ] || set -- "${programs[@]}" libdvbs libdvbs_bridge
-wanted=()
 for name in "$@"; do
     case $name in
         libdvbs) libdvbs ;;
         libdvbs_bridge) rt staticlib dvbs_bridge ;;
-        *) wanted+=("$name") ;;
+        *) program "$name" ;;
     esac
 done
-[ ${#wanted[@]} = 0 ] || rt check "${wanted[@]}"

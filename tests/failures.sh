@@ -17,29 +17,29 @@ fail() {
     exit 1
 }
 
-# says WHAT WANTED COMMAND..: nothing on standard output, and exactly these lines on standard error.
+# ends STATUS WHAT COMMAND..: it ends with this status; its outputs are in out and err.
+ends() {
+    local status=$1 what=$2 got=0
+    shift 2
+    "$@" > out 2> err || got=$?
+    [ "$got" = "$status" ] || fail "$what: status $got, not $status"
+}
+
+# says WHAT WANTED COMMAND..: status 1, nothing on standard output, and exactly these lines on standard error.
 says() {
     local what=$1 wanted=$2
     shift 2
-    "$@" > out 2> err || true
+    ends 1 "$what" "$@"
     [ ! -s out ] && [ "$(cat err)" = "$wanted" ] || fail "$what: $(cat out err), not $wanted"
 }
 
-# part WHAT WHOLE WANTED COMMAND..: a part of the whole output, and exactly these lines on standard error.
+# part WHAT WHOLE WANTED COMMAND..: status 1, a part of the whole output, and exactly these lines on standard error.
 part() {
     local what=$1 whole=$2 wanted=$3
     shift 3
-    "$@" > out 2> err || true
+    ends 1 "$what" "$@"
     [ "$(wc -c < out)" -lt "$(wc -c < "$whole")" ] && cmp -n "$(wc -c < out)" out "$whole" || fail "$what: the output is not a part of the whole"
     [ "$(cat err)" = "$wanted" ] || fail "$what: $(cat err), not $wanted"
-}
-
-# ends STATUS COMMAND..: the command ends with this status.
-ends() {
-    local wanted=$1 status=0
-    shift
-    "$@" || status=$?
-    [ $status = "$wanted" ] || fail "status $status of $*, not $wanted"
 }
 
 # failing "CALL DESCRIPTOR WHICH ANSWER" COMMAND..: the command, with one call answered so (tests/failing.c).
@@ -70,7 +70,7 @@ io_error="Input/output error"
 part "a failed read of dvbs_read" bytes "standard input: $io_error" failing "read 0 3 -5" "$bin/dvbs_read" 2 < symbols
 part "a failed read of dvbs_read_soft" bytes "standard input: $io_error" failing "read 0 3 -5" "$bin/dvbs_read_soft" 2 < points
 part "a failed read of dvbs_send" symbols "standard input: $io_error" failing "read 0 2 -5" "$bin/dvbs_send" 2 < packets
-ends 1 failing "read 0 2 -5" "$bin/dvbs_send" 2 < packets > out 2> err
+ends 1 "dvbs_send 2, read 0 2 -5" failing "read 0 2 -5" "$bin/dvbs_send" 2 < packets
 says "a failed first read of dvbs_receive" "standard input: $io_error" failing "read 0 1 -5" "$bin/dvbs_receive" < blocks
 says "a failed last read of pass_report" "standard input: $io_error" failing "read 0 2 -5" "$bin/pass_report" < blocks
 says "a directory as input of dvbs_read" "standard input: Is a directory" "$bin/dvbs_read" 2 < .
@@ -93,16 +93,16 @@ for program in "dvbs_read 2" "dvbs_read_soft 2" "dvbs_send 2" dvbs_receive; do
     part "a failed write of $program" $whole "standard output: No space left on device" failing "write 1 1 -28" "$bin"/$program < $input
     part "a write of $program that takes nothing" $whole "standard output: not written whole" failing "write 1 1 0" "$bin"/$program < $input
     failing "write 1 1+ 1000" "$bin"/$program < $input 2> err | cmp - $whole || fail "short writes of $program"
-    failing "close 1 1 -5" "$bin"/$program < $input > out 2> err || true
+    ends 1 "an output of $program that is lost when closed" failing "close 1 1 -5" "$bin"/$program < $input
     cmp out $whole && [ "$(cat err)" = "standard output: $io_error" ] || fail "an output of $program that is lost when closed: $(cat err)"
 done
 # cut_off INPUT NAME COMMAND..: the text on standard output lacks its last line, and that is said.
 cut_off() {
     local input=$1 name=$2 what=${3##*/}
     shift 2
-    failing "write 1 1 20" "$@" < "$input" > out 2> err || true
+    ends 1 "a short write of $what" failing "write 1 1 20" "$@" < "$input"
     [ "$(wc -c < out)" = 20 ] && [ "$(cat err)" = "$name: not written whole" ] || fail "a short write of $what: $(cat err)"
-    failing "close 1 1 -5" "$@" < "$input" > out 2> err || true
+    ends 1 "an output of $what that is lost when closed" failing "close 1 1 -5" "$@" < "$input"
     [ "$(cat err)" = "standard output: $io_error" ] || fail "an output of $what that is lost when closed: $(cat err)"
 }
 "$bin/pass_report" < blocks > told.report
@@ -113,19 +113,19 @@ cut_off second report "$bin/report_form" 1
 # No program that failed ends as if it had not: a write that fails, one that is short, an output that is lost when closed, and standard error, which has
 # the lines of dvbs_send and the number of a refusal. dvbs_send still sends all where it cannot tell.
 for call in "write 1 1 -28" "write 1 1 0" "close 1 1 -5" "read 0 1 -5"; do
-    ends 1 failing "$call" "$bin/dvbs_send" 2 < packets > out 2> err
-    ends 1 failing "$call" "$bin/dvbs_send" --flush 2 < packets > out 2> err
-    ends 1 failing "$call" "$bin/season" < told.report > out 2> err
-    ends 1 failing "$call" "$bin/report_form" 1 < second > out 2> err
+    ends 1 "dvbs_send 2, $call" failing "$call" "$bin/dvbs_send" 2 < packets
+    ends 1 "dvbs_send --flush 2, $call" failing "$call" "$bin/dvbs_send" --flush 2 < packets
+    ends 1 "season, $call" failing "$call" "$bin/season" < told.report
+    ends 1 "report_form 1, $call" failing "$call" "$bin/report_form" 1 < second
 done
 for call in "write 2 1 -5" "write 2 1 5"; do
-    ends 1 failing "$call" "$bin/dvbs_send" 2 < packets > out 2> err
+    ends 1 "dvbs_send 2, $call" failing "$call" "$bin/dvbs_send" 2 < packets
     cmp out symbols && ! grep -q '^packets=' err || fail "dvbs_send with a standard error that fails: $(cat err)"
-    ends 1 failing "$call" "$bin/report_form" 1 < told.report > out 2> err
+    ends 1 "report_form 1, $call" failing "$call" "$bin/report_form" 1 < told.report
     [ ! -s out ] || fail "report_form with a standard error that fails: $(cat out)"
 done
 # The report of dvbs_receive goes to standard error.
-failing "write 2 1 20" "$bin/dvbs_receive" < blocks 2> err > /dev/null
+ends 1 "a short write of the report of dvbs_receive" failing "write 2 1 20" "$bin/dvbs_receive" < blocks
 ! grep -q '^rest=' err && grep -q 'report: not written whole$' err || fail "a short write of the report of dvbs_receive"
 echo "writes that fail or are short, and outputs that are lost when closed: said, and no line that looks whole"
 
@@ -181,14 +181,21 @@ head -c "$(wc -c < blocks)" /dev/zero > none
 head -c $(($(wc -c < blocks) - 57)) blocks > cut
 "$bin/dvbs_receive" none < cut > out 2> err
 [ "$(tail -n 1 err)" = rest=147 ] && "$reference/pass_report" none < cut | cmp - err || fail "the rest of a pass with marks"
-part "a failed read with marks" received "standard input: $io_error" failing "read 0 40 -5" "$bin/dvbs_receive" none < blocks
-part "failed marks" received "marks: $io_error" failing "read 3 40 -5" "$bin/dvbs_receive" none < blocks
-part "a failed write with marks" received "standard output: No space left on device" failing "write 1 5 -28" "$bin/dvbs_receive" none < blocks
-part "a write with marks that takes nothing" received "standard output: not written whole" failing "write 1 5 0" "$bin/dvbs_receive" none < blocks
-failing "close 1 1 -5" "$bin/dvbs_receive" none < blocks > out 2> err
+# Twenty blocks, and the others later: two pieces.
+in_two() {
+    head -c 4080 blocks
+    sleep 0.3
+    tail -c +4081 blocks
+}
+part "a failed read with marks" received "standard input: $io_error" failing "read 0 2 -5" "$bin/dvbs_receive" none < <(in_two)
+part "failed marks" received "marks: $io_error" failing "read 3 2 -5" "$bin/dvbs_receive" none < <(in_two)
+part "a failed write with marks" received "standard output: No space left on device" failing "write 1 2 -28" "$bin/dvbs_receive" none < <(in_two)
+part "a write with marks that takes nothing" received "standard output: not written whole" failing "write 1 2 0" "$bin/dvbs_receive" none < <(in_two)
+part "a read that a signal interrupts" received "standard input: Interrupted system call" failing "read 0 2 -4" "$bin/dvbs_receive" < <(in_two)
+ends 1 "an output with marks that is lost when closed" failing "close 1 1 -5" "$bin/dvbs_receive" none < blocks
 cmp out received && [ "$(cat err)" = "standard output: $io_error" ] || fail "an output with marks that is lost when closed: $(cat err)"
 says "marks, a directory as input, and a full output" "standard input: Is a directory" bash -c "'$bin/dvbs_receive' none < . > /dev/full"
-says "marks, and an input and an output that fail" "standard output: No space left on device" bash -c "FAIL='read 0 60 -5' LD_PRELOAD='$work/failing.so' '$bin/dvbs_receive' none < blocks > /dev/full"
+says "marks, and an input and an output that fail" "standard output: No space left on device" bash -c "FAIL='read 0 2 -5' LD_PRELOAD='$work/failing.so' '$bin/dvbs_receive' none < blocks > /dev/full"
 # Marks that have ended stay ended: a file that grows after its end was seen marks nothing. Here it ends after ten blocks, and grows after twenty were taken.
 cp blocks harmed
 fill harmed 252 6000 192
@@ -220,7 +227,14 @@ too_long="file name: none, or longer than 4095 bytes"
 says "a long name of marks" "$too_long" "$bin/dvbs_receive" "$long" < blocks
 says "a long name of a recording" "$too_long" "$bin/recording_block" "$long" 0
 says "an empty name" "$too_long" "$bin/dvbs_receive" "" < blocks
-says "an option" "usage: dvbs_receive [MARKS] < blocks > packets" "$bin/dvbs_receive" --help < blocks
+usage="usage: dvbs_receive [MARKS] < blocks > packets"
+ends 2 "an option" "$bin/dvbs_receive" -x < blocks
+[ ! -s out ] && [ "$(cat err)" = "$usage" ] || fail "an option: $(cat out err)"
+ends 0 "--help" "$bin/dvbs_receive" --help < blocks
+[ "$(cat out)" = "$usage" ] && [ ! -s err ] || fail "--help: $(cat out err)"
+ends 0 "--version" "$bin/dvbs_receive" --version < blocks
+[ "$(cat out)" = "dvbs_receive 1.0.0" ] && [ ! -s err ] || fail "--version: $(cat out err)"
+says "--help and a full output" "standard output: No space left on device" bash -c "'$bin/dvbs_receive' --help > /dev/full"
 says "a directory as a recording" "the recording: Is a directory" "$bin/recording_block" . 0
 echo "names that are too long, options and directories: said"
 
@@ -237,8 +251,8 @@ for p in 400 40000 50001 1000003; do
     "$reference/recorded_block" sparse $p > wanted.out 2> wanted.err
     cmp out wanted.out && cmp err wanted.err || fail "block $p of a sparse recording, by the reference"
 done
-says "a failed read of a recording" "the recording: $io_error" failing "pread 3 1 -5" "$bin/recording_block" sparse 400
-failing "pread 3 1+ 100" "$bin/recording_block" sparse 400 2> err | cmp - wanted || fail "short reads of a recording"
+says "a failed read of a recording" "the recording: $io_error" failing "read 3 1 -5" "$bin/recording_block" sparse 400
+failing "read 3 1+ 100" "$bin/recording_block" sparse 400 2> err | cmp - wanted || fail "short reads of a recording"
 says "a block's output that is full" "standard output: No space left on device" bash -c "'$bin/recording_block' sparse 400 > /dev/full"
 # A million blocks of zeros, and what is after them: each is a codeword that begins with neither sync byte.
 truncate -s $((204 * 1000001 + 100)) zeros

@@ -48,3 +48,9 @@ pub record Refuses (text : List ℕ) (r : Answered) : Type 0 where
   pub status : r .status ≡ pos 2
   pub file : outputFile (r .output) ≡ pos 2
   pub told : outputFailed (r .output) ≡ false → outputTrace (r .output) ≡ traced noBytes text
+
+-- What was asked for is given: the usage, or the name and version; and where the call was for the program's work, and wrong, the usage is told.
+pub data Answers (asked : Asked) (name usage : List ℕ) (r : Answered) : Type 0 where
+  help-given : asked ≡ Help → Gives usage r → Answers asked name usage r
+  version-given : asked ≡ Version → Gives (versionText name) r → Answers asked name usage r
+  refused : asked ≡ Work → Refuses usage r → Answers asked name usage r

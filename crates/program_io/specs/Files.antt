@@ -75,6 +75,7 @@ pub record StandardInput (i : Input) : Type 0 where
 -- an input that has ended from the start
 pub record NoInput (i : Input) : Type 0 where
   pub argument : originArgument (inputOrigin i) ≡ 0
+  pub start : originStart (inputOrigin i) ≡ 0
   pub trace : inputTrace i ≡ noBytes
   pub ended : inputEnded i ≡ true
 

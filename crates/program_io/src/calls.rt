@@ -1,6 +1,6 @@
 // What every program does where it is asked for its usage or its version, or called wrongly.
 ghost use mathlib.Core.Path.{_≡_};
-ghost use Rattle.program_io.specs.Calls.{askedOf, versionText, EndsGiven, Gives, Refuses};
+ghost use Rattle.program_io.specs.Calls.{askedOf, versionText, EndsGiven, Gives, Refuses, Answers};
 ghost use Rattle.program_io.specs.Words.{argumentCount, wordBytes};
 use crate::output::Output;
 use crate::words::Arguments;
@@ -68,4 +68,15 @@ pub fn wrong(usage: &[u8]) -> Answered
     let errors = Output::errors();
     let output = errors.write(b"standard error", usage);
     Answered { output, status: 2 }
+}
+
+// Gives what was asked for; where that is the program's work, the call was wrong.
+pub fn answer(asked: Asked, name: &[u8], usage: &[u8]) -> Answered
+    ensures { λ r. ⌜ Answers asked (now (name .entry)) (now (usage .entry)) r ⌝ }
+{
+    match asked {
+        Asked::Help => help(usage),
+        Asked::Version => version(name),
+        Asked::Work => wrong(usage),
+    }
 }

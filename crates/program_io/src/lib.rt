@@ -9,6 +9,7 @@ mod words;
 
 pub use calls::Answered;
 pub use calls::Asked;
+pub use calls::answer;
 pub use calls::asked_for;
 pub use calls::help;
 pub use calls::version;

@@ -1,6 +1,6 @@
 -- Lists of bytes in pieces: an array with bytes at its front, and what is held after a piece.
 -- Assumes nothing.
-use mathlib.Core.Path.{_≡_, sym, ap, ap₂, subst, subst₂, _∙_}
+use mathlib.Core.Path.{_≡_, refl, sym, ap, ap₂, subst, subst₂, _∙_}
 use mathlib.Core.List.{List, [], _++_, append-assoc, append-nil}
 use Prim.Native.Nat.{ℕ, _+_, _-_, _*_, _/_, _%_, _≤_, _<_}
 use native.Mathlib.Nat.{mod-le}
@@ -20,7 +20,7 @@ use Rattle.receiver.specs.Receive.{receiverInRange}
 use Rattle.recording.specs.Recording.{TakesRecording}
 use Rattle.recording.proofs.Joins.{takes-join, takes-few, takes-count, takes-length}
 use Rattle.receiver.specs.declared.Receiver.{Receiver}
-use Rattle.receiver_stream.specs.Feed.{holding, heldBytes, receiverStreamInRange, TakesPiece}
+use Rattle.receiver_stream.specs.Feed.{holding, heldBytes, heldMarks, receiverStreamInRange, TakesPiece}
 use Rattle.receiver_stream.specs.declared.ReceiverStream.{ReceiverStream}
 
 -- ---- the ranges
@@ -30,11 +30,13 @@ stream-range i e =
     let p = both-true (receiverInRange (i .receiver)) (ltb (i .held) 204) e in
     (p .0, ltb-true (i .held) 204 (p .1))
 
--- ---- an array with bytes at its front
+-- ---- arrays with bytes and marks at their fronts
 
-kept-state : (s : Receiver) (rest : List ℕ) {array : List ℕ} {n : ℕ} → array ≡ padded 204 rest → n ≡ length rest
-    → _≡_ {A = ReceiverStream} (record { receiver = s; pending = array; held = n }) (holding s rest)
-kept-state s rest p e = ap₂ (λ (x : List ℕ) (k : ℕ). record { receiver = s; pending = x; held = k }) p e
+kept-state : (s : Receiver) (rest own : List ℕ) {array marks : List ℕ} {n : ℕ} → array ≡ padded 204 rest → marks ≡ padded 204 own → n ≡ length rest
+    → _≡_ {A = ReceiverStream} (record { receiver = s; pending = array; marks = marks; held = n }) (holding s rest own)
+kept-state s rest own {array} {marks} {n} p q e =
+    ap₂ (λ (x y : List ℕ). record { receiver = s; pending = x; marks = y; held = n }) p q
+    ∙ ap (λ (k : ℕ). record { receiver = s; pending = padded 204 rest; marks = padded 204 own; held = k }) e
 
 -- where the bytes after the last whole block begin, in all that came and in the piece
 rest-none : (l start : ℕ) → start ≡ 0 → l - l % 204 ≡ l - (l - start) % 204
@@ -58,81 +60,126 @@ rest-start h l start small enough e = by (ℕ-discrete h 0)
         ap (λ (k : ℕ). k - k % 204) m ∙ rest-some (l - start)
         ∙ shifted h l start (l - start) ((l - start) % 204) (omega arith) n (mod-le (l - start) 204)
 
+-- ---- bytes held and a piece after them, or their marks
+
+-- a piece that completes at least one block
+module _ (held total start : ℕ) (small : held < 204) (enough : 204 ≤ held + total) (e : start ≡ (204 - held) % 204) (front piece : List ℕ) (f : length front ≡ held)
+    (t : length piece ≡ total) where
+  pub filler-length : length (take start piece) ≡ start
+  filler-length = length-take-le start piece (omega arith)
+
+  pub first-length : length (front ++ take start piece) ≡ held + start
+  first-length = length-append front (take start piece) ∙ ap₂ (λ (x y : ℕ). x + y) f filler-length
+
+  first-rest : restOf 204 (front ++ take start piece) ≡ []
+  unfolding restOf
+  first-rest =
+      let x = front ++ take start piece in
+      drop-of-length-le x {i = length x - length x % 204} (omega (arith, first-length))
+
+  came-split : (front ++ take start piece) ++ drop start piece ≡ front ++ piece
+  came-split = append-assoc front (take start piece) (drop start piece) ∙ ap (λ (l : List ℕ). front ++ l) (take-append-drop start piece)
+
+  -- the bytes after the last whole block
+  rest-piece : (end : ℕ) → end ≡ total - (total - start) % 204 → restOf 204 (front ++ piece) ≡ drop end piece
+  unfolding restOf
+  rest-piece end d =
+      let came = front ++ piece in
+      let n : length came ≡ held + total = length-append front piece ∙ ap₂ (λ (x y : ℕ). x + y) f t in
+      let k : length came - length came % 204 ≡ length front + end
+      = ap (λ (j : ℕ). j - j % 204) n ∙ rest-start held total start small enough e ∙ ap₂ (λ (j k : ℕ). j + k) (sym f) (sym d) in
+      ap (λ (j : ℕ). drop j came) k ∙ drop-append-add front piece end
+
+  -- as the code has them: what is after the filler, and the tail
+  rest-given : take (total - start) (drop start piece) ≡ restOf 204 (front ++ take start piece) ++ drop start piece
+  rest-given =
+      take-all (total - start) (drop start piece) (omega (arith, length-drop start piece)) ∙ sym (ap (λ (l : List ℕ). l ++ drop start piece) first-rest)
+
+  tail-given : (end : ℕ) → end ≡ total - (total - start) % 204 → restOf 204 (front ++ piece) ≡ take (total - end) (drop end piece)
+  tail-given end d = rest-piece end d ∙ sym (take-all (total - end) (drop end piece) (omega (arith, length-drop end piece)))
+
 -- ---- what a stream receiver does with a piece
 
-module _ (i : ReceiverStream) (size : length (i .pending) ≡ 204) (small : i .held < 204) where
-  pub held-length : length (heldBytes i) ≡ i .held
+module _ (i : ReceiverStream) (size : length (i .pending) ≡ 204) (sizes : length (i .marks) ≡ 204) (small : i .held < 204) where
+  held-length : length (heldBytes i) ≡ i .held
   held-length = length-take-le (i .held) (i .pending) (omega arith)
+
+  marks-length : length (heldMarks i) ≡ i .held
+  marks-length = length-take-le (i .held) (i .marks) (omega arith)
 
   length-came : (piece : List ℕ) → length (heldBytes i ++ piece) ≡ i .held + length piece
   length-came piece = length-append (heldBytes i) piece ∙ ap (λ (k : ℕ). k + length piece) held-length
 
+  length-marks : (own : List ℕ) → length (heldMarks i ++ own) ≡ i .held + length own
+  length-marks own = length-append (heldMarks i) own ∙ ap (λ (k : ℕ). k + length own) marks-length
+
   -- no byte is held, and none completes a block
-  pub finish-none : (filler output : List ℕ) → length filler ≡ (204 - i .held) % 204 → i .held ≡ 0
-      → TakesRecording (i .receiver) (heldBytes i ++ filler) [] output 0 (i .receiver) output
-  finish-none filler output e z = takes-few (i .receiver) (heldBytes i ++ filler) [] output (omega (arith, length-came filler))
+  pub finish-none : (filler own output : List ℕ) → length filler ≡ (204 - i .held) % 204 → i .held ≡ 0
+      → TakesRecording (i .receiver) (heldBytes i ++ filler) (heldMarks i ++ own) output 0 (i .receiver) output
+  finish-none filler own output e z = takes-few (i .receiver) (heldBytes i ++ filler) (heldMarks i ++ own) output (omega (arith, length-came filler))
 
   -- the block that the bytes held begin
-  pub finish-block : (filler : List ℕ) {block output exit : List ℕ} {count : ℕ} {last : Receiver} → length filler ≡ (204 - i .held) % 204 → (i .held ≡ 0 → ⊥)
-      → block ≡ padded 204 (heldBytes i ++ filler) → TakesRecording (i .receiver) block [] output count last exit
-      → TakesRecording (i .receiver) (heldBytes i ++ filler) [] output count last exit
-  finish-block filler {block} {output} {exit} {count} {last} e z p t =
-      subst (λ (x : List ℕ). TakesRecording (i .receiver) x [] output count last exit) (p ∙ padded-full 204 (heldBytes i ++ filler) (omega (arith, length-came filler))) t
+  pub finish-block : (filler own : List ℕ) {block marks output exit : List ℕ} {count : ℕ} {last : Receiver} → length filler ≡ (204 - i .held) % 204
+      → length own ≡ length filler → (i .held ≡ 0 → ⊥) → block ≡ padded 204 (heldBytes i ++ filler) → marks ≡ padded 204 (heldMarks i ++ own)
+      → TakesRecording (i .receiver) block marks output count last exit
+      → TakesRecording (i .receiver) (heldBytes i ++ filler) (heldMarks i ++ own) output count last exit
+  finish-block filler own {output = output} {exit = exit} {count = count} {last = last} e w z p q t =
+      subst₂ (λ (x y : List ℕ). TakesRecording (i .receiver) x y output count last exit)
+      (p ∙ padded-full 204 (heldBytes i ++ filler) (omega (arith, length-came filler)))
+      (q ∙ padded-full 204 (heldMarks i ++ own) (omega (arith, length-marks own, w))) t
 
   -- no block is whole yet
-  pub keep-piece : (piece output array : List ℕ) → i .held + length piece < 204 → array ≡ padded 204 (heldBytes i ++ piece)
-      → TakesPiece i piece output 0 (record { receiver = i .receiver; pending = array; held = i .held + length piece }) output
-  keep-piece piece output array h p =
+  pub keep-piece : (piece own output array marks : List ℕ) → i .held + length piece < 204 → length own ≡ length piece → array ≡ padded 204 (heldBytes i ++ piece)
+      → marks ≡ padded 204 (heldMarks i ++ own)
+      → TakesPiece i piece own output 0 (record { receiver = i .receiver; pending = array; marks = marks; held = i .held + length piece }) output
+  keep-piece piece own output array marks h w p q =
       let came = heldBytes i ++ piece in
+      let cames = heldMarks i ++ own in
       let l = length-came piece in
+      let k = length-marks own in
       let r : restOf 204 came ≡ came = rest-few 204 (omega arith) came (omega arith) in
+      let u : restOf 204 cames ≡ cames = rest-few 204 (omega arith) cames (omega arith) in
       record {
-        takes = takes-few (i .receiver) came [] output (omega arith);
-        kept = kept-state (i .receiver) (restOf 204 came) (p ∙ ap (padded 204) (sym r)) (sym (ap length r ∙ l));
+        takes = takes-few (i .receiver) came cames output (omega arith);
+        kept =
+            kept-state (i .receiver) (restOf 204 came) (restOf 204 cames) (p ∙ ap (padded 204) (sym r)) (q ∙ ap (padded 204) (sym u))
+            (sym (ap length r ∙ l));
       }
 
   -- a piece that completes at least one block
-  module _ (piece output : List ℕ) (enough : 204 ≤ i .held + length piece) (fits : 188 * ((i .held + length piece) / 204) ≤ length output)
-      (start : ℕ) (e : start ≡ (204 - i .held) % 204) where
+  module _ (piece own output : List ℕ) (enough : 204 ≤ i .held + length piece) (each : length own ≡ length piece)
+      (fits : 188 * ((i .held + length piece) / 204) ≤ length output) (start : ℕ) (e : start ≡ (204 - i .held) % 204) where
     first : List ℕ
     first = heldBytes i ++ take start piece
+
+    firsts : List ℕ
+    firsts = heldMarks i ++ take start own
 
     pub start-within : start ≤ length piece
     start-within = omega arith
 
-    pub filler-length : length (take start piece) ≡ start
-    filler-length = length-take-le start piece start-within
+    pub piece-filler : length (take start piece) ≡ start
+    piece-filler = filler-length (i .held) (length piece) start small enough e (heldBytes i) piece held-length refl
+
+    pub marks-filler : length (take start own) ≡ start
+    marks-filler = filler-length (i .held) (length piece) start small enough e (heldMarks i) own marks-length each
 
     length-first : length first ≡ i .held + start
     unfolding first
-    length-first = length-came (take start piece) ∙ ap (λ (k : ℕ). i .held + k) filler-length
+    length-first = first-length (i .held) (length piece) start small enough e (heldBytes i) piece held-length refl
 
-    first-rest : restOf 204 first ≡ []
-    unfolding restOf
-    first-rest = drop-of-length-le first {i = length first - length first % 204} (omega (arith, length-first))
+    each-first : length firsts ≡ length first
+    unfolding first firsts
+    each-first = first-length (i .held) (length piece) start small enough e (heldMarks i) own marks-length each ∙ sym length-first
 
-    came-split : first ++ drop start piece ≡ heldBytes i ++ piece
-    unfolding first
-    came-split = append-assoc (heldBytes i) (take start piece) (drop start piece) ∙ ap (λ (l : List ℕ). heldBytes i ++ l) (take-append-drop start piece)
-
-    -- the bytes after the last whole block
-    rest-piece : (end : ℕ) → end ≡ length piece - (length piece - start) % 204 → restOf 204 (heldBytes i ++ piece) ≡ drop end piece
-    unfolding restOf
-    rest-piece end d =
-        let came = heldBytes i ++ piece in
-        let n = length-came piece in
-        let k : length came - length came % 204 ≡ length (heldBytes i) + end
-        = ap (λ (j : ℕ). j - j % 204) n ∙ rest-start (i .held) (length piece) start small enough e ∙ ap₂ (λ (j k : ℕ). j + k) (sym held-length) (sym d) in
-        ap (λ (j : ℕ). drop j came) k ∙ drop-append-add (heldBytes i) piece end
-
-    module _ {m : ℕ} {middle : Receiver} {exit : List ℕ} (f : TakesRecording (i .receiver) (heldBytes i ++ take start piece) [] output m middle exit) where
-      first-length : length exit ≡ length output
+    module _ {m : ℕ} {middle : Receiver} {exit : List ℕ} (f : TakesRecording (i .receiver) (heldBytes i ++ take start piece) (heldMarks i ++ take start own) output m middle exit) where
+      first-kept : length exit ≡ length output
       unfolding first
-      first-length = takes-length f (omega (arith, length-first))
+      first-kept = takes-length f (omega (arith, length-first))
 
       pub first-within : m ≤ length exit
       unfolding first
-      first-within = omega (arith, takes-count f, first-length, length-first)
+      first-within = omega (arith, takes-count f, first-kept, length-first)
 
       pub rest-fits : 188 * (length (take (length piece - start) (drop start piece)) / 204) ≤ length (midOf m (length exit - m) exit)
       unfolding first
@@ -142,36 +189,48 @@ module _ (i : ReceiverStream) (size : length (i .pending) ≡ 204) (small : i .h
             length-take-le (length piece - start) (drop start piece) (omega (arith, length-drop start piece)),
             length-take-le (length exit - m) (drop m exit) (omega (arith, length-drop m exit)),
             takes-count f,
-            first-length,
+            first-kept,
             length-first,
           )
 
       module _ {n : ℕ} {last : Receiver} {exit′ : List ℕ}
-          (g : TakesRecording middle (take (length piece - start) (drop start piece)) [] (midOf m (length exit - m) exit) n last exit′) where
+          (g : TakesRecording middle (take (length piece - start) (drop start piece)) (take (length own - start) (drop start own)) (midOf m (length exit - m) exit) n last exit′) where
         pub count-within : m + n ≤ length output
-        count-within = omega (arith, takes-count g, rest-fits, first-within, first-length, length-take-le (length exit - m) (drop m exit) (omega (arith, length-drop m exit)))
+        count-within = omega (arith, takes-count g, rest-fits, first-within, first-kept, length-take-le (length exit - m) (drop m exit) (omega (arith, length-drop m exit)))
 
-        pub take-pieces : (array : List ℕ) (rest end : ℕ) → rest ≡ (length piece - start) % 204 → end ≡ length piece - rest
+        pub take-pieces : (array marks : List ℕ) (rest end : ℕ) → rest ≡ (length piece - start) % 204 → end ≡ length piece - rest
             → array ≡ padded 204 (take 0 (i .pending) ++ take (length piece - end) (drop end piece))
-            → TakesPiece i piece output (m + n) (record { receiver = last; pending = array; held = rest }) (putMid m (length exit - m) exit exit′)
-        unfolding first
-        take-pieces array rest end p q a =
+            → marks ≡ padded 204 (take 0 (i .marks) ++ take (length own - end) (drop end own))
+            → TakesPiece i piece own output (m + n) (record { receiver = last; pending = array; marks = marks; held = rest }) (putMid m (length exit - m) exit exit′)
+        unfolding first firsts
+        take-pieces array marks rest end p q a v =
+            let h = i .held in
+            let l = length piece in
             let b = drop start piece in
+            let k = drop start own in
             let came = heldBytes i ++ piece in
-            let d : end ≡ length piece - (length piece - start) % 204 = omega arith in
-            let tail : restOf 204 came ≡ take (length piece - end) (drop end piece)
-            = rest-piece end d ∙ sym (take-all (length piece - end) (drop end piece) (omega (arith, length-drop end piece))) in
-            let c : take (length piece - start) b ≡ restOf 204 first ++ b
-            = take-all (length piece - start) b (omega (arith, length-drop start piece)) ∙ sym (ap (λ (l : List ℕ). l ++ b) first-rest) in
+            let cames = heldMarks i ++ own in
+            let d : end ≡ l - (l - start) % 204 = omega arith in
+            let tail : restOf 204 came ≡ take (l - end) (drop end piece) = tail-given h l start small enough e (heldBytes i) piece held-length refl end d in
+            let tails : restOf 204 cames ≡ take (length own - end) (drop end own)
+            = tail-given h l start small enough e (heldMarks i) own marks-length each end d ∙ ap (λ (j : ℕ). take (j - end) (drop end own)) (sym each) in
+            let c : take (l - start) b ≡ restOf 204 first ++ b = rest-given h l start small enough e (heldBytes i) piece held-length refl in
+            let x : take (length own - start) k ≡ restOf 204 firsts ++ k
+            = ap (λ (j : ℕ). take (j - start) k) each ∙ rest-given h l start small enough e (heldMarks i) own marks-length each in
             let o : midOf m (length exit - m) exit ≡ drop m exit = take-all (length exit - m) (drop m exit) (omega (arith, length-drop m exit)) in
-            let t : TakesRecording middle (restOf 204 first ++ b) [] (drop m exit) n last exit′ = subst₂ (λ (x y : List ℕ). TakesRecording middle x [] y n last exit′) c o g in
+            let t : TakesRecording middle (restOf 204 first ++ b) (restOf 204 firsts ++ k) (drop m exit) n last exit′
+            = subst (λ (y : List ℕ). TakesRecording middle (restOf 204 first ++ b) (restOf 204 firsts ++ k) y n last exit′) o
+            (subst₂ (λ (y z : List ℕ). TakesRecording middle y z (midOf m (length exit - m) exit) n last exit′) c x g) in
             let w : exit′ ++ drop (length exit - m) (drop m exit) ≡ exit′
-            = ap (λ (l : List ℕ). exit′ ++ l) (drop-of-length-le (drop m exit) {i = length exit - m} (omega (arith, length-drop m exit))) ∙ append-nil exit′ in
+            = ap (λ (y : List ℕ). exit′ ++ y) (drop-of-length-le (drop m exit) {i = length exit - m} (omega (arith, length-drop m exit))) ∙ append-nil exit′ in
             record {
               takes =
-                  subst₂ (λ (x y : List ℕ). TakesRecording (i .receiver) x [] output (m + n) last y) came-split (sym (ap (λ (l : List ℕ). take m exit ++ l) w))
-                  (takes-join b f t);
+                  subst (λ (y : List ℕ). TakesRecording (i .receiver) came cames output (m + n) last y) (sym (ap (λ (y : List ℕ). take m exit ++ y) w))
+                  (subst₂ (λ (y z : List ℕ). TakesRecording (i .receiver) y z output (m + n) last (take m exit ++ exit′))
+                  (came-split h l start small enough e (heldBytes i) piece held-length refl)
+                  (came-split h l start small enough e (heldMarks i) own marks-length each)
+                  (takes-join b k each-first f t));
               kept =
-                  kept-state last (restOf 204 came) (a ∙ ap (padded 204) (sym tail))
-                  (sym (ap length (rest-piece end d) ∙ omega (arith, length-drop end piece, start-within)));
+                  kept-state last (restOf 204 came) (restOf 204 cames) (a ∙ ap (padded 204) (sym tail)) (v ∙ ap (padded 204) (sym tails))
+                  (sym (ap length (rest-piece h l start small enough e (heldBytes i) piece held-length refl end d) ∙ omega (arith, length-drop end piece, start-within)));
             }

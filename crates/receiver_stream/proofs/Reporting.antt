@@ -49,13 +49,13 @@ answer-left i output e = let p = in-range-written i e in simp (e, p .0, p .1) re
 
 -- ---- the report on all that came
 
-report-text : {bytes written text : List ℕ} {i : ReceiverStream} → Reception bytes written i → PassReport bytes text → reportText (streamReport i) ≡ text
+report-text : {bytes marks written text : List ℕ} {i : ReceiverStream} → Reception bytes marks written i → PassReport bytes marks text → reportText (streamReport i) ≡ text
 report-text {bytes} r p =
     let e = recording-unique (r .recording) (p .recording) in
     ap₂ (λ (s : Receiver) (n : ℕ). reportText (reportOf (s .counts) n)) (e .state) (reception-held r) ∙ sym (p .text-is)
 
-pub report-total : (bytes written : List ℕ) (i : ReceiverStream) → Reception bytes written i → PassReport bytes (reportText (streamReport i))
-report-total bytes written i r = record {
+pub report-total : (bytes marks written : List ℕ) (i : ReceiverStream) → Reception bytes marks written i → PassReport bytes marks (reportText (streamReport i))
+report-total bytes marks written i r = record {
   packets = r .packets;
   last = i .receiver;
   recording = r .recording;
@@ -66,7 +66,7 @@ pub reports : (i : ReceiverStream) (output : List ℕ) (number count : ℕ) (exi
     → Writes (streamReportNumber i output) (reportText (streamReport i)) output number count exit → Reports i output number count exit
 reports i output number count exit w = record {
   writes = w;
-  whole = λ bytes written text r p.
+  whole = λ bytes marks written text r p.
       subst (λ (x : List ℕ). Writes (textNumber x output) x output number count exit) (report-text r p)
       (subst (λ (k : ℕ). Writes k (reportText (streamReport i)) output number count exit) (answer-left i output (reception-range r)) w);
 }

@@ -2,7 +2,7 @@
 -- Clauses: document 01, "Receiver"; document 02, P7.
 -- Assumes nothing.
 use mathlib.Core.Path.{_≡_}
-use mathlib.Core.List.{List, [], _∷_}
+use mathlib.Core.List.{List, _∷_}
 use Prim.Native.Nat.{ℕ, _%_}
 use lib.ListN.{length}
 use Rattle.common.specs.Refusal.{unless, firstDue}
@@ -38,15 +38,15 @@ streamReport i = reportOf (i .receiver .counts) (i .held)
 abbrev pub streamReportNumber : ReceiverStream → List ℕ → ℕ
 streamReportNumber i output = firstDue (unless (receiverStreamInRange i) 5 ∷ writeTests (streamReport i) output)
 
--- the text of the report on bytes as one recording
-pub record PassReport (bytes text : List ℕ) : Type 0 where
+-- the text of the report on bytes with their marks as one recording
+pub record PassReport (bytes marks text : List ℕ) : Type 0 where
   pub packets : List (List ℕ)
   pub last : Receiver
-  pub recording : Recording freshReceiver bytes [] packets last
+  pub recording : Recording freshReceiver bytes marks packets last
   pub text-is : text ≡ reportText (reportOf (last .counts) (length bytes % 204))
 
 -- What writing the report promises: of every stream receiver what the definitions give of its counts and the bytes held, and of one that bytes
--- came to the report on those bytes as one recording.
+-- came to the report on those bytes, with their marks, as one recording.
 pub record Reports (i : ReceiverStream) (output : List ℕ) (number count : ℕ) (exit : List ℕ) : Type 0 where
   pub writes : Writes (streamReportNumber i output) (reportText (streamReport i)) output number count exit
-  pub whole : (bytes written text : List ℕ) → Reception bytes written i → PassReport bytes text → Writes (textNumber text output) text output number count exit
+  pub whole : (bytes marks written text : List ℕ) → Reception bytes marks written i → PassReport bytes marks text → Writes (textNumber text output) text output number count exit

@@ -1,13 +1,14 @@
-// A reception in progress: a receiver that takes received bytes in pieces of any length, and holds those of a block that is not whole yet.
+// A reception in progress: a receiver that takes received bytes, with a mark for each, in pieces of any length, and holds those of a block that is not
+// whole yet.
 ghost use mathlib.Core.Path.{_≡_};
-ghost use mathlib.Core.List.{[], _++_};
+ghost use mathlib.Core.List.{_++_};
 ghost use Prim.Native.Nat.{_+_, _-_, _*_, _/_, _%_, _≤_, _<_};
 ghost use lib.ListN.{length, take};
 ghost use Rattle.answer.specs.Number.{numberOf};
 ghost use Rattle.common.specs.Choice.{pick};
 ghost use Rattle.common.specs.Lists.{padded};
 ghost use Rattle.recording.specs.Recording.{TakesRecording};
-ghost use Rattle.receiver_stream.specs.Feed.{freshReceiverStream, receiverStreamInRange, capacityOf, heldBytes, TakesPiece, FeedsReceiver};
+ghost use Rattle.receiver_stream.specs.Feed.{freshReceiverStream, receiverStreamInRange, capacityOf, heldBytes, heldMarks, TakesPiece, FeedsReceiver};
 ghost use Rattle.receiver_stream.specs.Reporting.{reportOf, Reports};
 use answer::Answer;
 use receiver::Receiver;
@@ -17,10 +18,11 @@ use report::Bits;
 use report::Report;
 use report::Written;
 
-// A receiver, and the bytes after the last whole block: how many, and the front of an array that has them.
+// A receiver, and the bytes after the last whole block: how many, and the fronts of the arrays that have them and their marks.
 pub struct ReceiverStream {
     pub receiver: Receiver,
     pub pending: [u8; 204],
+    pub marks: [u8; 204],
     pub held: usize,
 }
 
@@ -70,75 +72,92 @@ fn missing(held: usize) -> usize
 }
 
 // Takes the block that the bytes held begin, where there are any, with the bytes that complete it.
-fn finish_block(stream: ReceiverStream, filler: &[u8], output: &mut [u8]) -> Batch
+fn finish_block(stream: ReceiverStream, filler: &[u8], marks: &[u8], output: &mut [u8]) -> Batch
     requires { ⌜
         (stream .held < 204)
         × (length (now filler) ≡ (204 - stream .held) % 204)
+        × (length (now marks) ≡ length (now filler))
         × (188 * ((stream .held + length (now filler)) / 204) ≤ length (now output)) ⌝ }
     ensures { λ r. ⌜
-        TakesRecording (stream .receiver) (heldBytes stream ++ now (filler .entry)) [] (now (output .entry)) (r .count) (r .receiver) (now (output .exit)) ⌝ }
+        TakesRecording (stream .receiver) (heldBytes stream ++ now (filler .entry)) (heldMarks stream ++ now (marks .entry)) (now (output .entry)) (r .count) (r .receiver) (now (output .exit)) ⌝ }
 {
     let receiver = stream.receiver;
     let pending = stream.pending;
+    let pending_marks = stream.marks;
     let held = stream.held;
     if held == 0 {
         return Batch { count: 0, receiver };
     }
     let block = joined(pending, held, filler);
-    recording::receive_blocks(receiver, &block, output)
+    let own = joined(pending_marks, held, marks);
+    recording::receive_marked_blocks(receiver, &block, &own, output)
 }
 
 // Takes a piece that completes at least one block. Only a block that two pieces share is copied; the others are taken where they stand.
-fn take_blocks(stream: ReceiverStream, piece: &[u8], output: &mut [u8]) -> Taken
+fn take_blocks(stream: ReceiverStream, piece: &[u8], marks: &[u8], output: &mut [u8]) -> Taken
     requires { ⌜
         (stream .held < 204)
         × (204 ≤ stream .held + length (now piece))
+        × (length (now marks) ≡ length (now piece))
         × (188 * ((stream .held + length (now piece)) / 204) ≤ length (now output)) ⌝ }
-    ensures { λ r. ⌜ TakesPiece stream (now (piece .entry)) (now (output .entry)) (r .count) (r .stream) (now (output .exit)) ⌝ }
+    ensures { λ r. ⌜ TakesPiece stream (now (piece .entry)) (now (marks .entry)) (now (output .entry)) (r .count) (r .stream) (now (output .exit)) ⌝ }
 {
     let pending = stream.pending;
+    let pending_marks = stream.marks;
     let held = stream.held;
     let start = missing(held);
-    let first = finish_block(stream, &piece[..start], output);
+    let first = finish_block(stream, &piece[..start], &marks[..start], output);
     let written = first.count;
     let middle = first.receiver;
-    let batch = recording::receive_blocks(middle, &piece[start..], &mut output[written..]);
+    let batch = recording::receive_marked_blocks(
+        middle,
+        &piece[start..],
+        &marks[start..],
+        &mut output[written..],
+    );
     let receiver = batch.receiver;
     let count = written + batch.count;
     let rest = (piece.len() - start) % Receiver::BLOCK_LENGTH;
     let end = piece.len() - rest;
     let pending = joined(pending, 0, &piece[end..]);
+    let marks = joined(pending_marks, 0, &marks[end..]);
     Taken {
         count,
         stream: ReceiverStream {
             receiver,
             pending,
+            marks,
             held: rest,
         },
     }
 }
 
 // Takes a piece.
-fn take_piece(stream: ReceiverStream, piece: &[u8], output: &mut [u8]) -> Taken
+fn take_piece(stream: ReceiverStream, piece: &[u8], marks: &[u8], output: &mut [u8]) -> Taken
     requires { ⌜
-        (stream .held < 204) × (188 * ((stream .held + length (now piece)) / 204) ≤ length (now output)) ⌝ }
-    ensures { λ r. ⌜ TakesPiece stream (now (piece .entry)) (now (output .entry)) (r .count) (r .stream) (now (output .exit)) ⌝ }
+        (stream .held < 204)
+        × (length (now marks) ≡ length (now piece))
+        × (188 * ((stream .held + length (now piece)) / 204) ≤ length (now output)) ⌝ }
+    ensures { λ r. ⌜ TakesPiece stream (now (piece .entry)) (now (marks .entry)) (now (output .entry)) (r .count) (r .stream) (now (output .exit)) ⌝ }
 {
     let receiver = stream.receiver;
     let pending = stream.pending;
+    let pending_marks = stream.marks;
     let held = stream.held;
     if piece.len() < Receiver::BLOCK_LENGTH - held {
         let pending = joined(pending, held, piece);
+        let marks = joined(pending_marks, held, marks);
         return Taken {
             count: 0,
             stream: ReceiverStream {
                 receiver,
                 pending,
+                marks,
                 held: held + piece.len(),
             },
         };
     }
-    take_blocks(stream, piece, output)
+    take_blocks(stream, piece, marks, output)
 }
 
 // The report on these counts, in form 2, with so many bytes after the last whole block.
@@ -165,9 +184,11 @@ impl ReceiverStream {
     {
         let receiver = Receiver::new();
         let pending = [0u8; 204];
+        let marks = [0u8; 204];
         ReceiverStream {
             receiver,
             pending,
+            marks,
             held: 0,
         }
     }
@@ -209,14 +230,22 @@ impl ReceiverStream {
         self.held as u64
     }
 
-    // Takes a piece of the received bytes, of any length, and writes the packets of the blocks that are whole then.
-    pub fn feed(self, piece: &[u8], output: &mut [u8]) -> Fed
-        ensures { λ r. ⌜ FeedsReceiver self (now (piece .entry)) (now (output .entry)) (numberOf (r .answer)) (r .count) (r .stream) (now (output .exit)) ⌝ }
+    // Takes a piece of the received bytes, of any length, with a mark for each, and writes the packets of the blocks that are whole then.
+    pub fn feed(self, piece: &[u8], marks: &[u8], output: &mut [u8]) -> Fed
+        ensures { λ r. ⌜
+            FeedsReceiver self (now (piece .entry)) (now (marks .entry)) (now (output .entry)) (numberOf (r .answer)) (r .count) (r .stream) (now (output .exit)) ⌝ }
     {
         let held = self.held;
         if !self.in_range() {
             return Fed {
                 answer: Answer::StateRange,
+                count: 0,
+                stream: self,
+            };
+        }
+        if !recording::are_marks_for(piece, marks) {
+            return Fed {
+                answer: Answer::MarkValue,
                 count: 0,
                 stream: self,
             };
@@ -235,7 +264,7 @@ impl ReceiverStream {
                 stream: self,
             };
         }
-        let taken = take_piece(self, piece, output);
+        let taken = take_piece(self, piece, marks, output);
         let count = taken.count;
         let stream = taken.stream;
         Fed {

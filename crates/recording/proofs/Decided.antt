@@ -6,14 +6,17 @@ use mathlib.Core.List.{List, [], _∷_, _++_}
 use mathlib.Core.Logic.{_⊎_, inl, inr}
 use Prim.Native.Nat.{ℕ, zero, suc, _+_, _/_, _≤_, _<_}
 use native.Mathlib.Omega.{arith}
-use borrow.Author.Tests.{ne-eqb, le-ltb}
+use borrow.Author.Tests.{eq-eqb, ne-eqb, lt-ltb, le-ltb}
 use lib.Dec.{eqb}
-use lib.ListN.{length, take, drop, replicate, length-drop, length-replicate, getD}
-use lib.Seq.{take-at}
+use lib.ListN.{length, take, drop, replicate, length-append, length-drop, length-replicate, getD}
+use lib.Seq.{take-at, length-take-le}
 use Rattle.common.specs.Choice.{pick}
-use Rattle.common.specs.Lists.{All, Length}
+use Rattle.common.specs.Lists.{All, Length, Entries, largest}
 use Rattle.common.proofs.Chunks.{chunks-whole}
-use Rattle.reed_solomon.specs.Marks.{areMarks, DecodesMarked}
+use Rattle.common.proofs.Entries.{entries-take, entries-drop, entries-append}
+use Rattle.common.proofs.Largest.{largest-most}
+use Rattle.common.proofs.Lists.{zeros-at}
+use Rattle.reed_solomon.specs.Marks.{areMarks, noMarks, DecodesMarked}
 use Rattle.reed_solomon.specs.declared.Decoded.{Decoded}
 use Rattle.reed_solomon.proofs.Laws.{unique-marked, total}
 use Rattle.randomizer.specs.Packet.{derandomized}
@@ -27,10 +30,10 @@ use Rattle.receiver.specs.Receive.{delayedBlock, delayedMarks, stepOf, stateAft
 use Rattle.receiver.specs.Run.{Call, DecodedCalls, answerOf, afterCall, outputOf, afterCalls, OutputFits, lentBlocks, packetsGiven}
 use Rattle.receiver.specs.declared.Receiver.{Receiver}
 use Rattle.receiver.proofs.Calls.{ready-number, ready-state, ready-output, left-length}
-use Rattle.receiver.proofs.Outcomes.{plain-marked, packet-length}
+use Rattle.receiver.proofs.Outcomes.{packet-length}
 use Rattle.receiver.proofs.Reached.{Sound, sound-range, sound-call, Refused, ready-or-refused}
 use Rattle.recording.specs.Recording.{blockMarks, MarkedBy, Recording}
-use Rattle.recording.proofs.Recordings.{none-marked, givenBy, step-place, recorded-more, recording-few}
+use Rattle.recording.proofs.Recordings.{givenBy, step-place, recorded-more, recording-few}
 use Rattle.recording.proofs.Joins.{calls-count}
 
 -- ---- a call on the same block, with room for a packet
@@ -153,12 +156,29 @@ taken-calls s (c ∷ cs) g d n m o h =
     let r = taken-calls (afterCall s c) cs (sound-call s c g (d .0)) (d .1) (n .1) (m .1) (o .1) (omega arith) in
     (r .0, omega (arith, r .1, e))
 
-pub recording-taken : {s : Receiver} {bytes : List ℕ} {packets : List (List ℕ)} {last : Receiver} → Sound s → Recording s bytes [] packets last
-    → s .counts .taken + length bytes / 204 ≤ 4294967295 → Sound last × (last .counts .taken ≡ s .counts .taken + length bytes / 204)
-recording-taken {s} {bytes} {packets} {last} g r h =
+-- each call has a mark, 0 or 1, for each byte
+block-marks : (marks : List ℕ) → Entries (λ m. m < 2) marks → areMarks (blockMarks marks) ≡ true
+block-marks marks e =
+    let l : length (blockMarks marks) ≡ 204 = length-take-le 204 (marks ++ noMarks) (omega (arith, length-append marks noMarks)) in
+    let f : Entries (λ m. m < 2) (blockMarks marks)
+    = entries-take (λ m. m < 2) (omega arith) 204 (marks ++ noMarks) (entries-append (λ m. m < 2) (omega arith) marks noMarks e zeros) in
+    let k : largest (blockMarks marks) ≤ 1 = largest-most (blockMarks marks) 1 (λ i h. let z = f i in omega (arith, z)) in
+    simp (eq-eqb _ _ l, lt-ltb _ _ (let t : largest (blockMarks marks) < 2 = omega (arith, k) in t))
+  where
+    zeros : Entries (λ m. m < 2) noMarks
+    zeros i = let z = zeros-at 204 i in omega (arith, z)
+
+calls-marks : (marks : List ℕ) (cs : List Call) → Entries (λ m. m < 2) marks → MarkedBy marks cs → All (λ c. areMarks (c .marks) ≡ true) cs
+calls-marks marks [] e m = tt
+calls-marks marks (c ∷ cs) e m =
+    (ap areMarks (m .0) ∙ block-marks marks e, calls-marks (drop 204 marks) cs (entries-drop (λ m. m < 2) 204 marks e) (m .1))
+
+pub recording-taken : {s : Receiver} {bytes marks : List ℕ} {packets : List (List ℕ)} {last : Receiver} → Sound s → Entries (λ m. m < 2) marks
+    → Recording s bytes marks packets last → s .counts .taken + length bytes / 204 ≤ 4294967295 → Sound last × (last .counts .taken ≡ s .counts .taken + length bytes / 204)
+recording-taken {s} {bytes} {marks} {packets} {last} g e r h =
     let l = calls-count r in
     let sizes : All (Length 204) (lentBlocks (r .calls)) = subst (All (Length 204)) (sym (r .blocks)) (chunks-whole 204 bytes) in
-    let t = taken-calls s (r .calls) g (r .decodes) sizes (plain-marked (r .calls) (none-marked (r .calls) (r .marked))) (r .output-fits) (omega arith) in
+    let t = taken-calls s (r .calls) g (r .decodes) sizes (calls-marks marks (r .calls) e (r .marked)) (r .output-fits) (omega arith) in
     (subst Sound (sym (r .state)) (t .0), ap (λ (m : Receiver). m .counts .taken) (r .state) ∙ t .1 ∙ ap (λ (k : ℕ). s .counts .taken + k) l)
 
 -- ---- total

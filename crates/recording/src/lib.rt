@@ -1,6 +1,5 @@
 // A recording of received bytes: its whole blocks, one after the other.
 ghost use mathlib.Core.Path.{_≡_};
-ghost use mathlib.Core.List.{[]};
 ghost use mathlib.Core.Logic.{_⊎_};
 ghost use Prim.Native.Nat.{_+_, _*_, _/_, _≤_};
 ghost use lib.ListN.{length, take, drop};
@@ -73,7 +72,12 @@ fn receive_at(
 }
 
 // Takes the whole blocks, each with a call. Its packet goes into the output after the one before. There is a mark for each byte, or none at all.
-fn receive_marked_blocks(receiver: Receiver, bytes: &[u8], marks: &[u8], output: &mut [u8]) -> Batch
+pub fn receive_marked_blocks(
+    receiver: Receiver,
+    bytes: &[u8],
+    marks: &[u8],
+    output: &mut [u8],
+) -> Batch
     requires { ⌜
         (188 * (length (now bytes) / 204) ≤ length (now output))
         × ((length (now marks) ≡ 0) ⊎ (length (now marks) ≡ length (now bytes))) ⌝ }
@@ -93,15 +97,6 @@ fn receive_marked_blocks(receiver: Receiver, bytes: &[u8], marks: &[u8], output:
         count,
         receiver: state,
     }
-}
-
-// The same with no mark for any byte.
-pub fn receive_blocks(receiver: Receiver, bytes: &[u8], output: &mut [u8]) -> Batch
-    requires { ⌜ 188 * (length (now bytes) / 204) ≤ length (now output) ⌝ }
-    ensures { λ r. ⌜ TakesRecording receiver (now (bytes .entry)) [] (now (output .entry)) (r .count) (r .receiver) (now (output .exit)) ⌝ }
-{
-    let none = [0u8; 0];
-    receive_marked_blocks(receiver, bytes, &none, output)
 }
 
 // Takes the whole blocks of a recording, and writes their packets one after the other. Bytes after the last whole block are not taken.

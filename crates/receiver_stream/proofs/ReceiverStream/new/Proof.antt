@@ -17,7 +17,7 @@ unfolding freshReceiverStream
 returns c = ap from (c .new .ensures)
   where
     from : Receiver → ReceiverStream
-    from s = record { receiver = s; pending = replicate 204 0; held = 0 }
+    from s = record { receiver = s; pending = replicate 204 0; marks = replicate 204 0; held = 0 }
 
 pub new-spec : {M : Type 1} → statement M
 new-spec = tie.close (tie.spec new-requires returns)

@@ -1,0 +1,44 @@
+-- `answer_lines::refusal_line` meets its contract.
+-- Assumes nothing.
+use native.Mathlib.Omega.{arith}
+use Rattle.report_lines.proofs.Lines.{joined-appended}
+use Rattle.answer_lines.specs.Lines.{refusalText}
+use Rattle.answer_lines.proofs.Bounds.{larger}
+use borrow.Author.Needs.{needs}
+use Rattle.answer_lines.proofs.refusal_line.Statement.{statement}
+use Rattle.answer_lines.proofs.refusal_line.Tie as tie
+
+slice-aggregate-put-field : tie.Need-slice-aggregate-put-field
+slice-aggregate-put-field c = search needs
+
+put-field-requires : tie.Need-put-field-requires
+put-field-requires c κs = search needs
+
+slice-aggregate-put-field-2 : tie.Need-slice-aggregate-put-field-2
+slice-aggregate-put-field-2 c = search needs
+
+put-field-requires-2 : tie.Need-put-field-requires-2
+put-field-requires-2 c κs = search needs
+
+same-length : tie.Need-same-length
+same-length c = search needs
+
+returns : tie.Need-returns
+unfolding refusalText
+returns c =
+    let a = c .before .before .before .before .before .before .before .before .before .before .before .args in
+    let f = c .before .before .before .before .before .before .before .put-field in
+    let g = c .before .before .put-field2 in
+    larger 96 (joined-appended _ _ (a .output .now) (f .last .1 .1 .1 .1 .0) (g .last .1 .1 .1 .1 .0) 0 (f .result) (g .result) _ _ (f .ensures) (g .ensures))
+    (omega (arith, f .ensures .bound, g .ensures .bound))
+
+pub refusal-line-spec : {M : Type 1} → statement M
+refusal-line-spec =
+    tie.close
+    (tie.spec
+    slice-aggregate-put-field
+    put-field-requires
+    slice-aggregate-put-field-2
+    put-field-requires-2
+    same-length
+    returns)

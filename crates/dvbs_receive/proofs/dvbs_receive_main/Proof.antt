@@ -1,0 +1,69 @@
+-- `dvbs_receive::dvbs_receive_main` meets its contract.
+-- Assumes nothing.
+use mathlib.Core.Path.{_≡_, sym, ap, subst, _∙_}
+use mathlib.Core.Bool.{true, false}
+use mir.Syntax.{w32}
+use mir.Val.{toZ, ofZ}
+use Rattle.program_io.specs.Calls.{askedOf, Answers}
+use Rattle.program_io.specs.Words.{argumentCount, wordBytes, wordIsOption}
+use Rattle.program_io.specs.declared.calls.Asked.{Asked}
+use Rattle.dvbs_receive.specs.Ends.{programName, usageText, rightCall, answered, ran}
+use Rattle.dvbs_receive.proofs.Endings.{made-fresh}
+use borrow.Author.Needs.{needs}
+use Rattle.dvbs_receive.proofs.dvbs_receive_main.Statement.{statement}
+use Rattle.dvbs_receive.proofs.dvbs_receive_main.Tie as tie
+
+new-requires : tie.Need-new-requires
+new-requires c κs = search needs
+
+new-requires-2 : tie.Need-new-requires-2
+new-requires-2 c κs = search needs
+
+asked-for-requires : tie.Need-asked-for-requires
+asked-for-requires c κs = search needs
+
+is-right-requires : tie.Need-is-right-requires
+is-right-requires c κs = search needs
+
+marks-of-requires : tie.Need-marks-of-requires
+marks-of-requires c κs = search needs
+
+run-requires : tie.Need-run-requires
+run-requires c κs = made-fresh (c .marks-of .ensures)
+
+returns : tie.Need-returns
+returns c =
+    let a = c .before .before .before .before .before .before .before .new .result in
+    let w = c .before .before .before .before .before .before .new2 .result in
+    let r = c .before .run in
+    let q : toZ w32 (ofZ w32 (r .result .status)) ≡ r .result .status = search needs in
+    let right : rightCall (askedOf (argumentCount a) (wordBytes w)) (argumentCount a) (wordIsOption w) ≡ true
+    = ap (λ (x : Asked). rightCall x (argumentCount a) (wordIsOption w)) (sym (c .before .before .before .before .before .asked-for .ensures)) ∙ sym (c .before .before .before .before .is-right .ensures) ∙ c .before .before .before .if1 .taken in
+    ran a w (c .before .before .marks-of .result) (r .result) (c .before .before .before .before .before .before .new2 .ensures) right (c .before .before .marks-of .ensures) (r .ensures) q
+
+answer-requires : tie.Need-answer-requires
+answer-requires c κs = search needs
+
+returns-2 : tie.Need-returns-2
+returns-2 c =
+    let a = c .before .before .before .before .before .before .new .result in
+    let w = c .before .before .before .before .before .new2 .result in
+    let r = c .before .answer in
+    let q : toZ w32 (ofZ w32 (r .result .status)) ≡ r .result .status = search needs in
+    let wrong : rightCall (askedOf (argumentCount a) (wordBytes w)) (argumentCount a) (wordIsOption w) ≡ false
+    = ap (λ (x : Asked). rightCall x (argumentCount a) (wordIsOption w)) (sym (c .before .before .before .before .asked-for .ensures)) ∙ sym (c .before .before .before .is-right .ensures) ∙ c .before .before .if1 .left in
+    answered a w (r .result) (c .before .before .before .before .before .new2 .ensures) wrong (subst (λ (x : Asked). Answers x programName usageText (r .result)) (c .before .before .before .before .asked-for .ensures) (r .ensures)) q
+
+pub dvbs-receive-main-spec : {M : Type 1} → statement M
+dvbs-receive-main-spec =
+    tie.close
+    (tie.spec
+    new-requires
+    new-requires-2
+    asked-for-requires
+    is-right-requires
+    marks-of-requires
+    run-requires
+    returns
+    answer-requires
+    returns-2)
