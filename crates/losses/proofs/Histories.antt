@@ -132,12 +132,12 @@ fresh-lines cs u = filled-lines 11 cs freshReceiver (Unsure 0) u refl ∙ lines-
 
 -- ---- marks in parts
 
-largest-both : (a b : List ℕ) → largest a < 2 → largest b < 2 → largest (a ++ b) < 2
+pub largest-both : (a b : List ℕ) → largest a < 2 → largest b < 2 → largest (a ++ b) < 2
 unfolding largest
 largest-both [] b h l = l
 largest-both (x ∷ a) b h l = omega (arith, largest-both a b (omega arith) l)
 
-largest-behind : (n : ℕ) (l : List ℕ) → largest l < 2 → largest (drop n l) < 2
+pub largest-behind : (n : ℕ) (l : List ℕ) → largest l < 2 → largest (drop n l) < 2
 unfolding largest
 largest-behind zero l h = h
 largest-behind (suc n) [] h = h
