@@ -2,8 +2,8 @@
 # A group for each kernel, a bar for each side. In a group the slowest side has the longest bar.
 BEGIN {
     FS = "|"
-    sides = split("library,plain C,libfec,VOLK,libosmocore", side, ",")
-    split("#1f5fa8,#a8adb3,#d98324,#5b9a5b,#8a6bb1", colour, ",")
+    sides = split("library,plain C,libfec,VOLK,osmocore", side, ",")
+    split("#1f5fa8,#a8adb3,#d98324,#5b9a5b,#8a63a8", colour, ",")
     left = 190; longest = 470; width = 820; bar = 11; step = 13; gap = 9; top = 92
     n = 0
 }

@@ -1,8 +1,8 @@
 #!/bin/bash
-# Builds the library and its peers, counts instructions with callgrind, takes times side by side, prints a table of kernels and
-# one of the stages of the link, and draws the first: docs/performance.svg. What is built, and the tables, stay in target/bench.
-# libfec, VOLK, libosmocore and valgrind come from Debian where they are missing; what cannot be had is said and skipped. CC may name another
-# compiler.
+# Builds the library and its peers, counts instructions with callgrind, takes times side by side, and writes what it found into docs/: a table of kernels and one of
+# the stages of the link into PERFORMANCE.md, behind their marks, and a picture of the first, performance.svg. What is built, and the tables, stay in target/bench.
+# It takes some four minutes. Times want a machine with nothing else on it.
+# libfec, VOLK, libosmocore and valgrind come from Debian where they are missing; what cannot be had is said and skipped. CC may name another compiler.
 set -euo pipefail
 cd "$(dirname "$0")/.."
 build=target/bench
@@ -24,7 +24,7 @@ has_volk() {
     printf '#include <volk/volk.h>\nint main(void){return volk_8u_x4_conv_k7_r2_8u==0;}\n' | "$cc" -x c - -o "$build/probe" -lvolk 2> /dev/null
 }
 
-has_osmo() {
+has_osmocore() {
     printf '#include <osmocom/core/conv.h>\nint main(void){return osmo_conv_decode==0;}\n' | "$cc" -x c - -o "$build/probe" -losmocore 2> /dev/null
 }
 
@@ -43,31 +43,20 @@ if has_volk; then
 else
     echo "VOLK is missing (Debian: libvolk2-dev); its columns are skipped"
 fi
-has_osmo || install libosmocore-dev
-if has_osmo; then
-    flags+=(-DHAVE_OSMO) peers+=(-losmocore)
+has_osmocore || install libosmocore-dev
+if has_osmocore; then
+    flags+=(-DHAVE_OSMOCORE) peers+=(-losmocore)
 else
     echo "libosmocore is missing (Debian: libosmocore-dev); its columns are skipped"
 fi
 "$cc" -std=gnu11 -O3 -Wall -Wextra -c bench/plain.c -o "$build/plain.o"
 "$cc" -std=gnu11 -O3 -Wall -Wextra "${flags[@]}" bench/bench.c "$build/plain.o" -Ltarget/staticlib -ldvbs -ldvbs_bridge -lkernels "${peers[@]}" -o "$build/bench"
 
-# Instructions of one block: the difference of two runs that differ only in how many calls they make, so that the
-# preparation falls out.
-instructions() {
-    valgrind --tool=callgrind --callgrind-out-file=/dev/null "$build/bench" count "$@" 2>&1 \
-        | sed -n 's/.*Collected : \([0-9]*\).*/\1/p'
-}
 : > "$build/counts"
 command -v valgrind > /dev/null || install valgrind
 if command -v valgrind > /dev/null; then
-    "$build/bench" list | while read -r kernel side blocks; do
-        # Where a call takes one block, a good part of the pool.
-        if [ "$blocks" = 1 ]; then few=64 many=320; else few=1 many=2; fi
-        a=$(instructions "$kernel" "$side" $few)
-        b=$(instructions "$kernel" "$side" $many)
-        echo "$kernel $side $(( (b - a) / ((many - few) * blocks) ))" >> "$build/counts"
-    done
+    # They are the same however many run at a time.
+    "$build/bench" list | xargs -P "$(getconf _NPROCESSORS_ONLN)" -L 1 bench/count.sh "$build/bench" > "$build/counts"
 else
     echo "valgrind is missing (Debian: valgrind); instructions are not counted"
 fi
@@ -79,3 +68,9 @@ echo "$measured"
 "$build/bench" table "$build/counts" | tee "$build/table"
 awk -v measured="$measured" -f bench/chart.awk "$build/table" > "$build/performance.svg"
 mv "$build/performance.svg" docs/performance.svg
+# The first table ends where the second begins; the lines that explain them stand in the docs.
+awk '/^ +\|/ { on = 1 } on && /^$/ { exit } on' "$build/table" > "$build/kernels"
+awk '/^The stages of the link/ { second = 1 } second && /^ +\|/ { on = 1 } on' "$build/table" > "$build/stages"
+echo "Measured on $measured." > "$build/measured"
+awk -v parts="$build" -f bench/insert.awk docs/PERFORMANCE.md > "$build/PERFORMANCE.md"
+mv "$build/PERFORMANCE.md" docs/PERFORMANCE.md

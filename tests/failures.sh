@@ -130,8 +130,8 @@ ends 1 "a short write of the report of dvbs_receive" failing "write 2 1 20" "$bi
 echo "writes that fail or are short, and outputs that are lost when closed: said, and no line that looks whole"
 
 # ---- the readers: status 0 where all was read and written, 1 where something failed or was refused, 2 for a wrong call
-# ends STATUS WHAT WANTED COMMAND..: this status, and exactly these lines on standard error.
-ends() {
+# tells STATUS WHAT WANTED COMMAND..: this status, and exactly these lines on standard error.
+tells() {
     local wanted=$1 what=$2 lines=$3 status=0
     shift 3
     "$@" > out 2> err || status=$?
@@ -143,37 +143,37 @@ for program in dvbs_read dvbs_read_soft; do
         *) input=points closing=$(cat told.soft) of=points ;;
     esac
     usage="usage: $program RATE < $of > bytes, RATE 0 to 4 or 1/2, 2/3, 3/4, 5/6, 7/8"
-    ends 0 "$program 2" "$closing" "$bin/$program" 2 < $input
+    tells 0 "$program 2" "$closing" "$bin/$program" 2 < $input
     cmp out bytes || fail "$program 2"
-    ends 0 "$program 3/4" "$closing" "$bin/$program" 3/4 < $input
+    tells 0 "$program 3/4" "$closing" "$bin/$program" 3/4 < $input
     cmp out bytes || fail "$program 3/4"
     for call in "" 5 2/2 02 3/4x "2 2" "--help 2"; do
         # Each word of the call is a word here.
-        ends 2 "$program $call" "$usage" "$bin/$program" $call < $input
+        tells 2 "$program $call" "$usage" "$bin/$program" $call < $input
         [ ! -s out ] || fail "$program $call: an output"
     done
-    ends 0 "$program --help" "" "$bin/$program" --help < /dev/null
+    tells 0 "$program --help" "" "$bin/$program" --help < /dev/null
     [ "$(cat out)" = "$usage" ] || fail "$program --help"
-    ends 0 "$program --version" "" "$bin/$program" --version < /dev/null
+    tells 0 "$program --version" "" "$bin/$program" --version < /dev/null
     [ "$(cat out)" = "$program 1.0.0" ] || fail "$program --version"
-    ends 1 "$program --help, and a full output" "standard output: No space left on device" bash -c "'$bin/$program' --help > /dev/full"
+    tells 1 "$program --help, and a full output" "standard output: No space left on device" bash -c "'$bin/$program' --help > /dev/full"
     for which in 1 2 3; do
-        ends 1 "$program: read $which fails" "standard input: $io_error" failing "read 0 $which -5" "$bin/$program" 2 < $input
-        ends 1 "$program: read $which is interrupted" "standard input: Interrupted system call" failing "read 0 $which -4" "$bin/$program" 2 < $input
+        tells 1 "$program: read $which fails" "standard input: $io_error" failing "read 0 $which -5" "$bin/$program" 2 < $input
+        tells 1 "$program: read $which is interrupted" "standard input: Interrupted system call" failing "read 0 $which -4" "$bin/$program" 2 < $input
     done
-    ends 1 "$program: a directory" "standard input: Is a directory" "$bin/$program" 2 < .
-    ends 1 "$program: no input" "standard input: Bad file descriptor" bash -c "'$bin/$program' 2 <&-"
-    ends 1 "$program: no output" "standard output: Bad file descriptor" bash -c "'$bin/$program' 2 < $input >&-"
-    ends 1 "$program: a full output" "standard output: No space left on device" bash -c "'$bin/$program' 2 < $input > /dev/full"
-    ends 1 "$program: a write fails" "standard output: $io_error" failing "write 1 2 -5" "$bin/$program" 2 < $input
-    ends 1 "$program: a write takes nothing" "standard output: not written whole" failing "write 1 2 0" "$bin/$program" 2 < $input
-    ends 1 "$program: the output is lost when closed" "standard output: $io_error" failing "close 1 1 -5" "$bin/$program" 2 < $input
-    ends 1 "$program: no standard error" "" bash -c "'$bin/$program' 2 < $input 2>&-"
-    ends 1 "$program: a short write of the closing lines" "$(head -c 3 <<< "$closing")standard error: not written whole" failing "write 2 1 3" "$bin/$program" 2 < $input
-    ends 1 "$program: the output is gone" "standard output: Broken pipe" failing "write 1 2 -32" "$bin/$program" 2 < $input
+    tells 1 "$program: a directory" "standard input: Is a directory" "$bin/$program" 2 < .
+    tells 1 "$program: no input" "standard input: Bad file descriptor" bash -c "'$bin/$program' 2 <&-"
+    tells 1 "$program: no output" "standard output: Bad file descriptor" bash -c "'$bin/$program' 2 < $input >&-"
+    tells 1 "$program: a full output" "standard output: No space left on device" bash -c "'$bin/$program' 2 < $input > /dev/full"
+    tells 1 "$program: a write fails" "standard output: $io_error" failing "write 1 2 -5" "$bin/$program" 2 < $input
+    tells 1 "$program: a write takes nothing" "standard output: not written whole" failing "write 1 2 0" "$bin/$program" 2 < $input
+    tells 1 "$program: the output is lost when closed" "standard output: $io_error" failing "close 1 1 -5" "$bin/$program" 2 < $input
+    tells 1 "$program: no standard error" "" bash -c "'$bin/$program' 2 < $input 2>&-"
+    tells 1 "$program: a short write of the closing lines" "$(head -c 3 <<< "$closing")standard error: not written whole" failing "write 2 1 3" "$bin/$program" 2 < $input
+    tells 1 "$program: the output is gone" "standard output: Broken pipe" failing "write 1 2 -32" "$bin/$program" 2 < $input
 done
 printf '\0\1\2\3\4\0' > bad
-ends 1 "dvbs_read: a byte above 3" "symbol=4 answer=14" "$bin/dvbs_read" 2 < bad
+tells 1 "dvbs_read: a byte above 3" "symbol=4 answer=14" "$bin/dvbs_read" 2 < bad
 echo "the readers: their status says what failed, and nothing that failed looks whole"
 
 # ---- marks

@@ -1,3 +1,4 @@
 pub mod RootSearch
 mod ErrorTerms
 mod ErrorValues
+mod SingleError

@@ -1,4 +1,5 @@
 pub mod Xors
 mod Run
+mod Sixteens
 pub mod Laws
 pub mod Whole

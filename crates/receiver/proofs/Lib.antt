@@ -1,6 +1,7 @@
 pub mod Calls
 pub mod MarkDelays
 pub mod Reached
+pub mod Parts
 pub mod Histories
 pub mod Outcomes
 pub mod Decoding

@@ -25,9 +25,12 @@ use Rattle.group_sync.specs.declared.BlockDecoding.the-variants as decoding
 use Rattle.group_sync.specs.declared.Outcome.{Outcome}
 use Rattle.group_sync.specs.declared.Outcome.the-variants.{Filling, Delivered, Lost, Waiting, OutOfStep}
 use Rattle.group_sync.specs.declared.GroupStep.{GroupStep}
+use Rattle.group_sync.specs.declared.GroupSync.{GroupSync}
 use Rattle.reception_counts.specs.Counts.{zeroCounts, countsInRange, outcomeNumber, counted}
+use Rattle.reception_counts.specs.declared.Counts.{Counts}
 use Rattle.receiver.specs.declared.Receiver.{Receiver}
 use Rattle.receiver.specs.declared.Received.{Received}
+use Rattle.receiver.specs.declared.Step.{Step}
 
 -- all cells and counts 0, the place not known
 unfoldable pub freshReceiver : Receiver
@@ -37,6 +40,15 @@ freshReceiver = record {
   marks = replicate 1122 0;
   sync = freshSync;
   counts = zeroCounts;
+}
+
+-- a receiver of these parts
+abbrev pub receiverOf : List ℕ → List ℕ → List ℕ → GroupSync → Counts → Receiver
+receiverOf cells marks positions sync counts = record {
+  deinterleaver = record { branches = branch.laid cells positions };
+  marks = marks;
+  sync = sync;
+  counts = counts;
 }
 
 -- the marks in the delays lie as the bytes do: they have cells of their own, and share the positions
@@ -152,3 +164,9 @@ pub record ReceivesMarked (s : Receiver) (block marks output : List ℕ) (r : Re
 -- A block without marks is one with none: marks that are still in the delays act.
 abbrev pub Receives : Receiver → List ℕ → List ℕ → Received → List ℕ → Type 0
 Receives s block output r exit = ReceivesMarked s block noMarks output r exit
+
+-- A call by the parts of a receiver: the cells and the marks in the delays before it and after it, and what the step gives.
+abbrev pub ReceivesParts : List ℕ → List ℕ → List ℕ → GroupSync → Counts → List ℕ → List ℕ → List ℕ → Step → List ℕ → List ℕ → List ℕ → Type 0
+ReceivesParts cells held positions sync counts block marks output r cellsAfter heldAfter exit =
+    ReceivesMarked (receiverOf cells held positions sync counts) block marks output
+    (record { answer = r .answer; receiver = receiverOf cellsAfter heldAfter (r .positions) (r .sync) (r .counts) }) exit

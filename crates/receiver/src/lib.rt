@@ -5,13 +5,14 @@ ghost use Prim.Native.Nat.{_≤_};
 ghost use lib.Dec.{ltb};
 ghost use lib.ListN.{length, replicate};
 ghost use Rattle.common.specs.Choice.{pick};
+ghost use Rattle.common.specs.Lists.{largest};
 ghost use Rattle.answer.specs.Number.{numberOf};
 ghost use Rattle.group_sync.specs.Group.{syncInRange, PlaceOf};
 ghost use Rattle.reception_counts.specs.Counts.{countsInRange, outcomeNumber};
 ghost use Rattle.reed_solomon.specs.Marks.{noMarks, DecodesMarked};
 ghost use Rattle.interleaver.specs.Branch as branch;
 ghost use Rattle.interleaver.specs.Block.{blockOut, branchesAfter};
-ghost use Rattle.receiver.specs.Receive.{freshReceiver, receiverInRange, NoMarks, decodingOf, outputAfter, Ready, ReceivesMarked, Receives};
+ghost use Rattle.receiver.specs.Receive.{freshReceiver, receiverInRange, receiverOf, decodingOf, outputAfter, Ready, ReceivesMarked, Receives, ReceivesParts};
 use answer::Answer;
 use group_sync::BlockDecoding;
 use group_sync::GroupSync;
@@ -100,46 +101,46 @@ fn decode_block(block: &mut [u8], marks: &[u8], none: bool) -> Decoded
     reed_solomon::decode_marked(block, marks)
 }
 
+// What taking a block gives: the answer, and the parts of the receiver that are not written in place.
+pub struct Step {
+    pub answer: Answer,
+    pub positions: [u8; 12],
+    pub sync: GroupSync,
+    pub counts: Counts,
+}
+
 // Takes a block with its marks; none says that no mark comes and none is in the delays.
 fn take_block(
-    receiver: Receiver,
+    cells: &mut [u8],
+    held: &mut [u8],
+    positions: [u8; 12],
+    sync: GroupSync,
+    counts: Counts,
     block: &[u8],
     marks: &[u8],
     none: bool,
     output: &mut [u8],
-) -> Received
+) -> Step
     requires { ⌜
-        Ready receiver (now block) (now marks) (now output)
-        × (none ≡ true → NoMarks receiver × (now marks ≡ noMarks)) ⌝ }
-    ensures { λ r. ⌜ ReceivesMarked receiver (now (block .entry)) (now (marks .entry)) (now (output .entry)) r (now (output .exit)) ⌝ }
+        Ready (receiverOf (now cells) (now held) positions sync counts) (now block) (now marks) (now output)
+        × (length (now cells) ≡ 1122)
+        × (length (now held) ≡ 1122)
+        × (none ≡ true → (now held ≡ replicate 1122 0) × (now marks ≡ noMarks)) ⌝ }
+    ensures { λ r. ⌜
+        ReceivesParts (now (cells .entry)) (now (held .entry)) positions sync counts (now (block .entry)) (now (marks .entry)) (now (output .entry)) r (now (cells .exit)) (now (held .exit)) (now (output .exit)) ⌝ }
 {
-    let before = receiver.deinterleaver;
-    let branches = before.branches;
-    let positions = branches.positions;
-    let mut cells = branches.cells;
-    let mut held = receiver.marks;
-    let sync = receiver.sync;
-    let counts = receiver.counts;
     let taken = counts.taken;
     let mut delayed = [0u8; Receiver::BLOCK_LENGTH];
-    let moved = pass_cells(Side::Receiving, &mut cells, positions, block, &mut delayed);
+    let moved = pass_cells(Side::Receiving, cells, positions, block, &mut delayed);
     let mut erased = [0u8; Receiver::BLOCK_LENGTH];
-    delay_marks(&mut held, positions, marks, none, &mut erased);
+    delay_marks(held, positions, marks, none, &mut erased);
     if taken < 11 {
         let counts = count(counts, Outcome::Filling, 0, 0);
-        return Received {
+        return Step {
             answer: Answer::Filling,
-            receiver: Receiver {
-                deinterleaver: Deinterleaver {
-                    branches: Branches {
-                        cells,
-                        positions: moved,
-                    },
-                },
-                marks: held,
-                sync,
-                counts,
-            },
+            positions: moved,
+            sync,
+            counts,
         };
     }
     let decoded = decode_block(&mut delayed, &erased, none);
@@ -151,20 +152,99 @@ fn take_block(
     let bits = changed.bits;
     let counts = count(counts, outcome, bytes as u64, bits as u64);
     let answer = deliver(outcome, &delayed, output);
-    Received {
+    Step {
         answer,
-        receiver: Receiver {
-            deinterleaver: Deinterleaver {
-                branches: Branches {
-                    cells,
-                    positions: moved,
-                },
-            },
-            marks: held,
-            sync: next,
-            counts,
-        },
+        positions: moved,
+        sync: next,
+        counts,
     }
+}
+
+// Whether no mark comes, where clean says that none is in the delays.
+fn none_at_all(clean: bool, marks: &[u8]) -> bool
+    ensures { λ r. ⌜ (r ≡ true → (clean ≡ true) × (largest (now (marks .entry)) ≡ 0)) ⌝ }
+{
+    if !clean {
+        return false;
+    }
+    common::largest_of(marks) == 0
+}
+
+// Takes a block with its marks, by the parts of a receiver: cells and marks in the delays are written in place, so that no state is copied.
+// valid says whether the receiver is in range, and clean that no mark is in the delays: a caller that takes many blocks tests that once.
+pub fn receive_parts(
+    cells: &mut [u8],
+    held: &mut [u8],
+    positions: [u8; 12],
+    sync: GroupSync,
+    counts: Counts,
+    valid: bool,
+    clean: bool,
+    block: &[u8],
+    marks: &[u8],
+    output: &mut [u8],
+) -> Step
+    requires { ⌜
+        (valid ≡ receiverInRange (receiverOf (now cells) (now held) positions sync counts))
+        × (length (now cells) ≡ 1122)
+        × (length (now held) ≡ 1122)
+        × (clean ≡ true → now held ≡ replicate 1122 0) ⌝ }
+    ensures { λ r. ⌜
+        ReceivesParts (now (cells .entry)) (now (held .entry)) positions sync counts (now (block .entry)) (now (marks .entry)) (now (output .entry)) r (now (cells .exit)) (now (held .exit)) (now (output .exit)) ⌝ }
+{
+    let taken = counts.taken;
+    if !valid {
+        return Step {
+            answer: Answer::StateRange,
+            positions,
+            sync,
+            counts,
+        };
+    }
+    if block.len() != Receiver::BLOCK_LENGTH {
+        return Step {
+            answer: Answer::BlockLength,
+            positions,
+            sync,
+            counts,
+        };
+    }
+    if !reed_solomon::are_marks(marks) {
+        return Step {
+            answer: Answer::MarkValue,
+            positions,
+            sync,
+            counts,
+        };
+    }
+    if output.len() < Receiver::PACKET_LENGTH {
+        return Step {
+            answer: Answer::OutputLength,
+            positions,
+            sync,
+            counts,
+        };
+    }
+    if taken >= Counts::MOST {
+        return Step {
+            answer: Answer::CountsFull,
+            positions,
+            sync,
+            counts,
+        };
+    }
+    let none = none_at_all(clean, marks);
+    take_block(
+        cells,
+        held,
+        positions,
+        sync,
+        counts,
+        block,
+        marks,
+        none,
+        output,
+    )
 }
 
 // Whether the positions are within their branches, the largest of the marks in the delays is a mark, and the place and the counts are in range.
@@ -228,43 +308,39 @@ impl Receiver {
         let deinterleaver = self.deinterleaver;
         let branches = deinterleaver.branches;
         let positions = branches.positions;
-        let held = self.marks;
+        let mut cells = branches.cells;
+        let mut held = self.marks;
         let sync = self.sync;
         let counts = self.counts;
-        let taken = counts.taken;
         let most = common::largest_of(&held);
-        if !parts_in_range(positions, most, sync, counts) {
-            return Received {
-                answer: Answer::StateRange,
-                receiver: self,
-            };
+        let valid = parts_in_range(positions, most, sync, counts);
+        let step = receive_parts(
+            &mut cells,
+            &mut held,
+            positions,
+            sync,
+            counts,
+            valid,
+            most == 0,
+            block,
+            marks,
+            output,
+        );
+        let answer = step.answer;
+        let positions = step.positions;
+        let sync = step.sync;
+        let counts = step.counts;
+        Received {
+            answer,
+            receiver: Receiver {
+                deinterleaver: Deinterleaver {
+                    branches: Branches { cells, positions },
+                },
+                marks: held,
+                sync,
+                counts,
+            },
         }
-        if block.len() != Receiver::BLOCK_LENGTH {
-            return Received {
-                answer: Answer::BlockLength,
-                receiver: self,
-            };
-        }
-        if !reed_solomon::are_marks(marks) {
-            return Received {
-                answer: Answer::MarkValue,
-                receiver: self,
-            };
-        }
-        if output.len() < Receiver::PACKET_LENGTH {
-            return Received {
-                answer: Answer::OutputLength,
-                receiver: self,
-            };
-        }
-        if taken >= Counts::MOST {
-            return Received {
-                answer: Answer::CountsFull,
-                receiver: self,
-            };
-        }
-        let none = most + common::largest_of(marks) == 0;
-        take_block(self, block, marks, none, output)
     }
 
     // The same without marks: where none come they are 0. Those that are still in the delays act.

@@ -12,7 +12,7 @@ use borrow.Author.Tests.{ne-eqb, lt-ltb, le-ltb}
 use borrow.Rule.Slice.PartMut.{putMid, midOf}
 use lib.Dec.{eqb}
 use lib.ListN.{length, getD, take, drop, length-append, length-drop, drop-of-length-le}
-use lib.Seq.{take-all, take-at, take-append-le, drop-at, drop-drop}
+use lib.Seq.{take-all, take-at, take-append-le, drop-at, drop-drop, drop-nil}
 use Rattle.common.specs.Choice.{pick}
 use Rattle.common.specs.Lists.{All}
 use Rattle.common.proofs.Chunks.{chunks-few, chunks-more}
@@ -27,12 +27,13 @@ use Rattle.group_sync.specs.declared.Outcome.{Outcome}
 use Rattle.group_sync.specs.declared.Outcome.the-variants.{Filling, Delivered, Lost, Waiting, OutOfStep}
 use Rattle.group_sync.proofs.Synchronization.{outcome-place}
 use Rattle.reception_counts.specs.Counts.{outcomeNumber}
-use Rattle.receiver.specs.Receive.{delayedBlock, delayedMarks, decodingOf, stepOf, outputAfter, receiveRefusal, Ready, ReceivesMarked}
+use Rattle.receiver.specs.Receive.{NoMarks, receiverInRange, delayedBlock, delayedMarks, decodingOf, stepOf, outputAfter, receiveRefusal, Ready, ReceivesMarked}
 use Rattle.receiver.specs.Run.{Call, answerOf, afterCall, outputOf, Plain, OutputFits}
 use Rattle.receiver.specs.declared.Receiver.{Receiver}
 use Rattle.receiver.specs.declared.Received.{Received}
 use Rattle.receiver.proofs.Calls.{state-range, ready-number, ready-output, left-length}
 use Rattle.receiver.proofs.Reached.{Refused, ready-or-refused}
+use Rattle.receiver.proofs.Parts.{Sized, kept-by, still-none}
 use Rattle.receiver.proofs.Outcomes.{packet-length}
 use Rattle.recording.specs.Recording.{blockMarks, MarkedBy, Recording, TakesRecording, givenBytes}
 
@@ -238,3 +239,32 @@ module _ {first : Receiver} {bytes marks output₀ output : List ℕ} {s : Recei
           → Progress first bytes marks output₀ (putMid count (length output - count) output exit) (r .receiver) (at + 204) (count + n)
       progress-more e =
           subst (λ (k : ℕ). Progress first bytes marks output₀ (putMid count (length output - count) output exit) (r .receiver) (at + 204) (count + k)) (sym e) more
+
+-- the same, with what is known of the receiver: it is as much in range as at the start, and where no marks come, clean says that none is in the delays
+pub record Taking (first : Receiver) (bytes marks output₀ output : List ℕ) (s : Receiver) (at count : ℕ) (valid clean : Bool) : Type 0 where
+  pub progress : Progress first bytes marks output₀ output s at count
+  pub sized : Sized s
+  pub range : valid ≡ receiverInRange s
+  pub none : length marks ≡ 0 → clean ≡ true → NoMarks s
+
+-- no marks: a block has none
+block-none : (marks : List ℕ) (at : ℕ) → length marks ≡ 0 → blockMarks (drop at marks) ≡ noMarks
+block-none [] at e = ap blockMarks (drop-nil {A = ℕ} at)
+block-none (m ∷ ms) at e = absurd (omega arith)
+
+pub taking-more : {first : Receiver} {bytes marks output₀ output : List ℕ} {s : Receiver} {at count : ℕ} {valid clean : Bool} {r : Received} {exit : List ℕ} {n : ℕ}
+    → Taking first bytes marks output₀ output s at count valid clean → 204 ≤ length bytes - at → (still : Bool) → (still ≡ true → NoMarks s)
+    → ReceivesMarked s (take 204 (drop at bytes)) (blockMarks (drop at marks)) (midOf count (length output - count) output) r exit
+    → n ≡ givenBytes (numberOf (r .answer))
+    → Taking first bytes marks output₀ (putMid count (length output - count) output exit) (r .receiver) (at + 204) (count + n) valid still
+taking-more {first} {bytes} {marks} {output₀} {output} {s} {at} {count} {valid} {clean} {r} {exit} {n} t h still none m e =
+    let block = take 204 (drop at bytes) in
+    let own = blockMarks (drop at marks) in
+    let room = midOf count (length output - count) output in
+    let k = kept-by s block own room r exit (t .sized) m in
+    record {
+      progress = progress-more (t .progress) h m e;
+      sized = k .sized;
+      range = t .range ∙ k .range;
+      none = λ z c. still-none s block own room r exit (t .sized) m (none c) (block-none marks at z);
+    }

@@ -1,18 +1,23 @@
 // A recording of received bytes: its whole blocks, one after the other.
 ghost use mathlib.Core.Path.{_≡_};
+ghost use mathlib.Core.Bool.{true};
 ghost use mathlib.Core.Logic.{_⊎_};
 ghost use Prim.Native.Nat.{_+_, _*_, _/_, _≤_};
-ghost use lib.ListN.{length, take, drop};
+ghost use lib.ListN.{length, take, drop, replicate};
 ghost use Rattle.answer.specs.Number.{numberOf};
-ghost use Rattle.receiver.specs.Receive.{freshReceiver, ReceivesMarked};
+ghost use Rattle.receiver.specs.Receive.{freshReceiver, receiverOf, receiverInRange, ReceivesParts};
 ghost use Rattle.recording.specs.Recording.{givenBytes, blockMarks, marksFor, recordingNumber, TakesRecording, AnswersRecording, ReceivesRecording, ReceivesMarkedRecording};
 ghost use Rattle.recording.specs.Returned.{Returns};
 
 pub mod block;
 
 use answer::Answer;
-use receiver::Received;
+use group_sync::GroupSync;
+use interleaver::Deinterleaver;
+use interleaver::branches::Branches;
 use receiver::Receiver;
+use receiver::Step;
+use receiver::receive_parts;
 use reception_counts::Counts;
 
 // An answer, how many bytes of packets were written, and the receiver after it.
@@ -52,26 +57,60 @@ fn marks_at(marks: &[u8], at: usize) -> [u8; 204]
     own
 }
 
-// Takes the block from a place on, with its marks, where there are any.
+// Whether no mark is in the delays, where before says that none was. Without marks none has come since; with marks they are looked at.
+fn still_clean(held: &[u8], marks: &[u8], before: bool) -> bool
+    requires { ⌜
+        (length (now held) ≡ 1122) × (length (now marks) ≡ 0 → before ≡ true → now held ≡ replicate 1122 0) ⌝ }
+    ensures { λ r. ⌜ (r ≡ true → now (held .entry) ≡ replicate 1122 0) ⌝ }
+{
+    if marks.len() == 0 {
+        return before;
+    }
+    common::largest_of(held) == 0
+}
+
+// Takes the block from a place on, with its marks, where there are any, by the parts of a receiver.
 fn receive_at(
-    receiver: Receiver,
+    cells: &mut [u8],
+    held: &mut [u8],
+    positions: [u8; 12],
+    sync: GroupSync,
+    counts: Counts,
+    valid: bool,
+    clean: bool,
     bytes: &[u8],
     marks: &[u8],
     at: usize,
     output: &mut [u8],
-) -> Received
+) -> Step
     requires { ⌜
         (at + 204 ≤ length (now bytes))
-        × ((length (now marks) ≡ 0) ⊎ (length (now marks) ≡ length (now bytes))) ⌝ }
+        × ((length (now marks) ≡ 0) ⊎ (length (now marks) ≡ length (now bytes)))
+        × (valid ≡ receiverInRange (receiverOf (now cells) (now held) positions sync counts))
+        × (length (now cells) ≡ 1122)
+        × (length (now held) ≡ 1122)
+        × (clean ≡ true → now held ≡ replicate 1122 0) ⌝ }
     ensures { λ r. ⌜
-        ReceivesMarked receiver (take 204 (drop at (now (bytes .entry)))) (blockMarks (drop at (now (marks .entry)))) (now (output .entry)) r (now (output .exit)) ⌝ }
+        ReceivesParts (now (cells .entry)) (now (held .entry)) positions sync counts (take 204 (drop at (now (bytes .entry)))) (blockMarks (drop at (now (marks .entry)))) (now (output .entry)) r (now (cells .exit)) (now (held .exit)) (now (output .exit)) ⌝ }
 {
     let end = at + Receiver::BLOCK_LENGTH;
     let own = marks_at(marks, at);
-    receiver.receive_marked(&bytes[at..end], &own, output)
+    receive_parts(
+        cells,
+        held,
+        positions,
+        sync,
+        counts,
+        valid,
+        clean,
+        &bytes[at..end],
+        &own,
+        output,
+    )
 }
 
 // Takes the whole blocks, each with a call. Its packet goes into the output after the one before. There is a mark for each byte, or none at all.
+// The receiver's parts are locals, and it is tested once, so that a block costs no copy of a receiver.
 pub fn receive_marked_blocks(
     receiver: Receiver,
     bytes: &[u8],
@@ -83,19 +122,52 @@ pub fn receive_marked_blocks(
         × ((length (now marks) ≡ 0) ⊎ (length (now marks) ≡ length (now bytes))) ⌝ }
     ensures { λ r. ⌜ TakesRecording receiver (now (bytes .entry)) (now (marks .entry)) (now (output .entry)) (r .count) (r .receiver) (now (output .exit)) ⌝ }
 {
-    let mut state = receiver;
+    let deinterleaver = receiver.deinterleaver;
+    let branches = deinterleaver.branches;
+    let mut positions = branches.positions;
+    let mut cells = branches.cells;
+    let mut held = receiver.marks;
+    let mut sync = receiver.sync;
+    let mut counts = receiver.counts;
+    let valid = receiver.in_range();
+    let mut clean = common::largest_of(&held) == 0;
     let mut at: usize = 0;
     let mut count: usize = 0;
     while bytes.len() - at >= Receiver::BLOCK_LENGTH {
-        let received = receive_at(state, bytes, marks, at, &mut output[count..]);
-        let answer = received.answer;
-        state = received.receiver;
+        clean = still_clean(&held, marks, clean);
+        let step = receive_at(
+            &mut cells,
+            &mut held,
+            positions,
+            sync,
+            counts,
+            valid,
+            clean,
+            bytes,
+            marks,
+            at,
+            &mut output[count..],
+        );
+        let answer = step.answer;
+        let moved = step.positions;
+        positions = moved;
+        let next = step.sync;
+        sync = next;
+        let counted = step.counts;
+        counts = counted;
         count += given_bytes(answer);
         at += Receiver::BLOCK_LENGTH;
     }
     Batch {
         count,
-        receiver: state,
+        receiver: Receiver {
+            deinterleaver: Deinterleaver {
+                branches: Branches { cells, positions },
+            },
+            marks: held,
+            sync,
+            counts,
+        },
     }
 }
 

@@ -12,5 +12,6 @@ mod Zeros
 mod Completeness
 mod Soundness
 mod Outcome
+mod SingleError
 mod FiniteSearch
 pub mod Laws

@@ -6,7 +6,7 @@ use mathlib.Core.Logic.{_⊎_, inl, inr}
 use Prim.Native.Nat.{ℕ, _+_, _≤_}
 use native.Mathlib.Omega.{arith}
 use lib.ListN.{length}
-use Rattle.receiver.specs.Receive.{ReceivesMarked}
+use Rattle.receiver.specs.Receive.{ReceivesParts}
 use Rattle.recording.proofs.Recordings.{one-block}
 use borrow.Author.Needs.{needs}
 use Rattle.recording.proofs.receive_at.Statement.{statement}
@@ -22,33 +22,39 @@ add-end c = search needs
 
 marks-at-requires : tie.Need-marks-at-requires
 marks-at-requires c κs =
-    let s = c .before .before .before in
+    let s = c .before .before .before .before .before in
     enough (length (s .args .bytes .now)) (length (s .args .marks .now)) (s .args .at) (s .pre .0) (s .pre .1)
 
-sub-receive-marked : tie.Need-sub-receive-marked
-sub-receive-marked c = search needs
+sub-receive-parts : tie.Need-sub-receive-parts
+sub-receive-parts c = search needs
 
-part-receive-marked-start : tie.Need-part-receive-marked-start
-part-receive-marked-start c = search needs
+part-receive-parts-start : tie.Need-part-receive-parts-start
+part-receive-parts-start c = search needs
 
-part-receive-marked-end : tie.Need-part-receive-marked-end
-part-receive-marked-end c = search needs
+part-receive-parts-end : tie.Need-part-receive-parts-end
+part-receive-parts-end c = search needs
 
-slice-aggregate-receive-marked : tie.Need-slice-aggregate-receive-marked
-slice-aggregate-receive-marked c = search needs
+slice-aggregate-receive-parts : tie.Need-slice-aggregate-receive-parts
+slice-aggregate-receive-parts c = search needs
 
-receive-marked-requires : tie.Need-receive-marked-requires
-receive-marked-requires c κs = search needs
+receive-parts-requires : tie.Need-receive-parts-requires
+receive-parts-requires c κs = search needs
 
 same-length : tie.Need-same-length
 same-length c = search needs
 
+same-length-2 : tie.Need-same-length-2
+same-length-2 c = search needs
+
+same-length-3 : tie.Need-same-length-3
+same-length-3 c = search needs
+
 returns : tie.Need-returns
 returns c =
-    let a = c .before .before .before .before .before .before .before .before .before .before .args in
-    let k = c .before .before .receive-marked in
-    subst₂ (λ (b m : List ℕ). ReceivesMarked (a .receiver) b m (a .output .now) (k .result) (k .last .1 .1 .1 .0))
-    (one-block (a .bytes .now) (a .at)) (c .before .before .before .before .before .before .marks-at .ensures) (k .ensures)
+    let a = c .before .before .before .before .before .before .before .before .before .before .before .before .before .before .before .before .before .before .args in
+    let k = c .before .before .before .before .before .before .receive-parts in
+    subst₂ (λ (b m : List ℕ). ReceivesParts (a .cells .now) (a .held .now) (a .positions) (a .sync) (a .counts) b m (a .output .now) (k .result) (k .last .0) (k .last .1 .0) (k .last .1 .1 .1 .1 .1 .1 .1 .1 .1 .0))
+    (one-block (a .bytes .now) (a .at)) (c .before .before .before .before .before .before .before .before .before .before .before .before .marks-at .ensures) (k .ensures)
 
 pub receive-at-spec : {M : Type 1} → statement M
 receive-at-spec =
@@ -56,10 +62,12 @@ receive-at-spec =
     (tie.spec
     add-end
     marks-at-requires
-    sub-receive-marked
-    part-receive-marked-start
-    part-receive-marked-end
-    slice-aggregate-receive-marked
-    receive-marked-requires
+    sub-receive-parts
+    part-receive-parts-start
+    part-receive-parts-end
+    slice-aggregate-receive-parts
+    receive-parts-requires
     same-length
+    same-length-2
+    same-length-3
     returns)

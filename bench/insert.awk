@@ -1,0 +1,18 @@
+# Puts what was measured into a document: behind a line <!-- NAME --> the lines up to <!-- end --> become those of the file NAME in the folder parts.
+# A table stands between lines of ```.
+/^<!-- [a-z_]+ -->$/ && $2 != "end" {
+    print
+    file = parts "/" $2
+    fenced = $2 != "measured"
+    if (fenced)
+        print "```text"
+    while ((getline line < file) > 0)
+        print line
+    close(file)
+    if (fenced)
+        print "```"
+    inside = 1
+    next
+}
+/^<!-- end -->$/ { inside = 0 }
+!inside
