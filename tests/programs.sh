@@ -11,7 +11,7 @@ say() {
 }
 
 # The programs are the crates that export NAME_main for C. The crates that they share, and that take an input, are listed here.
-shared=(pass)
+shared=(pass reader_program)
 for main in crates/*/src/lib.rt; do
     crate=${main#crates/}
     crate=${crate%%/*}

@@ -17,7 +17,7 @@ use Rattle.report_lines.specs.Line.{lineText}
 use Rattle.report.specs.Read.{blank, ReadsWhole, wholeNone}
 use Rattle.report.specs.Move.{Moves, MovedText, moveNumber}
 use Rattle.report.proofs.Fronts.{report-short}
-use Rattle.report.proofs.AsWritten.{read-unique}
+use Rattle.report.proofs.AsWritten.{read-given, read-unique}
 use Rattle.report.proofs.Moving.{move-unread, moved-text}
 use Rattle.program_io.specs.Checksum.{noBytes, traced}
 use Rattle.program_io.specs.Words.{sameBytes}
@@ -114,7 +114,7 @@ module _ {input : Input} {buffer : List ℕ} {f : Filled} {output errors : Outpu
             (record {
               bytes = bytes;
               read = read;
-              ended = ended (omega (arith, bytes-length, ap length (t .read .done refl .2), report-short (t .report)));
+              ended = ended (omega (arith, bytes-length, ap length (read-given bytes 0 (t .report) (t .read) refl .text), report-short (t .report)));
               text = take size exit;
               moved = t;
               written = q .trace ∙ p .whole (q .started v) ∙ ap (λ (x : Trace). traced x (take size exit)) (o .trace);
