@@ -191,6 +191,7 @@ module _ {mode : ℕ} {input : Input} {s : Sending} (g : Going mode input s) whe
               piece = take (f .length) buffer;
               message = [];
               read = read-on;
+              written = λ u. absurd (true≢false (sym e ∙ u));
               told = λ u. ap outputTrace (p .part e) ∙ told-so-far (sym (ap outputFailed (p .part e)) ∙ u);
               reason = output-failed e;
             });
@@ -198,17 +199,26 @@ module _ {mode : ℕ} {input : Input} {s : Sending} (g : Going mode input s) whe
 
   -- ---- the end
 
-  failed-so : {o : Output} (e : Output) (message : List ℕ) → (outputFailed e ≡ false → outputTrace e ≡ traced noBytes (toldOf (g .bytes) ++ message))
+  abbrev Symbols : Output → Type 0
+  Symbols o = outputFailed o ≡ false → (flushed : Bool) × (outputTrace o ≡ traced noBytes (symbolsOf mode flushed (g .bytes)))
+
+  failed-so : {o : Output} (e : Output) (message : List ℕ) → Symbols o
+      → (outputFailed e ≡ false → outputTrace e ≡ traced noBytes (toldOf (g .bytes) ++ message))
       → Reason (g .bytes) (record { status = pos 1; input = input; output = o; errors = e }) message
-      → Failed (record { status = pos 1; input = input; output = o; errors = e })
-  failed-so e message t w = record {
+      → Failed mode (record { status = pos 1; input = input; output = o; errors = e })
+  failed-so e message v t w = record {
     bytes = g .bytes;
     piece = [];
     message = message;
     read = g .read ∙ ap (traced noBytes) (sym (append-nil (g .bytes)));
+    written = v;
     told = t;
     reason = w;
   }
+
+  -- nothing was flushed yet
+  symbols-so-far : Symbols (s .output)
+  symbols-so-far u = (false, g .sent .written)
 
   module _ (flush : Bool) where
     pub ends-input : inputFailed input ≡ true → Ends mode flush (record { status = pos 1; input = input; output = s .output; errors = s .errors })
@@ -216,7 +226,7 @@ module _ {mode : ℕ} {input : Input} {s : Sending} (g : Going mode input s) whe
       input-is = g .input-is;
       output-is = g .sent .output-is;
       errors-is = g .sent .errors-is;
-      status = part refl (failed-so (s .errors) [] told-so-far (input-failed e));
+      status = part refl (failed-so (s .errors) [] symbols-so-far told-so-far (input-failed e));
     }
 
     pub ends-long : {e : Output} → 9223372036854775808 ≤ s .came → Writes (s .errors) tooLong e
@@ -227,7 +237,7 @@ module _ {mode : ℕ} {input : Input} {s : Sending} (g : Going mode input s) whe
       errors-is = w .file ∙ g .sent .errors-is;
       status =
           part refl
-          (failed-so e tooLong (λ u. written-on (toldOf (g .bytes)) tooLong (g .sent .told (w .started u)) w u) (too-long (omega (arith, g .sent .counted))));
+          (failed-so e tooLong symbols-so-far (λ u. written-on (toldOf (g .bytes)) tooLong (g .sent .told (w .started u)) w u) (too-long (omega (arith, g .sent .counted))));
     }
 
     module _ {o : Output} (l : SendsEnd mode flush s o) where
@@ -236,7 +246,7 @@ module _ {mode : ℕ} {input : Input} {s : Sending} (g : Going mode input s) whe
         input-is = g .input-is;
         output-is = l .last .file ∙ g .sent .output-is;
         errors-is = g .sent .errors-is;
-        status = part refl (failed-so (s .errors) [] told-so-far (output-failed e));
+        status = part refl (failed-so (s .errors) [] (λ u. absurd (true≢false (sym e ∙ u))) told-so-far (output-failed e));
       }
 
       module _ {e : Output} (w : Writes (s .errors) (countsLine (s .came / 188) (s .replaced) (s .came % 188)) e) where
@@ -245,7 +255,7 @@ module _ {mode : ℕ} {input : Input} {s : Sending} (g : Going mode input s) whe
           input-is = g .input-is;
           output-is = l .last .file ∙ g .sent .output-is;
           errors-is = w .file ∙ g .sent .errors-is;
-          status = part refl (failed-so e [] (λ u. absurd (true≢false (sym z ∙ u))) (errors-failed z));
+          status = part refl (failed-so e [] (λ u. (flush, l .last .written u (g .bytes) (g .sent))) (λ u. absurd (true≢false (sym z ∙ u))) (errors-failed z));
         }
 
         pub ends-whole : inputOver input ≡ true → inputFailed input ≡ false → outputFailed o ≡ false → outputFailed e ≡ false

@@ -109,18 +109,20 @@ pub data Reason (bytes : List ℕ) (r : Ended) : List ℕ → Type 0 where
   errors-failed : outputFailed (r .errors) ≡ true → Reason bytes r []
   too-long : 9223372036854775808 ≤ length bytes → Reason bytes r tooLong
 
--- The line with the counts is not told: these bytes were sent, and then the last piece that was read was not, where the output failed.
-pub record Failed (r : Ended) : Type 0 where
+-- The line with the counts is not told: these bytes were sent, with the null packets or without, and then the last piece that was read was not, where the
+-- output failed.
+pub record Failed (mode : ℕ) (r : Ended) : Type 0 where
   pub bytes : List ℕ
   pub piece : List ℕ
   pub message : List ℕ
   pub read : inputTrace (r .input) ≡ traced noBytes (bytes ++ piece)
+  pub written : outputFailed (r .output) ≡ false → (flushed : Bool) × (outputTrace (r .output) ≡ traced noBytes (symbolsOf mode flushed bytes))
   pub told : outputFailed (r .errors) ≡ false → outputTrace (r .errors) ≡ traced noBytes (toldOf bytes ++ message)
   pub reason : Reason bytes r message
 
 pub data Status (mode : ℕ) (flush : Bool) (r : Ended) : Type 0 where
   whole : r .status ≡ pos 0 → Whole mode flush r → Status mode flush r
-  part : r .status ≡ pos 1 → Failed r → Status mode flush r
+  part : r .status ≡ pos 1 → Failed mode r → Status mode flush r
 
 pub record Ends (mode : ℕ) (flush : Bool) (r : Ended) : Type 0 where
   pub input-is : originFile (inputOrigin (r .input)) ≡ pos 0
