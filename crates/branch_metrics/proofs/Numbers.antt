@@ -106,11 +106,6 @@ symbol-is Lost sent = pair-is 8 8 (sent / 2) (sent % 2) (omega arith)
 
 -- ---- particular numbers
 
--- -0.0 is at 0, as 0 is
-pub level-minus-zero : levelOf (ofBits binary32 0x8000_0000) ≡ 4
-unfolding levelOf ofBits le
-level-minus-zero = refl
-
 pub costs-nan : numberCosts nan ≡ free
 unfolding numberCosts isNan
 costs-nan = refl
