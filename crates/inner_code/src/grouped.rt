@@ -145,10 +145,10 @@ fn code_groups(
         × (length (now coded) ≡ 16 * length (now bytes))
         × (8 * length (now bytes) ≤ length (now output)) ⌝ }
     ensures { λ r. ⌜
-        (r ≡ memoryAfter memory (bitsOf (firsts ((others + 1)) (length (now (bytes .entry))) (now (block .entry)))))
+        (r ≡ memoryAfter memory (bitsOf (firsts (others + 1) (length (now (bytes .entry))) (now (block .entry)))))
         × (now (output .exit)
         ≡ numbered c2 c1 (groupDigits others base per (length (now (bytes .entry))) (now (block .entry)))
-        (blockMother memory (bitsOf (firsts ((others + 1)) (length (now (bytes .entry))) (now (block .entry))))) (8 * length (now (bytes .entry)))
+        (blockMother memory (bitsOf (firsts (others + 1) (length (now (bytes .entry))) (now (block .entry))))) (8 * length (now (bytes .entry)))
         ++ drop (8 * length (now (bytes .entry))) (now (output .entry))) ⌝ }
 {
     let groups = bytes.len();
@@ -175,11 +175,11 @@ pub fn code_grouped(
         × (length (now block) ≡ 204)
         × (8 * (204 / (others + 1)) ≤ length (now output)) ⌝ }
     ensures { λ r. ⌜
-        (r ≡ memoryAfter memory (bitsOf (firsts ((others + 1)) (204 / (others + 1)) (now (block .entry)))))
+        (r ≡ memoryAfter memory (bitsOf (firsts (others + 1) (204 / (others + 1)) (now (block .entry)))))
         × (now (output .exit)
         ≡ numbered c2 c1
         (groupDigits others base (8 / others) (204 / (others + 1)) (now (block .entry)))
-        (blockMother memory (bitsOf (firsts ((others + 1)) (204 / (others + 1)) (now (block .entry))))) (8 * (204 / (others + 1)))
+        (blockMother memory (bitsOf (firsts (others + 1) (204 / (others + 1)) (now (block .entry))))) (8 * (204 / (others + 1)))
         ++ drop (8 * (204 / (others + 1))) (now (output .entry))) ⌝ }
 {
     let per = 8 / others;
