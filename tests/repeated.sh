@@ -1,5 +1,5 @@
 #!/bin/bash
-# What stands twice: functions, definitions and lemmas of five lines or more whose text is the same but for their own name.
+# What stands twice: functions, definitions and lemmas of six lines or more whose text is the same but for their own name. One of five has a single line of code.
 #   tests/repeated.sh      from the top of the repository; it takes seconds
 # A block is what stands between two empty lines. Comments, imports, and the needs of a proof, which follow the shape of its function, do not count.
 # Prints a line for each pair, and fails where there is one.
@@ -11,7 +11,7 @@ find crates \( -name '*.rt' -o -name '*.antt' \) | sort | xargs awk '
     }
     # ended: the block that was read, compared with those before.
     function ended(    name, text) {
-        if (lines >= 5 && block !~ /tie\.(close|spec|Need)/ && block !~ /^use / && block !~ /^ghost use/) {
+        if (lines >= 6 && block !~ /tie\.(close|spec|Need)/ && block !~ /^use / && block !~ /^ghost use/) {
             name = block
             sub(/^(pub |abbrev |unfoldable |const |unsafe )+/, "", name)
             sub(/^(fn|struct|enum|record|data|module) /, "", name)

@@ -17,8 +17,9 @@ use Rattle.pass.specs.Pass.{Came, BadMark, Passes, whole, input-failed, marks-f
 use Rattle.pass.specs.Pass as pass
 use Rattle.pass.specs.declared.Ending.the-variants.{Whole, Failed, Refused}
 use Rattle.pass.specs.declared.Pass.{Pass}
+use Rattle.program_io.specs.Calls.{NamedInput, without, named}
 use Rattle.dvbs_receive.specs.Ends as own
-use Rattle.dvbs_receive.specs.Ends.{Made, without, named, Tells, told, lost, untold, Ends}
+use Rattle.dvbs_receive.specs.Ends.{Tells, told, lost, untold, Ends}
 use Rattle.dvbs_receive.specs.declared.Told.{Told}
 
 -- the same with another output of the same bytes
@@ -118,6 +119,6 @@ module _ {start input : Input} {output errors : Output} {p : Pass} (k : Passes i
       by false u (output-failed e x y) = let z : _≡_ {A = ℕ} 0 1 = cc in absurd (omega arith)
 
 -- before anything is read of the marks
-pub made-fresh : {count : ℕ} {marks : Input} → Made count marks → inputTrace marks ≡ noBytes
+pub made-fresh : {count : ℕ} {marks : Input} → NamedInput count marks → inputTrace marks ≡ noBytes
 made-fresh (without e n) = n .trace
 made-fresh (named e n) = n .trace

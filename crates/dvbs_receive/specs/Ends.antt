@@ -11,8 +11,8 @@ use lib.IntN.{ℤ, pos}
 use Rattle.common.specs.Choice.{pick}
 use Rattle.answer_lines.specs.Lines.{refusalText}
 use Rattle.program_io.specs.Checksum.{noBytes, traced}
-use Rattle.program_io.specs.Calls.{askedOf, Answers}
-use Rattle.program_io.specs.Files.{inputOrigin, originFile, inputEnded, inputFailed, outputFile, outputTrace, outputFailed, outputClosed, NoInput, OpenedInput}
+use Rattle.program_io.specs.Calls.{askedOf, Answers, NamedInput}
+use Rattle.program_io.specs.Files.{inputOrigin, originFile, inputEnded, inputFailed, outputFile, outputTrace, outputFailed, outputClosed}
 use Rattle.program_io.specs.Words.{argumentCount, wordArgument, wordBytes, wordIsOption}
 use Rattle.program_io.specs.declared.calls.Answered.{Answered}
 use Rattle.program_io.specs.declared.calls.Asked.{Asked}
@@ -46,11 +46,6 @@ abbrev pub rightCall : Asked → ℕ → Bool → Bool
 rightCall Help count option = false
 rightCall Version count option = false
 rightCall Work count option = pick (ltb 1 count) false (not option)
-
--- the marks before they are read: the file that the first argument names, from its start, or none
-pub data Made (count : ℕ) (marks : Input) : Type 0 where
-  without : count ≡ 0 → NoInput marks → Made count marks
-  named : (count ≡ 0 → ⊥) → OpenedInput 1 0 marks → Made count marks
 
 -- The output was closed, and the report told whole; or one of the two failed, and where it was the first, nothing was told.
 pub data Tells (stream : ReceiverStream) (output : Output) (r : Told) : Type 0 where
@@ -96,5 +91,5 @@ pub data Exits (status : ℤ) : Type 0 where
   answered : (a : Arguments) (w : Word) (r : Answered) → wordArgument w ≡ 1 → rightCall (askedOf (argumentCount a) (wordBytes w)) (argumentCount a) (wordIsOption w) ≡ false
       → Answers (askedOf (argumentCount a) (wordBytes w)) programName usageText r → status ≡ r .status → Exits status
   ran : (a : Arguments) (w : Word) (marks : Input) (r : Ended) → wordArgument w ≡ 1
-      → rightCall (askedOf (argumentCount a) (wordBytes w)) (argumentCount a) (wordIsOption w) ≡ true → Made (argumentCount a) marks → Ends marks r
+      → rightCall (askedOf (argumentCount a) (wordBytes w)) (argumentCount a) (wordIsOption w) ≡ true → NamedInput (argumentCount a) marks → Ends marks r
       → status ≡ r .status → Exits status

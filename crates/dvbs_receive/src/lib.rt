@@ -11,7 +11,7 @@ ghost use Rattle.program_io.specs.Calls.{Answers};
 ghost use Rattle.program_io.specs.Files.{inputTrace, outputFailed, FreshOutput, Writes};
 ghost use Rattle.program_io.specs.Words.{argumentCount, wordIsOption};
 ghost use Rattle.receiver_stream.specs.History.{ReceiverCame};
-ghost use Rattle.dvbs_receive.specs.Ends.{programName, usageText, rightCall, Made, Tells, Ends, Exits};
+ghost use Rattle.dvbs_receive.specs.Ends.{programName, usageText, rightCall, Tells, Ends, Exits};
 use pass::Ending;
 use program_io::Answered;
 use program_io::Arguments;
@@ -162,16 +162,6 @@ fn is_right(asked: Asked, arguments: Arguments, first: Word) -> bool
     }
 }
 
-// The marks: the file that the argument names, or none.
-fn marks_of(arguments: Arguments) -> Input
-    ensures { λ r. ⌜ Made (argumentCount arguments) r ⌝ }
-{
-    if arguments.count() == 0 {
-        return Input::none();
-    }
-    Input::open(1, 0)
-}
-
 #[no_mangle]
 pub extern "C" fn dvbs_receive_main() -> i32
     ensures { λ r. ⌜ Exits r ⌝ }
@@ -180,7 +170,7 @@ pub extern "C" fn dvbs_receive_main() -> i32
     let first = Word::new(1);
     let asked = program_io::asked_for(arguments, first);
     if is_right(asked, arguments, first) {
-        let ended = run(marks_of(arguments));
+        let ended = run(program_io::named_input(arguments));
         return ended.status;
     }
     let answered = answer(asked);

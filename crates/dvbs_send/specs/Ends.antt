@@ -28,7 +28,7 @@ use Rattle.rate_words.specs.Words.{modeNamed}
 use Rattle.dvbs_send.specs.Lines.{replacedCount, answersOf, toldOf, countsOf}
 use Rattle.dvbs_send.specs.declared.Request.{Request}
 use Rattle.dvbs_send.specs.declared.Sending.{Sending}
-use Rattle.dvbs_send.specs.declared.Ended.{Ended}
+use Rattle.program_io.specs.declared.calls.Ended.{Ended}
 
 -- ---- what is sent
 

@@ -16,6 +16,7 @@ ghost use Rattle.dvbs_send.specs.Lines.{answerLine, answerLines, replace
 ghost use Rattle.dvbs_send.specs.Ends.{SentSome, SendsPiece, SendsLast, SendsEnd, Going, Ends, requestOf, Called, Exits};
 use program_io::Arguments;
 use program_io::Asked;
+use program_io::Ended;
 use program_io::Input;
 use program_io::Output;
 use program_io::Word;
@@ -36,14 +37,6 @@ pub struct Sending {
     pub errors: Output,
     pub came: u64,
     pub replaced: u64,
-}
-
-// How a run ended, with the files as it left them.
-pub struct Ended {
-    pub status: i32,
-    pub input: Input,
-    pub output: Output,
-    pub errors: Output,
 }
 
 // Standard error after the lines of some packets, and how many of them were replaced.

@@ -8,8 +8,9 @@ use lib.Dec.{eqb}
 use lib.IntN.{pos}
 use Rattle.common.specs.Choice.{pick}
 use Rattle.program_io.specs.Checksum.{noBytes, traced}
-use Rattle.program_io.specs.Files.{outputFile, outputTrace, outputFailed, outputClosed}
+use Rattle.program_io.specs.Files.{outputFile, outputTrace, outputFailed, outputClosed, NoInput, OpenedInput}
 use Rattle.program_io.specs.Words.{sameBytes}
+use Rattle.program_io.specs.declared.input.Input.{Input}
 use Rattle.program_io.specs.declared.output.Output.{Output}
 use Rattle.program_io.specs.declared.calls.Asked.{Asked}
 use Rattle.program_io.specs.declared.calls.Asked.the-variants.{Help, Version, Work}
@@ -54,3 +55,8 @@ pub data Answers (asked : Asked) (name usage : List ℕ) (r : Answered) : Type 0
   help-given : asked ≡ Help → Gives usage r → Answers asked name usage r
   version-given : asked ≡ Version → Gives (versionText name) r → Answers asked name usage r
   refused : asked ≡ Work → Refuses usage r → Answers asked name usage r
+
+-- the file that the first argument names, from its start, before it is read; or none, where there is no argument
+pub data NamedInput (count : ℕ) (i : Input) : Type 0 where
+  without : count ≡ 0 → NoInput i → NamedInput count i
+  named : (count ≡ 0 → ⊥) → OpenedInput 1 0 i → NamedInput count i

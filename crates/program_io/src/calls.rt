@@ -1,7 +1,8 @@
-// What every program does where it is asked for its usage or its version, or called wrongly.
+// What every program does where it is asked for its usage or its version, or called wrongly; the file that its argument may name; and how it ended.
 ghost use mathlib.Core.Path.{_≡_};
-ghost use Rattle.program_io.specs.Calls.{askedOf, versionText, EndsGiven, Gives, Refuses, Answers};
+ghost use Rattle.program_io.specs.Calls.{askedOf, versionText, EndsGiven, Gives, Refuses, Answers, NamedInput};
 ghost use Rattle.program_io.specs.Words.{argumentCount, wordBytes};
+use crate::input::Input;
 use crate::output::Output;
 use crate::words::Arguments;
 use crate::words::Word;
@@ -11,6 +12,14 @@ pub enum Asked {
     Help,
     Version,
     Work,
+}
+
+// How a run ended, with its files as it left them.
+pub struct Ended {
+    pub status: i32,
+    pub input: Input,
+    pub output: Output,
+    pub errors: Output,
 }
 
 // A text that was given, and the status of the program.
@@ -79,4 +88,14 @@ pub fn answer(asked: Asked, name: &[u8], usage: &[u8]) -> Answered
         Asked::Version => version(name),
         Asked::Work => wrong(usage),
     }
+}
+
+// The file that the first argument names, from its start, or no input where there is no argument.
+pub fn named_input(arguments: Arguments) -> Input
+    ensures { λ r. ⌜ NamedInput (argumentCount arguments) r ⌝ }
+{
+    if arguments.count() == 0 {
+        return Input::none();
+    }
+    Input::open(1, 0)
 }

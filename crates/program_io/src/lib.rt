@@ -9,9 +9,11 @@ mod words;
 
 pub use calls::Answered;
 pub use calls::Asked;
+pub use calls::Ended;
 pub use calls::answer;
 pub use calls::asked_for;
 pub use calls::help;
+pub use calls::named_input;
 pub use calls::version;
 pub use calls::wrong;
 pub use input::Filled;

@@ -19,7 +19,7 @@ use Rattle.received_symbols.specs.Received.{costOf, symbolsIn}
 use Rattle.reader_program.specs.Lines.{refusalLine, closingLines, tooLong}
 use Rattle.reader_program.specs.Ends.{Untold, Going, Whole, Refused, Failed, errors-failed, refused, too-long}
 use Rattle.received_symbols.specs.declared.Pass.{Pass}
-use Rattle.reader_program.specs.declared.Ended.{Ended}
+use Rattle.program_io.specs.declared.calls.Ended.{Ended}
 
 -- a text that was told
 pub told : {errors o : Output} (text : List ℕ) → Untold errors → Writes errors text o → outputFailed o ≡ false → outputTrace o ≡ traced noBytes text

@@ -28,7 +28,7 @@ use Rattle.received_symbols.specs.Pass.{TakesBytes, BytesTaken}
 use Rattle.reader_program.specs.Lines.{refusalLine, closingLines, tooLong}
 use Rattle.received_symbols.specs.declared.Pass.{Pass}
 use Rattle.reader_program.specs.declared.Turn.{Turn}
-use Rattle.reader_program.specs.declared.Ended.{Ended}
+use Rattle.program_io.specs.declared.calls.Ended.{Ended}
 
 -- ---- a turn
 

@@ -13,6 +13,7 @@ use common::put;
 use program_io::Arguments;
 use program_io::Asked;
 use program_io::Filled;
+use program_io::Ended;
 use program_io::Input;
 use program_io::Output;
 use program_io::Word;
@@ -28,14 +29,6 @@ struct Turn {
     input: Input,
     length: usize,
     taken: Taken,
-}
-
-// How a run ended, with the files as it left them.
-pub struct Ended {
-    pub status: i32,
-    pub input: Input,
-    pub output: Output,
-    pub errors: Output,
 }
 
 // The most bytes that can be counted.

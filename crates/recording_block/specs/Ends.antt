@@ -28,7 +28,7 @@ use Rattle.program_io.specs.declared.words.Parsed.the-variants.{Number, Large, 
 use Rattle.reed_solomon.specs.declared.Changed.{Changed}
 use Rattle.recording.specs.Block.{blockCount, GivesBlock}
 use Rattle.recording.specs.declared.block.DecodedBlock.{DecodedBlock}
-use Rattle.recording_block.specs.declared.Ended.{Ended}
+use Rattle.program_io.specs.declared.calls.Ended.{Ended}
 use Rattle.recording_block.specs.declared.Request.{Request}
 use Rattle.recording_block.specs.declared.Request.the-variants.{Block, Past, Other}
 

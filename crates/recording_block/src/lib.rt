@@ -14,6 +14,7 @@ ghost use Rattle.recording_block.specs.Ends.{programName, usageText, blo
 use program_io::Answered;
 use program_io::Arguments;
 use program_io::Asked;
+use program_io::Ended;
 use program_io::Input;
 use program_io::Output;
 use program_io::Parsed;
@@ -25,14 +26,6 @@ enum Request {
     Block(u64),
     Past,
     Other,
-}
-
-// How it ended, with the files as it left them.
-pub struct Ended {
-    pub status: i32,
-    pub input: Input,
-    pub output: Output,
-    pub errors: Output,
 }
 
 // Tells what was answered.

@@ -25,11 +25,11 @@ asked-for-requires c κs = search needs
 is-right-requires : tie.Need-is-right-requires
 is-right-requires c κs = search needs
 
-marks-of-requires : tie.Need-marks-of-requires
-marks-of-requires c κs = search needs
+named-input-requires : tie.Need-named-input-requires
+named-input-requires c κs = search needs
 
 run-requires : tie.Need-run-requires
-run-requires c κs = made-fresh (c .marks-of .ensures)
+run-requires c κs = made-fresh (c .named-input .ensures)
 
 returns : tie.Need-returns
 returns c =
@@ -39,7 +39,7 @@ returns c =
     let q : toZ w32 (ofZ w32 (r .result .status)) ≡ r .result .status = search needs in
     let right : rightCall (askedOf (argumentCount a) (wordBytes w)) (argumentCount a) (wordIsOption w) ≡ true
     = ap (λ (x : Asked). rightCall x (argumentCount a) (wordIsOption w)) (sym (c .before .before .before .before .before .asked-for .ensures)) ∙ sym (c .before .before .before .before .is-right .ensures) ∙ c .before .before .before .if1 .taken in
-    ran a w (c .before .before .marks-of .result) (r .result) (c .before .before .before .before .before .before .new2 .ensures) right (c .before .before .marks-of .ensures) (r .ensures) q
+    ran a w (c .before .before .named-input .result) (r .result) (c .before .before .before .before .before .before .new2 .ensures) right (c .before .before .named-input .ensures) (r .ensures) q
 
 answer-requires : tie.Need-answer-requires
 answer-requires c κs = search needs
@@ -62,7 +62,7 @@ dvbs-receive-main-spec =
     new-requires-2
     asked-for-requires
     is-right-requires
-    marks-of-requires
+    named-input-requires
     run-requires
     returns
     answer-requires

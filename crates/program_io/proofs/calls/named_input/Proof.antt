@@ -1,10 +1,10 @@
--- `dvbs_receive::marks_of` meets its contract.
+-- `program_io::calls::named_input` meets its contract.
 -- Assumes nothing.
 use mathlib.Core.Path.{sym, _∙_}
-use Rattle.dvbs_receive.specs.Ends.{without, named}
+use Rattle.program_io.specs.Calls.{without, named}
 use borrow.Author.Needs.{needs}
-use Rattle.dvbs_receive.proofs.marks_of.Statement.{statement}
-use Rattle.dvbs_receive.proofs.marks_of.Tie as tie
+use Rattle.program_io.proofs.calls.named_input.Statement.{statement}
+use Rattle.program_io.proofs.calls.named_input.Tie as tie
 
 count-requires : tie.Need-count-requires
 count-requires c κs = search needs
@@ -21,5 +21,5 @@ open-requires c κs = search needs
 returns-2 : tie.Need-returns-2
 returns-2 c = named (λ e. c .before .if1 .left (c .before .before .count .ensures ∙ e)) (c .«open» .ensures)
 
-pub marks-of-spec : {M : Type 1} → statement M
-marks-of-spec = tie.close (tie.spec count-requires none-requires returns open-requires returns-2)
+pub named-input-spec : {M : Type 1} → statement M
+named-input-spec = tie.close (tie.spec count-requires none-requires returns open-requires returns-2)
