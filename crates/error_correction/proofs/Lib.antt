@@ -1,4 +1,3 @@
 pub mod RootSearch
 mod ErrorTerms
 mod ErrorValues
-mod SingleError

@@ -13,7 +13,7 @@ use Rattle.algebra.specs.Field.{ops}
 use Rattle.algebra.specs.Polynomial.{eval}
 use Rattle.algebra.proofs.Polynomial.{quotient, fromRoots}
 use Rattle.algebra.proofs.Syndromes.{Term, dot, syndrome}
-use Rattle.galois.specs.Field256.{mul, pow}
+use Rattle.galois.specs.Field256.{pow}
 use Rattle.galois.proofs.Instance.{bytes, byte}
 use Rattle.galois.proofs.Elements.{elements, alpha}
 
@@ -139,11 +139,3 @@ correctedBy b (d ∷ ds) (e ∷ es) = correctedBy (set b (203 - d) (bitXor (getD
 unfoldable pub changedIn : List ℕ → ℕ
 changedIn [] = 0
 changedIn (e ∷ es) = pick (eqb e 0) 0 1 + changedIn es
-
--- ---- one error
-
--- the syndromes are a geometric sequence that does not begin with zero
-pub record Geometric (s : List ℕ) : Type 0 where
-  pub small : getD s 0 0 < 256
-  pub begins : getD s 0 0 ≡ 0 → ⊥
-  pub each : (j : ℕ) → j < 15 → mul (getD s 1 0) (getD s j 0) ≡ mul (getD s 0 0) (getD s (j + 1) 0)

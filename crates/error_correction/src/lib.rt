@@ -8,8 +8,6 @@ ghost use lib.ListN.{length, getD, take, drop};
 ghost use Rattle.common.specs.Choice.{indicator};
 ghost use Rattle.error_correction.specs.Correction.{EndsAt, Unmarked, ByDegree, masked, Masked, zerosFrom, NoZero, Listed, rootsOf, onePolynomial, FoundRoots, monic, RootProduct, FractionsAt, ErrorValues, sumOf, Explained, correctedBy, changedIn};
 
-pub mod single;
-
 // The degrees of the erasures and those at which the locator vanishes, in order, their places, and how many they are. The places after them are zero.
 pub struct Roots {
     pub degrees: [u8; 16],

@@ -12,6 +12,5 @@ mod Zeros
 mod Completeness
 mod Soundness
 mod Outcome
-mod SingleError
 mod FiniteSearch
 pub mod Laws

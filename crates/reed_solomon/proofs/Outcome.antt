@@ -60,7 +60,7 @@ module _ (came : List ℕ) (n : length came ≡ 204) where
 -- ---- the search for errors
 
 -- the errors that are not zero, counted by the step that takes them away
-pub changed-weighed : (es : List ℕ) → changedIn es ≡ weighed unequal es
+changed-weighed : (es : List ℕ) → changedIn es ≡ weighed unequal es
 unfolding changedIn weighed
 changed-weighed [] = refl
 changed-weighed (e ∷ es) = ap (λ (n : ℕ). unequal e 0 + n) (changed-weighed es)

@@ -11,12 +11,10 @@ use lib.ListN.{getD, take, drop}
 use Rattle.common.specs.Choice.{pick}
 use Rattle.algebra.specs.Field.{ops}
 use Rattle.algebra.specs.Polynomial.{eval, plus}
-use Rattle.algebra.proofs.Syndromes.{syndrome}
-use Rattle.galois.specs.Field256.{numbers, pow}
+use Rattle.galois.specs.Field256.{numbers}
 use Rattle.galois.proofs.Instance.{bytes, byte}
 use Rattle.galois.specs.Lanes.{productsOf}
 use Rattle.galois.proofs.Elements.{word, alpha}
-use Rattle.error_correction.specs.Correction.{termsOf}
 use Rattle.reed_solomon.specs.Encode.{checkBytes}
 
 -- ---- the division
@@ -67,10 +65,6 @@ allZero (x ∷ l) = pick (eqb x 0) (allZero l) false
 -- the values of a list, the highest coefficient first, at the sixteen roots
 pub record SyndromesOf (l s : List ℕ) : Type 0 where
   pub each : (j : ℕ) → j < 16 → byte (getD s j 0) ≡ eval (ops bytes) (word l) (alpha j)
-
--- one error of this value, at this degree, has the values of the list at the sixteen roots
-pub record OneError (l : List ℕ) (degree value : ℕ) : Type 0 where
-  pub each : (j : ℕ) → j < 16 → syndrome bytes (termsOf (pow 2 degree ∷ []) (value ∷ [])) j ≡ eval (ops bytes) (word l) (alpha j)
 
 -- ---- the errors
 

@@ -1,12 +1,12 @@
 // The outer code: Reed-Solomon RS(204,188), EN 300 421, 4.4.2.
 ghost use mathlib.Core.Path.{_≡_};
 ghost use Rattle.answer.specs.Number.{numberOf};
-ghost use Prim.Native.Nat.{_≤_, _<_};
+ghost use Prim.Native.Nat.{_≤_};
 ghost use lib.ListN.{length};
 ghost use Rattle.reed_solomon.specs.Encode.{encodeNumber, encodeOutput};
 ghost use Rattle.reed_solomon.specs.Decode.{Decodes, changedBy};
 ghost use Rattle.reed_solomon.specs.Marks.{Marks, areMarks, marked, DecodesMarked};
-ghost use Rattle.reed_solomon.specs.Steps.{residueOf, SyndromesOf, OneError};
+ghost use Rattle.reed_solomon.specs.Steps.{residueOf};
 use answer::Answer;
 
 mod division;
@@ -63,31 +63,18 @@ pub fn encode(message: &[u8], output: &mut [u8]) -> Answer
     Answer::Done
 }
 
-// Takes one error away, which explains the whole residue.
-fn correct_single(block: &mut [u8], degree: usize, value: u8) -> Decoded
-    requires { ⌜ (length (now block) ≡ 204) × (degree < 204) × OneError (residueOf (now block)) degree value ⌝ }
-    ensures { λ r. ⌜ Decodes (now (block .entry)) (now (block .exit)) r ⌝ }
-{
-    let mut degrees = [0u8; 16];
-    degrees[0] = degree as u8;
-    let mut values = [0u8; 16];
-    values[0] = value;
-    let bits = error_bits::set_bits(values, 1);
-    let bytes = error_correction::correct(block, degrees, values, 1);
-    Decoded::Corrected(Changed { bytes, bits })
-}
-
-// Finds the wrong bytes of a block, those among the marked ones, f in number, and up to (16 - f) / 2 others, and takes them away where that explains all
-// syndromes.
-fn correct_errors(block: &mut [u8], s: [u8; 16], marks: &[u8], f: usize) -> Decoded
+// Finds the wrong bytes of a block, those among the marked ones, f in number, and up to (16 - f) / 2 others, and takes them away where that explains the
+// whole residue.
+fn correct_errors(block: &mut [u8], residue: [u8; 16], marks: &[u8], f: usize) -> Decoded
     requires { ⌜
         (length (now block) ≡ 204)
-        × SyndromesOf (residueOf (now block)) s
+        × (residue ≡ residueOf (now block))
         × Marks (now marks)
         × (f ≡ marked (now marks))
         × (f ≤ 16) ⌝ }
     ensures { λ r. ⌜ DecodesMarked (now (marks .entry)) (now (block .entry)) (now (block .exit)) r ⌝ }
 {
+    let s = syndromes::syndromes(residue);
     let by_degree = error_correction::by_degree(marks, f);
     let erasures = error_correction::find_erasures(&by_degree, f);
     let erased = erasures.places;
@@ -107,7 +94,7 @@ fn correct_errors(block: &mut [u8], s: [u8; 16], marks: &[u8], f: usize) -> Deco
     Decoded::Corrected(Changed { bytes, bits })
 }
 
-// Leaves the codeword within eight bytes of the block, if there is one. A clean block costs the division alone, and one error little more.
+// Leaves the codeword within eight bytes of the block, if there is one. A clean block costs the division alone.
 pub fn decode(block: &mut [u8]) -> Decoded
     ensures { λ r. ⌜ Decodes (now (block .entry)) (now (block .exit)) r ⌝ }
 {
@@ -118,13 +105,8 @@ pub fn decode(block: &mut [u8]) -> Decoded
     if division::is_zero(residue) {
         return Decoded::Corrected(Changed { bytes: 0, bits: 0 });
     }
-    let s = syndromes::syndromes(residue);
-    let degree = error_correction::single::single_error(s);
-    if degree < 204 {
-        return correct_single(block, degree, s[0]);
-    }
     let none = [0u8; 204];
-    correct_errors(block, s, &none, 0)
+    correct_errors(block, residue, &none, 0)
 }
 
 // Whether there is a mark, 0 or 1, for each byte of a block.
@@ -170,6 +152,5 @@ pub fn decode_marked(block: &mut [u8], marks: &[u8]) -> Decoded
     if division::is_zero(residue) {
         return Decoded::Corrected(Changed { bytes: 0, bits: 0 });
     }
-    let s = syndromes::syndromes(residue);
-    correct_errors(block, s, marks, f)
+    correct_errors(block, residue, marks, f)
 }

@@ -1,13 +1,11 @@
 -- `reed_solomon::decode` meets its contract: a block whose residue is zero is a codeword, and any other is corrected, as one without marks.
 -- Assumes nothing.
-use mathlib.Core.Path.{refl, sym, ap, _∙_, subst}
-use mathlib.Core.List.{List}
-use Prim.Native.Nat.{ℕ}
+use mathlib.Core.Path.{refl, sym, ap, _∙_}
 use native.Mathlib.Omega.{arith}
 use Rattle.common.proofs.Entries.{bytes-of}
 use Rattle.reed_solomon.specs.Code.{noChange}
 use Rattle.reed_solomon.specs.Marks.{noMarks}
-use Rattle.reed_solomon.specs.Steps.{residueOf, allZero, SyndromesOf}
+use Rattle.reed_solomon.specs.Steps.{allZero}
 use Rattle.reed_solomon.specs.declared.Decoded.the-variants.{Corrected}
 use Rattle.reed_solomon.proofs.Marks.{no-marks}
 use Rattle.reed_solomon.proofs.MarkedDistance.{marked-none, without-marks}
@@ -35,41 +33,17 @@ returns-2 c =
     without-marks m m (Corrected noChange)
     (n, no-marks, clean m n noMarks refl (omega (arith, marked-none 204)) (bytes-of m (λ i. c .before .before .before .before .before .slice-known .given i .fits)) (ap allZero (sym (c .before .before .residue .ensures)) ∙ sym (c .before .is-zero .ensures) ∙ c .if2 .taken))
 
-syndromes-requires : tie.Need-syndromes-requires
-syndromes-requires c κs = search needs
+slice-aggregate-correct-errors : tie.Need-slice-aggregate-correct-errors
+slice-aggregate-correct-errors c = search needs
 
-single-error-requires : tie.Need-single-error-requires
-single-error-requires c κs = search needs
-
--- the syndromes are those of the block
-of-block : (c : tie.After-syndromes) → SyndromesOf (residueOf (c .before .before .before .before .before .before .before .args .block .now)) (c .syndromes .result)
-of-block c = subst (λ (r : List ℕ). SyndromesOf r (c .syndromes .result)) (c .before .before .before .residue .ensures) (c .syndromes .ensures)
-
-array-read-correct-single : tie.Need-array-read-correct-single
-array-read-correct-single c = search needs
-
-correct-single-requires : tie.Need-correct-single-requires
-correct-single-requires c κs =
-    let e = c .before .before in
-    (e .before .before .before .before .before .before .if1 .left, c .before .if3 .taken, record { each = λ j h. e .single-error .ensures (c .before .if3 .taken) .each j h ∙ of-block (e .before) .each j h })
+correct-errors-requires : tie.Need-correct-errors-requires
+correct-errors-requires c κs = (c .before .before .before .before .before .before .if1 .left, c .before .before .before .before .residue .ensures, no-marks, sym (marked-none 204), omega arith)
 
 same-length-2 : tie.Need-same-length-2
 same-length-2 c = search needs
 
 returns-3 : tie.Need-returns-3
-returns-3 c = c .before .before .correct-single .ensures
-
-slice-aggregate-correct-errors : tie.Need-slice-aggregate-correct-errors
-slice-aggregate-correct-errors c = search needs
-
-correct-errors-requires : tie.Need-correct-errors-requires
-correct-errors-requires c κs = (c .before .before .before .before .before .before .before .before .before .if1 .left, of-block (c .before .before .before .before), no-marks, sym (marked-none 204), omega arith)
-
-same-length-3 : tie.Need-same-length-3
-same-length-3 c = search needs
-
-returns-4 : tie.Need-returns-4
-returns-4 c = without-marks (c .before .before .before .before .before .before .before .before .before .before .before .before .before .before .args .block .now) (c .before .before .correct-errors .last .0) (c .before .before .correct-errors .result) (c .before .before .correct-errors .ensures)
+returns-3 c = without-marks (c .before .before .before .before .before .before .before .before .before .before .before .args .block .now) (c .before .before .correct-errors .last .0) (c .before .before .correct-errors .result) (c .before .before .correct-errors .ensures)
 
 pub decode-spec : {M : Type 1} → statement M
 decode-spec =
@@ -80,13 +54,7 @@ decode-spec =
     is-zero-requires
     same-length
     returns-2
-    syndromes-requires
-    single-error-requires
-    array-read-correct-single
-    correct-single-requires
-    same-length-2
-    returns-3
     slice-aggregate-correct-errors
     correct-errors-requires
-    same-length-3
-    returns-4)
+    same-length-2
+    returns-3)

@@ -1,13 +1,11 @@
 -- `reed_solomon::decode_marked` meets its contract: with more than sixteen marks no codeword is near enough, a block whose residue is zero is a codeword, and any other is corrected.
 -- Assumes nothing.
-use mathlib.Core.Path.{refl, sym, ap, _∙_, subst}
-use mathlib.Core.List.{List}
-use Prim.Native.Nat.{ℕ}
+use mathlib.Core.Path.{refl, sym, ap, _∙_}
 use native.Mathlib.Omega.{arith}
 use borrow.Author.Tests.{not-true, not-false}
 use Rattle.common.proofs.Entries.{bytes-of}
 use Rattle.reed_solomon.specs.Marks.{Marks}
-use Rattle.reed_solomon.specs.Steps.{allZero, SyndromesOf}
+use Rattle.reed_solomon.specs.Steps.{allZero}
 use Rattle.reed_solomon.proofs.Marks.{marks-of, marks-not}
 use Rattle.reed_solomon.proofs.Outcome.{clean}
 use borrow.Author.Needs.{needs}
@@ -56,13 +54,8 @@ returns-4 c =
           (ap allZero (sym (c .before .before .residue .ensures)) ∙ sym (c .before .is-zero .ensures) ∙ c .if4 .taken),
     )
 
-syndromes-requires : tie.Need-syndromes-requires
-syndromes-requires c κs = search needs
-
 correct-errors-requires : tie.Need-correct-errors-requires
-correct-errors-requires c κs =
-    let e = c .before in
-    (c .before .before .before .before .before .before .before .before .before .before .if1 .left, subst (λ (r : List ℕ). SyndromesOf r (e .syndromes .result)) (c .before .before .before .before .residue .ensures) (e .syndromes .ensures), valid (c .before .before .before .before .before .before .before .before), c .before .before .before .before .before .before .before .count-marks .ensures, omega arith)
+correct-errors-requires c κs = (c .before .before .before .before .before .before .before .before .before .if1 .left, c .before .before .before .residue .ensures, valid (c .before .before .before .before .before .before .before), c .before .before .before .before .before .before .count-marks .ensures, omega arith)
 
 same-length-2 : tie.Need-same-length-2
 same-length-2 c = search needs
@@ -84,7 +77,6 @@ decode-marked-spec =
     is-zero-requires
     same-length
     returns-4
-    syndromes-requires
     correct-errors-requires
     same-length-2
     returns-5)
