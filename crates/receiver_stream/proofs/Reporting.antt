@@ -1,12 +1,11 @@
 -- The report of a pass: the writer takes the numbers of every stream receiver in range, and the text is that of all the bytes that came.
 -- Assumes nothing.
 use mathlib.Core.Path.{_≡_, refl, sym, ap, ap₂, subst, _∙_}
-use mathlib.Core.Bool.{Bool, true, false}
+use mathlib.Core.Bool.{true}
 use mathlib.Core.List.{List}
-use Prim.Native.Nat.{ℕ, _≤_, _<_}
+use Prim.Native.Nat.{ℕ, _<_}
 use native.Mathlib.Omega.{arith}
 use borrow.Author.Tests.{eq-eqb}
-use lib.ListN.{length}
 use Rattle.reception_counts.specs.declared.Counts.{Counts}
 use Rattle.reception_counts.proofs.Ranges.{CountsRange, counts-range}
 use Rattle.receiver.proofs.Calls.{state-range}
@@ -14,7 +13,6 @@ use Rattle.receiver.specs.declared.Receiver.{Receiver}
 use Rattle.recording.proofs.Decided.{recording-unique}
 use Rattle.report.specs.Text.{row, fits, sums, reportText, textNumber, Writes}
 use Rattle.report.proofs.Counting.{told-fits}
-use Rattle.report.proofs.AsWritten.{written-within, write-passed}
 use Rattle.receiver_stream.specs.Feed.{receiverStreamInRange}
 use Rattle.receiver_stream.specs.History.{Reception}
 use Rattle.receiver_stream.specs.Reporting.{reportOf, streamReport, streamReportNumber, PassReport, Reports}
@@ -70,11 +68,3 @@ reports i output number count exit w = record {
       subst (λ (x : List ℕ). Writes (textNumber x output) x output number count exit) (report-text r p)
       (subst (λ (k : ℕ). Writes k (reportText (streamReport i)) output number count exit) (answer-left i output (reception-range r)) w);
 }
-
--- no more is written than there is room for
-pub reports-within : {i : ReceiverStream} {output exit : List ℕ} {number count : ℕ} → Reports i output number count exit → count ≤ length output
-reports-within {i} {output} r = written-within (r .writes) (by (receiverStreamInRange i) refl)
-  where
-    by : (a : Bool) → receiverStreamInRange i ≡ a → streamReportNumber i output ≡ 0 → length (reportText (streamReport i)) ≤ length output
-    by true e n = write-passed (streamReport i) output (sym (simp e refl) ∙ n) .room
-    by false e n = let z : _≡_ {A = ℕ} 5 0 = sym (simp e refl) ∙ n in absurd (omega arith)
