@@ -118,21 +118,18 @@ mod tests {
     /// where it is due, and the packets between them are wrong all the same.
     #[test]
     fn a_second_gap_that_makes_up_for_the_first() {
-        let mut blocks = sent(160);
-        for at in [76, 77, 78] {
-            let again = blocks[at].clone();
-            blocks.insert(2 * at - 75, again);
-        }
-        blocks.drain(57..60);
-        let wrong: Vec<u64> = self::blocks(&blocks.concat(), &[])
-            .iter()
-            .enumerate()
-            .filter(|(at, block)| block.given() && block.place != (at + if *at < 57 { 0 } else { 3 }) % 8 && *at < 64)
-            .map(|(at, _)| at as u64)
-            .collect();
+        let sent = sent(160);
+        let blocks = [&sent[..57], &sent[60..73], &sent[70..]].concat();
+        let all = self::blocks(&blocks.concat(), &[]);
+        let wrong: Vec<usize> = (57..64).filter(|&at| all[at].given() && all[at].place != (at + 3) % 8).collect();
         let lines = listed(&blocks);
         assert!(!wrong.is_empty());
-        assert!(wrong.iter().all(|&at| lines.contains(&(at, 0))));
+        for at in wrong {
+            let next = (at + 1..all.len()).find(|&k| all[k].starts()).unwrap();
+            assert_eq!(all[next - 1].place, 7, "the next B8 is where it is due");
+            assert!(all[at..next].iter().any(|block| !block.given()), "behind another break");
+            assert!(lines.contains(&(at as u64, 0)));
+        }
     }
 
     #[test]

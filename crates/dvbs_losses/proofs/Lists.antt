@@ -7,7 +7,7 @@ use Prim.Native.Nat.{ℕ, _+_, _-_, _*_, _≤_, _<_}
 use native.Mathlib.Numerals.{add-one}
 use native.Mathlib.Omega.{arith}
 use lib.ListN.{length, getD, take, drop, replicate, length-append, length-replicate, replicate-append-replicate}
-use lib.Seq.{take-suc, take-at, drop-at}
+use lib.Seq.{take-suc, drop-at}
 use Rattle.common.specs.Lists.{padded}
 use Rattle.report_lines.specs.Line.{Appended}
 use Rattle.dvbs_losses.specs.Text.{entryText, listText}
@@ -47,15 +47,6 @@ listing-more {lines} {text₀} {text} {exit} {i} {end} {r} l h {v} e a =
     }
 
 -- ---- marks
-
-pub padded-part : (own : List ℕ) (n : ℕ) → length own ≤ n → n ≤ 204 → take n (padded 204 own) ≡ padded n own
-padded-part own n h l =
-    let z : ℕ = 0 in
-    let e : (n - length own) + (204 - n) ≡ 204 - length own = omega arith in
-    ap (λ (k : ℕ). take n (own ++ replicate k z)) (sym e)
-    ∙ ap (λ (x : List ℕ). take n (own ++ x)) (sym (replicate-append-replicate (n - length own) (204 - n) z))
-    ∙ ap (take n) (sym (append-assoc own (replicate (n - length own) z) (replicate (204 - n) z)))
-    ∙ take-at (padded n own) (replicate (204 - n) z) n (omega (arith, length-append own (replicate (n - length own) z), length-replicate (n - length own) z))
 
 -- marks behind marks: as many as bytes came, or none come any more
 pub padded-both : (own more : List ℕ) (b n : ℕ) → length own ≤ b → length more ≤ n → (length own ≡ b) ⊎ (length more ≡ 0) → padded b own ++ padded n more ≡ padded (b + n) (own ++ more)

@@ -35,7 +35,7 @@ use Rattle.dvbs_losses.specs.Ends.{Going, BadMark, Stops, Turns, AllRead
 use Rattle.dvbs_losses.specs.Ends as ends
 use Rattle.dvbs_losses.specs.declared.Ended.{Ended}
 use Rattle.dvbs_losses.specs.declared.Turned.{Turned}
-use Rattle.dvbs_losses.proofs.Lists.{list-append, padded-part, padded-both, padded-length}
+use Rattle.dvbs_losses.proofs.Lists.{list-append, padded-both, padded-length}
 
 -- the lines that a feeding wrote
 pub fed-count : {i next : LossStream} {piece marks output exit : List ℕ} {number count : ℕ} → FeedsLosses i piece marks output number count next exit → number ≡ 0 → length exit ≡ length output → count ≤ length output

@@ -101,6 +101,8 @@ fn turn(marks: Input, output: Output, stream: LossStream, block: [u8; 204]) -> T
     let count = fed.count;
     let after = fed.stream;
     if answer.number() != 0 {
+        let errors = Output::errors();
+        errors.write_text(b"standard error", b"marks: a mark above 1\n");
         return Turned {
             failed: true,
             marks: next,

@@ -1,19 +1,17 @@
 -- Blocks of a sender with any of them left out or doubled: every packet given that is not the one sent there has a line.
 -- Assumes nothing.
 use mathlib.Core.Path.{_≡_, refl, sym, ap, ap₂, subst, _∙_}
-use mathlib.Core.Bool.{true, false, false≢true}
-use mathlib.Core.List.{List, [], _∷_, map, flatten}
+use mathlib.Core.Bool.{false, false≢true}
+use mathlib.Core.List.{List, [], _∷_, map}
 use mathlib.Core.Logic.{_⊎_, inl, inr}
-use Prim.Native.Nat.{ℕ, zero, suc, _+_, _-_, _*_, _%_, _≤_, _<_}
-use Prim.{tt, Unit}
+use Prim.Native.Nat.{ℕ, zero, suc, _+_, _%_, _≤_, _<_}
+use Prim.{tt}
 use native.Mathlib.Nat.{not-suc-le-zero}
 use native.Mathlib.Omega.{arith}
-use lib.ListN.{length, getD, take, drop, List·getD-append, length-map, length-drop}
-use lib.Seq.{getD-drop}
-use Rattle.common.specs.Lists.{All, Length, largest}
+use lib.ListN.{length, getD, take, drop, List·getD-append}
+use Rattle.common.specs.Lists.{All}
 use Rattle.common.proofs.Lists.{All-at}
 use Rattle.reed_solomon.specs.Encode.{encoded, checkBytes}
-use Rattle.reed_solomon.specs.Decode.{Decodes}
 use Rattle.reed_solomon.specs.declared.Decoded.{Decoded}
 use Rattle.reed_solomon.specs.declared.Decoded.the-variants.{Corrected, Uncorrectable, BlockLength, MarkValue}
 use Rattle.randomizer.specs.Packet.{randomized, derandomized}
@@ -22,7 +20,6 @@ use Rattle.randomizer.proofs.Laws.{first-byte}
 use Rattle.randomizer.proofs.Whole.{packet-lengths, randomized-stream}
 use Rattle.group_sync.specs.Group.{dueByte, freshSync, groupStep}
 use Rattle.group_sync.specs.Stream.{outcomes}
-use Rattle.group_sync.specs.declared.BlockDecoding.{BlockDecoding}
 use Rattle.group_sync.specs.declared.BlockDecoding.the-variants as decoding
 use Rattle.group_sync.specs.declared.Outcome.{Outcome}
 use Rattle.group_sync.specs.declared.Outcome.the-variants.{Filling, Delivered, Lost, Waiting, OutOfStep}
@@ -34,7 +31,7 @@ use Rattle.receiver.specs.Begun.{lefts, decodings, packetOf}
 use Rattle.receiver.proofs.Decoding.{sent-length, coded-back}
 use Rattle.losses.specs.List.{line, linesFrom}
 use Rattle.losses.specs.History.{blocksOf, Listed}
-use Rattle.losses.specs.Promise.{In, packetAt, Stretches, WrongTold}
+use Rattle.losses.specs.Promise.{In, Stretches, WrongTold}
 use Rattle.losses.proofs.Stretches.{Given, FirstGiven, Sent, in-place}
 
 -- ---- a coded packet of a sender

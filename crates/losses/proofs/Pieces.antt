@@ -8,11 +8,10 @@ use native.Mathlib.Decide.{ℕ-discrete}
 use native.Mathlib.Omega.{arith}
 use borrow.Author.Tests.{eq-eqb, ne-eqb}
 use borrow.Rule.Slice.PartMut.{putMid, midOf}
-use lib.ListN.{length, take, drop, replicate, length-append, length-drop, length-take, length-replicate, drop-of-length-le, replicate-append-replicate}
+use lib.ListN.{length, take, drop, replicate, length-append, length-drop, length-replicate, drop-of-length-le, replicate-append-replicate}
 use lib.Seq.{take-all, take-at, take-nil, take-add, drop-at, drop-drop, length-take-le}
 use Rattle.common.proofs.Chunks.{length-chunks, length-rest}
 use Rattle.reed_solomon.specs.Marks.{noMarks}
-use Rattle.receiver.specs.Run.{Call}
 use Rattle.receiver.specs.declared.Receiver.{Receiver}
 use Rattle.receiver.proofs.Reception.{blocks-count}
 use Rattle.losses.specs.Watch.{waitingOf}

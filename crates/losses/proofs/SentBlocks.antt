@@ -1,6 +1,6 @@
 -- The received bytes themselves, with no mark: what the blocks of a sender come to, some left out or doubled; one stretch of them; and document 02's P5.
 -- Assumes nothing.
-use mathlib.Core.Path.{_≡_, refl, sym, ap, ap₂, subst, subst₂, _∙_}
+use mathlib.Core.Path.{_≡_, refl, sym, ap, subst, subst₂, _∙_}
 use mathlib.Core.Bool.{Bool, true, false}
 use mathlib.Core.List.{List, [], _∷_, map, flatten}
 use Prim.Native.Nat.{ℕ, zero, suc, _+_, _-_, _*_, _/_, _%_, _≤_, _<_}
@@ -9,13 +9,11 @@ use native.Mathlib.Nat.{not-suc-le-zero}
 use native.Mathlib.Decide.{decLt}
 use native.Mathlib.Omega.{arith}
 use lib.Dec.{eqb}
-use lib.ListN.{length, getD, take, drop, replicate, length-drop, length-map, length-replicate, replicate-append-replicate}
+use lib.ListN.{length, getD, take, drop, replicate, length-drop, length-replicate, replicate-append-replicate}
 use lib.Seq.{getD-drop, getD-take, drop-at, drop-drop}
 use Rattle.common.specs.Lists.{All, Length, largest, chunks, chunksOf}
 use Rattle.common.proofs.Largest.{largest-zeros}
-use Rattle.common.proofs.Chunks.{chunks-whole, length-chunks}
 use Rattle.answer.specs.Number.{numberOf}
-use Rattle.reed_solomon.specs.Code.{differ, changes}
 use Rattle.reed_solomon.specs.Decode.{Decodes, decodedNumber}
 use Rattle.reed_solomon.specs.Encode.{encoded}
 use Rattle.reed_solomon.specs.Marks.{noMarks}
@@ -38,7 +36,7 @@ use Rattle.group_sync.specs.Stream.{outcomes}
 use Rattle.group_sync.specs.declared.BlockDecoding.{BlockDecoding}
 use Rattle.group_sync.specs.declared.BlockDecoding.the-variants as decoding
 use Rattle.group_sync.specs.declared.Outcome.{Outcome}
-use Rattle.group_sync.specs.declared.Outcome.the-variants.{Filling, Delivered, Lost, Waiting, OutOfStep}
+use Rattle.group_sync.specs.declared.Outcome.the-variants.{Delivered, Lost}
 use Rattle.group_sync.specs.declared.GroupSync.{GroupSync}
 use Rattle.group_sync.proofs.Synchronization.{accepted-outcome, sync-in-range}
 use Rattle.reception_counts.specs.Counts.{outcomeNumber}
@@ -53,7 +51,6 @@ use Rattle.receiver.proofs.Outcomes.{Unrefused, next-unrefused, branches-after,
 use Rattle.receiver.proofs.Reception.{came-gathered, coded-gathered, blocks-count, begun-anywhere}
 use Rattle.recording.specs.Block.{blockCount, blockRefusal, GivesBlock}
 use Rattle.recording.specs.declared.block.DecodedBlock.{DecodedBlock}
-use Rattle.losses.specs.Feed.{CallsOn}
 use Rattle.losses.specs.History.{blocksOf, Listed}
 use Rattle.losses.specs.Promise.{answerAt, Stretches, WrongTold, LeftOut, startLines}
 use Rattle.losses.proofs.Histories.{all-back, calls-count, calls-unrefused}
@@ -126,9 +123,6 @@ module _ (cs : List Call) (u : Unrefused freshReceiver cs) (pl : All Plain cs) (
 -- ---- blocks left out or doubled
 
 module _ {bytes lines : List ℕ} (l : Listed bytes (unmarked bytes) lines) (packets : List (List ℕ)) (ws : All Packet packets) (at : ℕ → ℕ) (t : LeftOut packets at (l .calls)) where
-  abbrev cs : List Call
-  cs = l .calls
-
   -- twelve blocks one after the other
   module _ (block : ℕ) (h : block + 11 < length (l .calls)) (c : (i : ℕ) → i < 11 → at (block + suc i) ≡ at (block + i) + 1) where
     in-order : (j : ℕ) → j ≤ 11 → at (block + j) ≡ at block + j

@@ -2,7 +2,7 @@
 -- Assumes nothing.
 use mathlib.Core.Path.{_≡_, refl, sym, ap, subst, _∙_}
 use mathlib.Core.Bool.{Bool, true, false}
-use mathlib.Core.List.{List, [], _∷_, _++_, map, map-append}
+use mathlib.Core.List.{List, [], _∷_, _++_, map}
 use mathlib.Core.Logic.{_⊎_, inl, inr}
 use Prim.Native.Nat.{ℕ, zero, suc, _+_, _-_, _≤_, _<_}
 use native.Mathlib.Nat.{not-suc-le-zero}
@@ -21,12 +21,12 @@ use Rattle.group_sync.specs.declared.Outcome.the-variants.{Filling, Delivered, 
 use Rattle.group_sync.specs.declared.GroupSync.{GroupSync}
 use Rattle.reception_counts.specs.Counts.{outcomeNumber}
 use Rattle.receiver.specs.Receive.{freshReceiver}
-use Rattle.receiver.specs.Run.{Call, answers}
+use Rattle.receiver.specs.Run.{Call}
 use Rattle.receiver.specs.Begun.{decodings}
 use Rattle.receiver.proofs.Outcomes.{Unrefused, filled-come-to}
 use Rattle.losses.specs.List.{line, confirmed, lineOf, sureAfter, linesFrom}
 use Rattle.losses.specs.History.{blocksOf, Listed}
-use Rattle.losses.specs.Promise.{In, answerAt, TrueOf, Complete}
+use Rattle.losses.specs.Promise.{In, answerAt, Complete}
 use Rattle.losses.proofs.Stretches.{behind}
 use Rattle.losses.proofs.Histories.{calls-unrefused}
 

@@ -1,18 +1,18 @@
 -- A stream without gap and harm, begun at any block of a sender: the list has the answers 10 at its start, and nothing else.
 -- Assumes nothing.
-use mathlib.Core.Path.{_≡_, refl, sym, ap, ap₂, subst, _∙_}
+use mathlib.Core.Path.{_≡_, refl, sym, ap, subst, _∙_}
 use mathlib.Core.Bool.{Bool, true, false}
-use mathlib.Core.List.{List, [], _∷_, _++_, map, map-append}
-use Prim.Native.Nat.{ℕ, zero, suc, _+_, _-_, _≤_, _<_}
+use mathlib.Core.List.{List, [], _∷_, _++_, map}
+use Prim.Native.Nat.{ℕ, zero, suc, _+_, _-_, _<_}
 use native.Mathlib.Decide.{decLt, ℕ-discrete}
 use native.Mathlib.Omega.{arith}
-use borrow.Author.Tests.{eq-eqb, ne-eqb}
+use borrow.Author.Tests.{ne-eqb}
 use lib.Dec.{eqb}
 use lib.ListN.{length, getD, take, drop, replicate, length-replicate}
 use lib.Seq.{take-all, take-append-add}
 use Rattle.common.specs.Choice.{pick}
 use Rattle.common.specs.Lists.{largest}
-use Rattle.group_sync.specs.Group.{placeAfter, freshSync, groupStep}
+use Rattle.group_sync.specs.Group.{freshSync, groupStep}
 use Rattle.group_sync.specs.Stream.{outcomes, beforeGroup}
 use Rattle.group_sync.specs.declared.Place.{Place}
 use Rattle.group_sync.specs.declared.Place.the-variants.{NotKnown, Known}
@@ -24,13 +24,11 @@ use Rattle.group_sync.specs.declared.GroupSync.{GroupSync}
 use Rattle.group_sync.specs.declared.GroupStep.{GroupStep}
 use Rattle.reception_counts.specs.Counts.{outcomeNumber}
 use Rattle.receiver.specs.Receive.{freshReceiver}
-use Rattle.receiver.specs.Run.{Call, answers}
 use Rattle.receiver.specs.Begun.{decodings, BegunAt}
 use Rattle.receiver.proofs.Outcomes.{Unrefused, filled-come-to}
-use Rattle.losses.specs.List.{line, confirmed, lineOf, sureAfter, linesFrom}
+use Rattle.losses.specs.List.{line, linesFrom}
 use Rattle.losses.specs.History.{blocksOf, Listed}
 use Rattle.losses.specs.Promise.{waitLines, startLines}
-use Rattle.losses.proofs.Steps.{Stepped, passed, starts, follows, stepped}
 use Rattle.losses.proofs.Truth.{blocks-length}
 use Rattle.losses.proofs.Histories.{calls-unrefused}
 

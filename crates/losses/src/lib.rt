@@ -300,11 +300,12 @@ fn marks_at(marks: &[u8], at: usize, size: usize) -> [u8; 204]
     own
 }
 
-// The smaller of two lengths.
-fn shorter(a: usize, b: usize) -> usize
-    ensures { λ r. ⌜ r ≡ min a b ⌝ }
+// How many of the bytes that are left go to the block that so many bytes begin.
+fn part_length(held: usize, left: usize) -> usize
+    requires { ⌜ held < 204 ⌝ }
+    ensures { λ r. ⌜ r ≡ min (204 - held) left ⌝ }
 {
-    if a < b { a } else { b }
+    common::least((Receiver::BLOCK_LENGTH - held) as u64, left as u64) as usize
 }
 
 // Takes a piece, with a mark for each byte or none at all.
@@ -318,7 +319,7 @@ fn take_piece(stream: LossStream, piece: &[u8], marks: &[u8], lines: &mut [u64])
     let mut count: usize = 0;
     while at < piece.len() {
         let held = state.held;
-        let size = shorter(Receiver::BLOCK_LENGTH - held, piece.len() - at);
+        let size = part_length(held, piece.len() - at);
         let end = at + size;
         let own = marks_at(marks, at, size);
         let taken = take_part(state, &piece[at..end], &own[..size], &mut lines[count..]);
@@ -406,13 +407,6 @@ impl LossStream {
         }
         let most = 204 * (Counts::MOST - taken);
         if most < held { 0 } else { most - held }
-    }
-
-    // How many bytes came after the last whole block: 0 to 203.
-    pub fn rest(self) -> u64
-        ensures { λ r. ⌜ r ≡ self .held ⌝ }
-    {
-        self.held as u64
     }
 
     // Takes a piece of the received bytes, of any length, with a mark for each or none at all, and writes the lines that are decided then.

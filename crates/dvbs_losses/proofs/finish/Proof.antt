@@ -8,7 +8,6 @@ use lib.ListN.{length}
 use lib.Seq.{length-take-le}
 use Rattle.dvbs_losses.specs.Text.{restText}
 use Rattle.dvbs_losses.specs.Ends.{whole, part, input-failed, marks-failed, output-failed}
-use Rattle.dvbs_losses.proofs.Lists.{appended-both}
 use Rattle.dvbs_losses.proofs.Turning.{close-count, cut-of, finished}
 use borrow.Author.Needs.{needs}
 use Rattle.dvbs_losses.proofs.finish.Statement.{statement}

@@ -3,7 +3,7 @@
 use mathlib.Core.Path.{_≡_, refl, subst}
 use Prim.Native.Nat.{ℕ, _-_, _*_, _≤_}
 use native.Mathlib.Omega.{arith}
-use lib.ListN.{length, take}
+use lib.ListN.{take}
 use Rattle.report_lines.specs.Line.{Appended}
 use Rattle.dvbs_losses.specs.Text.{listText}
 use Rattle.dvbs_losses.proofs.Lists.{Listing, listing-none, listing-more}

@@ -1,11 +1,11 @@
 -- `dvbs_losses::turn` meets its contract.
 -- Assumes nothing.
 use mathlib.Core.Path.{_≡_, refl, sym, subst, _∙_}
-use mathlib.Core.Bool.{true≢false, false≢true}
+use mathlib.Core.Bool.{true≢false}
 use mathlib.Core.List.{List}
 use Prim.Native.Nat.{ℕ}
 use native.Mathlib.Omega.{arith}
-use lib.ListN.{length, take}
+use lib.ListN.{length}
 use lib.Seq.{length-take-le}
 use Rattle.program_io.specs.Files as files
 use Rattle.dvbs_losses.specs.Ends.{marks-failed, output-failed, mark-refused}
@@ -67,10 +67,22 @@ feed-requires c κs = search needs
 number-requires : tie.Need-number-requires
 number-requires c κs = search needs
 
+errors-requires : tie.Need-errors-requires
+errors-requires c κs = search needs
+
+slice-aggregate-write-text : tie.Need-slice-aggregate-write-text
+slice-aggregate-write-text c = search needs
+
+slice-aggregate-write-text-2 : tie.Need-slice-aggregate-write-text-2
+slice-aggregate-write-text-2 c = search needs
+
+write-text-requires : tie.Need-write-text-requires
+write-text-requires c κs = search needs
+
 returns-2 : tie.Need-returns-2
 returns-2 c =
-    let s = c .before .before .before .before .before .before .before .before .before .before .before .before .before .before .before .before .before in
-    let f = c .before .before .before .before .before .before .before .before .before .before .before .before .before .before .fill in
+    let s = c .before .before .before .before .before .before .before .before .before .before .before .before .before .before .before .before .before .before .before .before .before in
+    let f = c .before .before .before .before .before .before .before .before .before .before .before .before .before .before .before .before .before .before .fill in
     let l : length (f .last .1 .1 .0) ≡ 204 = search needs in
     let n : length (s .args .t4) ≡ 204 = search needs in
     record {
@@ -78,7 +90,7 @@ returns-2 c =
       output-is = refl;
       goes = λ bytes g e. absurd (true≢false e);
       stops = λ bytes g e.
-          mark-refused (mark-bad bytes (s .args .t4) g n (l ∙ sym n) (f .ensures) (c .before .before .before .before .before .before .before .before .marks-of .ensures) (c .before .before .before .before .feed .ensures) refl (omega (arith, s .pre, n)) (λ z. c .if2 .taken (c .before .number .ensures ∙ z))) refl;
+          mark-refused (mark-bad bytes (s .args .t4) g n (l ∙ sym n) (f .ensures) (c .before .before .before .before .before .before .before .before .before .before .before .before .marks-of .ensures) (c .before .before .before .before .before .before .before .before .feed .ensures) refl (omega (arith, s .pre, n)) (λ z. c .before .before .before .before .if2 .taken (c .before .before .before .before .before .number .ensures ∙ z))) refl;
     }
 
 slice-aggregate-put-list : tie.Need-slice-aggregate-put-list
@@ -152,6 +164,10 @@ turn-spec =
     slice-aggregate-feed-3
     feed-requires
     number-requires
+    errors-requires
+    slice-aggregate-write-text
+    slice-aggregate-write-text-2
+    write-text-requires
     returns-2
     slice-aggregate-put-list
     slice-aggregate-put-list-2

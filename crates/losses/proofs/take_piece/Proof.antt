@@ -1,6 +1,6 @@
 -- `losses::take_piece` meets its contract.
 -- Assumes nothing.
-use mathlib.Core.Path.{_≡_, refl, sym, ap, _∙_}
+use mathlib.Core.Path.{_≡_, sym, ap, _∙_}
 use Prim.Native.Nat.{_-_, _≤_}
 use native.Mathlib.Omega.{arith}
 use lib.ListN.{length, take}
@@ -28,19 +28,16 @@ loop-holds c =
     let s = c .before .before .before in
     progress-start (s .args .stream) (s .args .piece .now) (s .args .marks .now) (s .args .lines .now) (size s) (many s) (s .pre)
 
-sub-shorter : tie.Need-sub-shorter Inv-loop μ-loop
-sub-shorter c =
+sub-part-length : tie.Need-sub-part-length Inv-loop μ-loop
+sub-part-length c = c .before .loop .inv .within
+
+part-length-requires : tie.Need-part-length-requires Inv-loop μ-loop
+part-length-requires c κs =
     let s = c .before .before .before .before .before in
     let l = c .before .loop in
     let i = s .args .stream in
     let h = c .loop-test .taken in
     omega (arith, progress-small i (s .args .piece .now) (s .args .marks .now) (s .args .lines .now) (size s) (many s) (s .pre) (l .inv))
-
-sub-shorter-2 : tie.Need-sub-shorter-2 Inv-loop μ-loop
-sub-shorter-2 c = c .before .loop .inv .within
-
-shorter-requires : tie.Need-shorter-requires Inv-loop μ-loop
-shorter-requires c κs = search needs
 
 add-end : tie.Need-add-end Inv-loop μ-loop
 add-end c =
@@ -48,7 +45,7 @@ add-end c =
     let l = c .before .before .loop in
     let i = s .args .stream in
     let h = c .before .loop-test .taken in
-    omega (arith, part-within i (s .args .piece .now) (s .args .marks .now) (s .args .lines .now) (size s) (many s) (s .pre) (l .inv) (c .shorter .result) h (c .shorter .ensures))
+    omega (arith, part-within i (s .args .piece .now) (s .args .marks .now) (s .args .lines .now) (size s) (many s) (s .pre) (l .inv) (c .part-length .result) h (c .part-length .ensures))
 
 marks-at-requires : tie.Need-marks-at-requires Inv-loop μ-loop
 marks-at-requires c κs =
@@ -56,7 +53,7 @@ marks-at-requires c κs =
     let l = c .before .before .loop in
     let i = s .args .stream in
     let h = c .before .loop-test .taken in
-    (omega (arith, c .shorter .ensures), marks-enough (s .args .piece .now) (s .args .marks .now) (l .at) (c .shorter .result) (s .pre .marked) (part-within i (s .args .piece .now) (s .args .marks .now) (s .args .lines .now) (size s) (many s) (s .pre) (l .inv) (c .shorter .result) h (c .shorter .ensures)))
+    (omega (arith, c .part-length .ensures), marks-enough (s .args .piece .now) (s .args .marks .now) (l .at) (c .part-length .result) (s .pre .marked) (part-within i (s .args .piece .now) (s .args .marks .now) (s .args .lines .now) (size s) (many s) (s .pre) (l .inv) (c .part-length .result) h (c .part-length .ensures)))
 
 sub-take-part : tie.Need-sub-take-part Inv-loop μ-loop
 sub-take-part c = search needs
@@ -70,15 +67,15 @@ part-take-part-end c =
     let l = c .before .before .before .loop in
     let i = s .args .stream in
     let h = c .before .before .loop-test .taken in
-    omega (arith, part-within i (s .args .piece .now) (s .args .marks .now) (s .args .lines .now) (size s) (many s) (s .pre) (l .inv) (c .before .shorter .result) h (c .before .shorter .ensures))
+    omega (arith, part-within i (s .args .piece .now) (s .args .marks .now) (s .args .lines .now) (size s) (many s) (s .pre) (l .inv) (c .before .part-length .result) h (c .before .part-length .ensures))
 
 array-share-prefix-own : tie.Need-array-share-prefix-own Inv-loop μ-loop
-array-share-prefix-own c = omega (arith, c .before .before .shorter .ensures)
+array-share-prefix-own c = omega (arith, c .before .before .part-length .ensures)
 
 slice-aggregate-take-part : tie.Need-slice-aggregate-take-part Inv-loop μ-loop
 slice-aggregate-take-part c =
     let m : length (c .before .before .marks-at .result) ≡ 204 = search needs in
-    sym (length-take-le (c .before .before .before .shorter .result) (c .before .before .marks-at .result) (omega (arith, m, c .before .before .before .shorter .ensures)))
+    sym (length-take-le (c .before .before .before .part-length .result) (c .before .before .marks-at .result) (omega (arith, m, c .before .before .before .part-length .ensures)))
 
 mul-take-part : tie.Need-mul-take-part Inv-loop μ-loop
 mul-take-part c =
@@ -111,7 +108,7 @@ take-part-requires c κs =
     let l = c .before .before .before .before .before .before .loop in
     let i = s .args .stream in
     let h = c .before .before .before .before .before .loop-test .taken in
-    part-ready i (s .args .piece .now) (s .args .marks .now) (s .args .lines .now) (size s) (many s) (s .pre) (l .inv) (c .before .before .before .before .shorter .result) h (c .before .before .before .before .shorter .ensures) (part-is (s .args .piece .now) (l .at) (c .before .before .before .before .shorter .result)) (ap (take (c .before .before .before .before .shorter .result)) (c .before .before .before .marks-at .ensures) ∙ marks-part (s .args .piece .now) (s .args .marks .now) (l .at) (c .before .before .before .before .shorter .result) (s .pre .marked) (part-within i (s .args .piece .now) (s .args .marks .now) (s .args .lines .now) (size s) (many s) (s .pre) (l .inv) (c .before .before .before .before .shorter .result) h (c .before .before .before .before .shorter .ensures)) (omega (arith, c .before .before .before .before .shorter .ensures)))
+    part-ready i (s .args .piece .now) (s .args .marks .now) (s .args .lines .now) (size s) (many s) (s .pre) (l .inv) (c .before .before .before .before .part-length .result) h (c .before .before .before .before .part-length .ensures) (part-is (s .args .piece .now) (l .at) (c .before .before .before .before .part-length .result)) (ap (take (c .before .before .before .before .part-length .result)) (c .before .before .before .marks-at .ensures) ∙ marks-part (s .args .piece .now) (s .args .marks .now) (l .at) (c .before .before .before .before .part-length .result) (s .pre .marked) (part-within i (s .args .piece .now) (s .args .marks .now) (s .args .lines .now) (size s) (many s) (s .pre) (l .inv) (c .before .before .before .before .part-length .result) h (c .before .before .before .before .part-length .ensures)) (omega (arith, c .before .before .before .before .part-length .ensures)))
 
 add-count : tie.Need-add-count Inv-loop μ-loop
 add-count c =
@@ -120,7 +117,7 @@ add-count c =
     let i = s .args .stream in
     let h = c .before .before .before .before .before .before .before .before .before .loop-test .taken in
     let t = c .before .before .before .take-part in
-    let f = count-fits i (s .args .piece .now) (s .args .marks .now) (s .args .lines .now) (size s) (many s) (s .pre) (l .inv) (c .before .before .before .before .before .before .before .before .shorter .result) h (c .before .before .before .before .before .before .before .before .shorter .ensures) (part-is (s .args .piece .now) (l .at) (c .before .before .before .before .before .before .before .before .shorter .result)) (ap (take (c .before .before .before .before .before .before .before .before .shorter .result)) (c .before .before .before .before .before .before .before .marks-at .ensures) ∙ marks-part (s .args .piece .now) (s .args .marks .now) (l .at) (c .before .before .before .before .before .before .before .before .shorter .result) (s .pre .marked) (part-within i (s .args .piece .now) (s .args .marks .now) (s .args .lines .now) (size s) (many s) (s .pre) (l .inv) (c .before .before .before .before .before .before .before .before .shorter .result) h (c .before .before .before .before .before .before .before .before .shorter .ensures)) (omega (arith, c .before .before .before .before .before .before .before .before .shorter .ensures))) (t .ensures) in
+    let f = count-fits i (s .args .piece .now) (s .args .marks .now) (s .args .lines .now) (size s) (many s) (s .pre) (l .inv) (c .before .before .before .before .before .before .before .before .part-length .result) h (c .before .before .before .before .before .before .before .before .part-length .ensures) (part-is (s .args .piece .now) (l .at) (c .before .before .before .before .before .before .before .before .part-length .result)) (ap (take (c .before .before .before .before .before .before .before .before .part-length .result)) (c .before .before .before .before .before .before .before .marks-at .ensures) ∙ marks-part (s .args .piece .now) (s .args .marks .now) (l .at) (c .before .before .before .before .before .before .before .before .part-length .result) (s .pre .marked) (part-within i (s .args .piece .now) (s .args .marks .now) (s .args .lines .now) (size s) (many s) (s .pre) (l .inv) (c .before .before .before .before .before .before .before .before .part-length .result) h (c .before .before .before .before .before .before .before .before .part-length .ensures)) (omega (arith, c .before .before .before .before .before .before .before .before .part-length .ensures))) (t .ensures) in
     omega (arith, f, s .good)
 
 loop-less : tie.Need-loop-less Inv-loop μ-loop
@@ -129,7 +126,7 @@ loop-less c =
     let l = c .before .before .before .before .before .before .before .before .before .before .before .loop in
     let i = s .args .stream in
     let h = c .before .before .before .before .before .before .before .before .before .before .loop-test .taken in
-    omega (arith, part-some i (s .args .piece .now) (s .args .marks .now) (s .args .lines .now) (size s) (many s) (s .pre) (l .inv) (c .before .before .before .before .before .before .before .before .before .shorter .result) h (c .before .before .before .before .before .before .before .before .before .shorter .ensures), part-within i (s .args .piece .now) (s .args .marks .now) (s .args .lines .now) (size s) (many s) (s .pre) (l .inv) (c .before .before .before .before .before .before .before .before .before .shorter .result) h (c .before .before .before .before .before .before .before .before .before .shorter .ensures))
+    omega (arith, part-some i (s .args .piece .now) (s .args .marks .now) (s .args .lines .now) (size s) (many s) (s .pre) (l .inv) (c .before .before .before .before .before .before .before .before .before .part-length .result) h (c .before .before .before .before .before .before .before .before .before .part-length .ensures), part-within i (s .args .piece .now) (s .args .marks .now) (s .args .lines .now) (size s) (many s) (s .pre) (l .inv) (c .before .before .before .before .before .before .before .before .before .part-length .result) h (c .before .before .before .before .before .before .before .before .before .part-length .ensures))
 
 loop-again : tie.Need-loop-again Inv-loop μ-loop
 loop-again c =
@@ -138,7 +135,7 @@ loop-again c =
     let i = s .args .stream in
     let h = c .before .before .before .before .before .before .before .before .before .before .loop-test .taken in
     let t = c .before .before .before .before .take-part in
-    progress-more i (s .args .piece .now) (s .args .marks .now) (s .args .lines .now) (size s) (many s) (s .pre) (l .inv) (c .before .before .before .before .before .before .before .before .before .shorter .result) h (c .before .before .before .before .before .before .before .before .before .shorter .ensures) (part-is (s .args .piece .now) (l .at) (c .before .before .before .before .before .before .before .before .before .shorter .result)) (ap (take (c .before .before .before .before .before .before .before .before .before .shorter .result)) (c .before .before .before .before .before .before .before .before .marks-at .ensures) ∙ marks-part (s .args .piece .now) (s .args .marks .now) (l .at) (c .before .before .before .before .before .before .before .before .before .shorter .result) (s .pre .marked) (part-within i (s .args .piece .now) (s .args .marks .now) (s .args .lines .now) (size s) (many s) (s .pre) (l .inv) (c .before .before .before .before .before .before .before .before .before .shorter .result) h (c .before .before .before .before .before .before .before .before .before .shorter .ensures)) (omega (arith, c .before .before .before .before .before .before .before .before .before .shorter .ensures))) (t .ensures)
+    progress-more i (s .args .piece .now) (s .args .marks .now) (s .args .lines .now) (size s) (many s) (s .pre) (l .inv) (c .before .before .before .before .before .before .before .before .before .part-length .result) h (c .before .before .before .before .before .before .before .before .before .part-length .ensures) (part-is (s .args .piece .now) (l .at) (c .before .before .before .before .before .before .before .before .before .part-length .result)) (ap (take (c .before .before .before .before .before .before .before .before .before .part-length .result)) (c .before .before .before .before .before .before .before .before .marks-at .ensures) ∙ marks-part (s .args .piece .now) (s .args .marks .now) (l .at) (c .before .before .before .before .before .before .before .before .before .part-length .result) (s .pre .marked) (part-within i (s .args .piece .now) (s .args .marks .now) (s .args .lines .now) (size s) (many s) (s .pre) (l .inv) (c .before .before .before .before .before .before .before .before .before .part-length .result) h (c .before .before .before .before .before .before .before .before .before .part-length .ensures)) (omega (arith, c .before .before .before .before .before .before .before .before .before .part-length .ensures))) (t .ensures)
 
 same-length : tie.Need-same-length Inv-loop μ-loop
 same-length c =
@@ -161,9 +158,8 @@ take-piece-spec =
     Inv-loop
     μ-loop
     loop-holds
-    sub-shorter
-    sub-shorter-2
-    shorter-requires
+    sub-part-length
+    part-length-requires
     add-end
     marks-at-requires
     sub-take-part

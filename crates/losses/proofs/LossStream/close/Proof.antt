@@ -11,7 +11,7 @@ use Rattle.losses.specs.List.{doubts}
 use Rattle.losses.specs.Watch.{waitingOf, mostWaiting}
 use Rattle.losses.specs.Feed.{lossStreamInRange}
 use Rattle.losses.proofs.Decisions.{writes-none, writes-waiting}
-use Rattle.losses.proofs.Streams.{StreamRange, stream-range}
+use Rattle.losses.proofs.Streams.{stream-range}
 use borrow.Author.Needs.{needs}
 use Rattle.losses.proofs.LossStream.close.Statement.{statement}
 use Rattle.losses.proofs.LossStream.close.Tie as tie
