@@ -12,8 +12,8 @@ use lib.ListN.{length}
 use Rattle.common.specs.Choice.{pick}
 use Rattle.common.specs.Lists.{padded, largest}
 use Rattle.program_io.specs.Checksum.{noBytes, traced}
-use Rattle.program_io.specs.Calls.{askedOf, versionText, Gives, Refuses}
-use Rattle.program_io.specs.Files.{inputOrigin, originFile, inputTrace, inputOver, inputEnded, inputFailed, outputFile, outputTrace, outputFailed, outputClosed, NoInput, OpenedInput}
+use Rattle.program_io.specs.Calls.{askedOf, versionText, Gives, Refuses, NamedInput}
+use Rattle.program_io.specs.Files.{inputOrigin, originFile, inputTrace, inputOver, inputEnded, inputFailed, outputFile, outputTrace, outputFailed, outputClosed}
 use Rattle.program_io.specs.Words.{argumentCount, wordArgument, wordBytes, wordIsOption}
 use Rattle.program_io.specs.declared.calls.Answered.{Answered}
 use Rattle.program_io.specs.declared.calls.Asked.the-variants.{Help, Version, Work}
@@ -38,11 +38,6 @@ usageText = 0x75 ∷ 0x73 ∷ 0x61 ∷ 0x67 ∷ 0x65 ∷ 0x3A ∷ 0x20 ∷ 0x64 
 -- no argument, or one that may name a file
 abbrev pub rightCall : ℕ → Bool → Bool
 rightCall count option = pick (ltb 1 count) false (not option)
-
--- the marks before they are read: the file that the first argument names, from its start, or none
-pub data Made (count : ℕ) (marks : Input) : Type 0 where
-  without : count ≡ 0 → NoInput marks → Made count marks
-  named : (count ≡ 0 → ⊥) → OpenedInput 1 0 marks → Made count marks
 
 -- These bytes came, and the lines that they decide were written. A mark was read for each, unless that file is over; where none came it is 0.
 pub record Going (bytes : List ℕ) (marks : Input) (output : Output) (i : LossStream) : Type 0 where
@@ -133,4 +128,4 @@ pub data Exits (status : ℤ) : Type 0 where
   wrong : (a : Arguments) (w : Word) (r : Answered) → wordArgument w ≡ 1 → askedOf (argumentCount a) (wordBytes w) ≡ Work → rightCall (argumentCount a) (wordIsOption w) ≡ false
       → Refuses usageText r → status ≡ r .status → Exits status
   ran : (a : Arguments) (w : Word) (marks : Input) (r : Ended) → wordArgument w ≡ 1 → askedOf (argumentCount a) (wordBytes w) ≡ Work
-      → rightCall (argumentCount a) (wordIsOption w) ≡ true → Made (argumentCount a) marks → Ends marks r → status ≡ r .status → Exits status
+      → rightCall (argumentCount a) (wordIsOption w) ≡ true → NamedInput (argumentCount a) marks → Ends marks r → status ≡ r .status → Exits status

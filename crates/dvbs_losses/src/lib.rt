@@ -14,7 +14,7 @@ ghost use Rattle.program_io.specs.Files.{inputTrace, inputOrigin, outputFile};
 ghost use Rattle.program_io.specs.Words.{argumentCount, wordIsOption};
 ghost use Rattle.losses.specs.Feed.{capacityOf};
 ghost use Rattle.dvbs_losses.specs.Text.{entryText, listText};
-ghost use Rattle.dvbs_losses.specs.Ends.{rightCall, Made, Turns, AllRead, Status, Ends, Exits};
+ghost use Rattle.dvbs_losses.specs.Ends.{rightCall, Turns, AllRead, Status, Ends, Exits};
 use losses::LossStream;
 use program_io::Arguments;
 use program_io::Asked;
@@ -216,16 +216,6 @@ fn is_right(arguments: Arguments, first: Word) -> bool
     !first.is_option()
 }
 
-// The marks: the file that the argument names, or none.
-fn marks_file(arguments: Arguments) -> Input
-    ensures { λ r. ⌜ Made (argumentCount arguments) r ⌝ }
-{
-    if arguments.count() == 0 {
-        return Input::none();
-    }
-    Input::open(1, 0)
-}
-
 #[no_mangle]
 pub extern "C" fn dvbs_losses_main() -> i32
     ensures { λ r. ⌜ Exits r ⌝ }
@@ -244,7 +234,7 @@ pub extern "C" fn dvbs_losses_main() -> i32
         }
         Asked::Work => {
             if is_right(arguments, first) {
-                let ended = run(marks_file(arguments));
+                let ended = run(program_io::named_input(arguments));
                 return ended.status;
             }
             let answered = program_io::wrong(b"usage: dvbs_losses [MARKS] < blocks\n");

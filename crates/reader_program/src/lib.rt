@@ -12,8 +12,8 @@ ghost use Rattle.reader_program.specs.Ends.{mostOf, ReadsBehind, Buffers
 use common::put;
 use program_io::Arguments;
 use program_io::Asked;
-use program_io::Filled;
 use program_io::Ended;
+use program_io::Filled;
 use program_io::Input;
 use program_io::Output;
 use program_io::Word;

@@ -6,13 +6,14 @@ use mir.Val.{toZ, ofZ}
 use Rattle.program_io.specs.Checksum.{noBytes}
 use Rattle.program_io.specs.Files.{inputTrace}
 use Rattle.program_io.specs.declared.input.Input.{Input}
-use Rattle.dvbs_losses.specs.Ends.{Made, without, named, help, version, wrong, ran}
+use Rattle.program_io.specs.Calls.{NamedInput, without, named}
+use Rattle.dvbs_losses.specs.Ends.{help, version, wrong, ran}
 use borrow.Author.Needs.{needs}
 use Rattle.dvbs_losses.proofs.dvbs_losses_main.Statement.{statement}
 use Rattle.dvbs_losses.proofs.dvbs_losses_main.Tie as tie
 
 -- nothing of the marks is read yet
-made-fresh : {count : _} {marks : Input} → Made count marks → inputTrace marks ≡ noBytes
+made-fresh : {count : _} {marks : Input} → NamedInput count marks → inputTrace marks ≡ noBytes
 made-fresh (without e n) = n .trace
 made-fresh (named e o) = o .trace
 
@@ -49,17 +50,17 @@ enum-told-3 c = search needs
 is-right-requires : tie.Need-is-right-requires
 is-right-requires c κs = search needs
 
-marks-file-requires : tie.Need-marks-file-requires
-marks-file-requires c κs = search needs
+named-input-requires : tie.Need-named-input-requires
+named-input-requires c κs = search needs
 
 run-requires : tie.Need-run-requires
-run-requires c κs = made-fresh (c .marks-file .ensures)
+run-requires c κs = made-fresh (c .named-input .ensures)
 
 returns : tie.Need-returns
 returns c =
     let z = c .before .run .result .status in
     let e : toZ w32 (ofZ w32 z) ≡ z = search needs in
-    ran (c .before .before .before .before .before .before .before .before .before .new .result) (c .before .before .before .before .before .before .before .before .new2 .result) (c .before .before .marks-file .result) (c .before .run .result) (c .before .before .before .before .before .before .before .before .new2 .ensures) (sym (c .before .before .before .before .before .before .before .asked-for .ensures) ∙ c .before .before .before .before .before .enum-told3 .given .1) (sym (c .before .before .before .before .is-right .ensures) ∙ c .before .before .before .if1 .taken) (c .before .before .marks-file .ensures) (c .before .run .ensures) e
+    ran (c .before .before .before .before .before .before .before .before .before .new .result) (c .before .before .before .before .before .before .before .before .new2 .result) (c .before .before .named-input .result) (c .before .run .result) (c .before .before .before .before .before .before .before .before .new2 .ensures) (sym (c .before .before .before .before .before .before .before .asked-for .ensures) ∙ c .before .before .before .before .before .enum-told3 .given .1) (sym (c .before .before .before .before .is-right .ensures) ∙ c .before .before .before .if1 .taken) (c .before .before .named-input .ensures) (c .before .run .ensures) e
 
 slice-aggregate-wrong : tie.Need-slice-aggregate-wrong
 slice-aggregate-wrong c = search needs
@@ -100,7 +101,7 @@ dvbs-losses-main-spec =
     version-requires
     enum-told-3
     is-right-requires
-    marks-file-requires
+    named-input-requires
     run-requires
     returns
     slice-aggregate-wrong
