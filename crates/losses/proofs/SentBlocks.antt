@@ -49,7 +49,7 @@ use Rattle.receiver.specs.declared.Receiver.{Receiver}
 use Rattle.receiver.proofs.Decoding.{sent-length, sent-bytes, plain-decodes}
 use Rattle.receiver.proofs.Outcomes.{Unrefused, next-unrefused, branches-after, unmarked-after}
 use Rattle.receiver.proofs.Reception.{came-gathered, coded-gathered, blocks-count, begun-anywhere}
-use Rattle.recording.specs.Block.{blockCount, blockRefusal, GivesBlock}
+use Rattle.recording.specs.Block.{blockCount, blockRefusal, GivesBlock, blockRefused, blockDecoded}
 use Rattle.recording.specs.declared.block.DecodedBlock.{DecodedBlock}
 use Rattle.losses.specs.History.{blocksOf, Listed}
 use Rattle.losses.specs.Promise.{answerAt, Stretches, WrongTold, LeftOut, startLines}
@@ -257,14 +257,15 @@ module _ {bytes lines : List ℕ} (l : Listed bytes (unmarked bytes) lines) wher
   -- block K of the recording is answered 8 exactly where its line says so
   pub as-recorded : (block : ℕ) (output exit : List ℕ) (r : DecodedBlock) → block + 12 ≤ length bytes / 204 → blockRefusal bytes (blockCount bytes) block output ≡ 0
       → GivesBlock bytes (blockCount bytes) block output r exit → eqb (numberOf (r .answer)) 8 ≡ eqb (answerAt (l .calls) block) 8
-  as-recorded block output exit r h e g =
+  as-recorded block output exit r h e (blockRefused s n c w) = absurd (omega arith)
+  as-recorded block output exit r h e (blockDecoded left decoded f g m c w) =
       let cs = l .calls in
       let n = calls-count (l .on) (none-marked l) (l .few) in
       let k : block + 11 < length cs = omega (arith, n) in
       let d = block-decodes cs (unrefused l) (plain l) block k in
-      let q = unique (gathered bytes block) (g .left) (getD (lefts (drop 11 cs)) block []) (g .decoded) (getD (map (λ c. c .decoded) (drop 11 cs)) block Uncorrectable) (g .decodes)
+      let q = unique (gathered bytes block) left (getD (lefts (drop 11 cs)) block []) decoded (getD (map (λ c. c .decoded) (drop 11 cs)) block Uncorrectable) g
       (subst (λ (x : List ℕ). Decodes x (getD (lefts (drop 11 cs)) block []) (getD (map (λ c. c .decoded) (drop 11 cs)) block Uncorrectable)) (sym (blocks-bytes block h)) d) in
-      let a : numberOf (r .answer) ≡ decodedNumber (getD (map (λ c. c .decoded) (drop 11 cs)) block Uncorrectable) = g .number ∙ simp e (ap decodedNumber (q .answer)) in
+      let a : numberOf (r .answer) ≡ decodedNumber (getD (map (λ c. c .decoded) (drop 11 cs)) block Uncorrectable) = m ∙ ap decodedNumber (q .answer) in
       ap (λ (i : ℕ). eqb i 8) a
       ∙ decoded-lost (gathered (flatten (lentBlocks cs)) block) (getD (lefts (drop 11 cs)) block []) (getD (map (λ c. c .decoded) (drop 11 cs)) block Uncorrectable) (getD (getD (lefts (drop 11 cs)) block []) 0 0)
       (length-gathered (flatten (lentBlocks cs)) block) d

@@ -19,7 +19,7 @@ use Rattle.program_io.specs.declared.words.Arguments.{Arguments}
 use Rattle.program_io.specs.declared.words.Word.{Word}
 use Rattle.program_io.specs.declared.calls.Answered.{Answered}
 use Rattle.program_io.specs.declared.calls.Asked.the-variants.{Help, Version, Work}
-use Rattle.report_form.specs.declared.Ended.{Ended}
+use Rattle.program_io.specs.declared.calls.Ended.{Ended}
 
 -- the output that a report is moved to
 abbrev pub lent : List ℕ

@@ -11,17 +11,10 @@ ghost use Rattle.program_io.specs.Files.{StandardInput, FreshOutput, Writes};
 ghost use Rattle.report_form.specs.Ends.{Ends, formOf, Called, Exits};
 use program_io::Arguments;
 use program_io::Asked;
+use program_io::Ended;
 use program_io::Input;
 use program_io::Output;
 use program_io::Word;
-
-// How a run ended, with the files as it left them.
-pub struct Ended {
-    pub status: i32,
-    pub input: Input,
-    pub errors: Output,
-    pub output: Output,
-}
 
 // Tells the number of a refusal.
 fn tell_number(errors: Output, number: u8) -> Output

@@ -2,21 +2,30 @@
 -- Assumes nothing.
 use mathlib.Core.Path.{_≡_, refl, sym, _∙_}
 use mathlib.Core.Bool.{Bool, true, false}
+use mathlib.Core.List.{List, []}
 use Prim.Native.Nat.{ℕ, _+_, min}
+use native.Mathlib.Omega.{arith}
 use borrow.Author.Tests.{eq-eqb, ne-eqb}
 use lib.Dec.{eqb, ltb}
 use Rattle.common.specs.Choice.{pick}
-use Rattle.recording.specs.Block.{blockCount}
+use Rattle.answer.specs.Number.{numberOf}
+use Rattle.recording.specs.Block.{blockCount, blockRefusal, GivesBlock, blockRefused, blockDecoded}
+use Rattle.recording.specs.declared.block.DecodedBlock.{DecodedBlock}
 use Rattle.dvbs.specs.RecordingBlock.{no-count, called}
 use borrow.Author.Needs.{needs}
 use Rattle.dvbs.proofs.dvbs_recording_block.Statement.{statement}
 use Rattle.dvbs.proofs.dvbs_recording_block.Tie as tie
 
 -- with no room at all, some test refuses
-refused : (t u : Bool) (d : ℕ) → pick (eqb (pick t (pick u 16 4) 5) 0) d (pick t (pick u 16 4) 5) ≡ pick t (pick u 16 4) 5
-refused true true d = refl
-refused true false d = refl
-refused false u d = refl
+some-refusal : (t u : Bool) → pick {A = ℕ} t (pick u 16 4) 5 ≡ 0 → ⊥
+some-refusal true true e = omega arith
+some-refusal true false e = omega arith
+some-refusal false u e = omega arith
+
+roomless : {bytes exit : List ℕ} {blocks p : ℕ} {r : DecodedBlock} → GivesBlock bytes blocks p [] r exit → numberOf (r .answer) ≡ blockRefusal bytes blocks p []
+roomless (blockRefused s n c w) = n
+roomless {bytes} {exit} {blocks} {p} (blockDecoded left decoded e d n c w) =
+    absurd (some-refusal (eqb blocks (blockCount bytes)) (ltb (min blocks 4294967295) (p + 12)) e)
 
 slice-aggregate-decoded-block : tie.Need-slice-aggregate-decoded-block
 slice-aggregate-decoded-block c = search needs
@@ -28,11 +37,7 @@ number-requires : tie.Need-number-requires
 number-requires c κs = search needs
 
 returns : tie.Need-returns
-returns c =
-    let g = c .before .before .decoded-block .ensures in
-    let a = c .before .before .before .before .before .before .before .before .args in
-    no-count (c .before .before .before .before .if1 .taken)
-    (c .number .ensures ∙ g .number ∙ refused (eqb (a .blocks) (blockCount (a .recording .now))) (ltb (min (a .blocks) 4294967295) (a .p + 12)) _) refl refl
+returns c = no-count (c .before .before .before .before .if1 .taken) (c .number .ensures ∙ roomless (c .before .before .decoded-block .ensures)) refl refl
 
 decoded-block-requires-2 : tie.Need-decoded-block-requires-2
 decoded-block-requires-2 c κs = search needs
