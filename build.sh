@@ -2,7 +2,7 @@
 # Proves and builds the programs, into target/bin, and the libraries for C, into target/staticlib.
 #   ./build.sh                    all of them
 #   ./build.sh NAME..             some: a program, or libdvbs or libdvbs_bridge
-#   ./build.sh install PREFIX     all of them, with headers, pkg-config files and man pages, below PREFIX
+#   ./build.sh install PREFIX     puts what was built, with headers, pkg-config files and man pages, below PREFIX
 # A program is a function of a proved library, and programs/main.c is its main.
 # libdvbs.a has every function that include/dvbs.h declares. They are two proved crates, since one that reaches both directions takes too much memory to
 # prove; here their objects become one archive.
@@ -62,11 +62,11 @@ install_all() {
     pkg_config dvbs_bridge "a DVB-S receiver whose state is bytes, proved"
 }
 
-prefix=
 if [ "${1-}" = install ]; then
     [ $# = 2 ] || { echo "usage: ./build.sh install PREFIX" >&2; exit 2; }
     prefix=$(realpath -m "$2")
-    set --
+    install_all
+    exit
 fi
 [ $# -gt 0 ] || set -- "${programs[@]}" libdvbs libdvbs_bridge
 for name in "$@"; do
@@ -76,4 +76,3 @@ for name in "$@"; do
         *) program "$name" ;;
     esac
 done
-[ -z "$prefix" ] || install_all

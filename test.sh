@@ -66,7 +66,7 @@ last=$(tail -n 1 "$work/gate")
 # Nothing is written to a home folder.
 export CARGO_HOME=$PWD/target/cargo-home CARGO_TARGET_DIR=$PWD/target/cargo
 in_reference=(--release --offline --manifest-path reference/Cargo.toml)
-quietly ./build.sh
+quietly ./build.sh libdvbs libdvbs_bridge
 quietly rt staticlib kernels
 export EXPORTS_DIR=$PWD/target/staticlib
 quietly cargo test "${in_reference[@]}" --lib --test programs --test vectors --test library
@@ -76,6 +76,7 @@ compared=target/cargo/release
 "$compared/compare" > "$work/compared" 2>&1 &
 comparison=$!
 "$compared/compare_bridge"
+quietly ./build.sh $(basename -s .1 man/*.1)
 "$compared/compare_losses"
 "$compared/compare_calls" target/bin/send_calls
 "$compared/compare_reports" target/bin/report_calls

@@ -176,6 +176,36 @@ printf '\0\1\2\3\4\0' > bad
 tells 1 "dvbs_read: a byte above 3" "symbol=4 answer=14" "$bin/dvbs_read" 2 < bad
 echo "the readers: their status says what failed, and nothing that failed looks whole"
 
+# ---- the programs over blocks: the same faults. What is on standard output then is a part, and no report and no list looks whole.
+head -c 40000 blocks > some
+for program in dvbs_receive pass_report dvbs_losses; do
+    case $program in
+        pass_report) name=report ;;
+        *) name="standard output" ;;
+    esac
+    for which in 1 2; do
+        tells 1 "$program: read $which fails" "standard input: $io_error" failing "read 0 $which -5" "$bin/$program" < some
+        tells 1 "$program: read $which is interrupted" "standard input: Interrupted system call" failing "read 0 $which -4" "$bin/$program" < some
+        ! grep -q '^rest=' out || fail "$program: a list or a report of a part"
+    done
+    tells 1 "$program: a directory" "standard input: Is a directory" "$bin/$program" < .
+    tells 1 "$program: no input" "standard input: Bad file descriptor" bash -c "'$bin/$program' <&-"
+    tells 1 "$program: no output" "$name: Bad file descriptor" bash -c "'$bin/$program' < some >&-"
+    tells 1 "$program: a full output" "$name: No space left on device" bash -c "'$bin/$program' < some > /dev/full"
+    tells 1 "$program: the output is gone" "$name: Broken pipe" failing "write 1 1 -32" "$bin/$program" < some
+    tells 1 "$program: a write takes nothing" "$name: not written whole" failing "write 1 1 0" "$bin/$program" < some
+    tells 1 "$program: the output is lost when closed" "standard output: $io_error" failing "close 1 1 -5" "$bin/$program" < some
+    ends 0 "$program --help" "$bin/$program" --help < /dev/null
+    ends 0 "$program --version" "$bin/$program" --version < /dev/null
+done
+fill marks.bad 2 300 1
+tells 1 "dvbs_losses: a mark above 1" "marks: a mark above 1" "$bin/dvbs_losses" marks.bad < some
+! grep -q '^rest=' out || fail "dvbs_losses: a list of a part"
+tells 1 "dvbs_losses: no file of marks" "$PWD/none: No such file or directory" "$bin/dvbs_losses" "$PWD/none" < some
+ends 1 "dvbs_receive: no standard error" bash -c "'$bin/dvbs_receive' < some 2>&-"
+ends 0 "dvbs_losses: no standard error" bash -c "'$bin/dvbs_losses' < some 2>&-"
+echo "the programs over blocks: their status says what failed, and nothing that failed looks whole"
+
 # ---- marks
 head -c "$(wc -c < blocks)" /dev/zero > none
 head -c $(($(wc -c < blocks) - 57)) blocks > cut
