@@ -3,6 +3,8 @@
 # no comparison sees, and a kernel then takes several times as many.
 #   tests/instructions.sh          counts them by callgrind, and fails where one is more than that away; without valgrind it says so and checks nothing
 #   tests/instructions.sh write    counts them and writes them down
+# What callgrind counts inside the C library depends on its version, on valgrind's and on what the processor offers, so the file says of which these are; elsewhere
+# nothing is compared, and that is said.
 # It needs the libraries in target/staticlib (./build.sh libdvbs libdvbs_bridge, rt staticlib kernels). CC may name another compiler.
 set -euo pipefail
 cd "$(dirname "$0")/.."
@@ -12,6 +14,11 @@ kernels=(rs_encode rs_decode_0 rs_decode_1 rs_decode_4 rs_decode_8 rs_decode_los
 
 if ! command -v valgrind > /dev/null; then
     echo "tests/instructions.sh: valgrind is missing (Debian: valgrind), so no instructions are counted"
+    exit 0
+fi
+here="# $(valgrind --version), $(getconf GNU_LIBC_VERSION), processor with$(for flag in avx2 avx512f erms; do ! grep -qw "$flag" /proc/cpuinfo || printf ' %s' "$flag"; done)"
+if [ "${1:-}" != write ] && [ "$here" != "$(head -n 1 "$written")" ]; then
+    echo "tests/instructions.sh: nothing is compared, since the counts are of another place: $(head -n 1 "$written"); here: $here"
     exit 0
 fi
 for library in dvbs dvbs_bridge kernels; do
@@ -25,11 +32,11 @@ trap 'rm -rf "$work"' EXIT
 [ "$(wc -l < "$work/counts")" = ${#kernels[@]} ] || { echo "tests/instructions.sh: not every kernel was counted"; exit 1; }
 
 if [ "${1:-}" = write ]; then
-    cp "$work/counts" "$written"
+    { echo "$here"; cat "$work/counts"; } > "$written"
     exit 0
 fi
 awk '
-    NR == FNR { was[$1] = $2; next }
+    NR == FNR { was[$1] = $2; next } # the line of the place too, which no kernel has the name of
     !($1 in was) { print $1 ": no count is written down"; bad = 1; next }
     {
         away = ($2 - was[$1]) / was[$1]
