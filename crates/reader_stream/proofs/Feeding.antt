@@ -60,7 +60,7 @@ closed-bits {count = count} c =
 -- ---- the space that the bytes take
 
 -- no more than two bits are decided for each symbol
-fed-space : {s next : SymbolRuns} {piece output exit : List ℕ} {taken count : ℕ} → RunsReady s → RunsReady next → FeedsSymbols s piece output next taken count exit
+pub fed-space : {s next : SymbolRuns} {piece output exit : List ℕ} {taken count : ℕ} → RunsReady s → RunsReady next → FeedsSymbols s piece output next taken count exit
     → count + 2 * next .count ≤ 2 * (s .count + taken)
 fed-space {s} {next} {piece} g r (gathered l et ec ex h) =
     omega (arith, held-length next r, ap length (h .held-is), length-append (heldOf s) piece, held-length s g)
@@ -83,11 +83,11 @@ fed-space {s} {next} {piece} {taken = taken} g r (read costs es le size ec after
 -- ---- what is decided of the costs that are taken
 
 -- the rate stays
-rate-kept : (s : SymbolRuns) (piece output : List ℕ) {next : SymbolRuns} {taken count : ℕ} {exit : List ℕ} → FeedsSymbols s piece output next taken count exit → next .rate ≡ s .rate
+pub rate-kept : (s : SymbolRuns) (piece output : List ℕ) {next : SymbolRuns} {taken count : ℕ} {exit : List ℕ} → FeedsSymbols s piece output next taken count exit → next .rate ≡ s .rate
 rate-kept s piece output (gathered l et ec ex h) = h .rate-is
 rate-kept s piece output (read costs es le size ec after f h) = h .rate-is
 
-fed-decided : {s next : SymbolRuns} {piece output exit : List ℕ} {taken count : ℕ} → RunsReady s → FeedsSymbols s piece output next taken count exit
+pub fed-decided : {s next : SymbolRuns} {piece output exit : List ℕ} {taken count : ℕ} → RunsReady s → FeedsSymbols s piece output next taken count exit
     → DecidedCosts (s .rate) (s .memory) (heldOf s ++ take taken piece) (take count exit) (next .memory) (heldOf next)
 fed-decided {s} {piece = piece} {taken = taken} g (gathered l et ec ex h) =
     let a : take taken piece ≡ piece = ap (λ (k : ℕ). take k piece) et ∙ take-length piece in

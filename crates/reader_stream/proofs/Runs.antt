@@ -130,7 +130,7 @@ all-drop zero xs h = h
 all-drop (suc n) [] h = tt
 all-drop (suc n) (x ∷ xs) h = all-drop n xs (h .1)
 
-drop-take : (n k : ℕ) (l : List ℕ) → drop n (take (n + k) l) ≡ take k (drop n l)
+pub drop-take : (n k : ℕ) (l : List ℕ) → drop n (take (n + k) l) ≡ take k (drop n l)
 drop-take zero k l = ap (λ (j : ℕ). take j l) (zero-add k)
 drop-take (suc n) k [] = ap (drop (suc n)) (take-nil (suc n + k)) ∙ sym (take-nil k)
 drop-take (suc n) k (x ∷ l) = ap (λ (j : ℕ). drop (suc n) (take j (x ∷ l))) (suc-add n k) ∙ drop-take n k l
