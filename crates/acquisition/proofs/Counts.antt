@@ -13,7 +13,7 @@ use Rattle.reader_stream.proofs.Runs.{held-length}
 use Rattle.node_search.specs.declared.Search.{Search}
 use Rattle.acquisition.specs.Reading.{ReadsSymbols, ReadingReady}
 use Rattle.acquisition.specs.Step.{pendingOf, searchingOn, readingOn, waiting, windowOf, ReadingOf, SearchReady, ReadReady, AcquisitionReady, AfterSearch, found, nothing, several, afterReading, SearchesOn, gathers, fills, ReadsPending, ReadsPiece, StepCounts}
-use Rattle.acquisition.specs.End.{ClosesRuns, ClosesBlocks}
+use Rattle.acquisition.specs.End.{ClosesReading, ClosesBlocks}
 use Rattle.acquisition.specs.declared.Reading.{Reading}
 use Rattle.acquisition.specs.declared.Phase.{Phase}
 use Rattle.acquisition.specs.declared.Phase.the-variants.{Searches, Reads}
@@ -128,7 +128,7 @@ closed-ready s t g b z x = by
     by Lost = searching-ready (s .rate) (pick (s .reading .sync .lock .locked) (s .mirrored) (not (s .mirrored))) [] (s .came) (g .read-known) (omega arith) tt (omega arith) b
 
 -- the runs are closed
-pub runs-closed : (k : Reading) (t : ReadStep) → ReadingReady k → ClosesRuns k t → Closed k t
+pub runs-closed : (k : Reading) (t : ReadStep) → ReadingReady k → ClosesReading k t → Closed k t
 runs-closed k t g x =
     let d = x .settles .decided in
     let few = taken-few (k .sync) (take (x .count) (x .exit)) d (g .sync-sized) (g .sync-small) (x .settles .takes) in

@@ -10,7 +10,7 @@ use lib.ListN.{length, take, drop, length-drop, length-take}
 use Rattle.common.specs.Choice.{pick}
 use Rattle.reader_stream.proofs.Runs.{held-length}
 use Rattle.acquisition.specs.Step.{pendingOf, searchingOn, ReadReady, AcquisitionReady, afterReading}
-use Rattle.acquisition.specs.End.{lastEvent, ClosesRuns, ClosesBlocks, overWith, goesOn, endOfBlocks, EndsBlocks, EndsPending, EndsRuns, endMeasure, EndCounts}
+use Rattle.acquisition.specs.End.{lastEvent, ClosesReading, ClosesBlocks, overWith, goesOn, endOfBlocks, EndsBlocks, EndsPending, EndsRuns, endMeasure, EndCounts}
 use Rattle.acquisition.specs.declared.Reading.{Reading}
 use Rattle.acquisition.specs.declared.ReadStep.{ReadStep}
 use Rattle.acquisition.specs.declared.Phase.the-variants.{Searches, Reads}

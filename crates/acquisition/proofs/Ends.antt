@@ -10,7 +10,7 @@ use Rattle.common.specs.Choice.{pick}
 use Rattle.puncturing.specs.Mode.{modeOf}
 use Rattle.puncturing.specs.Step.{patternLength}
 use Rattle.reader.specs.Read.{symbolsPerPattern, runBits}
-use Rattle.reader_stream.specs.Runs.{fullSymbols, RunsReady, Closes}
+use Rattle.reader_stream.specs.Runs.{fullSymbols, RunsReady, ClosesRuns}
 use Rattle.reader_stream.specs.declared.symbol_runs.SymbolRuns.{SymbolRuns}
 use Rattle.reader_stream.proofs.Runs.{short-run}
 use Rattle.block_sync.specs.Decision.{Decides, usedBits, follows, begins, searches}
@@ -67,7 +67,7 @@ bits-double (suc (suc (suc (suc zero)))) h n = omega arith
 bits-double (suc (suc (suc (suc (suc k))))) h n = absurd (omega (arith, h))
 
 -- what closing the runs counts
-pub close-counts : (s : SymbolRuns) (output exit : List ℕ) (count rest : ℕ) → RunsReady s → Closes s output count rest exit → (count ≤ 1632) × (count ≤ 2 * s .count)
+pub close-counts : (s : SymbolRuns) (output exit : List ℕ) (count rest : ℕ) → RunsReady s → ClosesRuns s output count rest exit → (count ≤ 1632) × (count ≤ 2 * s .count)
 close-counts s output exit count rest g x =
     let m = symbolsPerPattern (s .rate) * x .whole in
     let a : m ≤ s .count = omega (arith, x .split) in

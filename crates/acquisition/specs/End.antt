@@ -8,7 +8,7 @@ use Prim.Native.Nat.{ℕ, _+_, _*_, _<_}
 use lib.Dec.{ltb}
 use lib.ListN.{take}
 use Rattle.common.specs.Choice.{pick}
-use Rattle.reader_stream.specs.Runs.{RunsReady, RunsHold, Closes}
+use Rattle.reader_stream.specs.Runs.{RunsReady, RunsHold, ClosesRuns}
 use Rattle.reader_stream.specs.declared.symbol_runs.SymbolRuns.{SymbolRuns}
 use Rattle.block_sync.specs.Feed.{FinishesSync}
 use Rattle.block_sync.specs.declared.SyncStep.{SyncStep}
@@ -25,12 +25,12 @@ use Rattle.acquisition.specs.declared.Event.{Event}
 use Rattle.acquisition.specs.declared.Event.the-variants.{Waits, Block, Lost}
 
 -- The bits of the whole patterns that the runs hold are taken, and the runs hold nothing then.
-pub record ClosesRuns (k : Reading) (r : ReadStep) : Type 0 where
+pub record ClosesReading (k : Reading) (r : ReadStep) : Type 0 where
   pub output : List ℕ
   pub exit : List ℕ
   pub count : ℕ
   pub rest : ℕ
-  pub closes : Closes (k .runs) output count rest exit
+  pub closes : ClosesRuns (k .runs) output count rest exit
   pub opened : SymbolRuns
   pub ready : RunsReady opened
   pub empty : RunsHold opened (k .runs .rate) 0 []
@@ -74,7 +74,7 @@ pub record EndsPending (s : Acquisition) (r : EndStep) : Type 0 where
 
 pub record EndsRuns (s : Acquisition) (r : EndStep) : Type 0 where
   pub step : ReadStep
-  pub closes : ClosesRuns (s .reading) step
+  pub closes : ClosesReading (s .reading) step
   pub result : r ≡ goesOn s step
 
 pub data EndsAcquisition (s : Acquisition) (r : EndStep) : Type 0 where

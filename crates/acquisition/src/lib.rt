@@ -11,7 +11,7 @@ ghost use Rattle.common.specs.Lists.{All, padded};
 ghost use Rattle.reader_stream.specs.Runs.{RunsReady};
 ghost use Rattle.node_search.specs.Search.{HypothesisValid};
 ghost use Rattle.acquisition.specs.Reading.{symbolAt, turnRead, turnTold, idleReading, Begins, TakesBits, eventOf, blockFound, usedBy, ReadingReady, SettlesBits, ReadsSymbols};
-ghost use Rattle.acquisition.specs.End.{ClosesRuns, lastEvent, ClosesBlocks, overWith, goesOn, EndsBlocks, EndsAcquisition, EndCounts};
+ghost use Rattle.acquisition.specs.End.{ClosesReading, lastEvent, ClosesBlocks, overWith, goesOn, EndsBlocks, EndsAcquisition, EndCounts};
 ghost use Rattle.acquisition.specs.Step.{StepCounts, searchingOn, readingOn, waiting, SearchReady, ReadReady, AfterSearch, afterReading, SearchesOn, ReadsPending, ReadsPiece, AcquisitionReady, freshAcquisition, StepsAcquisition};
 use block_sync::BlockSync;
 use block_sync::SyncStep;
@@ -487,7 +487,7 @@ fn piece_step(state: Acquisition, piece: &[u8]) -> Step
 // The end of the symbols of a reading: the bits of the whole patterns that its runs hold are taken.
 fn close_runs(reading: Reading) -> ReadStep
     requires { ⌜ ReadingReady reading ⌝ }
-    ensures { λ r. ⌜ ClosesRuns reading r ⌝ }
+    ensures { λ r. ⌜ ClosesReading reading r ⌝ }
 {
     let runs = reading.runs;
     let rate = runs.rate;

@@ -13,7 +13,7 @@ use Rattle.common.proofs.Chunks.{chunks-back}
 use Rattle.randomizer.specs.Stream.{Packet}
 use Rattle.convolutional_code.specs.Bits.{bitsOf}
 use Rattle.convolutional_code.proofs.Bits.{length-bits, bits-bits}
-use Rattle.puncturing.specs.Mode.{modeOf}
+use Rattle.puncturing.specs.Mode.{modeOf, qpskCount}
 use Rattle.puncturing.specs.Step.{patternLength}
 use Rattle.puncturing.proofs.Steps.{some-bits}
 use Rattle.puncturing.proofs.Places.{up, length-le}
@@ -88,7 +88,7 @@ module _ (inputs : List (List ℕ)) (g : All Input inputs) (bs : All Bytes input
         packets = sym (m .given) ∙ r .given ∙ ap (λ (k : ℕ). take k packets) e;
       }
 
-  module _ (rate : ℕ) (hr : rate < 5) (q : modeOf rate .sent ≡ true) where
+  module _ (rate : ℕ) (hr : rate < qpskCount) (q : modeOf rate .sent ≡ true) where
     -- by runs
     pub arrived : (l : Link rate inputs) → Arrived rate inputs l
     arrived l =
@@ -145,7 +145,7 @@ module _ (inputs : List (List ℕ)) (g : All Input inputs) (bs : All Bytes input
 -- ---- how many blocks that is
 
 -- where less than a pattern is left unread, at most one block is not whole
-pub all-but-one : (rate n : ℕ) → rate < 5 → n ≤ blocksInBits (patternLength rate * (1632 * n / patternLength rate)) + 1
+pub all-but-one : (rate n : ℕ) → rate < qpskCount → n ≤ blocksInBits (patternLength rate * (1632 * n / patternLength rate)) + 1
 all-but-one rate n hr =
     let p = patternLength rate in
     omega (arith, div-add-mod (1632 * n) p, mod-lt (1632 * n) (some-bits rate hr), length-le rate (up rate hr))

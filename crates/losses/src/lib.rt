@@ -9,7 +9,7 @@ ghost use Rattle.common.specs.Choice.{pick};
 ghost use Rattle.answer.specs.Number.{numberOf};
 ghost use Rattle.losses.specs.List.{line as List·line, doubts};
 ghost use Rattle.losses.specs.Watch.{waitingOf, startDueAt, startedAt, linesNow, oneMore, certaintyNext, mostWaiting, certaintyInRange};
-ghost use Rattle.losses.specs.Feed.{freshLossStream, lossStreamInRange, capacityOf, marksOf, marksFit, Writes, FeedsLosses, lossCloseNumber, closeLines};
+ghost use Rattle.losses.specs.Feed.{freshLossStream, lossStreamInRange, capacityOf, marksOf, marksFit, WritesLines, FeedsLosses, lossCloseNumber, closeLines};
 ghost use Rattle.losses.specs.Block.{marksFront, Watched, TakesBlock, PartReady, PieceReady, TakesLines};
 ghost use Rattle.losses.specs.Run.{ListsRecording};
 use answer::Answer;
@@ -37,14 +37,14 @@ pub struct LossStream {
 }
 
 // An answer, how many lines were written, and the stream after it.
-pub struct Fed {
+pub struct LossesFed {
     pub answer: Answer,
     pub count: usize,
     pub stream: LossStream,
 }
 
 // An answer, and how many lines were written.
-pub struct Listed {
+pub struct LossesListed {
     pub answer: Answer,
     pub count: usize,
 }
@@ -63,7 +63,7 @@ struct BlockTaken {
 }
 
 // How many lines were written, and the stream after it.
-struct Taken {
+struct LossesTaken {
     count: usize,
     stream: LossStream,
 }
@@ -176,7 +176,7 @@ fn decide(
         × (waitingOf certainty < length (now lines)) ⌝ }
     ensures { λ r. ⌜
         (r .certainty ≡ certaintyNext certainty number start)
-        × Writes (linesNow certainty block number due start) (now (lines .entry)) (r .count) (now (lines .exit)) ⌝ }
+        × WritesLines (linesNow certainty block number due start) (now (lines .entry)) (r .count) (now (lines .exit)) ⌝ }
 {
     let count = waiting(certainty) as usize;
     let first = block - count as u64;
@@ -248,7 +248,7 @@ fn take_block(
 }
 
 // Takes the part of a piece that at most completes a block, with a mark for each byte.
-fn take_part(stream: LossStream, part: &[u8], marks: &[u8], lines: &mut [u64]) -> Taken
+fn take_part(stream: LossStream, part: &[u8], marks: &[u8], lines: &mut [u64]) -> LossesTaken
     requires { ⌜ PartReady stream (now part) (now marks) (now lines) ⌝ }
     ensures { λ r. ⌜ TakesLines stream (now (part .entry)) (now (marks .entry)) (now (lines .entry)) (r .count) (r .stream) (now (lines .exit)) ⌝ }
 {
@@ -261,7 +261,7 @@ fn take_part(stream: LossStream, part: &[u8], marks: &[u8], lines: &mut [u64]) -
     common::put(marks, held, &mut own);
     let end = held + part.len();
     if end < Receiver::BLOCK_LENGTH {
-        return Taken {
+        return LossesTaken {
             count: 0,
             stream: LossStream {
                 receiver,
@@ -275,7 +275,7 @@ fn take_part(stream: LossStream, part: &[u8], marks: &[u8], lines: &mut [u64]) -
     let taken = take_block(receiver, certainty, &pending, &own, lines);
     let next = taken.receiver;
     let kept = taken.certainty;
-    Taken {
+    LossesTaken {
         count: taken.count,
         stream: LossStream {
             receiver: next,
@@ -309,7 +309,7 @@ fn part_length(held: usize, left: usize) -> usize
 }
 
 // Takes a piece, with a mark for each byte or none at all.
-fn take_piece(stream: LossStream, piece: &[u8], marks: &[u8], lines: &mut [u64]) -> Taken
+fn take_piece(stream: LossStream, piece: &[u8], marks: &[u8], lines: &mut [u64]) -> LossesTaken
     requires { ⌜ PieceReady stream (now piece) (now marks) (now lines) ⌝ }
     ensures { λ r. ⌜
         TakesLines stream (now (piece .entry)) (marksOf (now (piece .entry)) (now (marks .entry))) (now (lines .entry)) (r .count) (r .stream) (now (lines .exit)) ⌝ }
@@ -327,7 +327,7 @@ fn take_piece(stream: LossStream, piece: &[u8], marks: &[u8], lines: &mut [u64])
         state = taken.stream;
         at = end;
     }
-    Taken {
+    LossesTaken {
         count,
         stream: state,
     }
@@ -410,35 +410,35 @@ impl LossStream {
     }
 
     // Takes a piece of the received bytes, of any length, with a mark for each or none at all, and writes the lines that are decided then.
-    pub fn feed(self, piece: &[u8], marks: &[u8], lines: &mut [u64]) -> Fed
+    pub fn feed(self, piece: &[u8], marks: &[u8], lines: &mut [u64]) -> LossesFed
         ensures { λ r. ⌜
             FeedsLosses self (now (piece .entry)) (now (marks .entry)) (now (lines .entry)) (numberOf (r .answer)) (r .count) (r .stream) (now (lines .exit)) ⌝ }
     {
         let certainty = self.certainty;
         let held = self.held;
         if !self.in_range() {
-            return Fed {
+            return LossesFed {
                 answer: Answer::StateRange,
                 count: 0,
                 stream: self,
             };
         }
         if !marks_fit(piece, marks) {
-            return Fed {
+            return LossesFed {
                 answer: Answer::MarkValue,
                 count: 0,
                 stream: self,
             };
         }
         if lines.len() < waiting(certainty) as usize + blocks_in(held, piece.len()) {
-            return Fed {
+            return LossesFed {
                 answer: Answer::OutputLength,
                 count: 0,
                 stream: self,
             };
         }
         if self.capacity() < piece.len() as u64 {
-            return Fed {
+            return LossesFed {
                 answer: Answer::CountsFull,
                 count: 0,
                 stream: self,
@@ -447,7 +447,7 @@ impl LossStream {
         let taken = take_piece(self, piece, marks, lines);
         let count = taken.count;
         let stream = taken.stream;
-        Fed {
+        LossesFed {
             answer: Answer::Done,
             count,
             stream,
@@ -455,30 +455,30 @@ impl LossStream {
     }
 
     // Ends the list: the packets that still wait are in doubt.
-    pub fn close(self, lines: &mut [u64]) -> Listed
+    pub fn close(self, lines: &mut [u64]) -> LossesListed
         ensures { λ r. ⌜
             (numberOf (r .answer) ≡ lossCloseNumber self (now (lines .entry)))
-            × Writes (closeLines self (now (lines .entry))) (now (lines .entry)) (r .count) (now (lines .exit)) ⌝ }
+            × WritesLines (closeLines self (now (lines .entry))) (now (lines .entry)) (r .count) (now (lines .exit)) ⌝ }
     {
         let receiver = self.receiver;
         let certainty = self.certainty;
         let counts = receiver.counts;
         let taken = counts.taken;
         if !self.in_range() {
-            return Listed {
+            return LossesListed {
                 answer: Answer::StateRange,
                 count: 0,
             };
         }
         let count = waiting(certainty) as usize;
         if lines.len() < count {
-            return Listed {
+            return LossesListed {
                 answer: Answer::OutputLength,
                 count: 0,
             };
         }
         put_doubts(next_block(taken) - count as u64, count, lines);
-        Listed {
+        LossesListed {
             answer: Answer::Done,
             count,
         }
@@ -486,7 +486,7 @@ impl LossStream {
 }
 
 // The list of a whole recording, with a mark for each byte or none at all.
-pub fn list_losses(bytes: &[u8], marks: &[u8], lines: &mut [u64]) -> Listed
+pub fn list_losses(bytes: &[u8], marks: &[u8], lines: &mut [u64]) -> LossesListed
     ensures { λ r. ⌜
         ListsRecording (now (bytes .entry)) (now (marks .entry)) (now (lines .entry)) (numberOf (r .answer)) (r .count) (now (lines .exit)) ⌝ }
 {
@@ -496,10 +496,10 @@ pub fn list_losses(bytes: &[u8], marks: &[u8], lines: &mut [u64]) -> Listed
     let count = fed.count;
     let last = fed.stream;
     if answer.number() != 0 {
-        return Listed { answer, count: 0 };
+        return LossesListed { answer, count: 0 };
     }
     let closed = last.close(&mut lines[count..]);
-    Listed {
+    LossesListed {
         answer: Answer::Done,
         count: count + closed.count,
     }

@@ -20,7 +20,7 @@ use Rattle.convolutional_code.proofs.Bits.{bits-tail}
 use Rattle.viterbi_decoder.proofs.Ends.{SomeDecoded}
 use Rattle.viterbi_decoder.proofs.Laws.{Apart, free, best-same}
 use Rattle.viterbi_decoder.proofs.Order.{bits-head}
-use Rattle.puncturing.specs.Mode.{modeOf}
+use Rattle.puncturing.specs.Mode.{modeOf, qpskCount}
 use Rattle.puncturing.specs.Step.{patternLength}
 use Rattle.puncturing.proofs.Places.{tested-at}
 use Rattle.puncturing.proofs.Steps.{some-bits}
@@ -93,11 +93,11 @@ kind-apart ss (suc (suc (suc t))) j m b c h hb hc p q =
     let v : hard ss j (coded tapsX m c) ≡ 0 = omega arith in
     x-apart m b c (getD (flat ss) j 0) hb hc u v
 
-sends : (rate k : ℕ) → rate < 5 → 0 < kindAt rate k
+sends : (rate k : ℕ) → rate < qpskCount → 0 < kindAt rate k
 unfolding kind modeOf flatten
 sends rate k h = ltb→lt 0 (kindAt rate k) (tested-at (λ r p. ltb 0 (kind r p)) tt rate (k % patternLength rate) h (mod-lt k (some-bits rate h)))
 
-apart : (ss : List ℕ) (rate : ℕ) → rate < 5 → Apart (puncturedCosts rate (hard ss))
+apart : (ss : List ℕ) (rate : ℕ) → rate < qpskCount → Apart (puncturedCosts rate (hard ss))
 unfolding puncturedCosts
 apart ss rate h k s b c hb hc p q = kind-apart ss (kindAt rate k) (first rate k) s b c (sends rate k h) hb hc p q
 
@@ -106,7 +106,7 @@ apart ss rate h k s b c hb hc p q = kind-apart ss (kindAt rate k) (first rate k)
 differ-le : (a b : ℕ) → unequal a b ≤ 7
 differ-le a b = omega (arith, unequal-le a b)
 
-module _ (rate m : ℕ) (hr : rate < 5) (hm : m < 64) (ss : List ℕ) (whole : length ss % symbolsPerPattern rate ≡ 0) where
+module _ (rate m : ℕ) (hr : rate < qpskCount) (hm : m < 64) (ss : List ℕ) (whole : length ss % symbolsPerPattern rate ≡ 0) where
   abbrev n : ℕ
   n = runLength rate ss
 
@@ -135,7 +135,7 @@ same-free [] = refl
 same-free (s ∷ ss) = omega (arith, differ-same (s / 2), differ-same (s % 2), same-free ss)
 
 -- so a sequence is the best one of its own coding
-pub own-best : (rate m : ℕ) → rate < 5 → m < 64 → {bits : List ℕ} → Bits bits → length bits % patternLength rate ≡ 0 → (ss : List ℕ) → ss ≡ symbolsOf (coderAt rate m) bits
+pub own-best : (rate m : ℕ) → rate < qpskCount → m < 64 → {bits : List ℕ} → Bits bits → length bits % patternLength rate ≡ 0 → (ss : List ℕ) → ss ≡ symbolsOf (coderAt rate m) bits
     → {best : List ℕ} {total after : ℕ} → Decoded (hardCost ss rate m) (runLength rate ss) m best total after
     → (best ≡ bits) × (total ≡ 0) × (after ≡ memoryAfter m bits)
 own-best rate m hr hm {bits} w e ss es {best} d =
@@ -193,7 +193,7 @@ clear-only (more {s = s} {ss = ss} c g) (x ∷ xs) l w z =
     cc
 
 -- so a sequence is the best one where its coding was received clearly
-pub clear-best : {R : Type 0} (cost : R → ℕ → ℕ) (rate m : ℕ) → rate < 5 → m < 64 → {bits : List ℕ} → Bits bits → length bits % patternLength rate ≡ 0
+pub clear-best : {R : Type 0} (cost : R → ℕ → ℕ) (rate m : ℕ) → rate < qpskCount → m < 64 → {bits : List ℕ} → Bits bits → length bits % patternLength rate ≡ 0
     → (rs : List R) (ss : List ℕ) → ss ≡ symbolsOf (coderAt rate m) bits → AllClear cost rs ss
     → {best : List ℕ} {total after : ℕ} → Decoded (runCost (map cost rs) rate m) (runLength rate ss) m best total after
     → (best ≡ bits) × (total ≡ 0) × (after ≡ memoryAfter m bits)
