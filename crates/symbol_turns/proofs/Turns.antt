@@ -4,7 +4,7 @@
 use mathlib.Core.Path.{_≡_, refl, sym, _∙_, ap}
 use mathlib.Core.Bool.{Bool}
 use mathlib.Core.List.{List, [], _∷_, map}
-use Prim.Native.Nat.{ℕ, zero, suc, _+_, _/_, _%_, _<_}
+use Prim.Native.Nat.{ℕ, zero, suc, _+_, _%_, _<_}
 use Prim.{tt}
 use native.Mathlib.Omega.{arith}
 use lib.Dec.{T, eqb, ltb, eqb→eq, ltb→lt}
@@ -14,7 +14,7 @@ use Rattle.common.proofs.Computed.{below, below-at}
 use Rattle.common.proofs.Lists.{All-at, getD-map-in}
 use Rattle.convolutional_code.specs.Costs.{pairCost}
 use Rattle.reader.specs.Clear.{Clear, AllClear, none, more}
-use Rattle.reader.specs.Cost.{symbolCost, Costed}
+use Rattle.reader.specs.Cost.{Costed}
 use Rattle.symbol_turns.specs.Turn.{turned, undoing, turnedPair, turnedCost, byPair, invertsI, invertsQ, exchangedPair}
 
 -- a test that passes at every turn and at every number below n

@@ -1,0 +1,15 @@
+// Reading symbols that begin with an unknown memory: how many symbols of which nothing is known go in front of them.
+// Inner: its functions may require what the crates above have tested. docs/ARCHITECTURE.md names the public surface.
+ghost use mathlib.Core.Path.{_≡_};
+ghost use Prim.Native.Nat.{_<_};
+ghost use Rattle.free_start.specs.Lead.{leadSymbols};
+
+// The symbols of each rate's lead.
+const LEAD_SYMBOLS: [usize; 5] = [6, 6, 4, 6, 4];
+
+pub fn lead_symbols(rate: u8) -> usize
+    requires { ⌜ rate < 5 ⌝ }
+    ensures { λ r. ⌜ r ≡ leadSymbols rate ⌝ }
+{
+    LEAD_SYMBOLS[rate as usize]
+}
