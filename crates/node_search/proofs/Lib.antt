@@ -1,0 +1,5 @@
+mod Numbers
+mod Tables
+mod Runs
+mod Verdicts
+mod Calls
