@@ -3,13 +3,12 @@
 use mathlib.Core.Path.{_≡_, refl, sym, _∙_, ap}
 use Prim.Native.Nat.{ℕ, zero, suc, _+_, _-_, _*_, _/_, _<_, _≤_}
 use native.Mathlib.Omega.{arith}
-use native.Mathlib.Nat.{mul-le-mul}
 use lib.Dec.{ltb, ltb→lt}
 use Rattle.common.proofs.Computed as computed
 use Rattle.puncturing.specs.Mode.{modeOf}
 use Rattle.puncturing.specs.Step.{patternLength}
 use Rattle.reader.specs.Read.{symbolsPerPattern}
-use Rattle.node_search.specs.Search.{leadPatterns, leadSymbols}
+use Rattle.free_start.specs.Lead.{leadPatterns, leadSymbols, leadBits}
 use Rattle.block_sync.specs.declared.SyncStep.{SyncStep}
 use Rattle.acquisition.specs.declared.FoundBlock.{FoundBlock}
 use Rattle.acquisition.specs.Reading.{symbolAt, turnTold, blockFound}
@@ -17,8 +16,6 @@ use Rattle.acquisition.specs.Reading.{symbolAt, turnTold, blockFound}
 -- what the numbers of a rate are bounded by
 pub record RateNumbers (rate : ℕ) : Type 0 where
   pub some-bits : 0 < patternLength rate
-  pub few-bits : patternLength rate < 8
-  pub short-lead : leadPatterns rate < 7
   pub few-leads : leadSymbols rate < 9
 
 pub rate-numbers : (rate : ℕ) → rate < 5 → RateNumbers rate
@@ -26,18 +23,8 @@ unfolding leadPatterns leadSymbols symbolsPerPattern modeOf
 rate-numbers rate h =
     record {
       some-bits = ltb→lt _ _ (computed.below-at (λ r. ltb 0 (patternLength r)) 5 tt rate h);
-      few-bits = ltb→lt _ _ (computed.below-at (λ r. ltb (patternLength r) 8) 5 tt rate h);
-      short-lead = ltb→lt _ _ (computed.below-at (λ r. ltb (leadPatterns r) 7) 5 tt rate h);
       few-leads = ltb→lt _ _ (computed.below-at (λ r. ltb (leadSymbols r) 9) 5 tt rate h);
     }
-
--- the lead has few bits
-pub small-product : {rate l p : ℕ} → l ≡ patternLength rate → p ≡ leadPatterns rate → RateNumbers rate → l * p < 256
-small-product {rate} {l} {p} e f n =
-    let a : l ≤ 7 = omega (arith, e, n .few-bits) in
-    let b : p ≤ 6 = omega (arith, f, n .short-lead) in
-    let m : l * p ≤ 7 * 6 = mul-le-mul a b in
-    omega (arith, m)
 
 -- no more symbols than bits
 pub symbols-most : (rate : ℕ) → rate < 5 → (b : ℕ) → symbolsPerPattern rate * (b / patternLength rate) ≤ b
@@ -53,12 +40,11 @@ pub symbols-fit : (rate : ℕ) → rate < 5 → {l n : ℕ} → l ≡ patternLen
 symbols-fit rate h {l} {n} e f b = rw (e, f) (symbols-most rate h b)
 
 -- a bit of the lead is as the first one behind it
-pub symbol-before : (rate first bit lead : ℕ) → lead ≡ patternLength rate * leadPatterns rate → rate < 5 → bit < lead → first ≡ symbolAt rate first bit
+pub symbol-before : (rate first bit : ℕ) → rate < 5 → bit < leadBits rate → first ≡ symbolAt rate first bit
 unfolding symbolAt
-symbol-before rate first bit lead e h b =
-    let z : bit - patternLength rate * leadPatterns rate ≡ 0 = omega arith in
-    let m : symbolsPerPattern rate * ((bit - patternLength rate * leadPatterns rate) / patternLength rate) ≤ bit - patternLength rate * leadPatterns rate =
-    symbols-most rate h (bit - patternLength rate * leadPatterns rate) in
+symbol-before rate first bit h b =
+    let z : bit - leadBits rate ≡ 0 = omega (arith, b) in
+    let m : symbolsPerPattern rate * ((bit - leadBits rate) / patternLength rate) ≤ bit - leadBits rate = symbols-most rate h (bit - leadBits rate) in
     omega (arith, z, m)
 
 -- the parts of a block that was found
@@ -66,7 +52,3 @@ pub found-is : (rate turn first used : ℕ) (d : SyncStep) {t a b : ℕ} → t �
     → b ≡ symbolAt rate first (used + d .skipped + 1632)
     → _≡_ {A = FoundBlock} (record { begins = d .begins; rate = rate; turn = t; start = a; end = b; bytes = d .block }) (blockFound rate turn first used d)
 found-is rate turn first used d e f g = rw (e, f, g) refl
-
-pub few-symbols : (rate : ℕ) → rate < 5 → symbolsPerPattern rate < 5
-unfolding symbolsPerPattern modeOf
-few-symbols rate h = ltb→lt _ _ (computed.below-at (λ r. ltb (symbolsPerPattern r) 5) 5 tt rate h)

@@ -14,7 +14,8 @@ use Rattle.common.specs.Choice.{pick}
 use Rattle.common.specs.Lists.{All, padded}
 use Rattle.reader_stream.proofs.Runs.{all-drop, drop-take, held-length}
 use Rattle.symbol_turns.specs.Turn.{undoing, turnedPair}
-use Rattle.node_search.specs.Search.{leadSymbols, HypothesisValid}
+use Rattle.free_start.specs.Lead.{leadSymbols}
+use Rattle.node_search.specs.Search.{FoundKnown}
 use Rattle.node_search.specs.declared.Hypothesis.{Hypothesis}
 use Rattle.node_search.specs.declared.Search.{Search}
 use Rattle.block_sync.specs.Feed.{freshBlockSync}
@@ -27,7 +28,7 @@ use Rattle.acquisition.specs.declared.Acquisition.{Acquisition}
 use Rattle.acquisition.specs.declared.ReadStep.{ReadStep}
 use Rattle.acquisition.specs.declared.Event.{Event}
 use Rattle.acquisition.specs.declared.Event.the-variants.{Waits, Block, Lost}
-use Rattle.acquisition.proofs.Numbers.{rate-numbers, few-symbols}
+use Rattle.acquisition.proofs.Numbers.{rate-numbers}
 use Rattle.acquisition.proofs.Bits.{padded-length, taken-few}
 use Rattle.acquisition.proofs.Symbols.{run-counts}
 
@@ -104,9 +105,9 @@ begun-of rate mirrored h k window came n c m r o t b =
     }
 
 pub after-search-ready : (rate : ℕ) (mirrored : Bool) (came : ℕ) (window : List ℕ) (search : Search) (next : Acquisition) → rate < 6 → length window ≡ 1632 → All (λ p. p < 81) window
-    → 1632 ≤ came → came < 1152921504606846976 → HypothesisValid search → AfterSearch rate mirrored came window search next → AcquisitionReady next
+    → 1632 ≤ came → came < 1152921504606846976 → FoundKnown search → AfterSearch rate mirrored came window search next → AcquisitionReady next
 after-search-ready rate mirrored came window _ _ k n a c m v (found h r b) =
-    let o : h .offset ≤ 1632 = omega (arith, v .1, few-symbols (h .rate) (v .0)) in
+    let o : h .offset ≤ 1632 = omega (arith, v .1) in
     reading-ready rate mirrored r (drop (h .offset) window) came k (omega (arith, n, length-drop (h .offset) window)) (all-drop (h .offset) window a)
     (omega (arith, n, c, length-drop (h .offset) window)) m
     (begun-of rate mirrored h r window came n c m (v .0) o (v .2) b)

@@ -13,7 +13,7 @@ use Rattle.reader.specs.Read.{symbolsPerPattern}
 use Rattle.reader_stream.specs.Runs.{RunsReady, RunsHold, FeedsSymbols}
 use Rattle.reader_stream.specs.declared.symbol_runs.SymbolRuns.{SymbolRuns}
 use Rattle.symbol_turns.specs.Turn.{undoing, turnedPair}
-use Rattle.node_search.specs.Search.{leadPatterns, leadSymbols}
+use Rattle.free_start.specs.Lead.{leadSymbols, leadBits}
 use Rattle.node_search.specs.declared.Hypothesis.{Hypothesis}
 use Rattle.block_sync.specs.Feed.{freshBlockSync, FeedsSync}
 use Rattle.block_sync.specs.declared.BlockSync.{BlockSync}
@@ -28,7 +28,7 @@ use Rattle.acquisition.specs.declared.Event.the-variants.{Waits, Block, 
 
 -- how many symbols came before the pattern that has a bit of a reading; the bits of the lead count as the first one behind it
 unfoldable pub symbolAt : ℕ → ℕ → ℕ → ℕ
-symbolAt rate first bit = first + symbolsPerPattern rate * ((bit - patternLength rate * leadPatterns rate) / patternLength rate)
+symbolAt rate first bit = first + symbolsPerPattern rate * ((bit - leadBits rate) / patternLength rate)
 
 -- the turn that a reading turns back: at 5/6 the one that was found, or the mirrored one, which no inner decoder can tell from it
 abbrev pub turnRead : Hypothesis → Bool → ℕ

@@ -8,7 +8,8 @@ use Prim.Native.Nat.{ℕ, _+_, _-_, _*_, _<_, _≤_}
 use lib.ListN.{length, take, drop, replicate}
 use Rattle.common.specs.Choice.{pick}
 use Rattle.common.specs.Lists.{All, padded}
-use Rattle.node_search.specs.Search.{Searched}
+use Rattle.node_search.specs.Hypotheses.{searched}
+use Rattle.node_search.specs.Search.{Searches as Search·searches}
 use Rattle.node_search.specs.declared.Hypothesis.{Hypothesis}
 use Rattle.node_search.specs.declared.Search.{Search}
 use Rattle.node_search.specs.declared.Search.the-variants.{Found, Nothing, Several}
@@ -92,7 +93,7 @@ windowOf s piece = pendingOf s ++ take (1632 - s .held) piece
 -- The window has come.
 pub record SearchesWindow (s : Acquisition) (piece : List ℕ) (r : Step) : Type 0 where
   pub search : Search
-  pub searches : Searched (s .rate) (windowOf s piece) search
+  pub searches : Search·searches (windowOf s piece) (searched (s .rate)) search
   pub next : Acquisition
   pub after : AfterSearch (s .rate) (s .mirrored) (s .came + (1632 - s .held)) (windowOf s piece) search next
   pub result : r ≡ waiting next (1632 - s .held)

@@ -9,7 +9,7 @@ ghost use lib.ListN.{length};
 ghost use Rattle.common.specs.Choice.{pick};
 ghost use Rattle.common.specs.Lists.{All, padded};
 ghost use Rattle.reader_stream.specs.Runs.{RunsReady};
-ghost use Rattle.node_search.specs.Search.{HypothesisValid};
+ghost use Rattle.node_search.specs.Search.{FoundKnown};
 ghost use Rattle.acquisition.specs.Reading.{symbolAt, turnRead, turnTold, idleReading, Begins, TakesBits, eventOf, blockFound, usedBy, ReadingReady, SettlesBits, ReadsSymbols};
 ghost use Rattle.acquisition.specs.End.{ClosesReading, lastEvent, ClosesBlocks, overWith, goesOn, EndsBlocks, EndsAcquisition, EndCounts};
 ghost use Rattle.acquisition.specs.Step.{StepCounts, searchingOn, readingOn, waiting, SearchReady, ReadReady, AfterSearch, afterReading, SearchesOn, ReadsPending, ReadsPiece, AcquisitionReady, freshAcquisition, StepsAcquisition};
@@ -17,10 +17,10 @@ use block_sync::BlockSync;
 use block_sync::SyncStep;
 use common::least;
 use common::put;
+use free_start::lead_bits;
+use free_start::lead_symbols;
 use node_search::Hypothesis;
 use node_search::Search;
-use node_search::lead_patterns;
-use node_search::lead_symbols;
 use puncturing::pattern_length;
 use reader::symbol_count;
 use reader_stream::symbol_runs::SymbolRuns;
@@ -105,7 +105,7 @@ fn symbol_at(rate: u8, first: u64, bit: u64) -> u64
     ensures { λ r. ⌜ r ≡ symbolAt rate first bit ⌝ }
 {
     let length = pattern_length(rate) as u64;
-    let lead = length * lead_patterns(rate) as u64;
+    let lead = lead_bits(rate) as u64;
     if bit < lead {
         return first;
     }
@@ -358,7 +358,7 @@ fn reading_on(rate: u8, mirrored: bool, reading: Reading, pending: &[u8], came: 
 
 // What a search of a full window leaves: a reading of the symbols from the offset on, or nothing of them.
 fn searched(rate: u8, mirrored: bool, came: u64, window: &[u8], search: Search) -> Acquisition
-    requires { ⌜ (length (now window) ≡ 1632) × (1632 ≤ came) × (came < 1152921504606846976) × (HypothesisValid search) ⌝ }
+    requires { ⌜ (length (now window) ≡ 1632) × (1632 ≤ came) × (came < 1152921504606846976) × (FoundKnown search) ⌝ }
     ensures { λ r. ⌜ AfterSearch rate mirrored came (now (window .entry)) search r ⌝ }
 {
     match search {

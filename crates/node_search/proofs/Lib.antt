@@ -1,0 +1,6 @@
+mod Numbers
+mod Tables
+mod Runs
+mod Verdicts
+mod Calls
+pub mod Found

@@ -1,1 +1,3 @@
+pub mod Hypotheses
+pub mod Weight
 pub mod Search

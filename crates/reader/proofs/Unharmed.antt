@@ -37,7 +37,7 @@ use Rattle.reader.proofs.Existence.{steps-cost, some-best}
 
 -- ---- hard costs
 
-abbrev hard : List ℕ → ℕ → ℕ → ℕ
+abbrev pub hard : List ℕ → ℕ → ℕ → ℕ
 hard ss j v = unequal (getD (flat ss) j 0) v
 
 flat-i : (ss : List ℕ) (i : ℕ) → getD (flat ss) (2 * i) 0 ≡ getD ss i 0 / 2
@@ -54,7 +54,7 @@ flat-q (s ∷ ss) (suc i) = let e : 2 * suc i + 1 ≡ suc (suc (2 * i + 1)) = om
 pub differing-at : (ss : List ℕ) (i s : ℕ) → i < length (map differing ss) → getD (map differing ss) i (λ s. 0) s ≡ differing (getD ss i 0) s
 differing-at ss i s h = ap (λ (f : ℕ → ℕ). f s) (getD-map-in differing ss 0 (λ s. 0) i (rw length-map at h))
 
-hard-splits : (ss : List ℕ) → Splits (map differing ss) (hard ss) 0
+pub hard-splits : (ss : List ℕ) → Splits (map differing ss) (hard ss) 0
 hard-splits ss = record {
   at = λ i s h four.
       let a : 0 + 2 * i ≡ 2 * i = omega arith in
@@ -63,7 +63,7 @@ hard-splits ss = record {
 
 -- ---- each step tells its two bits apart
 
-differ-zero : (a b : ℕ) → unequal a b ≡ 0 → a ≡ b
+pub differ-zero : (a b : ℕ) → unequal a b ≡ 0 → a ≡ b
 differ-zero a b h = go (eqb a b) refl h
   where
     go : (t : Bool) → eqb a b ≡ t → pick {A = ℕ} t 0 1 ≡ 0 → a ≡ b
@@ -175,12 +175,12 @@ hard-clear [] = none
 hard-clear (s ∷ ss) = more (differing-clear s) (hard-clear ss)
 
 -- the symbols sent cost nothing, and only they
-clear-free : {R : Type 0} {cost : R → ℕ → ℕ} {rs : List R} {ss : List ℕ} → AllClear cost rs ss → totalCost (map cost rs) ss ≡ 0
+pub clear-free : {R : Type 0} {cost : R → ℕ → ℕ} {rs : List R} {ss : List ℕ} → AllClear cost rs ss → totalCost (map cost rs) ss ≡ 0
 unfolding totalCost
 clear-free none = refl
 clear-free (more c g) = omega (arith, c .free-sent, clear-free g)
 
-clear-only : {R : Type 0} {cost : R → ℕ → ℕ} {rs : List R} {ss : List ℕ} → AllClear cost rs ss → (xs : List ℕ) → length xs ≡ length ss → Bits (flat xs)
+pub clear-only : {R : Type 0} {cost : R → ℕ → ℕ} {rs : List R} {ss : List ℕ} → AllClear cost rs ss → (xs : List ℕ) → length xs ≡ length ss → Bits (flat xs)
     → totalCost (map cost rs) xs ≡ 0 → xs ≡ ss
 unfolding totalCost
 clear-only none [] l w z = refl

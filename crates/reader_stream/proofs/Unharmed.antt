@@ -142,15 +142,15 @@ pub record WholeStream (rate : ℕ) (bits : List ℕ) (came : ℕ) (out : List �
   pub within : runBits rate came ≤ length bits
   pub behind : rest ≡ came % symbolsPerPattern rate
 
--- of what was decided, and what the end of the stream gives
-decided-whole : {R : Type 0} (cost : R → ℕ → ℕ) (rate : ℕ) → rate < qpskCount → (bits : List ℕ) → Bits bits → (rs left : List R) (ss unread : List ℕ) → AllClear cost rs ss
-    → ss ++ unread ≡ symbolsOf (coderAt rate 0) bits → {out : List ℕ} {last : ℕ} → Decided cost rate 0 rs out last left
+-- of what was decided from a memory on, and what the end of the stream gives
+pub decided-whole : {R : Type 0} (cost : R → ℕ → ℕ) (rate : ℕ) → rate < qpskCount → (m : ℕ) → m < 64 → (bits : List ℕ) → Bits bits → (rs left : List R) (ss unread : List ℕ) → AllClear cost rs ss
+    → ss ++ unread ≡ symbolsOf (coderAt rate m) bits → {out : List ℕ} {last : ℕ} → Decided cost rate m rs out last left
     → {output exit : List ℕ} {count rest : ℕ} → EndDecided cost rate last left output count rest exit → WholeStream rate bits (length rs) (out ++ take count exit) rest
-decided-whole cost rate hr bits w rs left ss unread g e {out} {last} d {output} {exit} {count} {rest} end =
+decided-whole cost rate hr m hm bits w rs left ss unread g e {out} {last} d {output} {exit} {count} {rest} end =
     let p = patternLength rate in
     let s = symbolsPerPattern rate in
-    let b = stream-given-back cost rate hr 0 (omega arith) bits w unread g e d in
-    let hl : last < 64 = rw (b .memory) (memory-in-range rate 0 hr (omega arith) (take-bits (length out) w)) in
+    let b = stream-given-back cost rate hr m hm bits w unread g e d in
+    let hl : last < 64 = rw (b .memory) (memory-in-range rate m hr hm (take-bits (length out) w)) in
     let others : List ℕ = drop (length out) bits in
     -- the whole patterns that are left
     let k : ℕ = s * end .whole in
@@ -187,7 +187,7 @@ decided-whole cost rate hr bits w rs left ss unread g e {out} {last} d {output} 
 pub read-whole : {R : Type 0} (cost : R → ℕ → ℕ) (rate : ℕ) (bits : List ℕ) → Bits bits → (rs : List R) (ss unread : List ℕ) → AllClear cost rs ss
     → ss ++ unread ≡ symbolsOf (coderAt rate 0) bits → {out : List ℕ} {rest : ℕ} → ReadToEnd cost rate rs out rest → WholeStream rate bits (length rs) out rest
 read-whole cost rate bits w rs ss unread g e {rest = rest} r =
-    subst (λ (l : List ℕ). WholeStream rate bits (length rs) l rest) (sym (r .bits-are)) (decided-whole cost rate (r .known) bits w rs (r .left) ss unread g e (r .runs) (r .end))
+    subst (λ (l : List ℕ). WholeStream rate bits (length rs) l rest) (sym (r .bits-are)) (decided-whole cost rate (r .known) 0 (omega arith) bits w rs (r .left) ss unread g e (r .runs) (r .end))
 
 -- What it gives as bytes: those of the bits that were sent up to the last whole pattern that came.
 pub record WholeBytes (rate : ℕ) (bits : List ℕ) (came : ℕ) (bytes : List ℕ) (rest left-bits : ℕ) : Type 0 where

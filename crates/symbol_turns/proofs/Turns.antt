@@ -4,17 +4,18 @@
 use mathlib.Core.Path.{_≡_, refl, sym, _∙_, ap}
 use mathlib.Core.Bool.{Bool}
 use mathlib.Core.List.{List, [], _∷_, map}
-use Prim.Native.Nat.{ℕ, zero, suc, _+_, _/_, _%_, _<_}
+use Prim.Native.Nat.{ℕ, zero, suc, _+_, _%_, _<_}
 use Prim.{tt}
 use native.Mathlib.Omega.{arith}
 use lib.Dec.{T, eqb, ltb, eqb→eq, ltb→lt}
 use lib.ListN.{length, getD, length-map}
+use lib.Seq.{ext-getD}
 use Rattle.common.specs.Lists.{All}
 use Rattle.common.proofs.Computed.{below, below-at}
-use Rattle.common.proofs.Lists.{All-at, getD-map-in}
+use Rattle.common.proofs.Lists.{All-at, getD-map-in, length-listOf, getD-listOf}
 use Rattle.convolutional_code.specs.Costs.{pairCost}
 use Rattle.reader.specs.Clear.{Clear, AllClear, none, more}
-use Rattle.reader.specs.Cost.{symbolCost, Costed}
+use Rattle.reader.specs.Cost.{symbolCost, costsOf, Costed}
 use Rattle.symbol_turns.specs.Turn.{turned, undoing, turnedPair, turnedCost, byPair, invertsI, invertsQ, exchangedPair}
 
 -- a test that passes at every turn and at every number below n
@@ -70,6 +71,26 @@ back-cost t p s ht hp hs =
 pub pairs-small : (t : ℕ) → t < 8 → (l : List ℕ) → All (λ p. p < 81) l → All (λ p. p < 81) (map (turnedPair t) l)
 pairs-small t ht [] w = tt
 pairs-small t ht (p ∷ l) w = (pair-small t p ht (w .0), pairs-small t ht l (w .1))
+
+-- what a list of decisions makes symbols cost is what each of its pairs does
+pub costs-map : (l : List ℕ) → costsOf l ≡ map byPair l
+unfolding costsOf
+costs-map l =
+    ext-getD (λ s. 0) (costsOf l) (map byPair l) (length-listOf (length l) (symbolCost l) ∙ sym (length-map l byPair))
+    (λ i h.
+    let k : i < length l = rw (length-listOf (length l) (symbolCost l)) at h in
+    getD-listOf (length l) (symbolCost l) (λ s. 0) i k ∙ sym (getD-map-in byPair l 0 (λ s. 0) i k))
+
+-- decisions that are clear about turned symbols are clear about the symbols when they are turned back
+pub clear-back : (t : ℕ) → t < 8 → {rs ss : List ℕ} → All (λ p. p < 81) rs → All (λ s. s < 4) ss → AllClear (turnedCost byPair t) rs ss
+    → AllClear byPair (map (turnedPair (undoing t)) rs) ss
+clear-back t ht w v none = none
+clear-back t ht w v (more {r} {s} c g) =
+    more
+    (record {
+      free-sent = back-cost t r s ht (w .0) (v .0) ∙ c .free-sent;
+      only = λ other h z. c .only other h (sym (back-cost t r other ht (w .0) h) ∙ z);
+    }) (clear-back t ht (w .1) (v .1) g)
 
 -- ---- received symbols of any kind
 

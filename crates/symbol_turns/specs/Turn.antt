@@ -6,7 +6,6 @@ use mathlib.Core.Bool.{Bool}
 use mathlib.Core.List.{List, [], _∷_}
 use Prim.Native.Nat.{ℕ, zero, suc, _+_, _-_, _*_, _/_, _%_}
 use lib.Dec.{eqb, ltb}
-use lib.ListN.{getD}
 use Rattle.common.specs.Choice.{pick}
 use Rattle.convolutional_code.specs.Costs.{pairCost}
 
@@ -45,6 +44,11 @@ inverseLevel l = pick (ltb l 8) (7 - l) l
 -- a pair of decisions 9 i + q
 unfoldable pub turnedPair : ℕ → ℕ → ℕ
 turnedPair = turnedIn 9 inverseLevel
+
+-- What an inner decoder can tell of a turn at a rate, as the least turn of those that it cannot tell from it: the half turn is told at no rate, and at
+-- rate 5/6, number 3, neither is the mirror.
+unfoldable pub turnClass : ℕ → ℕ → ℕ
+turnClass rate t = pick (eqb rate 3) (t % 2) (4 * (t / 4) + t % 2)
 
 -- ---- costs
 

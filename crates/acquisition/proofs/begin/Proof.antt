@@ -14,7 +14,6 @@ use Rattle.acquisition.proofs.begin.Statement.{statement}
 use Rattle.acquisition.proofs.begin.Tie as tie
 use Rattle.acquisition.proofs.turn_read.Reads as turn-read-reads
 use Rattle.block_sync.proofs.BlockSync.new.Reads as new-reads
-use Rattle.node_search.proofs.lead_symbols.Reads as lead-symbols-reads
 use Rattle.reader_stream.proofs.symbol_runs.feed.Reads as feed-reads
 use Rattle.reader_stream.proofs.symbol_runs.open.Reads as open-reads
 

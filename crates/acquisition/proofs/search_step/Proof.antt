@@ -5,10 +5,13 @@ use mathlib.Core.List.{List, _++_}
 use Prim.Native.Nat.{ℕ, _+_, _-_, _<_, _≤_}
 use native.Mathlib.Omega.{arith}
 use lib.ListN.{length, take, length-append}
+use Rattle.answer.specs.Number.{numberOf}
 use Rattle.common.proofs.Lists.{All-append}
 use Rattle.common.proofs.Padded.{padded-full}
 use Rattle.reader_stream.proofs.Runs.{all-take}
-use Rattle.node_search.specs.Search.{Searched}
+use Rattle.node_search.specs.Hypotheses.{searched}
+use Rattle.node_search.specs.Search.{Searches, SearchesWindow}
+use Rattle.node_search.proofs.Found.{found-known, search-done}
 use Rattle.acquisition.specs.Step.{pendingOf, searchingOn, windowOf, waiting, AcquisitionReady, AfterSearch, gathers, fills}
 use Rattle.acquisition.specs.declared.Acquisition.{Acquisition}
 use Rattle.acquisition.specs.declared.Step.{Step}
@@ -32,6 +35,18 @@ window c =
     let s = c .before .before .before .before .before .before in
     c .joined2 .ensures ∙ padded-full 1632 (windowOf (s .args .state) (s .args .piece .now))
     (window-length (s .args .state) (s .args .piece .now) (s .pre .0 .window-size) (omega (arith, s .pre .0 .window-few)) (c .before .before .before .if1 .left))
+
+-- the search of it
+searches : (c : tie.After-search-window)
+    → let s = c .before .before .before .before .before .before .before .before in
+    Searches (windowOf (s .args .state) (s .args .piece .now)) (searched (s .args .state .rate)) (c .search-window .result .search)
+searches c =
+    let s = c .before .before .before .before .before .before .before .before in
+    let l = windowOf (s .args .state) (s .args .piece .now) in
+    search-done (s .args .state .rate) l _ (c .search-window .result .search) (s .pre .0 .searched-known)
+    (window-length (s .args .state) (s .args .piece .now) (s .pre .0 .window-size) (omega (arith, s .pre .0 .window-few)) (c .before .before .before .before .before .if1 .left))
+    (All-append (λ p. p < 81) (pendingOf (s .args .state)) (take (1632 - s .args .state .held) (s .args .piece .now)) (s .pre .0 .window-small) (all-take (1632 - s .args .state .held) (s .args .piece .now) (s .pre .2)))
+    (subst (λ (x : List ℕ). SearchesWindow (s .args .state .rate) x (numberOf (c .search-window .result .answer)) (c .search-window .result .search)) (window (c .before .before)) (c .search-window .ensures))
 
 sub-space : tie.Need-sub-space
 sub-space c = search needs
@@ -91,13 +106,13 @@ slice-aggregate-searched : tie.Need-slice-aggregate-searched
 slice-aggregate-searched c = search needs
 
 searched-requires : tie.Need-searched-requires
-searched-requires c κs = search needs
+searched-requires c κs = let s = c .before .before .before .before .before .before .before .before .before in (ap length (window (c .before .before .before)) ∙ window-length (s .args .state) (s .args .piece .now) (s .pre .0 .window-size) (omega (arith, s .pre .0 .window-few)) (c .before .before .before .before .before .before .if1 .left), omega (arith, s .pre .0 .window-came), omega (arith, s .pre .1, c .before .before .before .before .before .before .if1 .left), found-known (s .args .state .rate) (windowOf (s .args .state) (s .args .piece .now)) (c .before .search-window .result .search) (searches (c .before)))
 
 waits-requires-2 : tie.Need-waits-requires-2
 waits-requires-2 c κs = search needs
 
 returns-2 : tie.Need-returns-2
-returns-2 c = let s = c .before .before .before .before .before .before .before .before .before .before .before in let a : AfterSearch (s .args .state .rate) (s .args .state .mirrored) (s .args .state .came + (1632 - s .args .state .held)) (windowOf (s .args .state) (s .args .piece .now)) (c .before .before .before .search-window .result .search) (c .before .searched .result) = subst (λ (l : List ℕ). AfterSearch (s .args .state .rate) (s .args .state .mirrored) (s .args .state .came + (1632 - s .args .state .held)) l (c .before .before .before .search-window .result .search) (c .before .searched .result)) (window (c .before .before .before .before .before)) (c .before .searched .ensures) in let f = c .before .before .before .before .before .before .before .before .if1 .left in (fills (omega (arith, f)) (record { search = c .before .before .before .search-window .result .search; searches = subst (λ (l : List ℕ). Searched (s .args .state .rate) l (c .before .before .before .search-window .result .search)) (window (c .before .before .before .before .before)) (c .before .before .before .search-window .ensures .0); next = c .before .searched .result; after = a; result = c .waits2 .ensures }), subst (λ (x : Step). AcquisitionReady (x .acquisition)) (sym (c .waits2 .ensures)) (after-search-ready (s .args .state .rate) (s .args .state .mirrored) (s .args .state .came + (1632 - s .args .state .held)) (windowOf (s .args .state) (s .args .piece .now)) (c .before .before .before .search-window .result .search) (c .before .searched .result) (s .pre .0 .searched-known) (window-length (s .args .state) (s .args .piece .now) (s .pre .0 .window-size) (omega (arith, s .pre .0 .window-few)) f) (All-append (λ p. p < 81) (pendingOf (s .args .state)) (take (1632 - s .args .state .held) (s .args .piece .now)) (s .pre .0 .window-small) (all-take (1632 - s .args .state .held) (s .args .piece .now) (s .pre .2))) (omega (arith, s .pre .0 .window-came)) (omega (arith, s .pre .1, f)) (c .before .before .before .search-window .ensures .1) a), subst (λ (x : Step). x .taken ≤ length (s .args .piece .now)) (sym (c .waits2 .ensures)) f)
+returns-2 c = let s = c .before .before .before .before .before .before .before .before .before .before .before in let a : AfterSearch (s .args .state .rate) (s .args .state .mirrored) (s .args .state .came + (1632 - s .args .state .held)) (windowOf (s .args .state) (s .args .piece .now)) (c .before .before .before .search-window .result .search) (c .before .searched .result) = subst (λ (l : List ℕ). AfterSearch (s .args .state .rate) (s .args .state .mirrored) (s .args .state .came + (1632 - s .args .state .held)) l (c .before .before .before .search-window .result .search) (c .before .searched .result)) (window (c .before .before .before .before .before)) (c .before .searched .ensures) in let f = c .before .before .before .before .before .before .before .before .if1 .left in (fills (omega (arith, f)) (record { search = c .before .before .before .search-window .result .search; searches = searches (c .before .before .before); next = c .before .searched .result; after = a; result = c .waits2 .ensures }), subst (λ (x : Step). AcquisitionReady (x .acquisition)) (sym (c .waits2 .ensures)) (after-search-ready (s .args .state .rate) (s .args .state .mirrored) (s .args .state .came + (1632 - s .args .state .held)) (windowOf (s .args .state) (s .args .piece .now)) (c .before .before .before .search-window .result .search) (c .before .searched .result) (s .pre .0 .searched-known) (window-length (s .args .state) (s .args .piece .now) (s .pre .0 .window-size) (omega (arith, s .pre .0 .window-few)) f) (All-append (λ p. p < 81) (pendingOf (s .args .state)) (take (1632 - s .args .state .held) (s .args .piece .now)) (s .pre .0 .window-small) (all-take (1632 - s .args .state .held) (s .args .piece .now) (s .pre .2))) (omega (arith, s .pre .0 .window-came)) (omega (arith, s .pre .1, f)) (found-known (s .args .state .rate) (windowOf (s .args .state) (s .args .piece .now)) (c .before .before .before .search-window .result .search) (searches (c .before .before .before))) a), subst (λ (x : Step). x .taken ≤ length (s .args .piece .now)) (sym (c .waits2 .ensures)) f)
 
 pub search-step-spec : {M : Type 1} → statement M
 search-step-spec =

@@ -7,7 +7,7 @@ use Prim.Native.Nat.{ℕ}
 use mathlib.Core.List.{List}
 use mathlib.Core.Path.{ap, sym, _∙_, subst}
 use Rattle.node_search.specs.declared.Search.{Search}
-use Rattle.node_search.specs.Search.{HypothesisValid}
+use Rattle.node_search.specs.Search.{FoundKnown}
 use borrow.Author.Needs.{needs}
 use Rattle.acquisition.proofs.searched.Statement.{statement}
 use Rattle.acquisition.proofs.searched.Tie as tie
@@ -28,7 +28,7 @@ add-begin : tie.Need-add-begin
 add-begin c = search needs
 
 begin-requires : tie.Need-begin-requires
-begin-requires c κs = let s = c .before .before .before .before .before in let v = subst HypothesisValid (c .before .before .search .given .1) (s .pre .3) in (v .0, v .2)
+begin-requires c κs = let s = c .before .before .before .before .before in let v = subst FoundKnown (c .before .before .search .given .1) (s .pre .3) in (v .0, v .2)
 
 sub-reading-on : tie.Need-sub-reading-on
 sub-reading-on c = search needs
