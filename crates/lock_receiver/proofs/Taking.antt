@@ -41,9 +41,6 @@ module _ (v : LockReceiver) {block output lines room packet linesExit : List ℕ
   abbrev call : Call
   call = t .call
 
-  few : waitingOf k ≤ 7
-  few = omega (arith, lock-range v (y .range) .waiting .0, most-seven (s .sync .place))
-
   -- while the delays fill nothing waits
   none-waits : s .counts .taken < 11 → waitingOf k ≡ 0
   none-waits h = omega (arith, lock-range v (y .range) .waiting .1)
