@@ -2,8 +2,8 @@
 -- were sent, whatever pieces it comes in, and at its end all of them up to the last whole pattern.
 -- Assumes nothing.
 use mathlib.Core.Path.{_≡_, refl, sym, _∙_, ap, ap₂, subst}
-use mathlib.Core.List.{List, [], _++_, map, append-assoc}
-use Prim.Native.Nat.{ℕ, zero, _+_, _-_, _*_, _/_, _%_, _<_, _≤_}
+use mathlib.Core.List.{List, _++_, map, append-assoc}
+use Prim.Native.Nat.{ℕ, _+_, _-_, _*_, _/_, _%_, _<_, _≤_}
 use native.Mathlib.Decide.{decLt}
 use native.Mathlib.Nat.{mul-comm, mul-suc, mul-mod-right, mul-div-right, mul-add, mul-add-div, mul-add-mod-self-left, mul-le-mul-left, div-add-mod, mod-lt, mod-eq-of-lt}
 use native.Mathlib.Omega.{arith}

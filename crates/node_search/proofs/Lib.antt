@@ -3,3 +3,4 @@ mod Tables
 mod Runs
 mod Verdicts
 mod Calls
+pub mod Truth
