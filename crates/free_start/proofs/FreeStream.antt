@@ -128,7 +128,7 @@ module _ {R : Type 0} (cost : R → ℕ → ℕ) (rate : ℕ) (hr : rate < 5) (u
       subst (λ (x : ℕ). Decoded (runCost (map cost (unknown ++ take (s′ * j) rs)) rate 0) (runBits rate x) 0 best total after) (sym ll)
       (subst (λ (l : List R). Decoded (runCost (map cost l) rate 0) (runBits rate (s′ * n)) 0 best total after) (take-lead n j h) d) in
       let o = free-start cost rate hr k (lead-numbers rate hr .six) unknown u lead-size m hm (take (p′ * j) bits) (take-bits (p′ * j) w) (ap (λ (x : ℕ). x % p′) lb ∙ mul-mod-right p′ j)
-      (take (s′ * j) rs) (take (s′ * j) ss) (c .front) (clear-take (s′ * j) g) d′ (omega (arith, lb, mul-le-mul-left p′ six)) in
+      (take (s′ * j) rs) (take (s′ * j) ss) (c .front) (clear-length (clear-take (s′ * j) g)) d′ (clear-take (s′ * j) g) (omega (arith, lb, mul-le-mul-left p′ six)) in
       let far : length best ≡ p′ * n = d .best .size ∙ ap (λ (x : ℕ). p′ * x) (mul-div-right n (some-symbols rate hr)) in
       record {
         behind = o .0;

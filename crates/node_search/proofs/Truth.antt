@@ -1,4 +1,5 @@
--- On an unharmed window the search answers the truth, or that there are several hypotheses: the true one costs nothing, so it is a candidate.
+-- On an unharmed window the search answers the truth, or that there are several hypotheses: the true one costs no more than the decisions cost in any case,
+-- so it is a candidate.
 -- Assumes nothing.
 use mathlib.Core.Path.{_≡_, refl, sym, _∙_, ap, ap₂, subst}
 use mathlib.Core.Bool.{Bool, true, false, true≢false}
@@ -9,7 +10,7 @@ use Prim.{tt}
 use native.Mathlib.Decide.{decLt, ℕ-discrete}
 use native.Mathlib.Nat.{mul-mod-right, mul-div-right, mod-lt, mod-eq-of-lt, div-add-mod, mul-suc}
 use native.Mathlib.Omega.{arith}
-use borrow.Author.Tests.{lt-ltb}
+use borrow.Author.Tests.{lt-ltb, eq-eqb, ne-eqb}
 use lib.Dec.{T, eqb, ltb, eqb→eq, ltb→lt}
 use lib.ListN.{length, getD, take, drop, replicate, length-append, length-drop, length-map, length-replicate, List·getD-append}
 use lib.Seq.{length-take-le, drop-append-add, getD-append-add}
@@ -26,26 +27,29 @@ use Rattle.puncturing.specs.Step.{patternLength}
 use Rattle.inner_code.specs.Encode.{coderAt}
 use Rattle.inner_code.specs.Step.{symbolsOf}
 use Rattle.viterbi_decoder.specs.Best.{Decoded}
-use Rattle.reader.specs.Clear.{Clear, AllClear, none, more}
-use Rattle.reader.specs.Cost.{runCost}
+use Rattle.reader.specs.Clear as clear
+use Rattle.reader.specs.Clear.{AllClear}
+use Rattle.reader.specs.Cost.{differing, totalCost, runCost}
+use Rattle.reader.specs.Decisions.{hardPair}
 use Rattle.reader.specs.Read.{symbolsPerPattern, runBits}
 use Rattle.reader.proofs.Costs.{sent-small}
 use Rattle.reader.proofs.Patterns.{some-symbols, memory-in-range}
 use Rattle.reader.proofs.Streams.{take-bits, drop-bits}
-use Rattle.reader.proofs.Unharmed.{clear-length, clear-take, clear-drop}
+use Rattle.reader.proofs.Decisions.{pair-is}
+use Rattle.reader.proofs.Unharmed.{differing-clear}
 use Rattle.reader_stream.specs.Runs.{runPatterns}
 use Rattle.reader_stream.proofs.Runs.{all-take, all-drop}
 use Rattle.free_start.specs.Lead.{Unknown, leadPatterns, leadSymbols}
-use Rattle.free_start.proofs.FreeStart.{free-nothing}
+use Rattle.free_start.proofs.FreeStart.{free-least}
 use Rattle.free_start.proofs.FreeStream.{lead-numbers, cut}
 use Rattle.symbol_turns.specs.Turn.{undoing, turned, turnedPair, turnClass, byPair}
-use Rattle.symbol_turns.proofs.Turns.{costs-map, clear-turned, clear-back}
+use Rattle.symbol_turns.proofs.Turns.{turned-small, turned-all, costs-map, back-cost}
 use Rattle.symbol_turns.proofs.Ambiguity.{classed}
 use Rattle.node_search.specs.Hypotheses.{hypothesis, turnsTold, hypothesisAt, hypothesisCount, hypothesesOf, hypothesesBelow, anyRate, searched}
 use Rattle.node_search.specs.Search as candidates
 use Rattle.node_search.specs.Search.{kept, Candidates, next, verdict, Searches, SearchesWindow, refused, done}
-use Rattle.node_search.specs.Sent.{SentWindow, startOffset, trueHypothesis}
-use Rattle.node_search.specs.Weight.{apart, ofPair, weightOf, floorOf, triedSymbols, triedPairs, ledRun, threshold, fits, Weighed}
+use Rattle.node_search.specs.Sent.{Prefers, AllPrefer, none, more, SentWindow, startOffset, trueHypothesis}
+use Rattle.node_search.specs.Weight.{cheaper, apart, ofPair, weightOf, floorOf, triedSymbols, triedPairs, ledRun, threshold, fits, Weighed}
 use Rattle.node_search.specs.declared.Hypothesis.{Hypothesis}
 use Rattle.node_search.specs.declared.Search.{Search}
 use Rattle.node_search.specs.declared.Search.the-variants.{Found, Nothing, Several}
@@ -53,7 +57,7 @@ use Rattle.node_search.proofs.Numbers.{numbers}
 use Rattle.node_search.proofs.Calls.{passed-tests}
 use Rattle.node_search.proofs.Verdicts.{below-more}
 
--- ---- a run that costs nothing is below every threshold
+-- ---- lists that are mapped
 
 map-take : (f : ℕ → ℕ) (k : ℕ) (l : List ℕ) → map f (take k l) ≡ take k (map f l)
 map-take f zero l = refl
@@ -70,26 +74,89 @@ unfolding pairCost
 unknown zero = tt
 unknown (suc n) = (λ s h. eqb→eq (byPair 80 s) 0 (below-at (λ s. eqb (byPair 80 s) 0) 4 tt s h), unknown n)
 
--- decisions that are clear about a symbol have costs that lie apart
-clear-apart : (p s : ℕ) → p < 81 → Clear byPair p s → 1 ≤ ofPair apart p
-unfolding pairCost
-clear-apart p s h c = by (ℕ-discrete p 80)
+-- ---- decisions that prefer the symbols that were sent
+
+test-of : (f : ℕ → Bool) (n : ℕ) → ((k : ℕ) → k < n → T (f k)) → T (below f n)
+test-of f zero h = tt
+test-of f (suc n) h = two (f n) (below f n) (h n (omega arith)) (test-of f n (λ k l. h k (omega arith)))
   where
-    by : Dec (p ≡ 80) → 1 ≤ ofPair apart p
-    by (yes e) =
-        let a : 0 ≡ s = c .only 0 (omega arith) (ap (λ (q : ℕ). byPair q 0) e) in
-        let b : 1 ≡ s = c .only 1 (omega arith) (ap (λ (q : ℕ). byPair q 1) e) in
-        absurd (omega arith)
-    by (no n) = let k : p < 80 = omega arith in ltb→lt 0 (ofPair apart p) (below-at (λ p. ltb 0 (ofPair apart p)) 80 tt p k)
+    two : (a b : Bool) → T a → T b → T (both a b)
+    two true b x y = y
+    two false b x y = absurd x
 
-some-weight : (pairs ss : List ℕ) → All (λ p. p < 81) pairs → AllClear byPair pairs ss → 0 < length pairs → 1 ≤ weightOf pairs
-some-weight [] ss w g h = absurd (omega arith)
-some-weight (p ∷ pairs) (s ∷ ss) w (more c g) h = omega (arith, clear-apart p s (w .0) c)
+abbrev preferring : ℕ → ℕ → ℕ → Bool
+preferring p s other = pick (eqb other s) true (ltb (byPair p s) (byPair p other))
 
-free-fits : (rate : ℕ) → rate < 5 → (pairs : List ℕ) → 1 ≤ weightOf pairs → fits rate pairs 0 ≡ true
-free-fits rate hr pairs h =
+abbrev cheapest : ℕ → ℕ → Bool
+cheapest p s = both (eqb (byPair p s) (ofPair cheaper p)) (ltb 0 (ofPair apart p))
+
+-- a symbol that is preferred costs what the decisions cost in any case, and their costs lie apart
+preferred-cost : (p s : ℕ) → p < 81 → s < 4 → Prefers byPair p s → (byPair p s ≡ ofPair cheaper p) × (1 ≤ ofPair apart p)
+unfolding pairCost
+preferred-cost p s hp hs f =
+    let t : T (below (preferring p s) 4) = test-of (preferring p s) 4 (λ o h. by o h (ℕ-discrete o s)) in
+    let u : T (cheapest p s) =
+    taken (below (preferring p s) 4) (cheapest p s) t
+    (below-at (λ s. pick (below (preferring p s) 4) (cheapest p s) true) 4 (below-at (λ p. below (λ s. pick (below (preferring p s) 4) (cheapest p s) true) 4) 81 tt p hp) s hs) in
+    (eqb→eq _ _ (both-left (eqb (byPair p s) (ofPair cheaper p)) (ltb 0 (ofPair apart p)) u), ltb→lt _ _ (both-right (eqb (byPair p s) (ofPair cheaper p)) (ltb 0 (ofPair apart p)) u))
+  where
+    by : (o : ℕ) → o < 4 → Dec (o ≡ s) → T (preferring p s o)
+    by o h (yes e) = subst (λ (b : Bool). T (pick b true (ltb (byPair p s) (byPair p o)))) (sym (eq-eqb o s e)) tt
+    by o h (no n) =
+        subst (λ (b : Bool). T (pick b true (ltb (byPair p s) (byPair p o)))) (sym (ne-eqb o s n))
+        (subst T (sym (lt-ltb (byPair p s) (byPair p o) (f o h n))) tt)
+
+    taken : (a b : Bool) → T a → T (pick a b true) → T b
+    taken true b x y = y
+    taken false b x y = absurd x
+
+prefer-length : {R : Type 0} {cost : R → ℕ → ℕ} {rs : List R} {ss : List ℕ} → AllPrefer cost rs ss → length rs ≡ length ss
+prefer-length none = refl
+prefer-length (more c g) = ap suc (prefer-length g)
+
+prefer-take : {R : Type 0} {cost : R → ℕ → ℕ} {rs : List R} {ss : List ℕ} (k : ℕ) → AllPrefer cost rs ss → AllPrefer cost (take k rs) (take k ss)
+prefer-take zero g = none
+prefer-take (suc k) none = none
+prefer-take (suc k) (more c g) = more c (prefer-take k g)
+
+prefer-drop : {R : Type 0} {cost : R → ℕ → ℕ} {rs : List R} {ss : List ℕ} (k : ℕ) → AllPrefer cost rs ss → AllPrefer cost (drop k rs) (drop k ss)
+prefer-drop zero g = g
+prefer-drop (suc k) none = none
+prefer-drop (suc k) (more c g) = prefer-drop k g
+
+strict : (a b : ℕ) → a ≡ 0 → (b ≡ 0 → ⊥) → a < b
+strict a b e n = omega arith
+
+-- clear decisions do, and so do hard ones that are right
+pub clear-prefers : {R : Type 0} {cost : R → ℕ → ℕ} {rs : List R} {ss : List ℕ} → AllClear cost rs ss → AllPrefer cost rs ss
+clear-prefers clear.none = none
+clear-prefers {cost = cost} (clear.more {r} {s} c g) = more (λ other h n. strict (cost r s) (cost r other) (c .free-sent) (λ z. n (c .only other h z))) (clear-prefers g)
+
+hard-one : (s : ℕ) → s < 4 → Prefers byPair (hardPair s) s
+hard-one s hs other h n =
+    let d : differing s s < differing s other = strict (differing s s) (differing s other) (differing-clear s .free-sent) (λ z. n (differing-clear s .only other h z)) in
+    omega (arith, d, pair-is s s hs hs, pair-is s other hs h)
+
+pub hard-prefers : (ss : List ℕ) → All (λ s. s < 4) ss → AllPrefer byPair (map hardPair ss) ss
+hard-prefers [] w = none
+hard-prefers (s ∷ ss) w = more {r = hardPair s} (hard-one s (w .0)) (hard-prefers ss (w .1))
+
+-- the symbols that are preferred when they are turned cost the floor when their decisions are turned back
+back-floor : (c : ℕ) → c < 8 → (pairs ss : List ℕ) → All (λ p. p < 81) pairs → All (λ s. s < 4) ss → AllPrefer byPair pairs (map (turned c) ss)
+    → totalCost (map byPair (map (turnedPair (undoing c)) pairs)) ss ≡ floorOf pairs
+unfolding totalCost
+back-floor c hc [] [] w v none = refl
+back-floor c hc (p ∷ pairs) (s ∷ ss) w v (more f g) =
+    omega (arith, back-cost c p s hc (w .0) (v .0), preferred-cost p (turned c s) (w .0) (turned-small c s hc (v .0)) f .0, back-floor c hc pairs ss (w .1) (v .1) g)
+
+some-weight : (pairs ss : List ℕ) → All (λ p. p < 81) pairs → All (λ s. s < 4) ss → AllPrefer byPair pairs ss → 0 < length pairs → 1 ≤ weightOf pairs
+some-weight [] [] w v none h = absurd (omega arith)
+some-weight (p ∷ pairs) (s ∷ ss) w v (more f g) h = omega (arith, preferred-cost p s (w .0) (v .0) f .1)
+
+floor-fits : (rate : ℕ) → rate < 5 → (pairs : List ℕ) (cost : ℕ) → cost ≤ floorOf pairs → 1 ≤ weightOf pairs → fits rate pairs cost ≡ true
+floor-fits rate hr pairs cost l h =
     let p : 1 ≤ threshold rate * weightOf pairs = product (threshold rate) (weightOf pairs) (numbers rate hr .some-threshold) h in
-    lt-ltb (10000 * 0) (10000 * floorOf pairs + threshold rate * weightOf pairs) (omega arith)
+    lt-ltb (10000 * cost) (10000 * floorOf pairs + threshold rate * weightOf pairs) (omega arith)
   where
     product : (t w : ℕ) → 1 ≤ t → 1 ≤ w → 1 ≤ t * w
     product (suc t) (suc w) a b = omega (arith, mul-suc (suc t) w)
@@ -152,7 +219,7 @@ module _ (rate turn passed : ℕ) (hr : rate < 5) (ht : turn < 8) (window : List
   pairs = triedPairs rate o window
 
   came-length : length (sent .came) ≡ 1632
-  came-length = sym (length-map (sent .came) (turned turn)) ∙ (sym (clear-length (sent .clear)) ∙ sent .size)
+  came-length = sym (length-map (sent .came) (turned turn)) ∙ (sym (prefer-length (sent .preferred)) ∙ sent .size)
 
   fewer : o < 4
   fewer = omega (arith, offset-lt, numbers rate hr .pattern-most)
@@ -164,7 +231,8 @@ module _ (rate turn passed : ℕ) (hr : rate < 5) (ht : turn < 8) (window : List
     others : List ℕ
     binary : Bits others
     whole : length others % p ≡ 0
-    clear : AllClear byPair (map (turnedPair (undoing (turnClass rate turn))) pairs) (symbolsOf (coderAt rate memory) others)
+    as-long : length (map (turnedPair (undoing (turnClass rate turn))) pairs) ≡ length (symbolsOf (coderAt rate memory) others)
+    floor : totalCost (map byPair (map (turnedPair (undoing (turnClass rate turn))) pairs)) (symbolsOf (coderAt rate memory) others) ≡ floorOf pairs
     weight : 1 ≤ weightOf pairs
 
   read-as : ReadAs
@@ -189,12 +257,12 @@ module _ (rate turn passed : ℕ) (hr : rate < 5) (ht : turn < 8) (window : List
       let ss : List ℕ = symbolsOf (coderAt rate (x .memory)) (x .others) in
       let four : All (λ s. s < 4) ss = sent-small rate (x .memory) hr (x .in-range) (x .binary) in
       let small : All (λ p. p < 81) pairs = all-take (triedSymbols rate) (drop o window) (all-drop o window (sent .small)) in
-      let g1 : AllClear byPair pairs (map (turned turn) (take (triedSymbols rate) (drop o (sent .came)))) =
-      subst (AllClear byPair pairs)
+      let g1 : AllPrefer byPair pairs (map (turned turn) (take (triedSymbols rate) (drop o (sent .came)))) =
+      subst (AllPrefer byPair pairs)
       (sym (map-take (turned turn) (triedSymbols rate) (drop o (sent .came)) ∙ ap (take (triedSymbols rate)) (map-drop (turned turn) o (sent .came))))
-      (clear-take (triedSymbols rate) (clear-drop o (sent .clear))) in
-      let g2 : AllClear byPair pairs (map (turned (turnClass rate turn)) ss) =
-      subst (AllClear byPair pairs) (ap (map (turned turn)) (ap (λ (k : ℕ). take k (drop o (sent .came))) tried-is ∙ c2 .front) ∙ x .same) g1 in
+      (prefer-take (triedSymbols rate) (prefer-drop o (sent .preferred))) in
+      let g2 : AllPrefer byPair pairs (map (turned (turnClass rate turn)) ss) =
+      subst (AllPrefer byPair pairs) (ap (map (turned turn)) (ap (λ (k : ℕ). take k (drop o (sent .came))) tried-is ∙ c2 .front) ∙ x .same) g1 in
       let some : 0 < length pairs =
       omega (arith, length-take-le (triedSymbols rate) (drop o window) (omega (arith, n .tried-most, length-drop o window, sent .size, fewer)), n .some-tried) in
       record {
@@ -203,8 +271,9 @@ module _ (rate turn passed : ℕ) (hr : rate < 5) (ht : turn < 8) (window : List
         others = x .others;
         binary = x .binary;
         whole = ap (λ (k : ℕ). k % p) (x .size ∙ length-take-le (p * j) bits1 (c2 .fit)) ∙ mul-mod-right p j;
-        clear = clear-back (turnClass rate turn) class-small small four (clear-turned byPair (turnClass rate turn) class-small ss four g2);
-        weight = some-weight pairs (map (turned (turnClass rate turn)) ss) small g2 some;
+        as-long = length-map pairs (turnedPair (undoing (turnClass rate turn))) ∙ (prefer-length g2 ∙ length-map ss (turned (turnClass rate turn)));
+        floor = back-floor (turnClass rate turn) class-small pairs ss small four g2;
+        weight = some-weight pairs (map (turned (turnClass rate turn)) ss) small (turned-all (turnClass rate turn) class-small ss four) g2 some;
       }
 
   -- so the true hypothesis is below its threshold
@@ -215,10 +284,10 @@ module _ (rate turn passed : ℕ) (hr : rate < 5) (ht : turn < 8) (window : List
       let run : List ℕ = ledRun rate (turnClass rate turn) pairs in
       let d : Decoded (runCost (map byPair run) rate 0) (runBits rate (length run)) 0 (w .least .bits) (w .cost) (w .least .after) =
       subst (λ (l : List (ℕ → ℕ)). Decoded (runCost l rate 0) (runBits rate (length run)) 0 (w .least .bits) (w .cost) (w .least .after)) (costs-map run) (w .least .decoded) in
-      let z : w .cost ≡ 0 =
-      free-nothing byPair rate hr (leadPatterns rate) (lead-numbers rate hr .six) (replicate (leadSymbols rate) 80) (unknown (leadSymbols rate)) (length-replicate {A = ℕ} (leadSymbols rate) 80)
-      (a .memory) (a .in-range) (a .others) (a .binary) (a .whole) (map (turnedPair (undoing (turnClass rate turn))) pairs) (symbolsOf (coderAt rate (a .memory)) (a .others)) refl (a .clear) d in
-      w .below-is ∙ (ap (fits rate pairs) z ∙ free-fits rate hr pairs (a .weight))
+      let z : w .cost ≤ totalCost (map byPair (map (turnedPair (undoing (turnClass rate turn))) pairs)) (symbolsOf (coderAt rate (a .memory)) (a .others)) =
+      free-least byPair rate hr (leadPatterns rate) (lead-numbers rate hr .six) (replicate (leadSymbols rate) 80) (unknown (leadSymbols rate)) (length-replicate {A = ℕ} (leadSymbols rate) 80)
+      (a .memory) (a .in-range) (a .others) (a .binary) (a .whole) (map (turnedPair (undoing (turnClass rate turn))) pairs) (symbolsOf (coderAt rate (a .memory)) (a .others)) refl (a .as-long) d in
+      w .below-is ∙ floor-fits rate hr pairs (w .cost) (omega (arith, z, a .floor)) (a .weight)
 
 -- ---- its place among the hypotheses
 
