@@ -1,10 +1,9 @@
--- A run that begins with whole patterns of which nothing is known, six bits or more, and then was received clearly from any memory on: it costs nothing, and
--- behind these patterns it is read as what was sent, with the coder's own memory, whatever it was.
+-- A run that begins with whole patterns of which nothing is known, six bits or more, and then has symbols that were sent from any memory on: it costs no more
+-- than they do. Where they were received clearly, it is read behind these patterns as what was sent, with the coder's own memory, whatever it was.
 -- Assumes nothing.
 use mathlib.Core.Path.{_≡_, refl, sym, _∙_, ap, ap₂}
 use mathlib.Core.List.{List, [], _∷_, _++_, map}
 use Prim.Native.Nat.{ℕ, zero, suc, _+_, _-_, _*_, _/_, _%_, _≤_, _<_}
-use Prim.{tt}
 use native.Mathlib.Nat.{mul-mod-right, mul-div-right, mul-add-div, mul-add}
 use native.Mathlib.Omega.{arith}
 use lib.ListN.{length, take, drop, replicate, length-append, length-replicate, length-drop, length-map, take-append-drop}
@@ -26,7 +25,7 @@ use Rattle.reader.specs.Read.{symbolsPerPattern, runBits}
 use Rattle.reader.proofs.Costs.{sent-bits, sent-small}
 use Rattle.reader.proofs.Patterns.{some-symbols, coder-whole, memory-in-range, run-symbols, sent-whole}
 use Rattle.reader.proofs.Streams.{take-bits, drop-bits, memory-append}
-use Rattle.reader.proofs.Unharmed.{clear-free, clear-only, clear-length}
+use Rattle.reader.proofs.Unharmed.{clear-free, clear-only}
 use Rattle.free_start.specs.Lead.{Unknown}
 use Rattle.free_start.proofs.Pinned.{same-coding}
 
@@ -103,32 +102,29 @@ module _ {R : Type 0} (cost : R → ℕ → ℕ) (rate : ℕ) (hr : rate < 5) (k
       ∙ (total-append (map cost unknown) (map cost rs) (symbolsOf (coderAt rate 0) front) (symbolsOf (coderAt rate (memoryAfter 0 front)) back) (length-map unknown cost ∙ (size ∙ sym n))
       ∙ omega (arith, unknown-free cost unknown u (symbolsOf (coderAt rate 0) front) (sent-small rate 0 hr (omega arith) w)))
 
-  -- symbols that were received clearly, of whole patterns of bits from any memory on
+  -- symbols of whole patterns of bits, from any memory on
   module _ (m : ℕ) (hm : m < 64) (bits : List ℕ) (w : Bits bits) (whole : length bits % p ≡ 0) (rs : List R) (ss : List ℕ) (es : ss ≡ symbolsOf (coderAt rate m) bits)
-      (g : AllClear cost rs ss) {best : List ℕ} {total after : ℕ}
+      (as-long : length rs ≡ length ss) {best : List ℕ} {total after : ℕ}
       (d : Decoded (runCost (map cost (unknown ++ rs)) rate 0) (runBits rate (length (unknown ++ rs))) 0 best total after) where
     far : runBits rate (length (unknown ++ rs)) ≡ p * k + length bits
     far =
         let q = sent-whole rate m hr hm bits w whole ss es in
-        let n : length (unknown ++ rs) ≡ s * k + length ss = omega (arith, length-append unknown rs, size, clear-length g) in
-        ap (λ (j : ℕ). p * (j / s)) n ∙ (ap (λ (j : ℕ). p * j) (mul-add-div (some-symbols rate hr) k (length ss)) ∙ (mul-add p k (length ss / s) ∙ ap (λ (j : ℕ). p * k + j) (sym (q .1))))
+        let n : length (unknown ++ rs) ≡ s * k + length ss = omega (arith, length-append unknown rs, size, as-long) in
+        ap (λ (j : ℕ). p * (j / s)) n
+        ∙ (ap (λ (j : ℕ). p * j) (mul-add-div (some-symbols rate hr) k (length ss)) ∙ (mul-add p k (length ss / s) ∙ ap (λ (j : ℕ). p * k + j) (sym (q .1))))
 
-    -- the bits that were sent, behind some that lead to their memory, cost nothing
-    own-nothing : runCost (map cost (unknown ++ rs)) rate 0 best ≡ 0
-    own-nothing =
+    -- what is read costs no more than what was sent: the bits that were sent, behind some that lead to their memory, cost as much
+    pub free-least : total ≤ totalCost (map cost rs) ss
+    free-least =
         let l = leading (p * k) m six hm in
-        let z : runCost (map cost (unknown ++ rs)) rate 0 (l .bits ++ bits) ≡ 0 =
+        let z : runCost (map cost (unknown ++ rs)) rate 0 (l .bits ++ bits) ≡ totalCost (map cost rs) ss =
         behind-cost rs (l .bits) bits (l .binary) (l .size)
-        ∙ (ap (λ (x : ℕ). runCost (map cost rs) rate x bits) (l .to) ∙ (ap (totalCost (map cost rs)) (sym es) ∙ clear-free g)) in
-        omega (arith, z, d .best .least (l .bits ++ bits) (bits-append (l .binary) w) (omega (arith, length-append (l .bits) bits, l .size, far)))
+        ∙ (ap (λ (x : ℕ). runCost (map cost rs) rate x bits) (l .to) ∙ ap (totalCost (map cost rs)) (sym es)) in
+        omega (arith, z, d .costs, d .best .least (l .bits ++ bits) (bits-append (l .binary) w) (omega (arith, length-append (l .bits) bits, l .size, far)))
 
-    -- so what is read costs nothing
-    pub free-nothing : total ≡ 0
-    free-nothing = d .costs ∙ own-nothing
-
-    -- and over six patterns or more it is what was sent, with its memory
-    pub free-start : 6 * p ≤ length bits → (drop (p * k) best ≡ bits) × (memoryAfter 0 (take (p * k) best) ≡ m)
-    free-start long =
+    -- where they were received clearly it costs nothing, and over six patterns or more it is what was sent, with its memory
+    pub free-start : AllClear cost rs ss → 6 * p ≤ length bits → (drop (p * k) best ≡ bits) × (memoryAfter 0 (take (p * k) best) ≡ m)
+    free-start g long =
         let front : List ℕ = take (p * k) best in
         let back : List ℕ = drop (p * k) best in
         let v : Bits front = take-bits (p * k) (d .best .binary) in
@@ -137,9 +133,10 @@ module _ {R : Type 0} (cost : R → ℕ → ℕ) (rate : ℕ) (hr : rate < 5) (k
         let n : ℕ = memoryAfter 0 front in
         let hn : n < 64 = memory-in-range rate 0 hr (omega arith) v in
         let ld : length back ≡ length bits = omega (arith, length-drop (p * k) best, lb) in
+        let nothing : runCost (map cost (unknown ++ rs)) rate 0 best ≡ 0 = omega (arith, d .costs, free-least, clear-free g) in
         let z : runCost (map cost rs) rate n back ≡ 0 =
         sym (behind-cost rs front back v (length-take-le (p * k) best (omega arith)))
-        ∙ (ap (runCost (map cost (unknown ++ rs)) rate 0) (take-append-drop (p * k) best) ∙ own-nothing) in
+        ∙ (ap (runCost (map cost (unknown ++ rs)) rate 0) (take-append-drop (p * k) best) ∙ nothing) in
         let q = sent-whole rate m hr hm bits w whole ss es in
         let c : symbolsOf (coderAt rate n) back ≡ ss =
         clear-only g (symbolsOf (coderAt rate n) back) (run-symbols rate hr (length ss) (q .0) n hn back v′ (ld ∙ q .1)) (sent-bits rate n hr hn v′) z in

@@ -2,8 +2,8 @@
 -- were sent, whatever pieces it comes in, and at its end all of them up to the last whole pattern.
 -- Assumes nothing.
 use mathlib.Core.Path.{_≡_, refl, sym, _∙_, ap, ap₂, subst}
-use mathlib.Core.List.{List, [], _++_, map, append-assoc}
-use Prim.Native.Nat.{ℕ, zero, _+_, _-_, _*_, _/_, _%_, _<_, _≤_}
+use mathlib.Core.List.{List, _++_, map, append-assoc}
+use Prim.Native.Nat.{ℕ, _+_, _-_, _*_, _/_, _%_, _<_, _≤_}
 use native.Mathlib.Decide.{decLt}
 use native.Mathlib.Nat.{mul-comm, mul-suc, mul-mod-right, mul-div-right, mul-add, mul-add-div, mul-add-mod-self-left, mul-le-mul-left, div-add-mod, mod-lt, mod-eq-of-lt}
 use native.Mathlib.Omega.{arith}
@@ -128,7 +128,7 @@ module _ {R : Type 0} (cost : R → ℕ → ℕ) (rate : ℕ) (hr : rate < 5) (u
       subst (λ (x : ℕ). Decoded (runCost (map cost (unknown ++ take (s′ * j) rs)) rate 0) (runBits rate x) 0 best total after) (sym ll)
       (subst (λ (l : List R). Decoded (runCost (map cost l) rate 0) (runBits rate (s′ * n)) 0 best total after) (take-lead n j h) d) in
       let o = free-start cost rate hr k (lead-numbers rate hr .six) unknown u lead-size m hm (take (p′ * j) bits) (take-bits (p′ * j) w) (ap (λ (x : ℕ). x % p′) lb ∙ mul-mod-right p′ j)
-      (take (s′ * j) rs) (take (s′ * j) ss) (c .front) (clear-take (s′ * j) g) d′ (omega (arith, lb, mul-le-mul-left p′ six)) in
+      (take (s′ * j) rs) (take (s′ * j) ss) (c .front) (clear-length (clear-take (s′ * j) g)) d′ (clear-take (s′ * j) g) (omega (arith, lb, mul-le-mul-left p′ six)) in
       let far : length best ≡ p′ * n = d .best .size ∙ ap (λ (x : ℕ). p′ * x) (mul-div-right n (some-symbols rate hr)) in
       record {
         behind = o .0;
@@ -206,6 +206,27 @@ module _ {R : Type 0} (cost : R → ℕ → ℕ) (rate : ℕ) (hr : rate < 5) (u
         enough = l;
       }
 
+  -- what comes after a longest run at the front
+  record Continued (best out : List ℕ) (last : ℕ) (left : List R) : Type 0 where
+    first : FirstRun best
+    behind : Behind
+    onward : Decided cost rate m′ (drop (s′ * kept) rs) out last left
+
+  continued : (all : List R) → all ≡ unknown ++ rs → (best : List ℕ) (total after : ℕ) → fullSymbols rate ≤ length all
+      → Decoded (runCost (map cost (take (fullSymbols rate) all)) rate 0) (runBits rate (fullSymbols rate)) 0 best total after → {out : List ℕ} {last : ℕ} {left : List R}
+      → Decided cost rate (memoryAfter 0 (take (keptBits rate) best)) (drop (keptSymbols rate) all) out last left → Continued best out last left
+  continued all q best total after full d {out} {last} {left} r =
+      let long : fullSymbols rate ≤ length (unknown ++ rs) = subst (λ (l : List R). fullSymbols rate ≤ length l) q full in
+      let f = first-run long (subst (λ (l : List R). Decoded (runCost (map cost (take (fullSymbols rate) l)) rate 0) (runBits rate (fullSymbols rate)) 0 best total after) q d) in
+      let b = behind-kept long in
+      record {
+        first = f;
+        behind = b;
+        onward =
+            subst (λ (l : List R). Decided cost rate m′ l out last left) (ap (drop (keptSymbols rate)) q ∙ b .symbols)
+            (subst (λ (x : ℕ). Decided cost rate x (drop (keptSymbols rate) all) out last left) (f .memory) r);
+      }
+
   lead-bits-are : leadBits rate ≡ p′ * k
   unfolding leadBits
   lead-bits-are = refl
@@ -223,13 +244,10 @@ module _ {R : Type 0} (cost : R → ℕ → ℕ) (rate : ℕ) (hr : rate < 5) (u
           → drop (leadBits rate) out ≡ take (length out - leadBits rate) bits
       by all q (few l) = let z : 0 - leadBits rate ≡ 0 = omega arith in drop-nil (leadBits rate) ∙ ap (λ (x : ℕ). take x bits) (sym z)
       by all q (run {last = last} {left = left} {out = out} best total after full d r) =
-          let long : fullSymbols rate ≤ length (unknown ++ rs) = subst (λ (l : List R). fullSymbols rate ≤ length l) q full in
-          let f = first-run long (subst (λ (l : List R). Decoded (runCost (map cost (take (fullSymbols rate) l)) rate 0) (runBits rate (fullSymbols rate)) 0 best total after) q d) in
-          let b = behind-kept long in
-          let r′ : Decided cost rate m′ (drop (s′ * kept) rs) out last left =
-          subst (λ (l : List R). Decided cost rate m′ l out last left) (ap (drop (keptSymbols rate)) q ∙ b .symbols)
-          (subst (λ (x : ℕ). Decided cost rate x (drop (keptSymbols rate) all) out last left) (f .memory) r) in
-          let o = stream-given-back cost rate hr m′ (b .in-range) (drop (p′ * kept) bits) (drop-bits (p′ * kept) w) unread (clear-drop (s′ * kept) g) (b .others) r′ in
+          let c = continued all q best total after full d r in
+          let f = c .first in
+          let b = c .behind in
+          let o = stream-given-back cost rate hr m′ (b .in-range) (drop (p′ * kept) bits) (drop-bits (p′ * kept) w) unread (clear-drop (s′ * kept) g) (b .others) (c .onward) in
           let j : take (keptBits rate) best ++ out ≡ f .front ++ take (p′ * kept + length out) bits =
           ap₂ (λ (x y : List ℕ). x ++ y) (f .kept-bits-are) (o .given)
           ∙ (append-assoc (f .front) (take (p′ * kept) bits) (take (length out) (drop (p′ * kept) bits))
@@ -278,13 +296,10 @@ module _ {R : Type 0} (cost : R → ℕ → ℕ) (rate : ℕ) (hr : rate < 5) (u
                 ∙ (ap (λ (x : ℕ). x % s′) split ∙ mul-add-mod-self-left s′ k (length rs));
           }
       by all q (run {last = last} {left = left} {out = out} best total after full d r) {exit = exit} {count} {rest} end =
-          let long : fullSymbols rate ≤ length (unknown ++ rs) = subst (λ (l : List R). fullSymbols rate ≤ length l) q full in
-          let f = first-run long (subst (λ (l : List R). Decoded (runCost (map cost (take (fullSymbols rate) l)) rate 0) (runBits rate (fullSymbols rate)) 0 best total after) q d) in
-          let b = behind-kept long in
-          let r′ : Decided cost rate m′ (drop (s′ * kept) rs) out last left =
-          subst (λ (l : List R). Decided cost rate m′ l out last left) (ap (drop (keptSymbols rate)) q ∙ b .symbols)
-          (subst (λ (x : ℕ). Decided cost rate x (drop (keptSymbols rate) all) out last left) (f .memory) r) in
-          let o = decided-whole cost rate hr m′ (b .in-range) (drop (p′ * kept) bits) (drop-bits (p′ * kept) w) (drop (s′ * kept) rs) left (drop (s′ * kept) ss) unread (clear-drop (s′ * kept) g) (b .others) r′ end in
+          let c = continued all q best total after full d r in
+          let f = c .first in
+          let b = c .behind in
+          let o = decided-whole cost rate hr m′ (b .in-range) (drop (p′ * kept) bits) (drop-bits (p′ * kept) w) (drop (s′ * kept) rs) left (drop (s′ * kept) ss) unread (clear-drop (s′ * kept) g) (b .others) (c .onward) end in
           let lr : length rs ≡ s′ * kept + length (drop (s′ * kept) rs) = omega (arith, b .enough, length-drop (s′ * kept) rs) in
           let far : runBits rate (length rs) ≡ p′ * kept + runBits rate (length (drop (s′ * kept) rs)) =
           ap (λ (x : ℕ). p′ * (x / s′)) lr

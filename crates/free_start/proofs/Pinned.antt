@@ -1,10 +1,9 @@
 -- A run whose memory is not known: where the coded bits were received clearly, two sequences that cost nothing over six patterns begin with the same memory.
 -- So six patterns of symbols are the coding of one memory and one sequence of bits.
 -- Assumes nothing.
-use mathlib.Core.Path.{_≡_, refl, sym, _∙_, ap, ap₂, subst}
+use mathlib.Core.Path.{_≡_, refl, sym, _∙_, ap, subst}
 use mathlib.Core.Bool.{Bool, true, false}
 use mathlib.Core.List.{List, [], _∷_, _++_, flatten, map}
-use mathlib.Core.Logic.{⊎-elim}
 use Prim.Native.Nat.{ℕ, zero, suc, _+_, _*_, _/_, _%_, _≤_, _<_}
 use native.Mathlib.Nat.{mod-lt}
 use native.Mathlib.Decide.{ℕ-discrete}
@@ -15,7 +14,7 @@ use lib.Dec.{T, eqb, ltb, lit<, eqb→eq, ltb→lt}
 use lib.ListN.{length, length-map}
 use Rattle.common.specs.Choice.{pick}
 use Rattle.common.proofs.Computed.{both, both-left, both-right, below, below-at}
-use Rattle.convolutional_code.specs.Bits.{Bits, none, more}
+use Rattle.convolutional_code.specs.Bits.{Bits, more}
 use Rattle.convolutional_code.specs.Code.{tapsX, tapsY, coded, nextMemory}
 use Rattle.puncturing.specs.Mode.{modeOf}
 use Rattle.puncturing.specs.Step.{patternLength}

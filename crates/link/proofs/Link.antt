@@ -25,7 +25,10 @@ use Rattle.bit_packing.specs.Packing.{packedBytes}
 use Rattle.reader_stream.specs.History.{SymbolsEnded}
 use Rattle.bit_packing.proofs.Bytes.{length-bytes, bytes-back}
 use Rattle.reader_stream.proofs.Histories.{every-end}
-use Rattle.reader_stream.proofs.Unharmed.{WholeStream, read-whole, last-pattern}
+use Rattle.reader.proofs.Costs.{sent-small}
+use Rattle.symbol_turns.specs.Turn.{turnedCost}
+use Rattle.symbol_turns.proofs.Turns.{clear-turned}
+use Rattle.reader_stream.proofs.Unharmed.{WholeStream, read-whole, all-front, last-pattern}
 use Rattle.sender.specs.Input.{Input, packetFor, packetsFor}
 use Rattle.sender.proofs.Inputs.{packets-sent}
 use Rattle.receiver.specs.Receive.{freshReceiver}
@@ -37,7 +40,7 @@ use Rattle.sent_blocks.specs.Blocks.{interleavedBlocks, sentBytes}
 use Rattle.sender.proofs.Counts.{block-bits}
 use Rattle.sent_blocks.proofs.Lengths.{interleaved-count, interleaved-whole}
 use Rattle.sent_blocks.proofs.Packets.{bytes-sent}
-use Rattle.link.specs.Link.{Link, StreamLink, bytesRead, bitCount, blocksInBits, BroughtBack, Arrived, StreamArrived}
+use Rattle.link.specs.Link.{Link, StreamLink, TurnedClear, bytesRead, bitCount, blocksInBits, BroughtBack, Arrived, StreamArrived}
 use Rattle.link.proofs.Sent.{sent-coded, sent-front, front-within, front-last}
 
 module _ (packets : List (List ℕ)) (ws : All Packet packets) where
@@ -141,6 +144,15 @@ module _ (inputs : List (List ℕ)) (g : All Input inputs) (bs : All Bytes input
     pub stream-arrived : {R : Type 0} (cost : R → ℕ → ℕ) (l : StreamLink cost (AllClear cost) rate inputs) → StreamArrived l
     stream-arrived cost l =
         all-arrived l (read-whole cost rate (bitsOf (sentBytes packets)) (bits-bits (sentBytes packets)) (l .points) (l .came) (l .unread) (l .assumed) (coded l) (read-ended l .read))
+
+    -- by a stream of symbols that came turned in one of the eight ways and are clear about the turned ones, where the decisions are turned back before they are
+    -- read: `costed-turned` gives what those cost
+    pub turned-arrived : {R : Type 0} (cost : R → ℕ → ℕ) (turn : ℕ) → turn < 8 → (l : StreamLink (turnedCost cost turn) (TurnedClear cost turn) rate inputs) → StreamArrived l
+    turned-arrived cost turn h l =
+        let small : All (λ s. s < 4) (l .came) =
+        all-front (l .came) (l .unread) (subst (All (λ s. s < 4)) (sym (coded l)) (sent-small rate 0 hr (omega arith) (bits-bits (sentBytes packets)))) in
+        all-arrived l
+        (read-whole (turnedCost cost turn) rate (bitsOf (sentBytes packets)) (bits-bits (sentBytes packets)) (l .points) (l .came) (l .unread) (clear-turned cost turn h (l .came) small (l .assumed)) (coded l) (read-ended l .read))
 
 -- ---- how many blocks that is
 

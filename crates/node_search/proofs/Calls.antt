@@ -37,18 +37,18 @@ module _ (rate : ℕ) (window : List ℕ) where
 
   -- a window that passes
   module _ (h : rate < 6) (l : length window ≡ windowLength) (s : largest window < 81) where
-    pub passed : searchNumber rate window ≡ 0
-    passed = number-by true true true (lt-ltb rate 6 h) (eq-eqb (length window) windowLength l) (lt-ltb (largest window) 81 s)
+    pub passed-tests : searchNumber rate window ≡ 0
+    passed-tests = number-by true true true (lt-ltb rate 6 h) (eq-eqb (length window) windowLength l) (lt-ltb (largest window) 81 s)
 
     pub at-rate : rate < 5 → {search : Search} → ((hs : List Hypothesis) → Searches window hs Nothing → Searches window (hs ++ hypothesesOf rate) search)
         → SearchesWindow rate window 0 search
     at-rate k {search} f =
-        done refl passed
+        done refl passed-tests
         (subst (λ (b : Bool). Searches window (pick b (hypothesesOf rate) (hypothesesBelow 5)) search) (sym (lt-ltb rate 5 k)) (f [] (searches-none window)))
 
     pub at-any : 5 ≤ rate → {search : Search} → Searches window (hypothesesBelow 5) search → SearchesWindow rate window 0 search
     at-any k {search} f =
-        done refl passed (subst (λ (b : Bool). Searches window (pick b (hypothesesOf rate) (hypothesesBelow 5)) search) (sym (le-ltb rate 5 k)) f)
+        done refl passed-tests (subst (λ (b : Bool). Searches window (pick b (hypothesesOf rate) (hypothesesBelow 5)) search) (sym (le-ltb rate 5 k)) f)
 
 -- every number of a window stands for decisions
 pub window-small : (window : List ℕ) → largest window < 81 → All (λ p. p < 81) window

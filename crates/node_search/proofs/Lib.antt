@@ -4,3 +4,4 @@ mod Runs
 mod Verdicts
 mod Calls
 pub mod Found
+pub mod Truth

@@ -15,6 +15,7 @@ use Rattle.node_search.specs.Weight.{triedSymbols, threshold}
 pub record Numbers (rate : ℕ) : Type 0 where
   pub lead-most : leadSymbols rate ≤ 6
   pub tried-most : triedSymbols rate ≤ 1626
+  pub some-tried : 1 ≤ triedSymbols rate
   pub pattern-most : symbolsPerPattern rate ≤ 4
   pub whole : (leadSymbols rate + triedSymbols rate) % symbolsPerPattern rate ≡ 0
   pub run-most : leadSymbols rate + triedSymbols rate ≤ 1632
@@ -27,6 +28,7 @@ unfolding leadSymbols leadPatterns triedSymbols runPatterns symbolsPerPattern th
 numbers rate h = record {
   lead-most = leb→le _ _ (below-at (λ r. leb (leadSymbols r) 6) 5 tt rate h);
   tried-most = leb→le _ _ (below-at (λ r. leb (triedSymbols r) 1626) 5 tt rate h);
+  some-tried = leb→le _ _ (below-at (λ r. leb 1 (triedSymbols r)) 5 tt rate h);
   pattern-most = leb→le _ _ (below-at (λ r. leb (symbolsPerPattern r) 4) 5 tt rate h);
   whole = agree-at (λ r. (leadSymbols r + triedSymbols r) % symbolsPerPattern r) (λ r. 0) 5 tt rate h;
   run-most = leb→le _ _ (below-at (λ r. leb (leadSymbols r + triedSymbols r) 1632) 5 tt rate h);

@@ -17,7 +17,7 @@ use Rattle.convolutional_code.specs.Costs.{decisionCost, pairCost}
 use Rattle.inner_code.specs.Encode.{coderAt}
 use Rattle.inner_code.specs.Step.{symbolsOf}
 use Rattle.viterbi_decoder.specs.Best.{Decoded}
-use Rattle.reader.specs.Cost.{runCost, costsOf, totalCost}
+use Rattle.reader.specs.Cost.{runCost, costsOf}
 use Rattle.reader.specs.Read.{symbolsPerPattern, runBits, Readable}
 use Rattle.reader.proofs.Laws.{total-le}
 use Rattle.free_start.specs.Lead.{leadSymbols}

@@ -3,7 +3,7 @@
 use mathlib.Core.Path.{_≡_, refl, sym, _∙_, ap, ap₂, subst}
 use mathlib.Core.Bool.{Bool, true, false}
 use mathlib.Core.List.{List, [], _∷_, _++_, flatten, append-assoc, append-nil}
-use Prim.Native.Nat.{ℕ, zero, suc, _+_, _/_, _%_, _<_}
+use Prim.Native.Nat.{ℕ, suc, _+_, _/_, _%_, _<_}
 use native.Mathlib.Nat.{mod-lt}
 use native.Mathlib.Numerals.{add-one}
 use native.Mathlib.Omega.{arith}
@@ -16,11 +16,11 @@ use Rattle.common.proofs.Computed.{both, both-left, both-right, below, below-at
 use Rattle.puncturing.specs.Mode.{modeOf}
 use Rattle.reader.specs.Read.{symbolsPerPattern}
 use Rattle.node_search.specs.Hypotheses.{hypothesis, turnsTold, hypothesisAt, hypothesisCount, hypothesesOf, hypothesesBelow}
-use Rattle.node_search.specs.Search.{kept, Candidates, none, next, verdict, adding, Searches}
+use Rattle.node_search.specs.Search.{kept, none, next, verdict, adding, Searches}
 use Rattle.node_search.specs.Weight.{Weighed}
 use Rattle.node_search.specs.declared.Hypothesis.{Hypothesis}
 use Rattle.node_search.specs.declared.Search.{Search}
-use Rattle.node_search.specs.declared.Search.the-variants.{Found, Nothing, Several}
+use Rattle.node_search.specs.declared.Search.the-variants.{Nothing}
 
 -- ---- one hypothesis more
 

@@ -221,7 +221,7 @@ hard-whole rate bits w ss unread e feedings c finished = stream-whole differing 
 abbrev pub signalPoints : List ℕ → List ReceivedSymbol
 signalPoints ss = receivedOf (signalsI ss) (signalsQ ss) (noneLost ss)
 
-all-front : (a b : List ℕ) → All (λ s. s < 4) (a ++ b) → All (λ s. s < 4) a
+pub all-front : (a b : List ℕ) → All (λ s. s < 4) (a ++ b) → All (λ s. s < 4) a
 all-front [] b h = tt
 all-front (x ∷ a) b h = (h .0, all-front a b (h .1))
 

@@ -26,6 +26,10 @@ pub turned-small : (t s : ℕ) → t < 8 → s < 4 → turned t s < 4
 unfolding turned
 turned-small t s ht hs = ltb→lt (turned t s) 4 (over 4 (λ t s. ltb (turned t s) 4) tt t s ht hs)
 
+pub turned-all : (t : ℕ) → t < 8 → (ss : List ℕ) → All (λ s. s < 4) ss → All (λ s. s < 4) (map (turned t) ss)
+turned-all t ht [] w = tt
+turned-all t ht (s ∷ ss) w = (turned-small t s ht (w .0), turned-all t ht ss (w .1))
+
 pub undoing-small : (t : ℕ) → t < 8 → undoing t < 8
 unfolding undoing
 undoing-small t ht = ltb→lt (undoing t) 8 (below-at (λ t. ltb (undoing t) 8) 8 tt t ht)
@@ -80,17 +84,6 @@ costs-map l =
     (λ i h.
     let k : i < length l = rw (length-listOf (length l) (symbolCost l)) at h in
     getD-listOf (length l) (symbolCost l) (λ s. 0) i k ∙ sym (getD-map-in byPair l 0 (λ s. 0) i k))
-
--- decisions that are clear about turned symbols are clear about the symbols when they are turned back
-pub clear-back : (t : ℕ) → t < 8 → {rs ss : List ℕ} → All (λ p. p < 81) rs → All (λ s. s < 4) ss → AllClear (turnedCost byPair t) rs ss
-    → AllClear byPair (map (turnedPair (undoing t)) rs) ss
-clear-back t ht w v none = none
-clear-back t ht w v (more {r} {s} c g) =
-    more
-    (record {
-      free-sent = back-cost t r s ht (w .0) (v .0) ∙ c .free-sent;
-      only = λ other h z. c .only other h (sym (back-cost t r other ht (w .0) h) ∙ z);
-    }) (clear-back t ht (w .1) (v .1) g)
 
 -- ---- received symbols of any kind
 

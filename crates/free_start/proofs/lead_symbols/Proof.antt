@@ -1,7 +1,6 @@
 -- `free_start::lead_symbols` meets its contract: the table has the numbers of the definition.
 -- Assumes nothing.
-use mathlib.Core.List.{List, [], _∷_}
-use Prim.Native.Nat.{ℕ}
+use mathlib.Core.List.{[], _∷_}
 use lib.ListN.{getD}
 use Rattle.common.proofs.Computed.{agree-at}
 use Rattle.puncturing.specs.Mode.{modeOf}

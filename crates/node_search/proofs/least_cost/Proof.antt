@@ -1,11 +1,7 @@
 -- `node_search::least_cost` meets its contract.
 -- Assumes nothing.
 use native.Mathlib.Omega.{arith}
-use mathlib.Core.Path.{_≡_, sym, _∙_, ap}
-use Prim.Native.Nat.{ℕ, _+_, _-_}
 use borrow.Author.Needs.{needs}
-use lib.ListN.{length, take}
-use Rattle.node_search.specs.Weight.{ledRun}
 use Rattle.node_search.proofs.Numbers.{numbers}
 use Rattle.node_search.proofs.Runs.{led-readable, led-cost, led-is}
 use Rattle.node_search.proofs.least_cost.Statement.{statement}
