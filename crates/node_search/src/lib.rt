@@ -226,7 +226,7 @@ fn refused(answer: Answer) -> Searched
 pub fn search_window(rate: u8, window: &[u8]) -> Searched
     ensures { λ r. ⌜ SearchesWindow rate (now (window .entry)) (numberOf (r .answer)) (r .search) ⌝ }
 {
-    if rate >= 6 {
+    if rate > ANY_RATE {
         return refused(Answer::UnknownRate);
     }
     if window.len() != 1632 {
@@ -235,7 +235,7 @@ pub fn search_window(rate: u8, window: &[u8]) -> Searched
     if common::largest_of(window) >= 81 {
         return refused(Answer::SymbolRange);
     }
-    if rate < 5 {
+    if rate < ANY_RATE {
         let found = search_rate(rate, window, Search::Nothing);
         return Searched {
             answer: Answer::Done,

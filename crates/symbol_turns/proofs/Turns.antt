@@ -34,14 +34,10 @@ pub undoing-small : (t : ℕ) → t < 8 → undoing t < 8
 unfolding undoing
 undoing-small t ht = ltb→lt (undoing t) 8 (below-at (λ t. ltb (undoing t) 8) 8 tt t ht)
 
--- each turn is undone, and undoes the one that undoes it
+-- each turn is undone
 pub undone : (t s : ℕ) → t < 8 → s < 4 → turned (undoing t) (turned t s) ≡ s
 unfolding turned undoing
 undone t s ht hs = eqb→eq (turned (undoing t) (turned t s)) s (over 4 (λ t s. eqb (turned (undoing t) (turned t s)) s) tt t s ht hs)
-
-pub undoing-undoing : (t : ℕ) → t < 8 → undoing (undoing t) ≡ t
-unfolding undoing
-undoing-undoing t ht = eqb→eq (undoing (undoing t)) t (below-at (λ t. eqb (undoing (undoing t)) t) 8 tt t ht)
 
 -- so no two symbols become one
 pub turned-one : (t a b : ℕ) → t < 8 → a < 4 → b < 4 → turned t a ≡ turned t b → a ≡ b
