@@ -1,7 +1,7 @@
 -- What every step counts: the symbols that came, and what is left to do.
 -- Assumes nothing.
 use mathlib.Core.Path.{_≡_, refl, sym, _∙_, ap, subst}
-use mathlib.Core.Bool.{Bool, true, false, not}
+use mathlib.Core.Bool.{Bool, true, false}
 use mathlib.Core.List.{List, []}
 use Prim.Native.Nat.{ℕ, _+_, _-_, _*_, _<_, _≤_}
 use native.Mathlib.Omega.{arith}
@@ -12,7 +12,7 @@ use Rattle.reader_stream.specs.Runs.{RunsReady}
 use Rattle.reader_stream.proofs.Runs.{held-length}
 use Rattle.node_search.specs.declared.Search.{Search}
 use Rattle.acquisition.specs.Reading.{ReadsSymbols, ReadingReady}
-use Rattle.acquisition.specs.Step.{pendingOf, searchingOn, readingOn, waiting, windowOf, ReadingOf, SearchReady, ReadReady, AcquisitionReady, AfterSearch, found, nothing, several, afterReading, SearchesOn, gathers, fills, ReadsPending, ReadsPiece, StepCounts}
+use Rattle.acquisition.specs.Step.{pendingOf, searchingOn, readingOn, waiting, windowOf, ReadingOf, SearchReady, ReadReady, AcquisitionReady, AfterSearch, found, nothing, several, endsReading, mirroredNext, lostReading, afterReading, SearchesOn, gathers, fills, ReadsPending, ReadsPiece, StepCounts}
 use Rattle.acquisition.specs.End.{ClosesReading, ClosesBlocks}
 use Rattle.acquisition.specs.declared.Reading.{Reading}
 use Rattle.acquisition.specs.declared.Phase.{Phase}
@@ -51,12 +51,20 @@ searches-counts s piece r g n (fills l x) =
 pub after-came : (s : Acquisition) (t : ReadStep) (pending : List ℕ) (came : ℕ) (event : Event) → afterReading s t pending came event .came ≡ came
 after-came s t pending came Waits = refl
 after-came s t pending came Block = refl
-after-came s t pending came Lost = refl
+after-came s t pending came Lost = by (endsReading (s .reading .sync .lock .locked) (s .reading .used))
+  where
+    by : (ends : Bool) → lostReading s (t .reading) pending came ends .came ≡ came
+    by true = refl
+    by false = refl
 
 after-held : (s : Acquisition) (t : ReadStep) (pending : List ℕ) (came : ℕ) (event : Event) → afterReading s t pending came event .held ≡ length pending
 after-held s t pending came Waits = refl
 after-held s t pending came Block = refl
-after-held s t pending came Lost = refl
+after-held s t pending came Lost = by (endsReading (s .reading .sync .lock .locked) (s .reading .used))
+  where
+    by : (ends : Bool) → lostReading s (t .reading) pending came ends .held ≡ length pending
+    by true = refl
+    by false = refl
 
 -- the block is of the reading's rate
 block-known : {k : Reading} {symbols : List ℕ} {t : ReadStep} → ReadingReady k → ReadsSymbols k symbols t → t .block .rate < 5
@@ -122,10 +130,14 @@ closed-ready s t g b z x = by
           bits-counted = omega (arith, x .first-is, o .bits-counted, x .balance, z);
         }
 
+    lost : (ends : Bool) → AcquisitionReady (lostReading s (t .reading) [] (s .came) ends)
+    lost true = searching-ready (s .rate) (mirroredNext (s .mirrored) (s .reading .used)) [] (s .came) (g .read-known) (omega arith) tt (omega arith) b
+    lost false = reading-ready (s .rate) (s .mirrored) (t .reading) [] (s .came) (g .read-known) (omega arith) tt (omega arith) b (of (s .rate) (s .mirrored))
+
     by : (event : Event) → AcquisitionReady (afterReading s t [] (s .came) event)
     by Waits = reading-ready (s .rate) (s .mirrored) (t .reading) [] (s .came) (g .read-known) (omega arith) tt (omega arith) b (of (s .rate) (s .mirrored))
     by Block = reading-ready (s .rate) (s .mirrored) (t .reading) [] (s .came) (g .read-known) (omega arith) tt (omega arith) b (of (s .rate) (s .mirrored))
-    by Lost = searching-ready (s .rate) (pick (s .reading .sync .lock .locked) (s .mirrored) (not (s .mirrored))) [] (s .came) (g .read-known) (omega arith) tt (omega arith) b
+    by Lost = lost (endsReading (s .reading .sync .lock .locked) (s .reading .used))
 
 -- the runs are closed
 pub runs-closed : (k : Reading) (t : ReadStep) → ReadingReady k → ClosesReading k t → Closed k t

@@ -9,7 +9,7 @@ use lib.Dec.{T, ltb, ltb→lt, nltb→le}
 use lib.ListN.{length, take, drop, length-drop, length-take}
 use Rattle.common.specs.Choice.{pick}
 use Rattle.reader_stream.proofs.Runs.{held-length}
-use Rattle.acquisition.specs.Step.{pendingOf, searchingOn, ReadReady, AcquisitionReady, afterReading}
+use Rattle.acquisition.specs.Step.{pendingOf, searchingOn, ReadReady, AcquisitionReady, endsReading, lostReading, afterReading}
 use Rattle.acquisition.specs.End.{lastEvent, ClosesReading, ClosesBlocks, overWith, goesOn, endOfBlocks, EndsBlocks, EndsPending, EndsRuns, endMeasure, EndCounts}
 use Rattle.acquisition.specs.declared.Reading.{Reading}
 use Rattle.acquisition.specs.declared.ReadStep.{ReadStep}
@@ -67,7 +67,11 @@ after-measure : (s : Acquisition) (t : ReadStep) (pending : List ℕ) (came m : 
     → (event : Event) → endMeasure (afterReading s t pending came event) < m
 after-measure s t pending came m h Waits = h
 after-measure s t pending came m h Block = h
-after-measure s t pending came m h Lost = omega (arith, h)
+after-measure s t pending came m h Lost = by (endsReading (s .reading .sync .lock .locked) (s .reading .used))
+  where
+    by : (ends : Bool) → endMeasure (lostReading s (t .reading) pending came ends) < m
+    by true = omega (arith, h)
+    by false = h
 
 -- ---- the steps
 
@@ -149,7 +153,12 @@ blocks-end-counts s r g ph x = subst (EndCounts s) (sym (x .result)) (by (x .ste
         let held : x .step .reading .sync .held ≡ x .closes .decided .sync .held = ap (λ (k : Reading). k .sync .held) (x .closes .reading) in
         let count : x .step .reading .runs .count ≡ s .reading .runs .count = ap (λ (k : Reading). k .runs .count) (x .closes .reading) in
         on (after-measure s (x .step) [] (s .came) (endMeasure s) (omega (arith, reads-measure s ph, c .whole, used, held, count)) (x .step .event))
-    by Lost q = on (subst (λ (e : Event). endMeasure (afterReading s (x .step) [] (s .came) e) < endMeasure s) (sym q) (omega (arith, reads-measure s ph)))
+    by Lost q = record {
+      came-is = refl;
+      rate-known = rw (x .closes .block-is) (g .reading-of .ready .runs-ready .known);
+      left-few = omega arith;
+      goes = λ p. omega (arith, reads-measure s ph);
+    }
 
 pub blocks-ready : (s : Acquisition) (r : EndStep) → ReadReady s → s .came < 1152921504606846976 → s .held ≡ 0 → EndsBlocks s r → AcquisitionReady (r .acquisition)
 blocks-ready s r g b z x = subst (λ (y : EndStep). AcquisitionReady (y .acquisition)) (sym (x .result)) (by (x .step .event))
@@ -157,4 +166,4 @@ blocks-ready s r g b z x = subst (λ (y : EndStep). AcquisitionReady (y .acquisi
     by : (e : Event) → AcquisitionReady (endOfBlocks s (x .step) e .acquisition)
     by Waits = searching-ready (s .rate) (s .mirrored) [] (s .came) (g .read-known) (omega arith) tt (omega arith) b
     by Block = closed-ready s (x .step) g b z (blocks-closed (s .reading) (x .step) (g .reading-of .ready) (x .closes)) (x .step .event)
-    by Lost = closed-ready s (x .step) g b z (blocks-closed (s .reading) (x .step) (g .reading-of .ready) (x .closes)) (x .step .event)
+    by Lost = searching-ready (s .rate) (s .mirrored) [] (s .came) (g .read-known) (omega arith) tt (omega arith) b

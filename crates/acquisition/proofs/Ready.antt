@@ -21,7 +21,7 @@ use Rattle.node_search.specs.declared.Search.{Search}
 use Rattle.block_sync.specs.Feed.{freshBlockSync}
 use Rattle.block_sync.specs.declared.BlockSync.{BlockSync}
 use Rattle.acquisition.specs.Reading.{turnRead, Begins, ReadingReady, ReadsSymbols, usedBy}
-use Rattle.acquisition.specs.Step.{pendingOf, searchingOn, readingOn, windowOf, ReadingOf, PhaseReady, AcquisitionReady, AfterSearch, found, nothing, several, afterReading}
+use Rattle.acquisition.specs.Step.{pendingOf, searchingOn, readingOn, windowOf, ReadingOf, PhaseReady, AcquisitionReady, AfterSearch, found, nothing, several, endsReading, mirroredNext, lostReading, afterReading}
 use Rattle.acquisition.specs.declared.Reading.{Reading}
 use Rattle.acquisition.specs.declared.Phase.{Phase}
 use Rattle.acquisition.specs.declared.Acquisition.{Acquisition}
@@ -151,7 +151,11 @@ after-reading-ready s symbols pending came t k g n a l m c b e x Waits =
     reading-ready (s .rate) (s .mirrored) (t .reading) pending came k (omega (arith, l)) a m b (read-of s symbols pending came t g n c b e x (s .rate) (s .mirrored))
 after-reading-ready s symbols pending came t k g n a l m c b e x Block =
     reading-ready (s .rate) (s .mirrored) (t .reading) pending came k (omega (arith, l)) a m b (read-of s symbols pending came t g n c b e x (s .rate) (s .mirrored))
-after-reading-ready s symbols pending came t k g n a l m c b e x Lost = searching-ready (s .rate) _ pending came k l a m b
+after-reading-ready s symbols pending came t k g n a l m c b e x Lost = by (endsReading (s .reading .sync .lock .locked) (s .reading .used))
+  where
+    by : (ends : Bool) → AcquisitionReady (lostReading s (t .reading) pending came ends)
+    by true = searching-ready (s .rate) (mirroredNext (s .mirrored) (s .reading .used)) pending came k l a m b
+    by false = reading-ready (s .rate) (s .mirrored) (t .reading) pending came k (omega (arith, l)) a m b (read-of s symbols pending came t g n c b e x (s .rate) (s .mirrored))
 
 -- ---- lists that are gathered
 

@@ -56,11 +56,11 @@ overWith s left = record { acquisition = s; event = Waits; block = waiting s 0 .
 abbrev pub goesOn : Acquisition → ReadStep → EndStep
 goesOn s t = record { acquisition = afterReading s t [] (s .came) (t .event); event = t .event; block = t .block; over = false; left = 0 }
 
--- the end of the bits: it is over where fewer are left than a block has
+-- The end of the bits: it is over where fewer are left than a block has. Where no block follows in more, the reading is.
 abbrev pub endOfBlocks : Acquisition → ReadStep → Event → EndStep
 endOfBlocks s t Waits = overWith (searchingOn (s .rate) (s .mirrored) [] (s .came)) (s .reading .sync .held)
 endOfBlocks s t Block = goesOn s t
-endOfBlocks s t Lost = goesOn s t
+endOfBlocks s t Lost = record { acquisition = searchingOn (s .rate) (s .mirrored) [] (s .came); event = Lost; block = t .block; over = false; left = 0 }
 
 pub record EndsBlocks (s : Acquisition) (r : EndStep) : Type 0 where
   pub step : ReadStep

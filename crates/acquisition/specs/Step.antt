@@ -5,6 +5,7 @@ use mathlib.Core.Path.{_≡_}
 use mathlib.Core.Bool.{Bool, true, false, not}
 use mathlib.Core.List.{List, [], _++_}
 use Prim.Native.Nat.{ℕ, _+_, _-_, _*_, _<_, _≤_}
+use lib.Dec.{eqb, ltb}
 use lib.ListN.{length, take, drop, replicate}
 use Rattle.common.specs.Choice.{pick}
 use Rattle.common.specs.Lists.{All, padded}
@@ -107,12 +108,23 @@ pub data SearchesOn (s : Acquisition) (piece : List ℕ) (r : Step) : Type 0 whe
 
 -- ---- a reading
 
--- A reading that loses its blocks is over, and the search goes on with the symbols that it did not read. Where it gave no block, the next reading at 5/6 takes
--- the symbols for mirrored, or no longer.
+-- A decision that gives no block ends the reading where the one before it gave none either.
+abbrev pub endsReading : Bool → ℕ → Bool
+endsReading locked used = pick locked false (ltb 0 used)
+
+-- A reading of two decisions gave no block: one without a block uses up 1,633 bits. The next reading at 5/6 then takes the symbols for mirrored, or no longer.
+abbrev pub mirroredNext : Bool → ℕ → Bool
+mirroredNext mirrored used = pick (eqb used 1633) (not mirrored) mirrored
+
+-- A reading that is over leaves the symbols that it did not read to the search.
+abbrev pub lostReading : Acquisition → Reading → List ℕ → ℕ → Bool → Acquisition
+lostReading s k pending came true = searchingOn (s .rate) (mirroredNext (s .mirrored) (s .reading .used)) pending came
+lostReading s k pending came false = readingOn (s .rate) (s .mirrored) k pending came
+
 abbrev pub afterReading : Acquisition → ReadStep → List ℕ → ℕ → Event → Acquisition
 afterReading s t pending came Waits = readingOn (s .rate) (s .mirrored) (t .reading) pending came
 afterReading s t pending came Block = readingOn (s .rate) (s .mirrored) (t .reading) pending came
-afterReading s t pending came Lost = searchingOn (s .rate) (pick (s .reading .sync .lock .locked) (s .mirrored) (not (s .mirrored))) pending came
+afterReading s t pending came Lost = lostReading s (t .reading) pending came (endsReading (s .reading .sync .lock .locked) (s .reading .used))
 
 pub record ReadsPending (s : Acquisition) (r : Step) : Type 0 where
   pub read : ReadStep

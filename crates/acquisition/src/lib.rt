@@ -2,17 +2,15 @@
 // reads by what it found, and finds the blocks by their sync bytes. docs/ACQUISITION.md says exactly what is decided.
 // Inner: its functions may require what the crates above have tested. docs/ARCHITECTURE.md names the public surface.
 ghost use mathlib.Core.Path.{_≡_};
-ghost use mathlib.Core.Bool.{not};
-ghost use mathlib.Core.List.{_++_};
+ghost use mathlib.Core.List.{[], _++_};
 ghost use Prim.Native.Nat.{_+_, _*_, _<_, _≤_};
 ghost use lib.ListN.{length};
-ghost use Rattle.common.specs.Choice.{pick};
 ghost use Rattle.common.specs.Lists.{All, padded};
 ghost use Rattle.reader_stream.specs.Runs.{RunsReady};
 ghost use Rattle.node_search.specs.Search.{FoundKnown};
 ghost use Rattle.acquisition.specs.Reading.{symbolAt, turnRead, turnTold, idleReading, Begins, TakesBits, eventOf, blockFound, usedBy, ReadingReady, SettlesBits, ReadsSymbols};
 ghost use Rattle.acquisition.specs.End.{ClosesReading, lastEvent, ClosesBlocks, overWith, goesOn, EndsBlocks, EndsAcquisition, EndCounts};
-ghost use Rattle.acquisition.specs.Step.{StepCounts, searchingOn, readingOn, waiting, SearchReady, ReadReady, AfterSearch, afterReading, SearchesOn, ReadsPending, ReadsPiece, AcquisitionReady, freshAcquisition, StepsAcquisition};
+ghost use Rattle.acquisition.specs.Step.{StepCounts, searchingOn, readingOn, waiting, SearchReady, ReadReady, AfterSearch, endsReading, mirroredNext, lostReading, afterReading, SearchesOn, ReadsPending, ReadsPiece, AcquisitionReady, freshAcquisition, StepsAcquisition};
 use block_sync::BlockSync;
 use block_sync::SyncStep;
 use common::least;
@@ -70,7 +68,7 @@ pub struct FoundBlock {
 pub enum Event {
     Waits,
     Block,
-    // No block follows: a lock is lost, and a reading is over.
+    // No block follows, and a lock is lost.
     Lost,
 }
 
@@ -311,14 +309,25 @@ fn joined(front: &[u8], behind: &[u8]) -> [u8; 1632]
     buffer
 }
 
-// Whether the next reading at 5/6 takes the symbols for mirrored, where one is over that gave a block or not.
-fn mirrored_next(mirrored: bool, locked: bool) -> bool
-    ensures { λ r. ⌜ r ≡ pick locked mirrored (not mirrored) ⌝ }
+// Whether a decision that gives no block ends the reading: the one before it gave none either.
+fn ends_reading(locked: bool, used: u64) -> bool
+    ensures { λ r. ⌜ r ≡ endsReading locked used ⌝ }
 {
     if locked {
-        return mirrored;
+        return false;
     }
-    !mirrored
+    0 < used
+}
+
+// Whether the next reading at 5/6 takes the symbols for mirrored, where one is over of which so many bits were used up before: where these are those of one
+// decision without a block, it gave none, and the next one takes them the other way.
+fn mirrored_next(mirrored: bool, used: u64) -> bool
+    ensures { λ r. ⌜ r ≡ mirroredNext mirrored used ⌝ }
+{
+    if used == 1633 {
+        return !mirrored;
+    }
+    mirrored
 }
 
 // Searching, with symbols pending.
@@ -421,10 +430,10 @@ fn search_step(state: Acquisition, piece: &[u8]) -> Step
     waits(next, space)
 }
 
-// What a step of a reading leaves, where the symbols behind those that it read are pending.
-fn after_reading(state: Acquisition, step: ReadStep, pending: &[u8], came: u64) -> Acquisition
+// What is left where no block follows: the reading goes on, or it is over.
+fn lost_reading(state: Acquisition, next: Reading, pending: &[u8], came: u64) -> Acquisition
     requires { ⌜ length (now pending) ≤ 1632 ⌝ }
-    ensures { λ r. ⌜ r ≡ afterReading state step (now (pending .entry)) came (step .event) ⌝ }
+    ensures { λ r. ⌜ r ≡ lostReading state next (now (pending .entry)) came (endsReading (state .reading .sync .lock .locked) (state .reading .used)) ⌝ }
 {
     let rate = state.rate;
     let mirrored = state.mirrored;
@@ -432,12 +441,26 @@ fn after_reading(state: Acquisition, step: ReadStep, pending: &[u8], came: u64) 
     let sync = before.sync;
     let lock = sync.lock;
     let locked = lock.locked;
+    let used = before.used;
+    if ends_reading(locked, used) {
+        return searching_on(rate, mirrored_next(mirrored, used), pending, came);
+    }
+    reading_on(rate, mirrored, next, pending, came)
+}
+
+// What a step of a reading leaves, where the symbols behind those that it read are pending.
+fn after_reading(state: Acquisition, step: ReadStep, pending: &[u8], came: u64) -> Acquisition
+    requires { ⌜ length (now pending) ≤ 1632 ⌝ }
+    ensures { λ r. ⌜ r ≡ afterReading state step (now (pending .entry)) came (step .event) ⌝ }
+{
+    let rate = state.rate;
+    let mirrored = state.mirrored;
     let next = step.reading;
     let event = step.event;
     match event {
         Event::Waits => reading_on(rate, mirrored, next, pending, came),
         Event::Block => reading_on(rate, mirrored, next, pending, came),
-        Event::Lost => searching_on(rate, mirrored_next(mirrored, locked), pending, came),
+        Event::Lost => lost_reading(state, next, pending, came),
     }
 }
 
@@ -577,6 +600,17 @@ fn goes_on(state: Acquisition, step: ReadStep) -> EndStep
     }
 }
 
+// The search that a reading leaves whose bits have ended.
+fn ended(state: Acquisition) -> Acquisition
+    ensures { λ r. ⌜ r ≡ searchingOn (state .rate) (state .mirrored) [] (state .came) ⌝ }
+{
+    let rate = state.rate;
+    let mirrored = state.mirrored;
+    let came = state.came;
+    let none = [0u8; 1];
+    searching_on(rate, mirrored, &none[..0], came)
+}
+
 // The end of a reading of which nothing is pending and no run holds a symbol.
 fn end_blocks(state: Acquisition) -> EndStep
     requires { ⌜ (ReadReady state) × (state .came < 1152921504606846976) ⌝ }
@@ -589,14 +623,21 @@ fn end_blocks(state: Acquisition) -> EndStep
     let event = step.event;
     match event {
         Event::Waits => {
-            let rate = state.rate;
-            let mirrored = state.mirrored;
-            let came = state.came;
-            let none = [0u8; 1];
-            over(searching_on(rate, mirrored, &none[..0], came), held)
+            let over_then = ended(state);
+            over(over_then, held)
         }
         Event::Block => goes_on(state, step),
-        Event::Lost => goes_on(state, step),
+        Event::Lost => {
+            let acquisition = ended(state);
+            let block = step.block;
+            EndStep {
+                acquisition,
+                event,
+                block,
+                over: false,
+                left: 0,
+            }
+        }
     }
 }
 

@@ -1,8 +1,10 @@
 -- `acquisition::end_blocks` meets its contract.
 -- Assumes nothing.
-use mathlib.Core.Path.{sym, ap, _∙_}
+use mathlib.Core.Path.{sym, ap, ap₂, _∙_}
+use mathlib.Core.Bool.{false}
 use Rattle.acquisition.specs.End.{overWith, endOfBlocks}
 use Rattle.acquisition.specs.declared.Acquisition.{Acquisition}
+use Rattle.acquisition.specs.declared.Event.{Event}
 use borrow.Author.Needs.{needs}
 use Rattle.acquisition.proofs.end_blocks.Statement.{statement}
 use Rattle.acquisition.proofs.end_blocks.Tie as tie
@@ -13,14 +15,8 @@ close-blocks-requires c κs = search needs
 enum-told : tie.Need-enum-told
 enum-told c = search needs
 
-array-share-prefix-none : tie.Need-array-share-prefix-none
-array-share-prefix-none c = search needs
-
-slice-aggregate-searching-on : tie.Need-slice-aggregate-searching-on
-slice-aggregate-searching-on c = search needs
-
-searching-on-requires : tie.Need-searching-on-requires
-searching-on-requires c κs = search needs
+ended-requires : tie.Need-ended-requires
+ended-requires c κs = search needs
 
 over-requires : tie.Need-over-requires
 over-requires c κs = search needs
@@ -34,17 +30,17 @@ goes-on-requires c κs = search needs
 enum-told-3 : tie.Need-enum-told-3
 enum-told-3 c = search needs
 
-goes-on-requires-2 : tie.Need-goes-on-requires-2
-goes-on-requires-2 c κs = search needs
+ended-requires-2 : tie.Need-ended-requires-2
+ended-requires-2 c κs = search needs
 
 returns : tie.Need-returns
-returns c = let s = c .before .before .before .before .before .before .before .before in record { step = c .before .before .before .before .before .close-blocks .result; closes = c .before .before .before .before .before .close-blocks .ensures; result = c .over .ensures ∙ ap (λ (x : Acquisition). overWith x (s .args .state .reading .sync .held)) (c .before .searching-on .ensures) ∙ ap (endOfBlocks (s .args .state) (c .before .before .before .before .before .close-blocks .result)) (sym (c .before .before .before .enum-told .given .1)) }
+returns c = let s = c .before .before .before .before .before .before .before in record { step = c .before .before .before .before .close-blocks .result; closes = c .before .before .before .before .close-blocks .ensures; result = c .over .ensures ∙ ap (λ (x : Acquisition). overWith x (s .args .state .reading .sync .held)) (c .before .ended .ensures) ∙ ap (endOfBlocks (s .args .state) (c .before .before .before .before .close-blocks .result)) (sym (c .before .before .enum-told .given .1)) }
 
 returns-2 : tie.Need-returns-2
 returns-2 c = let s = c .before .before .before .before .before .before in record { step = c .before .before .before .close-blocks .result; closes = c .before .before .before .close-blocks .ensures; result = c .goes-on .ensures ∙ ap (endOfBlocks (s .args .state) (c .before .before .before .close-blocks .result)) (sym (c .before .enum-told2 .given .1)) }
 
 returns-3 : tie.Need-returns-3
-returns-3 c = let s = c .before .before .before .before .before .before in record { step = c .before .before .before .close-blocks .result; closes = c .before .before .before .close-blocks .ensures; result = c .goes-on2 .ensures ∙ ap (endOfBlocks (s .args .state) (c .before .before .before .close-blocks .result)) (sym (c .before .enum-told3 .given .1)) }
+returns-3 c = let s = c .before .before .before .before .before .before .before in let t = c .before .before .before .before .close-blocks .result in let e = c .before .before .enum-told3 .given .1 in record { step = t; closes = c .before .before .before .before .close-blocks .ensures; result = ap₂ (λ (x : Acquisition) (y : Event). record { acquisition = x; event = y; block = t .block; over = false; left = 0 }) (c .before .ended2 .ensures) e ∙ ap (endOfBlocks (s .args .state) t) (sym e) }
 
 pub end-blocks-spec : {M : Type 1} → statement M
 end-blocks-spec =
@@ -52,14 +48,12 @@ end-blocks-spec =
     (tie.spec
     close-blocks-requires
     enum-told
-    array-share-prefix-none
-    slice-aggregate-searching-on
-    searching-on-requires
+    ended-requires
     over-requires
     enum-told-2
     goes-on-requires
     enum-told-3
-    goes-on-requires-2
+    ended-requires-2
     returns
     returns-2
     returns-3)
