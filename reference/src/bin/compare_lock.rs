@@ -112,6 +112,29 @@ fn slips(r: &mut Xorshift, rate: u8, count: usize) -> Vec<(u64, Slip)> {
         .collect()
 }
 
+fn bytes_of(bits: &[u8]) -> Vec<u8> {
+    bits.chunks_exact(8).map(|eight| eight.iter().fold(0, |byte, bit| 2 * byte + bit)).collect()
+}
+
+/// A stream's bits behind so many others that its first block is at an edge of what a decision searches, with some of the first and
+/// the last sync bytes harmed.
+fn edges(r: &mut Xorshift) -> Case {
+    let sent = packets(r.next(), 30);
+    let mut blocks = interleaved_stream(&sent)[BLOCK_LENGTH * r.below(8)..].to_vec();
+    let count = blocks.len() / BLOCK_LENGTH;
+    for k in (0..6).chain(count - 6..count) {
+        if r.below(3) == 0 {
+            blocks[BLOCK_LENGTH * k] ^= [0x01, 0xFF, 0x80][r.below(3)];
+        }
+    }
+    let before = [0, 1, 7, 8, 1624, 1631, 1632, 1633, 1640, 3264, 3265, 3266][r.below(12)];
+    let junk = (0..before).map(|_| r.byte() & 1).collect::<Vec<u8>>();
+    let flip = r.below(2) as u8;
+    let mut bits = [junk, blocks.iter().flat_map(|byte| (0..8).rev().map(move |k| (byte >> k & 1) ^ flip)).collect()].concat();
+    bits.truncate(bits.len() - [0, 1, 7, 8, 1623, 1624, 1625, 1632][r.below(8)]);
+    Case { word: "bits".to_string(), input: bytes_of(&bits), sent }
+}
+
 /// A stream's bits behind some others, straight or inverted, with bits left out and put in.
 fn bits(r: &mut Xorshift, edits: usize) -> Case {
     let sent = packets(r.next(), 45 + r.below(40));
@@ -138,8 +161,7 @@ fn bits(r: &mut Xorshift, edits: usize) -> Case {
         let at = r.below(bits.len());
         bits[at] ^= 1;
     }
-    let input = bits.chunks_exact(8).map(|eight| eight.iter().fold(0, |byte, bit| 2 * byte + bit)).collect();
-    Case { word: "bits".to_string(), input, sent }
+    Case { word: "bits".to_string(), input: bytes_of(&bits), sent }
 }
 
 struct Score {
@@ -285,6 +307,7 @@ fn main() {
         let edits = 1 + r.below(4);
         bits(r, edits)
     });
+    score.kind("bits, edges", 150, Purpose::Locks, |r, _| edges(r));
     score.kind("bits, short", 60, Purpose::Both, |r, _| {
         let mut case = bits(r, 0);
         case.input.truncate(r.below(4000));
