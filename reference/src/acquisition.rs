@@ -11,11 +11,11 @@ use crate::report::{Bits, Report};
 use crate::{answer::Answer, BLOCK_LENGTH, INVERTED_SYNC, SYNC};
 
 /// The symbols of a search.
-const WINDOW: usize = 1632;
+pub const WINDOW: usize = 1632;
 /// The patterns of lost symbols in front of a reading, by the rate.
-const LEAD: [usize; RATES as usize] = [6, 2, 2, 2, 1];
+pub const LEAD: [usize; RATES as usize] = [6, 2, 2, 2, 1];
 /// A candidate costs less beyond what it must than so many ten thousandths of what the decisions can cost.
-const THRESHOLD: [u64; RATES as usize] = [760, 400, 255, 120, 72];
+pub const THRESHOLD: [u64; RATES as usize] = [760, 400, 255, 120, 72];
 const FIVE_SIXTHS: u8 = 3;
 /// The bits of a block, and those of a decision: five blocks and a byte.
 const BLOCK_BITS: usize = 8 * BLOCK_LENGTH;

@@ -4,8 +4,10 @@
 //!
 //! `compare_lock PROGRAMS` runs all, PROGRAMS being `target/bin`; `compare_lock PROGRAMS KIND` one kind; `compare_lock PROGRAMS KIND CASE` one case.
 
-use reference::acquisition::{lock, lock_bits, pattern_size, Told};
-use reference::channel::{demodulated, sigma, to_bytes, Bursts, Channel, Demodulator, Slip};
+use reference::acquisition::{lock, lock_bits, pattern_size, Told, LEAD, THRESHOLD, WINDOW};
+use reference::channel::{demodulated, sigma, to_bytes, turned, Bursts, Channel, Demodulator, Slip};
+use reference::inner_code::InnerCoder;
+use reference::inner_decoder::LONGEST;
 use reference::numbered::{packets, symbols, Verdict};
 use reference::sender::interleaved_stream;
 use reference::xorshift::Xorshift;
@@ -110,6 +112,92 @@ fn slips(r: &mut Xorshift, rate: u8, count: usize) -> Vec<(u64, Slip)> {
             ((symbols_of(rate, 25) + r.below(symbols_of(rate, count - 40))) as u64, slip)
         })
         .collect()
+}
+
+/// So many numbers at either end of a window are sure.
+const END: usize = 150;
+
+/// How surely a number of a window is told: the difference of what its two bits cost, and whether the wrong one is the cheaper.
+#[derive(Clone, Copy)]
+struct Doubt {
+    difference: usize,
+    wrong: bool,
+}
+
+/// Doubts for so many numbers with which a window costs exactly the threshold: `10,000 (c - m) = h d`. The wrong ones are spread evenly and away from
+/// the ends, so that no other bits cost less than those that were sent. The first of them is wrong by 1.
+fn doubts(numbers: usize, threshold: usize) -> Vec<Doubt> {
+    let divisor = (1..=threshold).rev().find(|k| threshold % k == 0 && 10_000 % k == 0).unwrap();
+    // What is wrong, made of 1 and 7, and with all others, which are made of 7, 5 and 3, the differences.
+    let made = |times: usize| {
+        let cost = times * threshold / divisor;
+        let ones = 7 + cost % 7;
+        let others = times * 10_000 / divisor - cost;
+        let (fives, threes) = [(0, 0), (3, 0), (0, 3), (0, 1), (1, 2), (1, 0), (0, 2)][others % 7];
+        (ones, (cost - ones) / 7, fives, threes, (others - 5 * fives - 3 * threes) / 7)
+    };
+    let fits = |(ones, wrong, fives, threes, sevens): &(usize, usize, usize, usize, usize)| ones + wrong + fives + threes + sevens <= numbers;
+    let (ones, sure, fives, threes, sevens) = (1..).filter(|times| times * threshold / divisor >= 14).map(made).take_while(fits).last().expect("one fits");
+    let wrong = ones + sure;
+    let unknown = numbers - wrong - fives - threes - sevens;
+    // Whether one of so many is due at a place, evenly.
+    let due = |place: usize, many: usize, all: usize| place < all && (place + 1) * many / all > place * many / all;
+    let middle = numbers - 2 * END;
+    let (mut wrongs, mut rights, mut told) = (0, 0, 0);
+    (0..numbers)
+        .map(|place| {
+            if place >= END && due(place - END, wrong, middle) {
+                wrongs += 1;
+                return Doubt { difference: if wrongs <= ones { 1 } else { 7 }, wrong: true };
+            }
+            if place >= END {
+                rights += 1;
+            }
+            if rights > 0 && due(rights - 1, unknown, middle - wrong) {
+                return Doubt { difference: 0, wrong: false };
+            }
+            told += 1;
+            let difference = if told <= fives { 5 } else if told <= fives + threes { 3 } else { 7 };
+            Doubt { difference, wrong: false }
+        })
+        .collect()
+}
+
+/// A stream that begins sixty symbols before a block, with a first window that costs exactly the threshold, or one less: it is not found, or it is.
+fn at_the_threshold(r: &mut Xorshift, rate: u8) -> Case {
+    let sent = packets(r.next(), 40);
+    let less = r.below(2) == 0;
+    let (bits, per_pattern) = pattern_size(rate);
+    let mut doubts = doubts(2 * per_pattern * (LONGEST / bits - LEAD[rate as usize]), THRESHOLD[rate as usize] as usize);
+    if less {
+        doubts.iter_mut().find(|doubt| doubt.wrong).unwrap().wrong = false;
+    }
+    let number = |sent: f32, doubt: Option<&Doubt>| match doubt {
+        None => sent,
+        Some(Doubt { difference: 0, .. }) => f32::NAN,
+        Some(doubt) => sent * [0.1, 0.3, 0.6, 1.0][doubt.difference / 2] * if doubt.wrong { -1.0 } else { 1.0 },
+    };
+    // At 5/6 a mirrored stream is read in vain at first.
+    let turn = r.below(if rate == 3 { 4 } else { 8 }) as u8;
+    let coded = symbols(rate, &sent);
+    let received = coded[symbols_of(rate, 13) - 60..].iter().enumerate().map(|(k, &symbol)| {
+        let (i, q) = reference::channel::sent(symbol);
+        turned(turn, (number(i, doubts.get(2 * k)), number(q, doubts.get(2 * k + 1))))
+    });
+    let input: Vec<u8> = received.flat_map(to_bytes).collect();
+    let found = lock(Some(rate), &input).text.contains("skipped=60\n");
+    assert!(found == less, "rate {rate}: found is {found} and one less is {less}");
+    Case { word: rate.to_string(), input, sent }
+}
+
+/// Windows of lost symbols, and then a stream that begins beside the first symbol of a block, which may be one of the lead.
+fn beside_a_block(r: &mut Xorshift, rate: u8) -> Case {
+    let sent = packets(r.next(), 44);
+    let cut = symbols_of(rate, 13) + r.below(12) - 3;
+    let channel = Channel::new(r.next(), sigma(rate, 9.0), 0.0, None);
+    let lost = vec![0xFF; 8 * WINDOW * r.below(4)];
+    let stream = points(rate, &sent, channel, Demodulator::new(cut as u64, r.below(8) as u8, vec![]));
+    Case { word: word(r, rate), input: [lost, stream].concat(), sent }
 }
 
 fn bytes_of(bits: &[u8]) -> Vec<u8> {
@@ -269,6 +357,19 @@ fn main() {
         let input = [noise(r.below(9000)), stream, noise(r.below(20_000)), behind, noise(r.below(12_000))].concat();
         Case { word: word(r, rate), input, sent }
     });
+    // Symbols of bits that have no blocks are found and read in vain, which changes the mirror at 5/6.
+    score.kind("bits without blocks before a stream", 30, Purpose::Locks, |r, rate| {
+        let (before, many) = (r.below(5) as u8, 600 + r.below(1400));
+        let coded = InnerCoder::after(before, 0).code(&r.bytes(many));
+        let mut channel = Channel::new(r.next(), sigma(before, 9.0), 0.0, None);
+        let mut demodulator = Demodulator::new(0, r.below(8) as u8, vec![]);
+        let mut input: Vec<u8> = demodulated(&coded, &mut channel, &mut demodulator).into_iter().flat_map(to_bytes).collect();
+        let case = stream(r, if rate < 3 { 3 } else { rate }, 44, 8.0, vec![]);
+        input.extend(case.input);
+        Case { word: "any".to_string(), input, ..case }
+    });
+    score.kind("at the threshold", 20, Purpose::Locks, at_the_threshold);
+    score.kind("beside a block", 75, Purpose::Locks, beside_a_block);
     // About the four blocks and a byte that a lock needs, and bytes behind the last whole point.
     score.kind("short", 60, Purpose::Both, |r, rate| {
         let mut case = stream(r, rate, 24, 9.0, vec![]);
