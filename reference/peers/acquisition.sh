@@ -62,15 +62,15 @@ modems() {
 { "$acquisition" measure "$lock" "${1:-4}" || echo "FAILED"; modems; } | tee "$build/acquisition"
 awk -f "$here/acquisition.awk" "$build/acquisition" > "$work/acquisition.svg"
 mv "$work/acquisition.svg" "$here/../../docs/acquisition.svg"
-# What may never be: a wrong lock above 4 dB, and at any a packet that was not sent, or one out of order.
+# What may never be: from 4.5 dB on a run that does not lock rightly, from 4 dB on a false lock, and at any a packet that was never sent or is out of order.
 awk '
-    $1 == "lock" { rows++; false += $3 >= 4 ? $7 : 0; wrong += $11 }
-    $1 == "slip" { rows++; false += $9; wrong += $10 + $11 }
+    $1 == "lock" { rows++; missed += $3 >= 4.5 ? $4 - $6 : 0; false += $3 >= 4 ? $7 : 0; wrong += $11 }
+    $1 == "slip" { rows++; missed += $8 < $4; false += $9; wrong += $10 + $11 }
     $1 == "noise" { rows++; false += $4; wrong += $5 }
-    $1 == "before" { rows++; false += $4 - $5; wrong += $8 }
-    $1 == "modem" { rows++; false += $8; wrong += $12 + ($13 != "true") }
+    $1 == "before" { rows++; missed += $3 - $5; wrong += $8 }
+    $1 == "modem" { rows++; missed += $7 < 1 || $10 < 1; false += $8; wrong += $12 + ($13 != "true") }
     $1 == "FAILED" { failed = 1 }
     END {
-        printf "\nacquisition: %d rows, %d false locks, %d packets never sent or out of order\n", rows, false, wrong
-        exit failed || rows < 70 || false + wrong > 0
+        printf "\nacquisition: %d rows, %d locks missed, %d false, %d packets never sent or out of order\n", rows, missed, false, wrong
+        exit failed || rows < 76 || missed + false + wrong > 0
     }' "$build/acquisition" || { echo "acquisition: NOT as it should be"; exit 1; }
