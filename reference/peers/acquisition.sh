@@ -64,10 +64,10 @@ awk -f "$here/acquisition.awk" "$build/acquisition" > "$work/acquisition.svg"
 mv "$work/acquisition.svg" "$here/../../docs/acquisition.svg"
 # What may never be: from 4.5 dB on a run that does not lock rightly, from 4 dB on a false lock, and at any a packet that was never sent or is out of order.
 awk '
-    $1 == "lock" { rows++; missed += $3 >= 4.5 ? $4 - $6 : 0; false += $3 >= 4 ? $7 : 0; wrong += $11 }
+    $1 == "lock" { rows++; missed += $3 >= 4.5 ? $4 - $6 : 0; false += $3 >= 4 ? $7 : 0; wrong += $11 + $12 }
     $1 == "slip" { rows++; missed += $8 < $4; false += $9; wrong += $10 + $11 }
     $1 == "noise" { rows++; false += $4; wrong += $5 }
-    $1 == "before" { rows++; missed += $3 - $5; wrong += $8 }
+    $1 == "before" { rows++; missed += $3 - $5; wrong += $8 + $9 }
     $1 == "modem" { rows++; missed += $7 < 1 || $10 < 1; false += $8; wrong += $12 + ($13 != "true") }
     $1 == "FAILED" { failed = 1 }
     END {

@@ -93,14 +93,14 @@ fn symbols_of(rate: u8, blocks: usize) -> usize {
 fn cut_anywhere(program: &str, runs: usize) {
     println!("Streams that begin anywhere, in all eight turns, the rate not told; {PACKETS} packets each.");
     println!("skipped: symbols before the lock; first: runs that gave every packet from the first whole group on\n");
-    println!("      rate Eb/N0 runs locked right false  skipped: mean   most  first never-sent");
+    println!("      rate Eb/N0 runs locked right false  skipped: mean   most  first never-sent disordered");
     for rate in 0..5u8 {
         let sent = packets(100 + rate as u64, PACKETS);
         let coded = symbols(rate, &sent);
         let (bits, per_pattern) = pattern_size(rate);
         for eb_n0 in EB_N0 {
             let mut random = Xorshift::new(1000 + rate as u64);
-            let (mut locked, mut right, mut wrong, mut skipped, mut most, mut first, mut never_sent) = (0, 0, 0, 0, 0, 0, 0);
+            let (mut locked, mut right, mut wrong, mut skipped, mut most, mut first, mut never_sent, mut disordered) = (0, 0, 0, 0, 0, 0, 0, 0);
             for case in 0..8 * runs {
                 let turn = case as u8 % 8;
                 // Behind the zeros of a fresh interleaver.
@@ -117,15 +117,16 @@ fn cut_anywhere(program: &str, runs: usize) {
                 most = most.max(outcome.skipped);
                 let verdict = Verdict::of(&sent, &outcome.packets);
                 never_sent += verdict.never_sent;
+                disordered += usize::from(!verdict.in_order());
                 // The first group whose first block begins behind the first whole pattern.
                 let block = ((cut + per_pattern - 1) / per_pattern * bits + 8 * BLOCK_LENGTH - 1) / (8 * BLOCK_LENGTH);
                 let group = (block + 7) / 8 * 8;
-                let whole = verdict.came.first().map_or(false, |&came| came <= group) && verdict.missing() == 0 && verdict.in_order();
+                let whole = verdict.came.first().map_or(false, |&came| came <= group) && verdict.missing() == 0;
                 first += usize::from(whole);
             }
             let count = 8 * runs;
             println!(
-                "lock   {} {eb_n0:5.1} {count:4} {locked:6} {right:5} {wrong:5} {:14} {most:6} {first:6} {never_sent:10}",
+                "lock   {} {eb_n0:5.1} {count:4} {locked:6} {right:5} {wrong:5} {:14} {most:6} {first:6} {never_sent:10} {disordered:10}",
                 RATES[rate as usize], skipped / count
             );
         }
@@ -195,12 +196,12 @@ fn noise(program: &str, runs: usize) {
         println!("noise {word:>4} {runs:4} {locks:5} {given:7}");
     }
     println!("\n10,000 symbols of noise before the stream, at {SLIPS_EB_N0:.1} dB, the rate not told\n");
-    println!("       rate runs locked right skipped-of-the-stream: mean most never-sent");
+    println!("       rate runs locked right skipped-of-the-stream: mean most never-sent disordered");
     for rate in 0..5u8 {
         let sent = packets(400 + rate as u64, PACKETS);
         let coded = symbols(rate, &sent);
         let mut random = Xorshift::new(4000 + rate as u64);
-        let (mut locked, mut right, mut skipped, mut most, mut never_sent) = (0, 0, 0, 0, 0);
+        let (mut locked, mut right, mut skipped, mut most, mut never_sent, mut disordered) = (0, 0, 0, 0, 0, 0);
         for case in 0..runs {
             let turn = case as u8 % 8;
             let cut = symbols_of(rate, 12) + random.below(symbols_of(rate, 8));
@@ -216,9 +217,11 @@ fn noise(program: &str, runs: usize) {
             let behind = outcome.skipped.saturating_sub(10_000);
             skipped += behind;
             most = most.max(behind);
-            never_sent += Verdict::of(&sent, &outcome.packets).never_sent;
+            let verdict = Verdict::of(&sent, &outcome.packets);
+            never_sent += verdict.never_sent;
+            disordered += usize::from(!verdict.in_order());
         }
-        println!("before {} {runs:5} {locked:6} {right:5} {:27} {most:4} {never_sent:10}", RATES[rate as usize], skipped / runs);
+        println!("before {} {runs:5} {locked:6} {right:5} {:27} {most:4} {never_sent:10} {disordered:10}", RATES[rate as usize], skipped / runs);
     }
 }
 

@@ -256,7 +256,7 @@ struct Score {
     program: String,
     only_kind: Option<String>,
     only_case: Option<u64>,
-    passed_all: u64,
+    compared_all: u64,
     failed_all: u64,
 }
 
@@ -304,7 +304,7 @@ impl Score {
             println!("FAILED lock, {kind}: these streams do not come to what they are for");
             failed += 1;
         }
-        self.passed_all += compared;
+        self.compared_all += compared;
         self.failed_all += failed;
     }
 }
@@ -314,7 +314,7 @@ fn main() {
     let programs = arguments.next().expect("compare_lock PROGRAMS [KIND [CASE]]");
     let only_kind = arguments.next();
     let only_case = arguments.next().and_then(|word| word.parse().ok());
-    let mut score = Score { program: format!("{programs}/dvbs_lock"), only_kind, only_case, passed_all: 0, failed_all: 0 };
+    let mut score = Score { program: format!("{programs}/dvbs_lock"), only_kind, only_case, compared_all: 0, failed_all: 0 };
     score.kind("unharmed", 40, Purpose::Locks, |r, rate| {
         let count = 40 + r.below(20);
         stream(r, rate, count, f64::INFINITY, vec![])
@@ -418,8 +418,8 @@ fn main() {
         let many = [0, 1, 816, 817, 1021, 30_000][r.below(6)];
         Case { word: "bits".to_string(), input: r.bytes(many), sent: Vec::new() }
     });
-    println!("lock: {} compared, {} different", score.passed_all, score.failed_all);
-    if score.failed_all > 0 || score.passed_all == 0 {
+    println!("lock: {} compared, {} different", score.compared_all, score.failed_all);
+    if score.failed_all > 0 || score.compared_all == 0 {
         exit(1);
     }
 }
