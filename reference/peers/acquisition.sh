@@ -1,7 +1,7 @@
 #!/bin/sh
 # Measures acquisition: streams that begin anywhere, turned any way and noisy, slips, noise alone, and GNU Radio's modulator and
 # demodulator with offsets of carrier and clock in front. Prints the tables, leaves them in build/acquisition and draws them:
-# docs/acquisition.svg. All is seeded. A wrong lock or a packet that was never sent is said, and the status is 1.
+# docs/acquisition.svg. All is seeded. A lock that is missed or wrong, or a packet that was never sent, is said, and the status is 1.
 # Some minutes; GNU Radio comes from Debian, and is skipped where it cannot be had.
 #
 #   PROGRAMS_DIR=folder-of-dvbs_lock peers/acquisition.sh [RUNS]
