@@ -1,6 +1,8 @@
 //! The channel between a sender and a reader: QPSK points with white Gaussian
 //! noise of a given Eb/N0, symbols that are lost, and bursts. All of it comes
-//! from a seeded generator.
+//! from a seeded generator. And what a demodulator makes of them: the first
+//! symbols are missed, the constellation is turned, some symbols are left out or
+//! come twice, and the carrier slips by quarter turns.
 //!
 //! A bit 0 is sent as +1.0 and a bit 1 as -1.0, I and Q alike, which is what
 //! document 02, P8, calls a point that is sure. So a symbol has the energy
@@ -120,12 +122,92 @@ impl Channel {
     }
 }
 
+/// A point turned: there are eight turns, of which 4 to 7 are mirrored, -Q for Q, before the quarter turns.
+pub fn turned(turn: u8, (i, q): Point) -> Point {
+    let (mut i, mut q) = (i, if turn >= 4 { -q } else { q });
+    for _ in 0..turn % 4 {
+        (i, q) = (-q, i);
+    }
+    (i, q)
+}
+
+/// What happens from a symbol on.
+#[derive(Clone, Copy)]
+pub enum Slip {
+    /// So many symbols do not come.
+    LeftOut(u64),
+    /// So many symbols come twice each.
+    Doubled(u64),
+    /// All symbols are turned by so many quarter turns more.
+    Turned(u8),
+}
+
+/// A demodulator that begins anywhere and slips. Symbols are counted as they were sent.
+pub struct Demodulator {
+    turn: u8,
+    slips: Vec<(u64, Slip)>,
+    symbols: u64,
+    left_out: u64,
+    doubled: u64,
+}
+
+impl Demodulator {
+    /// It misses the first symbols, `cut` of them.
+    pub fn new(cut: u64, turn: u8, slips: Vec<(u64, Slip)>) -> Self {
+        Demodulator { turn, slips, symbols: 0, left_out: cut, doubled: 0 }
+    }
+
+    /// Up to 4,095 symbols missed, and one of the eight turns, by the seed.
+    pub fn anywhere(seed: u64) -> (u64, u8) {
+        let mut random = Xorshift::new(!seed);
+        (random.below(4096) as u64, random.below(8) as u8)
+    }
+
+    /// How often the next symbol comes: not, once or twice.
+    pub fn copies(&mut self) -> usize {
+        for (_, slip) in self.slips.iter().filter(|(at, _)| *at == self.symbols) {
+            match *slip {
+                Slip::LeftOut(many) => self.left_out += many,
+                Slip::Doubled(many) => self.doubled += many,
+                Slip::Turned(quarters) => self.turn = self.turn / 4 * 4 + (self.turn + quarters) % 4,
+            }
+        }
+        self.symbols += 1;
+        let copies = if self.left_out > 0 { 0 } else if self.doubled > 0 { 2 } else { 1 };
+        self.left_out = self.left_out.saturating_sub(1);
+        self.doubled = self.doubled.saturating_sub(u64::from(copies == 2));
+        copies
+    }
+
+    /// A point of the symbol that came last.
+    pub fn turned(&self, point: Point) -> Point {
+        turned(self.turn, point)
+    }
+}
+
+/// The points that a demodulator gives for symbols that went through a channel. Symbols that do not come have no noise.
+pub fn demodulated(symbols: &[u8], channel: &mut Channel, demodulator: &mut Demodulator) -> Vec<Point> {
+    let mut points = Vec::with_capacity(symbols.len());
+    for &symbol in symbols {
+        for _ in 0..demodulator.copies() {
+            points.push(demodulator.turned(channel.receive(symbol)));
+        }
+    }
+    points
+}
+
 /// A point as GNU Radio's files of complex floats have it: I, then Q, little endian.
 pub fn to_bytes(point: Point) -> [u8; 8] {
     let mut bytes = [0; 8];
     bytes[..4].copy_from_slice(&point.0.to_le_bytes());
     bytes[4..].copy_from_slice(&point.1.to_le_bytes());
     bytes
+}
+
+/// The point of eight such bytes.
+pub fn from_bytes(bytes: &[u8]) -> Point {
+    let number = |at: usize| f32::from_le_bytes([bytes[at], bytes[at + 1], bytes[at + 2], bytes[at + 3]]);
+    (number(0), number(4))
 }
 
 #[cfg(test)]
@@ -174,6 +256,28 @@ mod tests {
             let (i, q) = channel.receive(2);
             assert!(i.is_nan() == (at % 10 >= 7) && q.is_nan() == i.is_nan());
         }
+    }
+
+    #[test]
+    fn turns() {
+        assert_eq!((0..8).map(|t| turned(t, (2.0, 1.0))).collect::<Vec<Point>>(), [
+            (2.0, 1.0), (-1.0, 2.0), (-2.0, -1.0), (1.0, -2.0), (2.0, -1.0), (1.0, 2.0), (-2.0, 1.0), (-1.0, -2.0),
+        ]);
+    }
+
+    #[test]
+    fn slips() {
+        // Symbols 0 and 1 are missed, 4 to 6 are left out, 8 comes twice, from 10 on all is turned by a half.
+        let slips = vec![(4, Slip::LeftOut(3)), (8, Slip::Doubled(1)), (10, Slip::Turned(2))];
+        let mut demodulator = Demodulator::new(2, 5, slips);
+        let mut came = Vec::new();
+        for at in 0..12 {
+            let copies = demodulator.copies();
+            came.extend((0..copies).map(|_| (at, demodulator.turned((2.0, 1.0)))));
+        }
+        let (before, after) = (turned(5, (2.0, 1.0)), turned(7, (2.0, 1.0)));
+        let want = [(2, before), (3, before), (7, before), (8, before), (8, before), (9, before), (10, after), (11, after)];
+        assert_eq!(came, want);
     }
 
     #[test]

@@ -2,9 +2,9 @@
 //! coding costs the least; where several tie, the one with 0 at the last place
 //! where they differ. By hard decisions an I or Q bit that differs costs 1. By
 //! soft decisions the level of a received number, 0 to 7, says what its bit
-//! costs. Two searches, over any costs: over every sequence, and the Viterbi
+//! costs. Three searches, over any costs: over every sequence; the Viterbi
 //! algorithm with whole paths, which compares paths that tie from their last bit
-//! back.
+//! back; and with choices in place of paths, for the many runs of acquisition.
 
 use crate::answer::Answer;
 use crate::inner_code::{pattern, InnerCoder, RATES};
@@ -15,7 +15,7 @@ pub const LONGEST: usize = 1632;
 const SHORT: usize = 12;
 
 /// What deciding a received I or Q bit as 0, and as 1, costs.
-type BitCosts = [u32; 2];
+pub type BitCosts = [u32; 2];
 
 /// A read run: its bits, the coder's memory after them, and what they cost.
 #[derive(Debug, PartialEq, Eq)]
@@ -115,6 +115,45 @@ fn by_viterbi(rate: u8, memory: u8, received: &[BitCosts], count: usize) -> Run 
     Run { bits, memory: memory as u8, cost: path.cost }
 }
 
+/// The Viterbi algorithm by choices: two paths into one memory have their last six bits alike, and differ in the bit before
+/// them, which the memory before has lost by the step. So where they tie, the one with 0 there goes on, and of memories that
+/// tie at the end the least number, whose newest bits count most.
+pub fn by_choices(rate: u8, memory: u8, received: &[BitCosts], count: usize) -> Run {
+    const UNREACHED: u32 = 1 << 30;
+    let rows: Vec<(bool, bool)> = (0..InnerCoder::pattern_length(rate)).map(|k| pattern(rate, k)).collect();
+    let coded = |from: usize| [0, 1].map(|bit| InnerCoder::after(rate, from as u8).mother(bit)).map(|(x, y)| (2 * x + y) as usize);
+    let coded: Vec<[usize; 2]> = (0..64).map(coded).collect();
+    let mut costs = [UNREACHED; 64];
+    costs[memory as usize] = 0;
+    let mut choices = Vec::with_capacity(count);
+    let mut received = received.iter();
+    for k in 0..count {
+        let (keep_x, keep_y) = rows[k % rows.len()];
+        let x = if keep_x { *received.next().expect("X was received") } else { [0, 0] };
+        let y = if keep_y { *received.next().expect("Y was received") } else { [0, 0] };
+        let sums = [x[0] + y[0], x[0] + y[1], x[1] + y[0], x[1] + y[1]];
+        let mut next = [0; 64];
+        let mut ones = 0u64;
+        for (to, cost) in next.iter_mut().enumerate() {
+            let (bit, from) = (to >> 5, (to & 31) << 1);
+            let zero = costs[from] + sums[coded[from][bit]];
+            let one = costs[from + 1] + sums[coded[from + 1][bit]];
+            *cost = zero.min(one);
+            ones |= u64::from(one < zero) << to;
+        }
+        costs = next;
+        choices.push(ones);
+    }
+    let last = (0..64).min_by_key(|&m| costs[m]).expect("there are memories");
+    let mut bits = vec![0; count];
+    let mut at = last;
+    for k in (0..count).rev() {
+        bits[k] = (at >> 5) as u8;
+        at = (at & 31) << 1 | (choices[k] >> at & 1) as usize;
+    }
+    Run { bits, memory: last as u8, cost: costs[last] }
+}
+
 fn search(rate: u8, memory: u8, received: &[BitCosts], count: usize) -> Run {
     if count <= SHORT {
         by_all_sequences(rate, memory, received, count)
@@ -182,7 +221,7 @@ mod tests {
     use crate::xorshift::Xorshift;
 
     #[test]
-    fn both_searches_agree() {
+    fn all_searches_agree() {
         let mut r = Xorshift::new(7);
         for case in 0..600 {
             let rate = (case % 5) as u8;
@@ -193,7 +232,25 @@ mod tests {
             let received: Vec<BitCosts> = (0..2 * InnerCoder::after(rate, 0).symbols_due(count))
                 .map(|_| [r.below(most) as u32, r.below(most) as u32])
                 .collect();
-            assert_eq!(by_all_sequences(rate, memory, &received, count), by_viterbi(rate, memory, &received, count));
+            let run = by_all_sequences(rate, memory, &received, count);
+            assert_eq!(run, by_viterbi(rate, memory, &received, count));
+            assert_eq!(run, by_choices(rate, memory, &received, count));
+        }
+    }
+
+    /// Costs of 0 and 1 alone make many ties.
+    #[test]
+    fn choices_agree_with_paths() {
+        let mut r = Xorshift::new(9);
+        for case in 0..60 {
+            let rate = (case % 5) as u8;
+            let count = InnerCoder::pattern_length(rate) * (1 + r.below(40));
+            let memory = r.byte() % 64;
+            let most = [2, 8][case as usize / 5 % 2];
+            let received: Vec<BitCosts> = (0..2 * InnerCoder::after(rate, 0).symbols_due(count))
+                .map(|_| [r.below(most) as u32, r.below(most) as u32])
+                .collect();
+            assert_eq!(by_viterbi(rate, memory, &received, count), by_choices(rate, memory, &received, count));
         }
     }
 

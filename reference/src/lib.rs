@@ -6,6 +6,7 @@
 // build.rs sets the cfgs `exports_linked`, `bridge_linked` and `kernels_linked`. Newer compilers want to be told of it, and older ones do not know the lint.
 #![allow(unknown_lints, unexpected_cfgs)]
 
+pub mod acquisition;
 pub mod answer;
 pub mod bridge;
 pub mod channel;
@@ -16,6 +17,7 @@ pub mod inner_decoder;
 pub mod interleaver;
 pub mod kernels;
 pub mod losses;
+pub mod numbered;
 pub mod randomizer;
 pub mod receiver;
 pub mod recording;

@@ -41,7 +41,11 @@ impl Block {
 /// The blocks of a recording, those that came whole: after the eleven that fill
 /// the delays. Marks that are missing are 0.
 pub fn blocks(recording: &[u8], marks: &[u8]) -> Vec<Block> {
-    let mut receiver = Receiver::fresh();
+    blocks_by(&mut Receiver::fresh(), recording, marks)
+}
+
+/// The same, by a fresh receiver of the caller, who has its counts afterwards.
+pub fn blocks_by(receiver: &mut Receiver, recording: &[u8], marks: &[u8]) -> Vec<Block> {
     let mut all = Vec::new();
     for (i, block) in recording.chunks_exact(BLOCK_LENGTH).enumerate() {
         let from = i * BLOCK_LENGTH;
@@ -77,10 +81,14 @@ fn confirmed(blocks: &[Block], at: usize) -> bool {
 }
 
 pub fn losses(recording: &[u8], marks: &[u8]) -> Vec<Line> {
-    let blocks = blocks(recording, marks);
+    lines(&blocks(recording, marks))
+}
+
+/// The lines of these blocks.
+pub fn lines(blocks: &[Block]) -> Vec<Line> {
     let mut lines = Vec::new();
     for (at, block) in blocks.iter().enumerate() {
-        if !block.given() || !(sure(&blocks, at) || confirmed(&blocks, at)) {
+        if !block.given() || !(sure(blocks, at) || confirmed(blocks, at)) {
             lines.push(Line { block: at as u64, answer: block.answer });
         }
     }

@@ -98,4 +98,27 @@ fn the_channel() {
     assert!(points(&["5", "3", "1"], &symbols).is_empty());
     assert!(points(&["2", "3"], &symbols).is_empty());
     assert!(points(&["2", "3", "1", "burst=5/0"], &symbols).is_empty());
+    // Cut, turned and slipped.
+    let moved = points(&["2", "inf", "1", "cut=7", "turn=5", "skip=2@10", "double=1@20", "turn=2@30"], &symbols);
+    let turned = |turn: u8, k: usize| reference::channel::turned(turn, still[k]);
+    let want: Vec<usize> = (7..10).chain(12..21).chain(20..4000).collect();
+    assert_eq!(moved, want.iter().map(|&k| turned(if k < 30 { 5 } else { 7 }, k)).collect::<Vec<_>>());
+    for wrong in ["turn=8", "cut=", "skip=1", "double=x@3", "elsewhere"] {
+        assert!(points(&["2", "3", "1", wrong], &symbols).is_empty(), "{wrong}");
+    }
+}
+
+/// Symbols that begin anywhere, turned and noisy, give the packets back.
+#[test]
+fn a_link_that_begins_anywhere() {
+    let packets = [PACKETS, PACKETS].concat();
+    let symbols = reference::numbered::symbols(2, &packets);
+    for seed in ["1", "2", "3"] {
+        let received: Vec<u8> = points(&["2", "5", seed, "anywhere"], &symbols).into_iter().flat_map(reference::channel::to_bytes).collect();
+        let mut child = Command::new(env!("CARGO_BIN_EXE_lock")).arg("any").stdin(Stdio::piped()).stdout(Stdio::piped()).stderr(Stdio::null()).spawn().unwrap();
+        child.stdin.take().unwrap().write_all(&received).unwrap();
+        let got = child.wait_with_output().unwrap().stdout;
+        // From the first whole group on.
+        assert!(got.len() >= 188 * 60 && packets[188 * 8..].starts_with(&got), "{} bytes", got.len());
+    }
 }
