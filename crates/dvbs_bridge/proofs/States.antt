@@ -1,5 +1,4 @@
--- The bytes of a state and the receiver that is read of them: writing what was read gives the same bytes, and reading what was written for a receiver in
--- range gives that receiver. So bytes stand for a receiver exactly when it is read of them and in range, and for no other.
+-- The bytes of a state and the receiver that is read of them, by the laws of any table (state_bytes/proofs/States.antt).
 -- Assumes nothing.
 use mathlib.Core.Path.{_≡_, refl, sym, ap, ap₂, _∙_}
 use mathlib.Core.Bool.{true}
@@ -10,39 +9,31 @@ use native.Mathlib.Decide.{ℕ-discrete}
 use native.Mathlib.Omega.{arith}
 use borrow.Author.Tests.{eq-eqb, ne-eqb, ltb-true}
 use lib.Dec.{ltb}
-use lib.ListN.{length, getD, take, drop, length-drop}
-use lib.Seq.{drop-cons, length-take-le, take-at, drop-at, take-add, take-take, take-nil, drop-drop}
-use Rattle.common.specs.Lists.{All, ByteEntries}
+use lib.ListN.{length, getD, take, drop, length-append, length-drop}
+use lib.Seq.{length-take-le, take-at, drop-at, take-add, take-take, take-nil, drop-drop}
+use Rattle.common.specs.Lists.{All, ByteEntries, placed}
 use Rattle.common.proofs.Entries.{entries-take, entries-drop}
 use Rattle.common.proofs.Choice.{both-true}
+use Rattle.state_bytes.specs.Table.{part, contiguous, fieldsOf}
+use Rattle.state_bytes.proofs.Copies.{next, last, byte-part, part-byte}
+use Rattle.state_bytes.proofs.Fields.{_&_}
+use Rattle.state_bytes.proofs.States.{Reads, stands-found}
 use Rattle.group_sync.specs.Group.{placeInRange}
 use Rattle.group_sync.specs.declared.Place.{Place}
 use Rattle.group_sync.specs.declared.Place.the-variants.{NotKnown, Known}
-use Rattle.reception_counts.specs.Bytes.{toBytes, fromBytes, numbersOf, countBytes}
+use Rattle.reception_counts.specs.Bytes.{toBytes, fromBytes, numbersOf, countBytes, countsAt}
+use Rattle.reception_counts.specs.declared.Counts.{Counts}
 use Rattle.reception_counts.proofs.Numbers.{to-from, from-to-eight, length-to, each-length}
-use Rattle.reception_counts.proofs.Ranges.{counts-range}
+use Rattle.reception_counts.proofs.Ranges.{CountsRange, counts-range}
 use Rattle.receiver.specs.Receive.{freshReceiver, receiverInRange}
 use Rattle.receiver.specs.declared.Receiver.{Receiver}
 use Rattle.receiver.proofs.Calls.{state-range}
 use Rattle.receiver.proofs.Reached.{Sound, sound-range, sound-fresh}
-use Rattle.dvbs_bridge.specs.State.{placeByte, StateField, layout, stateLength, stateBytes, StandsFor}
-use Rattle.dvbs_bridge.specs.Reading.{placeOf, part, numberIn, stateOf}
+use Rattle.dvbs_bridge.specs.State.{placeByte, layout, stateLength, stateBytes, StandsFor}
+use Rattle.dvbs_bridge.specs.Reading.{placeOf, stateOf}
 use Rattle.dvbs_bridge.specs.State as field
-use Rattle.dvbs_bridge.proofs.Fields.{_&_, layout-contiguous, fields-joined, fields-found, fields-length}
 
--- ---- one field
-
-from-one : (n : ℕ) → fromBytes (n ∷ []) ≡ n
-unfolding fromBytes
-from-one n = omega arith
-
-pub byte-in : (bytes : List ℕ) (at : ℕ) → at < length bytes → getD bytes at 0 ≡ fromBytes (take 1 (drop at bytes))
-byte-in bytes at h = sym (from-one (getD bytes at 0)) ∙ ap (λ (l : List ℕ). fromBytes (take 1 l)) (sym (drop-cons bytes at 0 h))
-
-one-byte : (l : List ℕ) → length l ≡ 1 → fromBytes l ∷ [] ≡ l
-one-byte [] n = absurd (omega arith)
-one-byte (b ∷ []) n = ap (λ (x : ℕ). x ∷ []) (from-one b)
-one-byte (b ∷ c ∷ l) n = absurd (omega arith)
+-- ---- the place
 
 place-back : (byte : ℕ) → placeByte (placeOf byte) ≡ byte
 place-back byte = by (ℕ-discrete byte 8)
@@ -103,52 +94,87 @@ count-in bytes k h =
 
 -- ---- bytes that are read
 
-module _ (bytes : List ℕ) (n : length bytes ≡ stateLength) where
-  part-length : (f : StateField) → f .offset + f .size ≤ stateLength → length (part f bytes) ≡ f .size
-  part-length f h = length-take-le (f .size) (drop (f .offset) bytes) (omega (arith, length-drop (f .offset) bytes))
+pub layout-contiguous : contiguous 0 layout stateLength ≡ true
+layout-contiguous = refl
 
-  module _ (e : ByteEntries bytes) where
-    byte-of : (f : StateField) → f .size ≡ 1 → f .offset + f .size ≤ stateLength → numberIn f bytes ∷ [] ≡ part f bytes
-    byte-of f q h = one-byte (part f bytes) (part-length f h ∙ q)
+-- every count fits its eight bytes
+limits : (c : Counts) → CountsRange c → All (λ n. n < 18446744073709551616) (numbersOf c)
+limits c r =
+    let most = r .most in
+    let middle = r .middle in
+    let bytes = r .bytes in
+    let eightfold = r .eightfold in
+    omega arith & omega arith & omega arith & omega arith & omega arith & omega arith & omega arith & omega arith & tt
 
-    read-fields : All (λ f. f .held (stateOf bytes) ≡ part f bytes) layout
-    unfolding stateOf countBytes flatten
-    read-fields =
-        refl
-        & refl
-        & (ap (λ (p : ℕ). p ∷ []) (place-back (numberIn field.place bytes)) ∙ byte-of field.place refl (omega arith))
-        & byte-of field.missed refl (omega arith)
-        & eights-back 8 1136 bytes e (omega arith)
-        & refl
-        & tt
+-- a count in the field of the counts, in its eight bytes
+count-found : (c : Counts) (bytes : List ℕ) → part field.counts bytes ≡ countBytes c → (k : ℕ) → k < 8
+    → take 8 (drop (1136 + 8 * k) bytes) ≡ toBytes 8 (getD (numbersOf c) k 0)
+unfolding countBytes
+count-found c bytes e k h = count-in bytes k h ∙ ap (λ (l : List ℕ). take 8 (drop (8 * k) l)) e ∙ eighth (numbersOf c) k h
 
-    -- what is read and written again is as it was
-    pub written-read : stateBytes (stateOf bytes) ≡ bytes
-    unfolding stateBytes
-    written-read = fields-joined layout 0 stateLength (stateOf bytes) bytes layout-contiguous n read-fields
-
-    -- bytes stand for the receiver that is read of them, where it is in range
-    pub stands-read : receiverInRange (stateOf bytes) ≡ true → StandsFor bytes (stateOf bytes)
-    unfolding stateOf countBytes
-    stands-read r = record {
-      written = sym written-read;
-      sized =
-          part-length field.cells (omega arith)
-          & part-length field.positions (omega arith)
-          & refl
-          & refl
-          & each-length (numbersOf (stateOf bytes .counts))
-          & part-length field.marks (omega arith)
-          & tt;
-      range = r;
+-- the counts that are read of it
+counts-again : (c : Counts) (bytes : List ℕ) → part field.counts bytes ≡ countBytes c → CountsRange c → countsAt bytes 1136 ≡ c
+counts-again c bytes e r =
+    let m = limits c r in
+    λ i. record {
+      taken = one 0 (omega arith) (m .0) i;
+      filling = one 1 (omega arith) (m .1 .0) i;
+      delivered = one 2 (omega arith) (m .1 .1 .0) i;
+      lost = one 3 (omega arith) (m .1 .1 .1 .0) i;
+      waiting = one 4 (omega arith) (m .1 .1 .1 .1 .0) i;
+      outofstep = one 5 (omega arith) (m .1 .1 .1 .1 .1 .0) i;
+      changed = one 6 (omega arith) (m .1 .1 .1 .1 .1 .1 .0) i;
+      bits = one 7 (omega arith) (m .1 .1 .1 .1 .1 .1 .1 .0) i;
     }
+  where
+    one : (k : ℕ) → k < 8 → getD (numbersOf c) k 0 < 18446744073709551616 → fromBytes (take 8 (drop (1136 + 8 * k) bytes)) ≡ getD (numbersOf c) k 0
+    one k h l = ap fromBytes (count-found c bytes e k h) ∙ from-to-eight (getD (numbersOf c) k 0) l
+
+pub reads : Reads layout stateLength receiverInRange stateOf
+unfolding stateOf countBytes flatten
+reads = record {
+  joined = layout-contiguous;
+  fields = λ bytes n e.
+      refl
+      & refl
+      & (ap (λ (p : ℕ). p ∷ []) (place-back (getD bytes 1134 0)) ∙ byte-part bytes 1134 (omega arith))
+      & byte-part bytes 1135 (omega arith)
+      & eights-back 8 1136 bytes e (omega arith)
+      & refl
+      & tt;
+  again = λ bytes s r p.
+      let g = state-range s r in
+      let place-same : placeOf (getD bytes 1134 0) ≡ s .sync .place
+      = ap placeOf (part-byte bytes 1134 _ (p .1 .1 .0)) ∙ place-again (s .sync .place) (s .sync .missed) (g .sync) in
+      let counts-same = counts-again (s .counts) bytes (p .1 .1 .1 .1 .0) (counts-range (s .counts) (g .counts)) in
+      λ i. record {
+        deinterleaver = record { branches = record { cells = p .0 i; positions = p .1 .0 i } };
+        marks = p .1 .1 .1 .1 .1 .0 i;
+        sync = record { place = place-same i; missed = part-byte bytes 1135 (s .sync .missed) (p .1 .1 .1 .0) i };
+        counts = counts-same i;
+      };
+}
 
 -- ---- a receiver that is written
+
+-- its fields put one after the other
+pub all-put : (cells positions sync counts marks b₀ b₁ b₂ b₃ b₄ b₅ : List ℕ) → length cells ≡ 1122 → length positions ≡ 12 → length sync ≡ 2 → length counts ≡ 64
+    → length marks ≡ 1122 → length b₀ ≡ 2322 → b₁ ≡ placed b₀ 0 cells → b₂ ≡ placed b₁ 1122 positions → b₃ ≡ placed b₂ 1134 sync → b₄ ≡ placed b₃ 1136 counts
+    → b₅ ≡ placed b₄ 1200 marks → b₅ ≡ cells ++ positions ++ sync ++ counts ++ marks
+all-put cells positions sync counts marks b₀ b₁ b₂ b₃ b₄ b₅ c p q k w n e f g h j =
+    let e′ = next [] cells b₀ b₀ b₁ 0 1122 refl (omega arith) refl e in
+    let f′ = next cells positions b₀ b₁ b₂ 1122 1134 c (omega arith) e′ f in
+    let l : length (cells ++ positions) ≡ 1134 = length-append cells positions ∙ omega arith in
+    let g′ = next (cells ++ positions) sync b₀ b₂ b₃ 1134 1136 l (omega arith) f′ g in
+    let m : length (cells ++ positions ++ sync) ≡ 1136 = length-append (cells ++ positions) sync ∙ omega arith in
+    let h′ = next (cells ++ positions ++ sync) counts b₀ b₃ b₄ 1136 1200 m (omega arith) g′ h in
+    let o : length (cells ++ positions ++ sync ++ counts) ≡ 1200 = length-append (cells ++ positions ++ sync) counts ∙ omega arith in
+    last (cells ++ positions ++ sync ++ counts) marks b₀ b₄ b₅ 1200 o (omega arith) h′ j
 
 -- its fields as they are put
 pub fields-put : (s : Receiver) (place : ℕ) (counts bytes : List ℕ) → place ≡ placeByte (s .sync .place) → counts ≡ countBytes (s .counts) ++ []
     → bytes ≡ s .deinterleaver .branches .cells ++ s .deinterleaver .branches .positions ++ (place ∷ s .sync .missed ∷ []) ++ counts ++ s .marks → bytes ≡ stateBytes s
-unfolding stateBytes
+unfolding fieldsOf
 fields-put s place counts bytes p c e =
     let b = s .deinterleaver .branches in
     let sync : List ℕ = placeByte (s .sync .place) ∷ s .sync .missed ∷ [] in
@@ -161,60 +187,14 @@ fields-put s place counts bytes p c e =
     ∙ ap (λ (l : List ℕ). b .cells ++ (b .positions ++ (sync ++ (countBytes (s .counts) ++ l)))) (sym (append-nil (s .marks)))
 
 module _ (s : Receiver) (g : Sound s) where
-  sound-sized : All (λ f. length (f .held s) ≡ f .size) layout
-  unfolding countBytes
-  sound-sized = g .branches .cells & g .branches .positions & refl & refl & each-length (numbersOf (s .counts)) & g .marks & tt
-
-  found : All (λ f. part f (stateBytes s) ≡ f .held s) layout
-  unfolding stateBytes
-  found = fields-found layout 0 stateLength s [] layout-contiguous refl sound-sized
-
-  -- a count, in its eight bytes
-  pub count-written : (k : ℕ) → k < 8 → take 8 (drop (1136 + 8 * k) (stateBytes s)) ≡ toBytes 8 (getD (numbersOf (s .counts)) k 0)
-  unfolding countBytes
-  count-written k h = count-in (stateBytes s) k h ∙ ap (λ (l : List ℕ). take 8 (drop (8 * k) l)) (found .1 .1 .1 .1 .0) ∙ eighth (numbersOf (s .counts)) k h
-
-  -- every count fits its eight bytes
-  limits : All (λ n. n < 18446744073709551616) (numbersOf (s .counts))
-  limits =
-      let r = g .counts in
-      let most = r .most in
-      let middle = r .middle in
-      let bytes = r .bytes in
-      let eightfold = r .eightfold in
-      omega arith & omega arith & omega arith & omega arith & omega arith & omega arith & omega arith & omega arith & tt
-
-  again : (k : ℕ) → k < 8 → getD (numbersOf (s .counts)) k 0 < 18446744073709551616
-      → fromBytes (take 8 (drop (1136 + 8 * k) (stateBytes s))) ≡ getD (numbersOf (s .counts)) k 0
-  again k h l = ap fromBytes (count-written k h) ∙ from-to-eight (getD (numbersOf (s .counts)) k 0) l
-
-  pub read-written : stateOf (stateBytes s) ≡ s
-  unfolding stateOf
-  read-written =
-      let p = found in
-      let m = limits in
-      let place-same : placeOf (numberIn field.place (stateBytes s)) ≡ s .sync .place
-      = ap placeOf (ap fromBytes (p .1 .1 .0) ∙ from-one _) ∙ place-again (s .sync .place) (s .sync .missed) (g .sync) in
-      let missed-same : numberIn field.missed (stateBytes s) ≡ s .sync .missed = ap fromBytes (p .1 .1 .1 .0) ∙ from-one _ in
-      λ i. record {
-        deinterleaver = record { branches = record { cells = p .0 i; positions = p .1 .0 i } };
-        marks = p .1 .1 .1 .1 .1 .0 i;
-        sync = record { place = place-same i; missed = missed-same i };
-        counts = record {
-          taken = again 0 (omega arith) (m .0) i;
-          filling = again 1 (omega arith) (m .1 .0) i;
-          delivered = again 2 (omega arith) (m .1 .1 .0) i;
-          lost = again 3 (omega arith) (m .1 .1 .1 .0) i;
-          waiting = again 4 (omega arith) (m .1 .1 .1 .1 .0) i;
-          outofstep = again 5 (omega arith) (m .1 .1 .1 .1 .1 .0) i;
-          changed = again 6 (omega arith) (m .1 .1 .1 .1 .1 .1 .0) i;
-          bits = again 7 (omega arith) (m .1 .1 .1 .1 .1 .1 .1 .0) i;
-        };
-      }
-
   -- what is written for a receiver in range stands for it
   pub stands-written : StandsFor (stateBytes s) s
-  stands-written = record { written = refl; sized = sound-sized; range = sound-range s g }
+  unfolding countBytes
+  stands-written = record {
+    written = refl;
+    sized = g .branches .cells & g .branches .positions & refl & refl & each-length (numbersOf (s .counts)) & g .marks & tt;
+    range = sound-range s g;
+  }
 
 pub stands-fresh : StandsFor (stateBytes freshReceiver) freshReceiver
 stands-fresh = stands-written freshReceiver sound-fresh
@@ -234,18 +214,6 @@ module _ (bytes : List ℕ) (s : Receiver) (h : StandsFor bytes s) where
         counts = counts-range (s .counts) (r .counts);
       }
 
-  pub stands-length : length bytes ≡ stateLength
-  unfolding stateBytes
-  stands-length = ap length (h .written) ∙ let k = fields-length layout 0 stateLength s layout-contiguous (h .sized) in omega arith
-
-  -- it is the receiver that is read
-  pub stands-for-read : stateOf bytes ≡ s
-  stands-for-read = ap stateOf (h .written) ∙ read-written s stands-sound
-
--- two different strings of bytes never stand for one receiver
-pub one-string : (a b : List ℕ) (s : Receiver) → StandsFor a s → StandsFor b s → a ≡ b
-one-string a b s h k = h .written ∙ sym (k .written)
-
--- one string of bytes never stands for two
-pub one-receiver : (bytes : List ℕ) (s t : Receiver) → StandsFor bytes s → StandsFor bytes t → s ≡ t
-one-receiver bytes s t h k = sym (stands-for-read bytes s h) ∙ stands-for-read bytes t k
+  -- a count, in its eight bytes
+  pub count-held : (k : ℕ) → k < 8 → take 8 (drop (1136 + 8 * k) bytes) ≡ toBytes 8 (getD (numbersOf (s .counts)) k 0)
+  count-held = count-found (s .counts) bytes (stands-found reads bytes s h .1 .1 .1 .1 .0)

@@ -3,29 +3,23 @@
 use mathlib.Core.List.{List}
 use Prim.Native.Nat.{ℕ}
 use lib.Dec.{eqb}
-use lib.ListN.{take, drop}
+use lib.ListN.{getD}
 use Rattle.common.specs.Choice.{pick}
+use Rattle.state_bytes.specs.Table.{part}
 use Rattle.group_sync.specs.declared.Place.{Place}
 use Rattle.group_sync.specs.declared.Place.the-variants.{NotKnown, Known}
-use Rattle.reception_counts.specs.Bytes.{fromBytes, countsAt}
+use Rattle.reception_counts.specs.Bytes.{countsAt}
 use Rattle.receiver.specs.declared.Receiver.{Receiver}
-use Rattle.dvbs_bridge.specs.State.{StateField, cells, positions, place, missed, counts, marks}
+use Rattle.dvbs_bridge.specs.State.{cells, positions, place, missed, counts, marks}
 
 abbrev pub placeOf : ℕ → Place
 placeOf byte = pick (eqb byte 8) NotKnown (Known byte)
-
--- the bytes of a field, and the number that they are
-abbrev pub part : StateField → List ℕ → List ℕ
-part f bytes = take (f .size) (drop (f .offset) bytes)
-
-abbrev pub numberIn : StateField → List ℕ → ℕ
-numberIn f bytes = fromBytes (part f bytes)
 
 -- the receiver that is read, in range or not
 unfoldable pub stateOf : List ℕ → Receiver
 stateOf bytes = record {
   deinterleaver = record { branches = record { cells = part cells bytes; positions = part positions bytes } };
   marks = part marks bytes;
-  sync = record { place = placeOf (numberIn place bytes); missed = numberIn missed bytes };
+  sync = record { place = placeOf (getD bytes (place .offset) 0); missed = getD bytes (missed .offset) 0 };
   counts = countsAt bytes (counts .offset);
 }

@@ -1,12 +1,10 @@
 -- The state of a receiver as 2,322 bytes. The layout is a table of fields, and the bytes of a receiver are its fields one after the other.
 -- Clause: document 02, P14.
 -- Assumes nothing.
-use mathlib.Core.Path.{_≡_}
-use mathlib.Core.Bool.{true}
-use mathlib.Core.List.{List, [], _∷_, _++_}
+use mathlib.Core.List.{List, [], _∷_}
 use Prim.Native.Nat.{ℕ}
-use lib.ListN.{length}
-use Rattle.common.specs.Lists.{All}
+use Rattle.state_bytes.specs.Table as table
+use Rattle.state_bytes.specs.Table.{Field, field, fieldsOf}
 use Rattle.group_sync.specs.declared.Place.{Place}
 use Rattle.group_sync.specs.declared.Place.the-variants.{NotKnown, Known}
 use Rattle.reception_counts.specs.Bytes.{countBytes}
@@ -20,43 +18,34 @@ placeByte (Known p) = p
 
 -- ---- the table
 
--- a field: its first byte, how many bytes it has, and what they are for a receiver
-pub record StateField : Type 0 where
-  pub offset : ℕ
-  pub size : ℕ
-  pub held : Receiver → List ℕ
-
-abbrev field : ℕ → ℕ → (Receiver → List ℕ) → StateField
-field offset size held = record { offset = offset; size = size; held = held }
-
 -- the cells of the delay branches, one branch after the other: any byte
-abbrev pub cells : StateField
+abbrev pub cells : Field Receiver
 cells = field 0 1122 (λ s. s .deinterleaver .branches .cells)
 
 -- the next cell of each branch: below the cells of branch j, 187 - 17 j of them; 0 in the last, which has none
-abbrev pub positions : StateField
+abbrev pub positions : Field Receiver
 positions = field 1122 12 (λ s. s .deinterleaver .branches .positions)
 
 -- the place of the next packet: 0 to 7, or 8 where it is not known
-abbrev pub place : StateField
+abbrev pub place : Field Receiver
 place = field 1134 1 (λ s. placeByte (s .sync .place) ∷ [])
 
 -- a missed sync byte, document 02's mark: 0 or 1, and 0 while the place is not known
-abbrev pub missed : StateField
+abbrev pub missed : Field Receiver
 missed = field 1135 1 (λ s. s .sync .missed ∷ [])
 
 -- The eight counts in the order of documents 01 and 02, eight bytes each. taken is at most 4,294,967,295, and the five after it add up to it; filling is the
 -- smaller of taken and 11; changed is at most 16 for each block that is delivered, waiting or out of step; bits is from changed to 8 times changed.
-abbrev pub counts : StateField
+abbrev pub counts : Field Receiver
 counts = field 1136 64 (λ s. countBytes (s .counts))
 
 -- the marks of the bytes in the delay branches, cell by cell: 0 or 1
-abbrev pub marks : StateField
+abbrev pub marks : Field Receiver
 marks = field 1200 1122 (λ s. s .marks)
 
--- All fields in their order. Each begins where the one before it ends (proofs/Fields.antt), and the receiver's own range test,
+-- All fields in their order. Each begins where the one before it ends (proofs/States.antt), and the receiver's own range test,
 -- `receiverInRange`, asks the ranges: no bit is spare.
-abbrev pub layout : List StateField
+abbrev pub layout : List (Field Receiver)
 layout = cells ∷ positions ∷ place ∷ missed ∷ counts ∷ marks ∷ []
 
 abbrev pub stateLength : ℕ
@@ -64,16 +53,8 @@ stateLength = 2322
 
 -- ---- which bytes stand for a receiver
 
--- the fields of a receiver, one after the other
-abbrev pub fieldsOf : List StateField → Receiver → List ℕ
-fieldsOf [] s = []
-fieldsOf (f ∷ fs) s = f .held s ++ fieldsOf fs s
-
-unfoldable pub stateBytes : Receiver → List ℕ
+abbrev pub stateBytes : Receiver → List ℕ
 stateBytes s = fieldsOf layout s
 
--- its bytes stand for a receiver in range, each of whose fields is as long as the table says
-pub record StandsFor (bytes : List ℕ) (s : Receiver) : Type 0 where
-  pub written : bytes ≡ stateBytes s
-  pub sized : All (λ f. length (f .held s) ≡ f .size) layout
-  pub range : receiverInRange s ≡ true
+abbrev pub StandsFor : List ℕ → Receiver → Type 0
+StandsFor bytes s = table.StandsFor layout receiverInRange bytes s

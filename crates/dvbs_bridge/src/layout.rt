@@ -2,8 +2,7 @@
 // specs/State.antt has the layout as a table, and docs/BRIDGE.md lists it with the range of each field.
 ghost use mathlib.Core.Path.{_≡_};
 ghost use mathlib.Core.List.{_++_};
-ghost use Prim.Native.Nat.{_+_, _≤_};
-ghost use lib.ListN.{length, take, drop};
+ghost use lib.ListN.{length};
 ghost use Rattle.dvbs_bridge.specs.State.{placeByte, stateBytes};
 ghost use Rattle.dvbs_bridge.specs.Reading.{placeOf, stateOf};
 use group_sync::GroupSync;
@@ -13,6 +12,8 @@ use interleaver::branches::Branches;
 use receiver::Receiver;
 use reception_counts::count_bytes::counts_at;
 use reception_counts::count_bytes::put_counts;
+use state_bytes::cells_at;
+use state_bytes::positions_at;
 
 // The first byte of each field, and the length of all of them. The counts are eight numbers of eight bytes.
 const CELLS: usize = 0;
@@ -47,28 +48,6 @@ fn place_byte(place: Place) -> u8
         Place::NotKnown => 8,
         Place::Known(p) => p,
     }
-}
-
-// A byte for each cell of the delay branches: those in them, or their marks.
-fn cells_at(bytes: &[u8], at: usize) -> [u8; 1122]
-    requires { ⌜ at + 1122 ≤ length (now bytes) ⌝ }
-    ensures { λ r. ⌜ r ≡ take 1122 (drop at (now (bytes .entry))) ⌝ }
-{
-    let mut cells = [0u8; 1122];
-    let end = at + 1122;
-    common::put(&bytes[at..end], 0, &mut cells);
-    cells
-}
-
-// A byte for each delay branch.
-fn positions_at(bytes: &[u8], at: usize) -> [u8; 12]
-    requires { ⌜ at + 12 ≤ length (now bytes) ⌝ }
-    ensures { λ r. ⌜ r ≡ take 12 (drop at (now (bytes .entry))) ⌝ }
-{
-    let mut positions = [0u8; 12];
-    let end = at + 12;
-    common::put(&bytes[at..end], 0, &mut positions);
-    positions
 }
 
 // The receiver that bytes stand for. Whether its numbers are in range is asked by the receiver.

@@ -1,6 +1,6 @@
 -- `dvbs_bridge::layout::put_fields` meets its contract.
 -- Assumes nothing.
-use Rattle.dvbs_bridge.proofs.Copies.{all-put}
+use Rattle.dvbs_bridge.proofs.States.{all-put}
 use borrow.Author.Needs.{needs}
 use Rattle.dvbs_bridge.proofs.layout.put_fields.Statement.{statement}
 use Rattle.dvbs_bridge.proofs.layout.put_fields.Tie as tie

@@ -1,9 +1,7 @@
 -- `dvbs_bridge::layout::read_state` meets its contract.
 -- Assumes nothing.
-use mathlib.Core.Path.{ap, _∙_}
-use native.Mathlib.Omega.{arith}
-use Rattle.dvbs_bridge.specs.Reading.{placeOf, stateOf}
-use Rattle.dvbs_bridge.proofs.States.{byte-in}
+use lib.ListN.{getD}
+use Rattle.dvbs_bridge.specs.Reading.{stateOf}
 use borrow.Author.Needs.{needs}
 use Rattle.dvbs_bridge.proofs.layout.read_state.Statement.{statement}
 use Rattle.dvbs_bridge.proofs.layout.read_state.Tie as tie
@@ -34,13 +32,10 @@ unfolding stateOf
 returns c =
     let s = c .before .before .before .before .before .before .before .before in
     let bytes = s .args .bytes .now in
-    let n = s .pre in
-    let place = c .before .before .before .place-of .ensures ∙ ap placeOf (byte-in bytes 1134 (omega arith)) in
-    let missed = byte-in bytes 1135 (omega arith) in
     λ i. record {
       deinterleaver = record { branches = record { cells = c .before .before .before .before .before .before .cells-at .ensures i; positions = c .before .before .before .before .before .positions-at .ensures i } };
       marks = c .cells-at2 .ensures i;
-      sync = record { place = place i; missed = missed i };
+      sync = record { place = c .before .before .before .place-of .ensures i; missed = getD bytes 1135 0 };
       counts = c .before .counts-at .ensures i;
     }
 

@@ -1,12 +1,12 @@
--- `dvbs_bridge::layout::positions_at` meets its contract.
+-- `state_bytes::cells_at` meets its contract.
 -- Assumes nothing.
 use mathlib.Core.Path.{refl, _∙_}
 use Prim.Native.Nat.{ℕ, _+_}
 use lib.ListN.{replicate, length-replicate}
-use Rattle.dvbs_bridge.proofs.Copies.{whole}
+use Rattle.state_bytes.proofs.Copies.{whole}
 use borrow.Author.Needs.{needs}
-use Rattle.dvbs_bridge.proofs.layout.positions_at.Statement.{statement}
-use Rattle.dvbs_bridge.proofs.layout.positions_at.Tie as tie
+use Rattle.state_bytes.proofs.cells_at.Statement.{statement}
+use Rattle.state_bytes.proofs.cells_at.Tie as tie
 
 add-end : tie.Need-add-end
 add-end c = search needs
@@ -30,9 +30,9 @@ returns : tie.Need-returns
 returns c =
     let s = c .before .before .before .before .before in
     let a = s .args in
-    c .before .put .ensures ∙ whole (a .bytes .now) (replicate 12 0) (a .at) (a .at + 12) 12 refl (s .pre) (length-replicate {A = ℕ} 12 0)
+    c .before .put .ensures ∙ whole (a .bytes .now) (replicate 1122 0) (a .at) (a .at + 1122) 1122 refl (s .pre) (length-replicate {A = ℕ} 1122 0)
 
-pub positions-at-spec : {M : Type 1} → statement M
-positions-at-spec =
+pub cells-at-spec : {M : Type 1} → statement M
+cells-at-spec =
     tie.close
     (tie.spec add-end sub-put part-put-start part-put-end slice-aggregate-put put-requires returns)
