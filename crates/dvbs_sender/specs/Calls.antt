@@ -2,6 +2,7 @@
 -- Clauses: document 01, "State ranges" and "Answer numbers"; document 02, P2 and P12.
 -- Assumes nothing.
 use mathlib.Core.Path.{_≡_}
+use mathlib.Core.Bool.{Bool, false, not}
 use mathlib.Core.List.{List, [], _∷_}
 use Prim.Native.Nat.{ℕ, _≤_, _<_}
 use lib.Dec.{eqb}
@@ -23,6 +24,10 @@ abbrev pub freshBytes : List ℕ → ℕ → List ℕ
 freshBytes state mode = pick (eqb (freshNumber state mode) 0) (stateBytes (freshSender mode)) state
 
 -- ---- a packet
+
+-- the answers with which no packet is sent: other than 0 and 15
+abbrev pub refuses : ℕ → Bool
+refuses number = pick (eqb number 0) false (not (eqb number 15))
 
 -- Bytes that stand for a sender: its own call, and the bytes after it are those of the sender after it, for which they stand. Any other bytes are refused,
 -- by their length or as out of range, and all is as it was. The number of the answer goes to the first of the bytes lent for it; where none is lent,

@@ -1,7 +1,7 @@
 // A sender whose state is bytes that the firmware keeps, as functions for C.
 // Their declarations are in include/dvbs.h, and docs/STATES.md lists the layout of the state.
 ghost use mathlib.Core.Path.{_≡_};
-ghost use Rattle.dvbs_sender.specs.Calls.{freshNumber, freshBytes, SendsPacket};
+ghost use Rattle.dvbs_sender.specs.Calls.{freshNumber, freshBytes, refuses, SendsPacket};
 use answer::Answer;
 use sender::Sender;
 
@@ -10,6 +10,16 @@ mod layout;
 use layout::STATE_LENGTH;
 use layout::read_state;
 use layout::write_state;
+
+// Whether an answer of the sender is a refusal: other than 0 and 15.
+fn is_refusal(number: u8) -> bool
+    ensures { λ r. ⌜ r ≡ refuses number ⌝ }
+{
+    if number == 0 {
+        return false;
+    }
+    number != 15
+}
 
 // Makes the state of a fresh sender in a mode: the number of the answer.
 #[no_mangle]
@@ -34,7 +44,6 @@ pub extern "C" fn dvbs_sender_fresh(state: &mut [u8], mode: u8) -> u8
 }
 
 // Sends a packet, or a null packet for no bytes: the number of symbols written. The first byte of answer has the number of the answer.
-// A sender that refuses is handed back as it was, and so are the bytes that are read and written again.
 #[no_mangle]
 pub extern "C" fn dvbs_sender_send(
     state: &mut [u8],
@@ -58,7 +67,11 @@ pub extern "C" fn dvbs_sender_send(
     let said = sent.answer;
     let count = sent.count;
     let sender = sent.sender;
-    answer[0] = said.number();
+    let number = said.number();
+    answer[0] = number;
+    if is_refusal(number) {
+        return 0;
+    }
     write_state(sender, state);
     count as u64
 }
