@@ -471,6 +471,21 @@ static void bridge(const struct kernel *k, int side, int n)
     sink += written;
 }
 
+/* The same of a sender, packet by packet. */
+static void truck(const struct kernel *k, int side, int n)
+{
+    static uint8_t kept[DVBS_SENDER_STATE];
+    if (side != LIBRARY) {
+        send(k, side, n);
+        return;
+    }
+    size_t written = 0;
+    dvbs_sender_fresh(kept, sizeof kept, (uint8_t)k->argument);
+    for (int p = 0; p < RUN; p++)
+        written += dvbs_sender_send(kept, sizeof kept, packets + 188 * p, 188, output + written, sizeof output - written, answer, 1);
+    sink += written;
+}
+
 enum { TWO = 3, THREE = 7, ALL = 31 };
 static const struct kernel kernels[] = {
     {"scale", "field product, 16 lanes", FACTORS, TWO, 0, scale},
@@ -495,6 +510,7 @@ static const struct kernel kernels[] = {
     {"send_3_4", "send a packet, 3/4", RUN, TWO, 2, send},
     {"send_5_6", "send a packet, 5/6", RUN, TWO, 3, send},
     {"send_16qam", "send a packet, 16QAM 3/4", RUN, TWO, 5, send},
+    {"truck_3_4", "truck, a packet, 3/4", RUN, TWO, 2, truck},
     {"read_1_2", "read 1,632 bits, 1/2", 1, ALL, 0, read_run},
     {"read_2_3", "read 1,632 bits, 2/3", 1, TWO, 1, read_run},
     {"read_3_4", "read 1,632 bits, 3/4", 1, ALL, 2, read_run},

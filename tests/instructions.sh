@@ -9,7 +9,7 @@
 set -euo pipefail
 cd "$(dirname "$0")/.."
 written=tests/instructions.txt
-kernels=(rs_encode rs_decode_0 rs_decode_1 rs_decode_4 rs_decode_8 rs_decode_lost rs_decode_f8_e4 randomize interleave inner_code_3_4 send_3_4
+kernels=(rs_encode rs_decode_0 rs_decode_1 rs_decode_4 rs_decode_8 rs_decode_lost rs_decode_f8_e4 randomize interleave inner_code_3_4 send_3_4 truck_3_4
     read_1_2 read_3_4 read_soft_1_2 read_soft_3_4 receive_clean receive_harmed bridge_clean)
 
 if ! command -v valgrind > /dev/null; then

@@ -11,6 +11,7 @@ pub mod bridge;
 pub mod channel;
 pub mod exports;
 pub mod erasures;
+pub mod guarded;
 pub mod inner_code;
 pub mod inner_decoder;
 pub mod interleaver;
@@ -23,6 +24,8 @@ pub mod reed_solomon;
 pub mod report;
 pub mod season;
 pub mod sender;
+pub mod sender_state;
+pub mod states;
 pub mod xorshift;
 
 /// Length of a transport packet (4.4.1).

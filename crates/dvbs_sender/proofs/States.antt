@@ -1,7 +1,7 @@
 -- The bytes of a state and the sender that is read of them, by the laws of any table (state_bytes/proofs/States.antt); and that the bytes after a call stand
 -- for the sender after it.
 -- Assumes nothing.
-use mathlib.Core.Path.{_≡_, refl, sym, ap, _∙_}
+use mathlib.Core.Path.{_≡_, refl, _∙_}
 use mathlib.Core.Bool.{Bool, true, false}
 use mathlib.Core.List.{List, [], _∷_, _++_, append-assoc}
 use Prim.Native.Nat.{ℕ}

@@ -6,6 +6,7 @@
 
 use reference::bridge::expected::STATE_LENGTH;
 use reference::bridge::{expected, library};
+use reference::guarded::Guarded;
 use reference::receiver::{FILLING, MOST_BLOCKS};
 use reference::sender::interleaved_stream;
 use reference::xorshift::Xorshift;
@@ -17,45 +18,6 @@ const PLACE: usize = 1134;
 const COUNTS: usize = 1136;
 const MARKS: usize = 1200;
 
-mod guarded {
-    use std::ffi::c_void;
-
-    extern "C" {
-        fn mmap(at: *mut c_void, length: usize, protection: i32, flags: i32, file: i32, offset: i64) -> *mut c_void;
-    }
-
-    const PAGE: usize = 4096;
-    const NONE: i32 = 0;
-    const READ_WRITE: i32 = 3;
-    const PRIVATE_ANONYMOUS: i32 = 0x22;
-    const FIXED: i32 = 0x10;
-
-    /// A page between two that may not be touched.
-    pub struct Page(*mut u8);
-
-    impl Page {
-        pub fn new() -> Self {
-            unsafe {
-                let all = mmap(std::ptr::null_mut(), 3 * PAGE, NONE, PRIVATE_ANONYMOUS, -1, 0);
-                assert_ne!(all as isize, -1, "mmap");
-                let middle = mmap((all as *mut u8).add(PAGE) as *mut _, PAGE, READ_WRITE, PRIVATE_ANONYMOUS | FIXED, -1, 0);
-                assert_ne!(middle as isize, -1, "mmap");
-                Page(middle as *mut u8)
-            }
-        }
-
-        /// The bytes, at the end of the page or at its start; the others of the page are not 0.
-        pub fn lend(&mut self, bytes: &[u8], at_end: bool) -> &mut [u8] {
-            assert!(bytes.len() <= PAGE);
-            let page = unsafe { std::slice::from_raw_parts_mut(self.0, PAGE) };
-            let from = if at_end { PAGE - bytes.len() } else { 0 };
-            let lent = &mut page[from..from + bytes.len()];
-            lent.copy_from_slice(bytes);
-            lent
-        }
-    }
-}
-
 struct Score {
     only_kind: Option<String>,
     only_case: Option<u64>,
@@ -65,9 +27,9 @@ struct Score {
     failed: u64,
     passed_all: u64,
     failed_all: u64,
-    state: guarded::Page,
-    block: guarded::Page,
-    output: guarded::Page,
+    state: Guarded,
+    block: Guarded,
+    output: Guarded,
 }
 
 impl Score {
@@ -422,7 +384,7 @@ fn main() {
     let mut arguments = std::env::args().skip(1);
     let only_kind = arguments.next();
     let only_case = arguments.next().map(|case| case.parse().expect("a case"));
-    let page = guarded::Page::new;
+    let page = || Guarded::new(STATE_LENGTH + 3);
     let mut s = Score {
         only_kind,
         only_case,
