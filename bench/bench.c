@@ -471,6 +471,23 @@ static void bridge(const struct kernel *k, int side, int n)
     sink += written;
 }
 
+/* The same of a receiver that is fed with pieces of so many blocks, with a mark for each byte, and writes its report at the end. */
+static void pieces(const struct kernel *k, int side, int n)
+{
+    static uint8_t kept[DVBS_RECEIVER_STATE], marks[RUN * 204], text[DVBS_REPORT];
+    const size_t piece = 204 * (size_t)k->argument;
+    if (side != LIBRARY) {
+        const struct kernel clean = {k->name, k->what, k->blocks, k->sides, 0, receive};
+        receive(&clean, side, n);
+        return;
+    }
+    size_t written = 0;
+    dvbs_receiver_fresh(kept, sizeof kept);
+    for (size_t at = 0; at < sizeof clean_stream; at += piece)
+        written += dvbs_receiver_feed(kept, sizeof kept, clean_stream + at, piece, marks + at, piece, output + written, sizeof output - written, answer, 1);
+    sink += written + dvbs_receiver_report(kept, sizeof kept, text, sizeof text, answer, 1);
+}
+
 /* The same of a sender, packet by packet. */
 static void truck(const struct kernel *k, int side, int n)
 {
@@ -522,6 +539,8 @@ static const struct kernel kernels[] = {
     {"receive_harmed", "receive a block, harmed", RUN, TWO, 1, receive},
     {"bridge_clean", "bridge, a clean block", RUN, TWO, 0, bridge},
     {"bridge_harmed", "bridge, a harmed block", RUN, TWO, 1, bridge},
+    {"pieces_1", "fed block by block", RUN, TWO, 1, pieces},
+    {"pieces_16", "fed by sixteen blocks", RUN, TWO, 16, pieces},
 };
 enum { KERNELS = sizeof kernels / sizeof *kernels };
 

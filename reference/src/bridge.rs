@@ -214,6 +214,6 @@ mod tests {
         assert_eq!(rows_after("The layout of the state", include_str!("../../include/dvbs_bridge.h")), owned(&LAYOUT));
         let mut joined = owned(&LAYOUT);
         joined.splice(4..12, [("counts".to_string(), 1136, 64)]);
-        assert_eq!(specified(include_str!("../../crates/dvbs_bridge/specs/State.antt")), joined);
+        assert_eq!(specified(include_str!("../../crates/receiver_state/specs/State.antt")), joined);
     }
 }

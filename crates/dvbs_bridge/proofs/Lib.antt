@@ -1,4 +1,3 @@
-pub mod States
 mod Takes
 pub mod Passes
 pub mod Laws

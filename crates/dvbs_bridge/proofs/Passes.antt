@@ -15,10 +15,10 @@ use Rattle.receiver.specs.Kept.{Kept}
 use Rattle.receiver.specs.declared.Receiver.{Receiver}
 use Rattle.receiver.proofs.Promised.{promised-received}
 use Rattle.sent_blocks.specs.Blocks.{interleavedBlocks}
-use Rattle.dvbs_bridge.specs.State.{stateBytes, StandsFor}
+use Rattle.receiver_state.specs.State.{stateBytes, StandsFor}
 use Rattle.dvbs_bridge.specs.Calls.{wrong-length, no-state, as-receiver}
 use Rattle.dvbs_bridge.specs.Pass.{BridgePass, none, call}
-use Rattle.dvbs_bridge.proofs.States.{reads, stands-fresh}
+use Rattle.receiver_state.proofs.States.{reads, stands-fresh}
 
 -- calls of the receiver with these blocks, answers and packets, and a receiver after them for which these bytes stand
 pub record AsKept (s : Receiver) (blocks : List (List ℕ)) (numbers : List ℕ) (packets : List (List ℕ)) (bytes : List ℕ) : Type 0 where

@@ -24,10 +24,10 @@ use Rattle.receiver.specs.declared.Receiver.{Receiver}
 use Rattle.receiver.specs.declared.Received.{Received}
 use Rattle.receiver.proofs.Calls.{ready-number}
 use Rattle.receiver.proofs.Reached.{Sound, sound-call, Refused, ready-or-refused, refused-state}
-use Rattle.dvbs_bridge.specs.State.{stateLength, stateBytes, StandsFor}
-use Rattle.dvbs_bridge.specs.Reading.{stateOf}
+use Rattle.receiver_state.specs.State.{stateLength, stateBytes, StandsFor}
+use Rattle.receiver_state.specs.Reading.{stateOf}
 use Rattle.dvbs_bridge.specs.Calls.{refuses, BridgeTakes, no-state, as-receiver}
-use Rattle.dvbs_bridge.proofs.States.{reads, stands-written, stands-sound}
+use Rattle.receiver_state.proofs.States.{reads, stands-written, stands-sound}
 
 -- ---- refusals
 

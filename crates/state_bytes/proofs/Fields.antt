@@ -12,7 +12,7 @@ use lib.ListN.{length, take, drop, length-append, length-drop, take-append-drop,
 use lib.Seq.{drop-drop, take-at, drop-at, length-take-le}
 use Rattle.common.specs.Lists.{All}
 use Rattle.common.proofs.Choice.{both-true}
-use Rattle.state_bytes.specs.Table.{Field, fieldsOf, part, contiguous}
+use Rattle.state_bytes.specs.Table.{Field, fieldsIn, fieldsOf, part, contiguous}
 
 -- a fact of a field, before those of the fields after it
 infixr 10 _&_
@@ -79,3 +79,10 @@ module _ {S : Type 0} where
       let h = fields-length fs (at + f .size) end s (others f fs at end c) (e .1) in
       let k = e .0 in
       omega arith
+
+-- the fields of a part of a state come before those behind it
+pub fields-in : {S T : Type 0} (inner : T → S) (fs : List (Field S)) (rest : List (Field T)) (t : T)
+    → fieldsOf (fieldsIn inner fs ++ rest) t ≡ fieldsOf fs (inner t) ++ fieldsOf rest t
+unfolding fieldsOf
+fields-in inner [] rest t = refl
+fields-in inner (f ∷ fs) rest t = ap (λ (l : List ℕ). f .held (inner t) ++ l) (fields-in inner fs rest t) ∙ sym (append-assoc (f .held (inner t)) (fieldsOf fs (inner t)) (fieldsOf rest t))

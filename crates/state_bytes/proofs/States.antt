@@ -4,7 +4,7 @@
 use mathlib.Core.Path.{_≡_, refl, sym, ap, subst, _∙_}
 use mathlib.Core.Bool.{Bool, true, false}
 use mathlib.Core.List.{List, []}
-use Prim.Native.Nat.{ℕ}
+use Prim.Native.Nat.{ℕ, _≤_}
 use native.Mathlib.Omega.{arith}
 use lib.ListN.{length}
 use Rattle.common.specs.Lists.{All, ByteEntries}
@@ -12,22 +12,25 @@ use Rattle.common.proofs.Choice.{false-true}
 use Rattle.state_bytes.specs.Table.{Field, fieldsOf, part, contiguous, StandsFor}
 use Rattle.state_bytes.proofs.Fields.{fields-joined, fields-sized, fields-found, fields-length}
 
--- What each table is asked for: that its fields lie one after the other, that what is read of bytes has their fields, and that bytes with the fields of a
--- state in range are read as that state.
+-- What each table is asked for: that its fields lie one after the other, that what is read of bytes, which may have more behind, has their fields, and that
+-- bytes with the fields of a state in range are read as that state.
 pub record Reads {S : Type 0} (layout : List (Field S)) (end : ℕ) (inRange : S → Bool) (read : List ℕ → S) : Type 0 where
   pub joined : contiguous 0 layout end ≡ true
-  pub fields : (bytes : List ℕ) → length bytes ≡ end → ByteEntries bytes → All (λ f. f .held (read bytes) ≡ part f bytes) layout
+  pub fields : (bytes : List ℕ) → end ≤ length bytes → ByteEntries bytes → All (λ f. f .held (read bytes) ≡ part f bytes) layout
   pub again : (bytes : List ℕ) (s : S) → inRange s ≡ true → All (λ f. part f bytes ≡ f .held s) layout → read bytes ≡ s
 
 module _ {S : Type 0} {layout : List (Field S)} {end : ℕ} {inRange : S → Bool} {read : List ℕ → S} (g : Reads layout end inRange read) where
   module _ (bytes : List ℕ) (n : length bytes ≡ end) (e : ByteEntries bytes) where
+    held-read : All (λ f. f .held (read bytes) ≡ part f bytes) layout
+    held-read = g .fields bytes (omega arith) e
+
     -- what is read and written again is as it was
     pub written-read : fieldsOf layout (read bytes) ≡ bytes
-    written-read = fields-joined layout 0 end (read bytes) bytes (g .joined) n (g .fields bytes n e)
+    written-read = fields-joined layout 0 end (read bytes) bytes (g .joined) n held-read
 
     -- bytes stand for the state that is read of them, where it is in range
     pub stands-read : inRange (read bytes) ≡ true → StandsFor layout inRange bytes (read bytes)
-    stands-read r = record { written = sym written-read; sized = fields-sized layout 0 end (read bytes) bytes (g .joined) n (g .fields bytes n e); range = r }
+    stands-read r = record { written = sym written-read; sized = fields-sized layout 0 end (read bytes) bytes (g .joined) n held-read; range = r }
 
   module _ (bytes : List ℕ) (s : S) (h : StandsFor layout inRange bytes s) where
     pub stands-length : length bytes ≡ end

@@ -19,6 +19,11 @@ pub record Field (S : Type 0) : Type 0 where
 abbrev pub field : {S : Type 0} → ℕ → ℕ → (S → List ℕ) → Field S
 field offset size held = record { offset = offset; size = size; held = held }
 
+-- the fields of a part of a state
+abbrev pub fieldsIn : {S T : Type 0} → (T → S) → List (Field S) → List (Field T)
+fieldsIn inner [] = []
+fieldsIn inner (f ∷ fs) = field (f .offset) (f .size) (λ t. f .held (inner t)) ∷ fieldsIn inner fs
+
 -- the fields of a state, one after the other
 unfoldable pub fieldsOf : {S : Type 0} → List (Field S) → S → List ℕ
 fieldsOf [] s = []

@@ -9,10 +9,10 @@ use lib.ListN.{drop}
 use Rattle.state_bytes.proofs.Copies.{front}
 use Rattle.state_bytes.proofs.States.{stands-read, none-stands}
 use Rattle.receiver.specs.Receive.{receiverInRange}
-use Rattle.dvbs_bridge.specs.State.{StandsFor}
-use Rattle.dvbs_bridge.specs.Reading.{stateOf}
+use Rattle.receiver_state.specs.State.{StandsFor}
+use Rattle.receiver_state.specs.Reading.{stateOf}
 use Rattle.dvbs_bridge.specs.Calls.{other-length, unknown, none-read, short, counted}
-use Rattle.dvbs_bridge.proofs.States.{reads, count-held}
+use Rattle.receiver_state.proofs.States.{reads, count-held}
 use borrow.Author.Needs.{needs}
 use Rattle.dvbs_bridge.proofs.dvbs_bridge_count.Statement.{statement}
 use Rattle.dvbs_bridge.proofs.dvbs_bridge_count.Tie as tie

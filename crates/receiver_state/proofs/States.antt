@@ -29,9 +29,9 @@ use Rattle.receiver.specs.Receive.{freshReceiver, receiverInRange}
 use Rattle.receiver.specs.declared.Receiver.{Receiver}
 use Rattle.receiver.proofs.Calls.{state-range}
 use Rattle.receiver.proofs.Reached.{Sound, sound-range, sound-fresh}
-use Rattle.dvbs_bridge.specs.State.{placeByte, layout, stateLength, stateBytes, StandsFor}
-use Rattle.dvbs_bridge.specs.Reading.{placeOf, stateOf}
-use Rattle.dvbs_bridge.specs.State as field
+use Rattle.receiver_state.specs.State.{placeByte, layout, stateLength, stateBytes, StandsFor}
+use Rattle.receiver_state.specs.Reading.{placeOf, stateOf}
+use Rattle.receiver_state.specs.State as field
 
 -- ---- the place
 

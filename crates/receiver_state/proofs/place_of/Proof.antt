@@ -1,8 +1,8 @@
--- `dvbs_bridge::layout::place_of` meets its contract.
+-- `receiver_state::place_of` meets its contract.
 -- Assumes nothing.
 use borrow.Author.Tests.{eq-eqb, ne-eqb}
-use Rattle.dvbs_bridge.proofs.layout.place_of.Statement.{statement}
-use Rattle.dvbs_bridge.proofs.layout.place_of.Tie as tie
+use Rattle.receiver_state.proofs.place_of.Statement.{statement}
+use Rattle.receiver_state.proofs.place_of.Tie as tie
 
 returns : tie.Need-returns
 returns c = simp (eq-eqb _ _ (c .if1 .taken))

@@ -1,10 +1,10 @@
--- `dvbs_bridge::layout::read_state` meets its contract.
+-- `receiver_state::read_state` meets its contract.
 -- Assumes nothing.
 use lib.ListN.{getD}
-use Rattle.dvbs_bridge.specs.Reading.{stateOf}
+use Rattle.receiver_state.specs.Reading.{stateOf}
 use borrow.Author.Needs.{needs}
-use Rattle.dvbs_bridge.proofs.layout.read_state.Statement.{statement}
-use Rattle.dvbs_bridge.proofs.layout.read_state.Tie as tie
+use Rattle.receiver_state.proofs.read_state.Statement.{statement}
+use Rattle.receiver_state.proofs.read_state.Tie as tie
 
 cells-at-requires : tie.Need-cells-at-requires
 cells-at-requires c κs = search needs

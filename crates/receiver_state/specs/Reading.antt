@@ -10,7 +10,7 @@ use Rattle.group_sync.specs.declared.Place.{Place}
 use Rattle.group_sync.specs.declared.Place.the-variants.{NotKnown, Known}
 use Rattle.reception_counts.specs.Bytes.{countsAt}
 use Rattle.receiver.specs.declared.Receiver.{Receiver}
-use Rattle.dvbs_bridge.specs.State.{cells, positions, place, missed, counts, marks}
+use Rattle.receiver_state.specs.State.{cells, positions, place, missed, counts, marks}
 
 abbrev pub placeOf : ℕ → Place
 placeOf byte = pick (eqb byte 8) NotKnown (Known byte)

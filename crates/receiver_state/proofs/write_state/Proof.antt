@@ -1,9 +1,9 @@
--- `dvbs_bridge::layout::write_state` meets its contract.
+-- `receiver_state::write_state` meets its contract.
 -- Assumes nothing.
-use Rattle.dvbs_bridge.proofs.States.{fields-put}
+use Rattle.receiver_state.proofs.States.{fields-put}
 use borrow.Author.Needs.{needs}
-use Rattle.dvbs_bridge.proofs.layout.write_state.Statement.{statement}
-use Rattle.dvbs_bridge.proofs.layout.write_state.Tie as tie
+use Rattle.receiver_state.proofs.write_state.Statement.{statement}
+use Rattle.receiver_state.proofs.write_state.Tie as tie
 
 place-byte-requires : tie.Need-place-byte-requires
 place-byte-requires c κs = search needs

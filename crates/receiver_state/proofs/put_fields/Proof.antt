@@ -1,9 +1,9 @@
--- `dvbs_bridge::layout::put_fields` meets its contract.
+-- `receiver_state::put_fields` meets its contract.
 -- Assumes nothing.
-use Rattle.dvbs_bridge.proofs.States.{all-put}
+use Rattle.receiver_state.proofs.States.{all-put}
 use borrow.Author.Needs.{needs}
-use Rattle.dvbs_bridge.proofs.layout.put_fields.Statement.{statement}
-use Rattle.dvbs_bridge.proofs.layout.put_fields.Tie as tie
+use Rattle.receiver_state.proofs.put_fields.Statement.{statement}
+use Rattle.receiver_state.proofs.put_fields.Tie as tie
 
 put-requires : tie.Need-put-requires
 put-requires c κs = search needs

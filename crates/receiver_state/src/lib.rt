@@ -1,10 +1,12 @@
 // The state of a receiver as bytes: where each field begins, and the reading and writing of all of them.
 // specs/State.antt has the layout as a table, and docs/BRIDGE.md lists it with the range of each field.
+// Inner: its functions may require what the crates above have tested. docs/ARCHITECTURE.md names the public surface.
 ghost use mathlib.Core.Path.{_≡_};
 ghost use mathlib.Core.List.{_++_};
+ghost use Prim.Native.Nat.{_≤_};
 ghost use lib.ListN.{length};
-ghost use Rattle.dvbs_bridge.specs.State.{placeByte, stateBytes};
-ghost use Rattle.dvbs_bridge.specs.Reading.{placeOf, stateOf};
+ghost use Rattle.receiver_state.specs.State.{placeByte, stateBytes};
+ghost use Rattle.receiver_state.specs.Reading.{placeOf, stateOf};
 use group_sync::GroupSync;
 use group_sync::Place;
 use interleaver::Deinterleaver;
@@ -50,9 +52,9 @@ fn place_byte(place: Place) -> u8
     }
 }
 
-// The receiver that bytes stand for. Whether its numbers are in range is asked by the receiver.
+// The receiver that the first bytes stand for. Whether its numbers are in range is asked by the receiver.
 pub fn read_state(bytes: &[u8]) -> Receiver
-    requires { ⌜ length (now bytes) ≡ 2322 ⌝ }
+    requires { ⌜ 2322 ≤ length (now bytes) ⌝ }
     ensures { λ r. ⌜ r ≡ stateOf (now (bytes .entry)) ⌝ }
 {
     let cells = cells_at(bytes, CELLS);
