@@ -15,7 +15,9 @@ use Rattle.common.proofs.Choice.{both-true}
 use Rattle.common.proofs.Chunks.{length-rest}
 use Rattle.common.proofs.Entries.{entries-take, entries-append, entries-drop}
 use Rattle.common.proofs.Largest.{largest-least}
-use Rattle.state_bytes.proofs.States.{written-read, stands-read, none-stands}
+use Rattle.state_bytes.specs.Calls.{CallsOn, no-state}
+use Rattle.state_bytes.proofs.States.{none-stands}
+use Rattle.state_bytes.proofs.Calls.{read-call, kept-call}
 use Rattle.receiver.specs.Receive.{receiverInRange}
 use Rattle.receiver.proofs.Calls.{state-range}
 use Rattle.receiver.proofs.Reached.{Sound}
@@ -26,9 +28,9 @@ use Rattle.receiver_stream.specs.Feed.{heldBytes, heldMarks, receiverStreamInRa
 use Rattle.receiver_stream.specs.Reporting.{Reports, streamReportNumber}
 use Rattle.receiver_stream.specs.declared.ReceiverStream.{ReceiverStream}
 use Rattle.receiver_stream.proofs.Histories.{marks-each}
-use Rattle.dvbs_receiver.specs.State.{stateLength, stateBytes, isClear, inRange, StandsFor}
+use Rattle.dvbs_receiver.specs.State.{layout, stateLength, stateBytes, isClear, inRange, StandsFor}
 use Rattle.dvbs_receiver.specs.Reading.{stateOf}
-use Rattle.dvbs_receiver.specs.Calls.{FeedsPiece, no-state, as-receiver, ReportsState, none-read, reported}
+use Rattle.dvbs_receiver.specs.Calls.{FeedsPiece, ReportsState}
 use Rattle.dvbs_receiver.proofs.States.{reads, blocks-range, stands-holding}
 
 -- ---- the bytes after a piece that is taken
@@ -138,66 +140,47 @@ module _ (i : ReceiverStream) where
 
 module _ (state answer : List ℕ) (one : 1 ≤ length answer) (n : length state ≡ stateLength) where
   -- a state that is not clear stands for none
-  pub unclear-feeds : (piece own output told : List ℕ) → pick (ltb (stateOf state .held) 204) (isClear (stateOf state)) false ≡ false → told ≡ set answer 0 5
-      → FeedsPiece state piece own output answer 0 state output told
-  unclear-feeds piece own output told f q = no-state one n (none-stands reads state (clear-false (stateOf state) f)) refl refl refl q
-
-  pub unclear-reports : (output told : List ℕ) → pick (ltb (stateOf state .held) 204) (isClear (stateOf state)) false ≡ false → told ≡ set answer 0 5
-      → ReportsState state output answer 0 output told
-  unclear-reports output told f q = none-read one n (none-stands reads state (clear-false (stateOf state) f)) refl refl q
+  pub unclear : {Nothing : Type 0} {Own : ReceiverStream → ℕ → ReceiverStream → Type 0} (told : List ℕ)
+      → pick (ltb (stateOf state .held) 204) (isClear (stateOf state)) false ≡ false → Nothing → told ≡ set answer 0 5
+      → CallsOn layout stateLength inRange Nothing Own state answer state told
+  unclear told f e q = no-state one n (none-stands reads state (clear-false (stateOf state) f)) e refl q
 
   module _ (e : ByteEntries state) (k : pick (ltb (stateOf state .held) 204) (isClear (stateOf state)) false ≡ true) where
     module _ (piece own output : List ℕ) (number count : ℕ) (next : ReceiverStream) (exit told : List ℕ)
         (g : FeedsReceiver (stateOf state) piece own output number count next exit) (q : told ≡ set answer 0 number) where
+      outside : inRange (stateOf state) ≡ false → ((count ≡ 0) × (exit ≡ output)) × (number ≡ 5) × (next ≡ stateOf state)
+      outside f = by g
+        where
+          five : receiverFeedNumber (stateOf state) piece own output ≡ 5
+          five = simp (sym (clear-true (stateOf state) k) ∙ f)
+
+          by : FeedsReceiver (stateOf state) piece own output number count next exit → ((count ≡ 0) × (exit ≡ output)) × (number ≡ 5) × (next ≡ stateOf state)
+          by (refused e p c s x) = ((c, x), e ∙ five, s)
+          by (fed z m t) = absurd (omega (arith, five, z))
+
       -- where it is refused, the bytes of the state are left alone
       pub refused-feeds : (number ≡ 0 → ⊥) → FeedsPiece state piece own output answer 0 state exit told
-      refused-feeds f = by (receiverStreamInRange (stateOf state)) refl
-        where
-          same : (count ≡ 0) × (next ≡ stateOf state) × (exit ≡ output)
-          same = refused-same (stateOf state) piece own output number count next exit g f
-
-          due : FeedsReceiver (stateOf state) piece own output number count next exit → number ≡ receiverFeedNumber (stateOf state) piece own output
-          due (refused e p c s x) = e
-          due (fed z m t) = absurd (f m)
-
-          by : (t : Bool) → receiverStreamInRange (stateOf state) ≡ t → FeedsPiece state piece own output answer 0 state exit told
-          by false r =
-              no-state one n (none-stands reads state (clear-true (stateOf state) k ∙ r)) refl refl (same .2) (q ∙ ap (set answer 0) (due g ∙ simp r))
-          by true r =
-              let h = stands-read reads state n e (clear-true (stateOf state) k ∙ r) in
-              as-receiver one (stateOf state) h number next
-              (subst (λ (c : ℕ). FeedsReceiver (stateOf state) piece own output number c next exit) (same .0) g) q
-              (sym (written-read reads state n e) ∙ ap stateBytes (sym (same .1))) (subst (StandsFor state) (sym (same .1)) h)
+      refused-feeds f =
+          let s = refused-same (stateOf state) piece own output number count next exit g f in
+          subst (λ (r : ℕ). FeedsPiece state piece own output answer r state exit told) (s .0) (kept-call reads one n e number next g q outside (s .1) refl)
 
       -- and else those of the receiver after it are written
       pub taken-feeds : number ≡ 0 → (after : List ℕ) → after ≡ stateBytes next → FeedsPiece state piece own output answer count after exit told
-      taken-feeds f after w = by g
+      taken-feeds f after w = read-call reads one n e number next g q outside (stay g) w
         where
-          in-range : receiverFeedNumber (stateOf state) piece own output ≡ 0 → receiverStreamInRange (stateOf state) ≡ true
-          in-range z = go (receiverStreamInRange (stateOf state)) refl
-            where
-              go : (t : Bool) → receiverStreamInRange (stateOf state) ≡ t → receiverStreamInRange (stateOf state) ≡ true
-              go true r = r
-              go false r = let five : 5 ≡ receiverFeedNumber (stateOf state) piece own output = sym (simp r) in absurd (omega (arith, five, z))
-
-          by : FeedsReceiver (stateOf state) piece own output number count next exit → FeedsPiece state piece own output answer count after exit told
-          by (refused e p c s x) = absurd (omega arith)
-          by (fed z m t) =
-              let h = stands-read reads state n e (clear-true (stateOf state) k ∙ in-range z) in
-              as-receiver one (stateOf state) h number next g q w
-              (subst (λ (bytes : List ℕ). StandsFor bytes next) (sym w) (stands-taken state (stateOf state) h piece own output z t))
+          stay : FeedsReceiver (stateOf state) piece own output number count next exit → StandsFor state (stateOf state) → StandsFor (stateBytes next) next
+          stay (refused e p c s x) h = absurd (omega arith)
+          stay (fed z m t) h = stands-taken state (stateOf state) h piece own output z t
 
     -- the report
     pub reports-state : (output : List ℕ) (number count : ℕ) (exit told : List ℕ) → Reports (stateOf state) output number count exit → told ≡ set answer 0 number
         → ReportsState state output answer count exit told
-    reports-state output number count exit told g q = by (receiverStreamInRange (stateOf state)) refl
+    reports-state output number count exit told g q = kept-call reads one n e number (stateOf state) (refl, g) q outside refl refl
       where
-        by : (t : Bool) → receiverStreamInRange (stateOf state) ≡ t → ReportsState state output answer count exit told
-        by false r =
-            let five : streamReportNumber (stateOf state) output ≡ 5 = simp r in
-            none-read one n (none-stands reads state (clear-true (stateOf state) k ∙ r)) (g .writes .size-is ∙ simp five) (g .writes .output-is ∙ simp five)
-            (q ∙ ap (set answer 0) (g .writes .number-is ∙ five))
-        by true r = reported one (stateOf state) (stands-read reads state n e (clear-true (stateOf state) k ∙ r)) number g q
+        outside : inRange (stateOf state) ≡ false → ((count ≡ 0) × (exit ≡ output)) × (number ≡ 5) × (stateOf state ≡ stateOf state)
+        outside f =
+            let five : streamReportNumber (stateOf state) output ≡ 5 = simp (sym (clear-true (stateOf state) k) ∙ f) in
+            ((g .writes .size-is ∙ simp five, g .writes .output-is ∙ simp five), g .writes .number-is ∙ five, refl)
 
 -- fewer bytes than a block has are held after a piece
 pub held-few : (i : ReceiverStream) (piece own output : List ℕ) (number count : ℕ) (next : ReceiverStream) (exit : List ℕ)

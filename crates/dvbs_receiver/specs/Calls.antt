@@ -3,14 +3,14 @@
 -- Assumes nothing.
 use mathlib.Core.Path.{_≡_}
 use mathlib.Core.List.{List}
-use Prim.Native.Nat.{ℕ, _≤_, _<_}
+use Prim.Native.Nat.{ℕ}
 use lib.Dec.{eqb}
-use lib.ListN.{length, set}
+use lib.ListN.{length}
 use Rattle.common.specs.Choice.{pick}
+use Rattle.state_bytes.specs.Calls.{CallsOn}
 use Rattle.receiver_stream.specs.Feed.{freshReceiverStream, FeedsReceiver}
 use Rattle.receiver_stream.specs.Reporting.{Reports}
-use Rattle.receiver_stream.specs.declared.ReceiverStream.{ReceiverStream}
-use Rattle.dvbs_receiver.specs.State.{stateLength, stateBytes, StandsFor}
+use Rattle.dvbs_receiver.specs.State.{layout, stateLength, stateBytes, inRange}
 
 -- ---- a fresh state
 
@@ -22,26 +22,14 @@ freshBytes state = pick (eqb (length state) stateLength) (stateBytes freshReceiv
 
 -- ---- a piece
 
--- Bytes that stand for a receiver of pieces: its own call, and the bytes after it are those of the receiver after it, for which they stand. Any other bytes
--- are refused, by their length or as out of range, and all is as it was. The number of the answer goes to the first of the bytes lent for it; where none is
--- lent, nothing is done.
-pub data FeedsPiece (state piece marks output answer : List ℕ) (r : ℕ) (after exit told : List ℕ) : Type 0 where
-  no-answer : length answer < 1 → r ≡ 0 → after ≡ state → exit ≡ output → told ≡ answer → FeedsPiece state piece marks output answer r after exit told
-  wrong-length : 1 ≤ length answer → (length state ≡ stateLength → ⊥) → r ≡ 0 → after ≡ state → exit ≡ output → told ≡ set answer 0 22
-      → FeedsPiece state piece marks output answer r after exit told
-  no-state : 1 ≤ length answer → length state ≡ stateLength → ((i : ReceiverStream) → StandsFor state i → ⊥) → r ≡ 0 → after ≡ state → exit ≡ output
-      → told ≡ set answer 0 5 → FeedsPiece state piece marks output answer r after exit told
-  as-receiver : 1 ≤ length answer → (i : ReceiverStream) → StandsFor state i → (number : ℕ) (next : ReceiverStream)
-      → FeedsReceiver i piece marks output number r next exit → told ≡ set answer 0 number → after ≡ stateBytes next → StandsFor after next
-      → FeedsPiece state piece marks output answer r after exit told
+-- the stream receiver's own call, of the one for which the bytes stand; else no packets, and the output as it was
+abbrev pub FeedsPiece : List ℕ → List ℕ → List ℕ → List ℕ → List ℕ → ℕ → List ℕ → List ℕ → List ℕ → Type 0
+FeedsPiece state piece marks output answer r after exit told =
+    CallsOn layout stateLength inRange ((r ≡ 0) × (exit ≡ output)) (λ i number next. FeedsReceiver i piece marks output number r next exit) state answer after told
 
 -- ---- the report
 
--- the same of the report: where the bytes stand for a receiver of pieces, its own
-pub data ReportsState (state output answer : List ℕ) (r : ℕ) (exit told : List ℕ) : Type 0 where
-  none-lent : length answer < 1 → r ≡ 0 → exit ≡ output → told ≡ answer → ReportsState state output answer r exit told
-  other-length : 1 ≤ length answer → (length state ≡ stateLength → ⊥) → r ≡ 0 → exit ≡ output → told ≡ set answer 0 22 → ReportsState state output answer r exit told
-  none-read : 1 ≤ length answer → length state ≡ stateLength → ((i : ReceiverStream) → StandsFor state i → ⊥) → r ≡ 0 → exit ≡ output
-      → told ≡ set answer 0 5 → ReportsState state output answer r exit told
-  reported : 1 ≤ length answer → (i : ReceiverStream) → StandsFor state i → (number : ℕ) → Reports i output number r exit → told ≡ set answer 0 number
-      → ReportsState state output answer r exit told
+-- the same of its report, which leaves the state as it is
+abbrev pub ReportsState : List ℕ → List ℕ → List ℕ → ℕ → List ℕ → List ℕ → Type 0
+ReportsState state output answer r exit told =
+    CallsOn layout stateLength inRange ((r ≡ 0) × (exit ≡ output)) (λ i number next. (next ≡ i) × Reports i output number r exit) state answer state told

@@ -5,21 +5,20 @@ use mathlib.Core.Bool.{true}
 use mathlib.Core.List.{List}
 use Prim.Native.Nat.{ℕ, _≤_}
 use native.Mathlib.Omega.{arith}
-use lib.ListN.{length}
+use lib.ListN.{length, getD}
 use Rattle.common.specs.Lists.{All}
-use Rattle.state_bytes.proofs.States.{stands-length, one-state}
+use Rattle.state_bytes.proofs.Calls.{own-call}
 use Rattle.puncturing.specs.Mode.{modeOf}
 use Rattle.inner_code.proofs.Coder.{in-range-by}
 use Rattle.sender.specs.Standard.{onAir}
 use Rattle.sender.specs.Input.{Input, packetsFor}
-use Rattle.sender.specs.Send.{freshSender, sentCount, Sends}
+use Rattle.sender.specs.Send.{freshSender, sentCount}
 use Rattle.sender.specs.Calls as own
 use Rattle.sender.specs.Calls.{SendCalls, senderOf}
 use Rattle.sender.specs.declared.Sender.{Sender}
 use Rattle.sender.proofs.Counts.{most-symbols}
 use Rattle.sender.proofs.History.{sent-on-air}
 use Rattle.dvbs_sender.specs.State.{stateBytes, StandsFor}
-use Rattle.dvbs_sender.specs.Calls.{no-answer, wrong-length, no-state, as-sender}
 use Rattle.dvbs_sender.specs.Pass.{SenderPass, none, call}
 use Rattle.dvbs_sender.proofs.States.{reads, stands-fresh, range-of}
 
@@ -32,15 +31,12 @@ pub record AsCalled (s : Sender) (inputs : List (List ℕ)) (symbols bytes : Lis
 pub pass-called : {state last : List ℕ} {inputs : List (List ℕ)} {symbols : List ℕ} (s : Sender) → StandsFor state s → SenderPass state inputs symbols last
     → AsCalled s inputs symbols last
 pass-called s h none = record { last = s; calls = own.none; stands = h }
-pass-called s h (call input output answer r after exit told one room (no-answer k c a x q) rest) = absurd (omega arith)
-pass-called s h (call input output answer r after exit told one room (wrong-length k n c a x q) rest) = absurd (n (stands-length reads _ s h))
-pass-called s h (call input output answer r after exit told one room (no-state k n f c a x q) rest) = absurd (f s h)
-pass-called s h (call input output answer r after exit told one room (as-sender k t m number next g q a z) rest) =
-    let w = pass-called next z rest in
-    let g′ = subst (λ (x : Sender). Sends modeOf x input output number r next exit) (one-state reads _ t s m h) g in
+pass-called s h (call input output answer r after exit told one room d rest) =
+    let o = own-call reads s h one d in
+    let w = pass-called (o .next) (o .stands) rest in
     let most = most-symbols (s .coder) (in-range-by (modeOf (s .coder .rate)) (s .coder) (range-of _ s h .coder)) in
     let enough : sentCount modeOf s ≤ length output = omega arith in
-    record { last = w .last; calls = own.call output exit number r enough g′ (w .calls); stands = w .stands }
+    record { last = w .last; calls = own.call output exit (getD told 0 0) r enough (o .own) (w .calls); stands = w .stands }
 
 -- Demand 2, sending, through the bytes of a state: begun with a fresh state in a mode that is sent, the symbols are the standard's for the list of inputs with
 -- null packets put in, and the bytes stand for the sender that has sent it.

@@ -9,14 +9,14 @@ use lib.ListN.{length, set}
 use Rattle.common.specs.Choice.{pick}
 use Rattle.common.specs.Lists.{ByteEntries}
 use Rattle.common.proofs.Choice.{false-true}
-use Rattle.state_bytes.proofs.States.{written-read, stands-read, none-stands}
+use Rattle.state_bytes.proofs.Calls.{read-call, kept-call}
 use Rattle.puncturing.specs.Mode.{modeOf}
 use Rattle.sender.specs.Input.{isSynced}
 use Rattle.sender.specs.Send.{sendRefusal, Sends}
 use Rattle.sender.specs.declared.Sender.{Sender}
 use Rattle.dvbs_sender.specs.State.{stateLength, stateBytes, inRange, StandsFor}
 use Rattle.dvbs_sender.specs.Reading.{stateOf}
-use Rattle.dvbs_sender.specs.Calls.{refuses, SendsPacket, no-state, as-sender}
+use Rattle.dvbs_sender.specs.Calls.{refuses, SendsPacket}
 use Rattle.dvbs_sender.proofs.States.{reads, stands-next}
 
 -- a refusal of the sender tells of no symbols, and leaves it and the output as they were
@@ -36,21 +36,17 @@ refused-same s packet output number count next exit g h = by (eqb (sendRefusal m
 
 module _ (state packet output answer : List ℕ) (one : 1 ≤ length answer) (n : length state ≡ stateLength) (e : ByteEntries state) (number count : ℕ) (next : Sender)
     (exit told : List ℕ) (g : Sends modeOf (stateOf state) packet output number count next exit) (q : told ≡ set answer 0 number) where
-  -- the bytes after the call are those of the sender after it
-  pub sends : (after : List ℕ) → after ≡ stateBytes next → SendsPacket state packet output answer count after exit told
-  sends after w = by (inRange (stateOf state)) refl
-    where
-      by : (t : Bool) → inRange (stateOf state) ≡ t → SendsPacket state packet output answer count after exit told
-      by false f =
-          no-state one n (none-stands reads state f) (g .counted ∙ simp f) (w ∙ ap stateBytes (g .sender ∙ simp f) ∙ written-read reads state n e) (g .written ∙ simp f)
-          (q ∙ ap (set answer 0) (g .answered ∙ simp f))
-      by true t =
-          let h = stands-read reads state n e t in
-          let k : StandsFor (stateBytes next) next = subst (λ (s : Sender). StandsFor (stateBytes s) s) (sym (g .sender)) (stands-next state (stateOf state) h packet output) in
-          as-sender one (stateOf state) h number next g q w (subst (λ (bytes : List ℕ). StandsFor bytes next) (sym w) k)
+  outside : inRange (stateOf state) ≡ false → ((count ≡ 0) × (exit ≡ output)) × (number ≡ 5) × (next ≡ stateOf state)
+  outside f = ((g .counted ∙ simp f, g .written ∙ simp f), g .answered ∙ simp f, g .sender ∙ simp f)
 
   -- where it is refused, the bytes of the state are left alone
   pub refused-sends : refuses number ≡ true → SendsPacket state packet output answer 0 state exit told
   refused-sends h =
       let k = refused-same (stateOf state) packet output number count next exit g h in
-      subst (λ (r : ℕ). SendsPacket state packet output answer r state exit told) (k .0) (sends state (sym (written-read reads state n e) ∙ ap stateBytes (sym (k .1))))
+      subst (λ (r : ℕ). SendsPacket state packet output answer r state exit told) (k .0) (kept-call reads one n e number next g q outside (k .1) refl)
+
+  -- and else those of the sender after it are written
+  pub sent-sends : (after : List ℕ) → after ≡ stateBytes next → SendsPacket state packet output answer count after exit told
+  sent-sends after w =
+      read-call reads one n e number next g q outside
+      (λ h. subst (λ (s : Sender). StandsFor (stateBytes s) s) (sym (g .sender)) (stands-next state (stateOf state) h packet output)) w

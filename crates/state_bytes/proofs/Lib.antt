@@ -1,3 +1,4 @@
 pub mod Copies
 pub mod Fields
 pub mod States
+pub mod Calls

@@ -7,19 +7,19 @@ use borrow.Author.Tests.{not-true, not-false}
 use lib.Dec.{ltb}
 use lib.ListN.{set}
 use Rattle.common.specs.Choice.{pick}
+use Rattle.state_bytes.specs.Calls.{no-answer, wrong-length}
 use Rattle.answer.specs.Number.{numberOf}
 use Rattle.receiver_stream.specs.Feed.{FeedsReceiver}
 use Rattle.receiver_stream.specs.declared.ReceiverStream.{ReceiverStream}
 use Rattle.dvbs_receiver.specs.State.{isClear}
 use Rattle.dvbs_receiver.specs.Reading.{stateOf}
-use Rattle.dvbs_receiver.specs.Calls.{no-answer, wrong-length}
-use Rattle.dvbs_receiver.proofs.Feeding.{unclear-feeds, refused-feeds, taken-feeds, held-few}
+use Rattle.dvbs_receiver.proofs.Feeding.{unclear, refused-feeds, taken-feeds, held-few}
 use borrow.Author.Needs.{needs}
 use Rattle.dvbs_receiver.proofs.dvbs_receiver_feed.Statement.{statement}
 use Rattle.dvbs_receiver.proofs.dvbs_receiver_feed.Tie as tie
 
 returns : tie.Need-returns
-returns c = no-answer (c .if1 .taken) refl refl refl refl
+returns c = no-answer (c .if1 .taken) (refl, refl) refl refl
 
 number-requires : tie.Need-number-requires
 number-requires c κs = search needs
@@ -31,7 +31,7 @@ same-length : tie.Need-same-length
 same-length c = search needs
 
 returns-2 : tie.Need-returns-2
-returns-2 c = wrong-length (c .before .before .if1 .left) (c .before .if2 .taken) refl refl refl (ap (set (c .before .before .before .before .before .before .before .before .args .answer .now) 0) (c .number .ensures))
+returns-2 c = wrong-length (c .before .before .if1 .left) (c .before .if2 .taken) (refl, refl) refl (ap (set (c .before .before .before .before .before .before .before .before .args .answer .now) 0) (c .number .ensures))
 
 read-state-requires : tie.Need-read-state-requires
 read-state-requires c κs = search needs
@@ -61,8 +61,8 @@ clear c = tested (c .before) ∙ not-false _ (c .if3 .left)
 returns-3 : tie.Need-returns-3
 returns-3 c =
     let a = c .before .before .before .before .before .before .before .before .before .before .before .before .args in
-    unclear-feeds (a .state .now) (a .answer .now) (c .before .before .before .before .before .before .if1 .left) (c .before .before .before .before .before .if2 .left) (a .piece .now) (a .marks .now) (a .output .now)
-    (set (a .answer .now) 0 (c .number2 .result)) (tested (c .before .before) ∙ not-true _ (c .before .if3 .taken)) (ap (set (a .answer .now) 0) (c .number2 .ensures))
+    unclear (a .state .now) (a .answer .now) (c .before .before .before .before .before .before .if1 .left) (c .before .before .before .before .before .if2 .left)
+    (set (a .answer .now) 0 (c .number2 .result)) (tested (c .before .before) ∙ not-true _ (c .before .if3 .taken)) (refl, refl) (ap (set (a .answer .now) 0) (c .number2 .ensures))
 
 feed-requires : tie.Need-feed-requires
 feed-requires c κs = search needs

@@ -6,14 +6,15 @@ use Rattle.answer.specs.Number.{numberOf}
 use Rattle.puncturing.specs.Mode.{modeOf}
 use Rattle.sender.specs.Send.{Sends}
 use Rattle.sender.specs.declared.Sender.{Sender}
-use Rattle.dvbs_sender.specs.Calls.{refuses, no-answer, wrong-length}
-use Rattle.dvbs_sender.proofs.Sends.{sends, refused-sends}
+use Rattle.state_bytes.specs.Calls.{no-answer, wrong-length}
+use Rattle.dvbs_sender.specs.Calls.{refuses}
+use Rattle.dvbs_sender.proofs.Sends.{refused-sends, sent-sends}
 use borrow.Author.Needs.{needs}
 use Rattle.dvbs_sender.proofs.dvbs_sender_send.Statement.{statement}
 use Rattle.dvbs_sender.proofs.dvbs_sender_send.Tie as tie
 
 returns : tie.Need-returns
-returns c = no-answer (c .if1 .taken) refl refl refl refl
+returns c = no-answer (c .if1 .taken) (refl, refl) refl refl
 
 number-requires : tie.Need-number-requires
 number-requires c κs = search needs
@@ -25,7 +26,7 @@ same-length : tie.Need-same-length
 same-length c = search needs
 
 returns-2 : tie.Need-returns-2
-returns-2 c = wrong-length (c .before .before .if1 .left) (c .before .if2 .taken) refl refl refl (ap (set (c .before .before .before .before .before .before .before .args .answer .now) 0) (c .number .ensures))
+returns-2 c = wrong-length (c .before .before .if1 .left) (c .before .if2 .taken) (refl, refl) refl (ap (set (c .before .before .before .before .before .before .before .args .answer .now) 0) (c .number .ensures))
 
 read-state-requires : tie.Need-read-state-requires
 read-state-requires c κs = search needs
@@ -78,7 +79,7 @@ returns-4 c =
     let a = c .before .before .before .before .before .before .before .before .before .before .before .before .before .before .before .before .before .before .before .before .args in
     let send = c .before .before .before .before .before .before .before .before .before .before .send in
     let exit = send .last .1 .1 .0 in
-    sends (a .state .now) (a .packet .now) (a .output .now) (a .answer .now) (c .before .before .before .before .before .before .before .before .before .before .before .before .before .before .before .if1 .left) (c .before .before .before .before .before .before .before .before .before .before .before .before .before .before .if2 .left) (λ i. c .before .before .before .before .before .before .before .before .before .before .before .before .before .before .before .before .before .before .before .slice-known .given i .fits)
+    sent-sends (a .state .now) (a .packet .now) (a .output .now) (a .answer .now) (c .before .before .before .before .before .before .before .before .before .before .before .before .before .before .before .if1 .left) (c .before .before .before .before .before .before .before .before .before .before .before .before .before .before .if2 .left) (λ i. c .before .before .before .before .before .before .before .before .before .before .before .before .before .before .before .before .before .before .before .slice-known .given i .fits)
     (numberOf (send .result .answer)) (send .result .count) (send .result .sender) exit (set (a .answer .now) 0 (c .before .before .before .before .before .before .number2 .result))
     (subst (λ (s : Sender). Sends modeOf s (a .packet .now) (a .output .now) (numberOf (send .result .answer)) (send .result .count) (send .result .sender) exit) (c .before .before .before .before .before .before .before .before .before .before .before .before .read-state .ensures) (send .ensures))
     (ap (set (a .answer .now) 0) (c .before .before .before .before .before .before .number2 .ensures)) (c .before .before .write-state .last .1 .0) (c .before .before .write-state .ensures)
