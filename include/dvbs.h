@@ -25,7 +25,7 @@
  *  15  done, with a null packet put in
  *  16  the recording has no such block
  * 17 to 19 and 21 are answers about the texts of pass reports, which the programs
- * read and write, and no function here.
+ * read, and are given by no function here.
  *  20  not a mark for each byte, or a mark above 1
  *  22  a state of another length
  *  24  the lists of a soft run are not of one length, or a mark is above 1
