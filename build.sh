@@ -4,25 +4,24 @@
 #   ./build.sh NAME..             some: a program, or libdvbs or libdvbs_bridge
 #   ./build.sh install PREFIX     puts what was built, with headers, pkg-config files and man pages, below PREFIX
 # A program is a function of a proved library, and programs/main.c is its main.
-# libdvbs.a has every function that include/dvbs.h declares. They are two proved crates, since one that reaches both directions takes too much memory to
+# libdvbs.a has every function that include/dvbs.h declares. They are several proved crates, since one that reaches both directions takes too much memory to
 # prove; here their objects become one archive.
 set -euo pipefail
 cd "$(dirname "$0")"
 programs=(dvbs_send dvbs_read dvbs_read_soft dvbs_receive dvbs_losses pass_report report_form season recording_block)
 
 libdvbs() {
-    rt staticlib dvbs
-    rt staticlib dvbs_reader
-    local parts=target/staticlib/parts
+    local parts=target/staticlib/parts crate object
     rm -rf "$parts"
-    mkdir -p "$parts/dvbs" "$parts/dvbs_reader"
-    for crate in dvbs dvbs_reader; do
+    for crate in dvbs dvbs_reader dvbs_sender dvbs_receiver; do
+        rt staticlib "$crate"
+        mkdir -p "$parts/$crate"
         (cd "$parts/$crate" && ar x "../../lib$crate.a")
+        # Objects of two crates may have one name.
+        for object in "$parts/$crate"/*; do mv "$object" "$parts/${crate}_${object##*/}"; done
+        rm -r "$parts/$crate" "target/staticlib/lib$crate.a"
     done
-    # Objects of both crates may have one name.
-    for object in "$parts"/dvbs_reader/*; do mv "$object" "$parts/dvbs/reader_${object##*/}"; done
-    rm target/staticlib/libdvbs.a target/staticlib/libdvbs_reader.a
-    ar rcs target/staticlib/libdvbs.a "$parts"/dvbs/*
+    ar rcs target/staticlib/libdvbs.a "$parts"/*
     rm -r "$parts"
 }
 

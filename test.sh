@@ -76,6 +76,7 @@ compared=target/cargo/release
 "$compared/compare" > "$work/compared" 2>&1 &
 comparison=$!
 "$compared/compare_bridge"
+"$compared/compare_states"
 quietly ./build.sh $(basename -s .1 man/*.1)
 "$compared/compare_losses"
 "$compared/compare_calls" target/bin/send_calls
@@ -110,6 +111,21 @@ cmp "$work"/bridged_by_* && grep -q '^rest=5$' "$work/counts" || fail "bridge_pa
 nm target/staticlib/libdvbs_bridge.a > "$work/names"
 ! grep -E "send|inner_code|convolutional|puncturing|encode" "$work/names" || fail "libdvbs_bridge.a has a part of the sender"
 echo "bridge_pass: as expected"
+
+# The truck's loop as C and as C++, in every mode that is sent: the symbols of dvbs_send, with a packet that is none and one that is not whole.
+quietly c++ -std=c++11 -Wall -Wextra -Werror -Iinclude -x c++ examples/truck.c -x none -Ltarget/staticlib -ldvbs -o "$work/truck"
+{ cat target/try/packets.ts; head -c 188 /dev/zero; cat target/try/packets.ts; } > "$work/packets"
+{ cat "$work/packets"; head -c 188 /dev/zero; } > "$work/filled"
+for mode in 0 1 2 3 5; do
+    target/bin/dvbs_send "$mode" < "$work/filled" > "$work/symbols" 2> "$work/counts"
+    for side in target/try/truck "$work/truck"; do
+        { cat "$work/packets"; echo rest; } | "$side" "$mode" "$work/state" 2> "$work/counts" | cmp - "$work/symbols" || fail "$side $mode"
+        [ "$(cat "$work/counts")" = "$(printf 'packets=82\nnulls=2')" ] || fail "$side $mode: its counts"
+    done
+done
+! target/try/truck 2 "$work/none/state" < "$work/packets" > "$work/symbols" 2> "$work/err" && grep -q "not saved" "$work/err" || fail "truck: no file"
+! target/try/truck 4 "$work/state" < "$work/packets" > "$work/symbols" 2> "$work/err" && [ ! -s "$work/symbols" ] || fail "truck: a mode that is not sent"
+echo "truck: as expected"
 
 # usage PROGRAM WORD..: with these words it gives its usage line on standard error, does nothing else, and ends with 2.
 usage() {

@@ -471,6 +471,38 @@ static void bridge(const struct kernel *k, int side, int n)
     sink += written;
 }
 
+/* The same of a receiver that is fed with pieces of so many blocks, with a mark for each byte, and writes its report at the end. */
+static void pieces(const struct kernel *k, int side, int n)
+{
+    static uint8_t kept[DVBS_RECEIVER_STATE], marks[RUN * 204], text[DVBS_REPORT];
+    const size_t piece = 204 * (size_t)k->argument;
+    if (side != LIBRARY) {
+        const struct kernel clean = {k->name, k->what, k->blocks, k->sides, 0, receive};
+        receive(&clean, side, n);
+        return;
+    }
+    size_t written = 0;
+    dvbs_receiver_fresh(kept, sizeof kept);
+    for (size_t at = 0; at < sizeof clean_stream; at += piece)
+        written += dvbs_receiver_feed(kept, sizeof kept, clean_stream + at, piece, marks + at, piece, output + written, sizeof output - written, answer, 1);
+    sink += written + dvbs_receiver_report(kept, sizeof kept, text, sizeof text, answer, 1);
+}
+
+/* The same of a sender, packet by packet. */
+static void truck(const struct kernel *k, int side, int n)
+{
+    static uint8_t kept[DVBS_SENDER_STATE];
+    if (side != LIBRARY) {
+        send(k, side, n);
+        return;
+    }
+    size_t written = 0;
+    dvbs_sender_fresh(kept, sizeof kept, (uint8_t)k->argument);
+    for (int p = 0; p < RUN; p++)
+        written += dvbs_sender_send(kept, sizeof kept, packets + 188 * p, 188, output + written, sizeof output - written, answer, 1);
+    sink += written;
+}
+
 enum { TWO = 3, THREE = 7, ALL = 31 };
 static const struct kernel kernels[] = {
     {"scale", "field product, 16 lanes", FACTORS, TWO, 0, scale},
@@ -495,6 +527,7 @@ static const struct kernel kernels[] = {
     {"send_3_4", "send a packet, 3/4", RUN, TWO, 2, send},
     {"send_5_6", "send a packet, 5/6", RUN, TWO, 3, send},
     {"send_16qam", "send a packet, 16QAM 3/4", RUN, TWO, 5, send},
+    {"truck_3_4", "truck, a packet, 3/4", RUN, TWO, 2, truck},
     {"read_1_2", "read 1,632 bits, 1/2", 1, ALL, 0, read_run},
     {"read_2_3", "read 1,632 bits, 2/3", 1, TWO, 1, read_run},
     {"read_3_4", "read 1,632 bits, 3/4", 1, ALL, 2, read_run},
@@ -506,6 +539,8 @@ static const struct kernel kernels[] = {
     {"receive_harmed", "receive a block, harmed", RUN, TWO, 1, receive},
     {"bridge_clean", "bridge, a clean block", RUN, TWO, 0, bridge},
     {"bridge_harmed", "bridge, a harmed block", RUN, TWO, 1, bridge},
+    {"pieces_1", "fed block by block", RUN, TWO, 1, pieces},
+    {"pieces_16", "fed by sixteen blocks", RUN, TWO, 16, pieces},
 };
 enum { KERNELS = sizeof kernels / sizeof *kernels };
 

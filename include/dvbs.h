@@ -4,8 +4,9 @@
  * A buffer is a pointer and its length. The functions test what they are lent,
  * so any length and any bytes may come; what the caller owes is that lengths are
  * true and that buffers of one call do not overlap. Nothing is kept between
- * calls. After a refusal the buffers are as they were, but for a byte lent to
- * take the answer or the result, and output beyond what is given is never written.
+ * calls: a sender or a receiver that goes on is bytes that the caller keeps. After
+ * a refusal the buffers are as they were, but for a byte lent to take the answer or
+ * the result, and output beyond what is given is never written.
  *
  * Answers:
  *   0  done
@@ -13,8 +14,8 @@
  *   2  the packet's first byte is not 47 hex; of dvbs_randomize alone
  *   3  a block is not 204 bytes
  *   4  room too short
- *   5  a number is out of its range: here a place above 7, a memory above 63, or
- *      a number of blocks that is not the recording's
+ *   5  a number is out of its range: here a place above 7, a memory above 63, a
+ *      number of blocks that is not the recording's, or a field of a state
  *   6  a rate other than 0 to 3 and 5; for reading, one other than 0 to 4
  *   7  the receiver has taken 4,294,967,295 blocks
  *   8  no codeword within eight bytes; with marks, none with 2 e + f at most 16
@@ -24,11 +25,12 @@
  *  15  done, with a null packet put in
  *  16  the recording has no such block
  * 17 to 19 and 21 are answers about the texts of pass reports, which the programs
- * read and write, and no function here.
+ * read, and are given by no function here.
  *  20  not a mark for each byte, or a mark above 1
+ *  22  a state of another length
  *  24  the lists of a soft run are not of one length, or a mark is above 1
  * Where several are due, the first in the order 6, 5, 24, 16, 1 or 3, 2, 12, 13,
- * 14, 20, 4, 7 is given. */
+ * 14, 20, 4, 7 is given, and with a state in the order 22, 5, 6, 1, 20, 4, 7. */
 #ifndef DVBS_H
 #define DVBS_H
 
@@ -39,7 +41,8 @@
 extern "C" {
 #endif
 
-enum { DVBS_PACKET = 188, DVBS_BLOCK = 204, DVBS_COUNTS = 64, DVBS_RESULT = 6 };
+enum { DVBS_PACKET = 188, DVBS_BLOCK = 204, DVBS_COUNTS = 64, DVBS_RESULT = 6, DVBS_SYMBOLS = 1632, DVBS_REPORT = 310 };
+enum { DVBS_SENDER_STATE = 1139, DVBS_RECEIVER_STATE = 2731 };
 
 /* Energy dispersal: the packet at this place (0 to 7) of its group of eight, as
  * it is sent, 188 bytes; and the packet that was sent so. The second takes any
@@ -87,6 +90,32 @@ uint8_t dvbs_rs_decode_marked(uint8_t *block, size_t block_len,
 uint64_t dvbs_send_run(uint8_t rate, const uint8_t *packets, size_t packets_len,
                        uint8_t *output, size_t output_len,
                        uint8_t *answer, size_t answer_len);
+
+/* A sender whose state is bytes that the caller keeps. It may copy, save and load
+ * them between any two calls: a call reads all that it needs from them. Two
+ * different strings of bytes never stand for one sender. The state of a sender:
+ *   offset  bytes  holds        range
+ *        0   1122  cells        any bytes: the delay branches, one after the other
+ *     1122     12  positions    byte j below 17 j; the first one 0
+ *     1134      1  place        0 to 7: of the next packet in its group
+ *     1135      1  mode         0 to 5, as the rate of dvbs_send_run; 4 is not sent
+ *     1136      1  memory       0 to 63: the last six bits of the inner coder
+ *     1137      1  pattern      below 1, 4, 3, 5, 7, 1 by the mode: the next bit's place
+ *     1138      1  held         0 or 1: an I without its Q; 0 where none is held
+ *
+ * Makes the state of a fresh sender in a mode: 22, then 6, or 0. */
+uint8_t dvbs_sender_fresh(uint8_t *state, size_t state_len, uint8_t mode);
+
+/* Sends one packet with it: what dvbs_send_run gives of a list of packets, call
+ * after call. Returns how many symbols were written, at most DVBS_SYMBOLS;
+ * answer[0] is 22, 5, 6, 1 or 4, after which every byte of the state and of the
+ * output is as it was; else 0, or 15 where a null packet was put in, for a packet
+ * of no bytes or for 188 that do not begin with 47 hex. Where no byte is lent for
+ * the answer: returns 0, writes nothing. */
+uint64_t dvbs_sender_send(uint8_t *state, size_t state_len,
+                          const uint8_t *packet, size_t packet_len,
+                          uint8_t *output, size_t output_len,
+                          uint8_t *answer, size_t answer_len);
 
 /* Reads a run of symbols, 2 I + Q each, which begins with a puncturing pattern;
  * memory is the coder's before it: its last six bits, the newest counting 32.
@@ -143,6 +172,38 @@ uint64_t dvbs_receive_run_marked(const uint8_t *blocks, size_t blocks_len,
                                  uint8_t *output, size_t output_len,
                                  uint8_t *counts, size_t counts_len,
                                  uint8_t *answer, size_t answer_len);
+
+/* A receiver whose state is bytes that the caller keeps, as those of a sender, and
+ * which takes the received bytes in pieces of any length. The state of a receiver:
+ *   offset  bytes  holds        range
+ *        0   2322  receiver     as DVBS_BRIDGE_STATE bytes of dvbs_bridge.h
+ *     2322    204  pending      the bytes after the last whole block; zeros behind them
+ *     2526    204  doubtful     their marks, 0 or 1 each; zeros behind them
+ *     2730      1  held         0 to 203: how many they are
+ *
+ * Makes the state of a fresh receiver: 22, or 0. */
+uint8_t dvbs_receiver_fresh(uint8_t *state, size_t state_len);
+
+/* Takes a piece of the received bytes with a mark for each, as
+ * dvbs_receive_run_marked takes a recording: pieces of any length, one after the
+ * other, give what all their bytes give as one. Returns how many bytes of packets
+ * were written; answer[0] is 22, 5, 20, 4 or 7, after which every byte of the state
+ * and of the output is as it was, or else 0. Lend 188 bytes for each block that is
+ * whole then: (held + piece_len) / 204 of them. Where no byte is lent for the
+ * answer: returns 0, writes nothing. */
+uint64_t dvbs_receiver_feed(uint8_t *state, size_t state_len,
+                            const uint8_t *piece, size_t piece_len,
+                            const uint8_t *marks, size_t marks_len,
+                            uint8_t *output, size_t output_len,
+                            uint8_t *answer, size_t answer_len);
+
+/* Writes the pass report on all that came, in form 2, as the program pass_report
+ * prints it. The state is left as it is, and more may come. Returns the length of
+ * the text, at most DVBS_REPORT bytes; answer[0] is 22, 5, 4 or 0. Where no byte is
+ * lent for the answer: returns 0, writes nothing. */
+uint64_t dvbs_receiver_report(const uint8_t *state, size_t state_len,
+                              uint8_t *output, size_t output_len,
+                              uint8_t *answer, size_t answer_len);
 
 /* Block p of a recording, corrected, p from 0: the 204 bytes, the counts and the
  * answer 8 that a fresh receiver's outer decoder has at its call p + 12. A view of the

@@ -29,7 +29,7 @@ flags() {
     local file="$prefix/lib/pkgconfig/$1.pc"
     sed -n 's/^\(Cflags\|Libs\): //p' "$file" | tr ' ' '\n' | sed "s|\${includedir}|$prefix/include|; s|\${libdir}|$prefix/lib|"
 }
-for library in dvbs:link_from_c dvbs_bridge:bridge_pass; do
+for library in dvbs:link_from_c dvbs:truck dvbs_bridge:bridge_pass; do
     grep -qx "prefix=$prefix" "$prefix/lib/pkgconfig/${library%:*}.pc" || fail "${library%:*}.pc: another prefix"
     mapfile -t with < <(flags "${library%:*}")
     cc -O2 "examples/${library#*:}.c" "${with[@]}" -o "$work/${library#*:}" || fail "${library#*:}: not linked by its pkg-config file"

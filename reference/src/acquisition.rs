@@ -340,6 +340,8 @@ pub fn lock(rate: Option<u8>, input: &[u8]) -> Told {
         let mut reading = Reading::new(found.rate, turn, &all[start..]);
         let mut gathered = Gathered::none();
         let mut gave = false;
+        // The decision before gave no block.
+        let mut missed = false;
         let (mut ended, mut over) = (false, false);
         while !ended && !over {
             let bits = reading.next().unwrap_or_else(|| {
@@ -348,9 +350,11 @@ pub fn lock(rate: Option<u8>, input: &[u8]) -> Told {
             });
             gathered.bits.extend(bits);
             while !over && gathered.due(ended) {
+                let whole = gathered.due(false);
                 let before = gathered.first;
                 if let Some(block) = gathered.decide() {
                     gave = true;
+                    missed = false;
                     if block.begins {
                         teller.close(start + reading.symbols_before(block.behind), "", 0);
                         let symbol = start + reading.symbols_before(block.at);
@@ -361,7 +365,11 @@ pub fn lock(rate: Option<u8>, input: &[u8]) -> Told {
                     teller.block(&block.bytes);
                 } else {
                     teller.close(start + reading.symbols_before(before), "", 0);
-                    over = true;
+                    over = missed || !whole;
+                    missed = true;
+                    if !over {
+                        gathered.skip(BLOCK_BITS + 1);
+                    }
                 }
             }
         }

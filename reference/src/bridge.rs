@@ -4,14 +4,15 @@
 /// What the reference gives.
 pub mod expected {
     use crate::answer::Answer;
-    use crate::interleaver::{Branches, BRANCHES, DEPTH};
+    use crate::interleaver::BRANCHES;
     use crate::receiver::{Counts, Receiver, FILLING, MOST_BLOCKS};
+    use crate::states::{advance, cells_of, fill, place_of, positions_in, Row};
     use crate::{BLOCK_LENGTH, GROUP_LENGTH, PACKET_LENGTH};
 
     pub const STATE_LENGTH: usize = 2322;
 
     /// The fields: name, offset, bytes.
-    pub const LAYOUT: [(&str, usize, usize); 13] = [
+    pub const LAYOUT: [Row; 13] = [
         ("cells", 0, 1122),
         ("positions", 1122, 12),
         ("place", 1134, 1),
@@ -30,21 +31,12 @@ pub mod expected {
     /// The byte of the place that is not known.
     const NOT_KNOWN: u8 = GROUP_LENGTH as u8;
 
-    fn place_of(name: &str) -> std::ops::Range<usize> {
-        let (_, offset, length) = LAYOUT[LAYOUT.iter().position(|field| field.0 == name).unwrap()];
-        offset..offset + length
-    }
-
     fn field<'a>(state: &'a [u8], name: &str) -> &'a [u8] {
-        &state[place_of(name)]
+        &state[place_of(&LAYOUT, name)]
     }
 
     fn number(state: &[u8], name: &str) -> u64 {
         u64::from_le_bytes(field(state, name).try_into().unwrap())
-    }
-
-    fn cells_in(branch: usize) -> usize {
-        DEPTH * (BRANCHES - 1 - branch)
     }
 
     fn in_range(c: &Counts) -> bool {
@@ -58,32 +50,10 @@ pub mod expected {
             && c.bits as u128 <= 8 * c.changed as u128
     }
 
-    /// Branches from their cells, with the oldest of each at its position.
-    fn fill(branches: &mut Branches, mut cells: &[u8], positions: &[usize]) {
-        for (branch, position) in positions.iter().enumerate() {
-            let (own, rest) = cells.split_at(cells_in(branch));
-            branches.queues[branch] = own[*position..].iter().chain(&own[..*position]).copied().collect();
-            cells = rest;
-        }
-    }
-
-    /// The cells of branches, with the oldest of each at its position.
-    fn cells_of(branches: &Branches, positions: &[usize]) -> Vec<u8> {
-        let mut cells = Vec::new();
-        for (branch, queue) in branches.queues.iter().enumerate() {
-            let back = cells_in(branch) - positions[branch];
-            cells.extend(queue.iter().skip(back).chain(queue.iter().take(back)));
-        }
-        cells
-    }
-
     /// The receiver that the bytes stand for, and the positions of its branches.
     pub fn read(state: &[u8]) -> Option<(Receiver, Vec<usize>)> {
         let mut receiver = Receiver::fresh();
-        let positions: Vec<usize> = field(state, "positions").iter().map(|p| *p as usize).collect();
-        if positions.iter().enumerate().any(|(branch, position)| *position >= cells_in(branch).max(1)) {
-            return None;
-        }
+        let positions = positions_in(&receiver.branches, field(state, "positions"))?;
         let marks = field(state, "marks");
         if marks.iter().any(|mark| *mark > 1) {
             return None;
@@ -111,7 +81,7 @@ pub mod expected {
     }
 
     pub fn write(receiver: &Receiver, positions: &[usize], state: &mut [u8]) {
-        let mut put = |name: &str, bytes: &[u8]| state[place_of(name)].copy_from_slice(bytes);
+        let mut put = |name: &str, bytes: &[u8]| state[place_of(&LAYOUT, name)].copy_from_slice(bytes);
         put("cells", &cells_of(&receiver.branches, positions));
         put("marks", &cells_of(&receiver.marks, positions));
         put("positions", &positions.iter().map(|p| *p as u8).collect::<Vec<_>>());
@@ -148,9 +118,7 @@ pub mod expected {
         let answer = receiver.receive_marked(block, marks, output);
         if receiver.counts.taken > before {
             assert!(block.len() == BLOCK_LENGTH && output.len() >= PACKET_LENGTH);
-            for (branch, position) in positions.iter_mut().enumerate().take(BRANCHES - 1) {
-                *position = (*position + DEPTH) % cells_in(branch);
-            }
+            advance(&receiver.branches, &mut positions);
             write(&receiver, &positions, state);
         }
         answer.number()
@@ -232,54 +200,20 @@ pub mod library {
 #[cfg(test)]
 mod tests {
     use super::expected::{LAYOUT, STATE_LENGTH};
-
-    /// The rows of a table of a text: name, offset and bytes, in a line "| OFFSET | BYTES | NAME |" or "* OFFSET BYTES NAME".
-    fn rows(text: &str) -> Vec<(String, usize, usize)> {
-        text.lines()
-            .filter_map(|line| {
-                let words: Vec<&str> = line.split(|c: char| c == '|' || c == '*' || c.is_whitespace()).filter(|w| !w.is_empty()).collect();
-                match words[..] {
-                    [offset, length, name, _, ..] => Some((name.to_string(), offset.parse().ok()?, length.parse().ok()?)),
-                    _ => None,
-                }
-            })
-            .collect()
-    }
-
-    fn table() -> Vec<(String, usize, usize)> {
-        LAYOUT.iter().map(|(name, offset, length)| (name.to_string(), *offset, *length)).collect()
-    }
+    use crate::states::tables::{fills, owned, rows_after, specified};
 
     #[test]
     fn the_fields_fill_the_state() {
-        let end = LAYOUT.iter().fold(0, |at, (_, offset, length)| {
-            assert_eq!(*offset, at);
-            at + length
-        });
-        assert_eq!(end, STATE_LENGTH);
+        assert!(fills(&LAYOUT, STATE_LENGTH));
     }
 
-    /// The rows of the specification: a line "NAME = field OFFSET BYTES (".
-    fn specified(text: &str) -> Vec<(String, usize, usize)> {
-        text.lines()
-            .filter_map(|line| match line.split_whitespace().collect::<Vec<_>>()[..] {
-                [name, "=", "field", offset, length, ..] => Some((name.to_string(), offset.parse().ok()?, length.parse().ok()?)),
-                _ => None,
-            })
-            .collect()
-    }
-
-    /// The table with the eight counts, which the specification has as one field, in one row.
-    fn with_counts_joined() -> Vec<(String, usize, usize)> {
-        let mut rows = table();
-        rows.splice(4..12, [("counts".to_string(), 1136, 64)]);
-        rows
-    }
-
+    /// The specification has the eight counts as one field.
     #[test]
     fn document_header_and_specification_have_the_same_table() {
-        assert_eq!(rows(include_str!("../../docs/BRIDGE.md")), table());
-        assert_eq!(rows(include_str!("../../include/dvbs_bridge.h")), table());
-        assert_eq!(specified(include_str!("../../crates/dvbs_bridge/specs/State.antt")), with_counts_joined());
+        assert_eq!(rows_after("## The state", include_str!("../../docs/BRIDGE.md")), owned(&LAYOUT));
+        assert_eq!(rows_after("The layout of the state", include_str!("../../include/dvbs_bridge.h")), owned(&LAYOUT));
+        let mut joined = owned(&LAYOUT);
+        joined.splice(4..12, [("counts".to_string(), 1136, 64)]);
+        assert_eq!(specified(include_str!("../../crates/receiver_state/specs/State.antt")), joined);
     }
 }

@@ -37,13 +37,13 @@ fn input_bit(group: &[u8], name: &str) -> u8 {
 }
 
 pub struct InnerCoder {
-    rate: usize,
+    pub rate: usize,
     /// The last six bits, newest counting 32.
-    memory: u8,
+    pub memory: u8,
     /// Bits since the fresh coder.
-    taken: usize,
+    pub taken: usize,
     /// An I whose Q has not come.
-    held: Option<u8>,
+    pub held: Option<u8>,
 }
 
 /// Whether X, and whether Y, of bit k of a run is transmitted. The rows of 2/3

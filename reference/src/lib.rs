@@ -12,6 +12,7 @@ pub mod bridge;
 pub mod channel;
 pub mod exports;
 pub mod erasures;
+pub mod guarded;
 pub mod inner_code;
 pub mod inner_decoder;
 pub mod interleaver;
@@ -20,11 +21,15 @@ pub mod losses;
 pub mod numbered;
 pub mod randomizer;
 pub mod receiver;
+pub mod receiver_state;
 pub mod recording;
 pub mod reed_solomon;
 pub mod report;
+pub mod samples;
 pub mod season;
 pub mod sender;
+pub mod sender_state;
+pub mod states;
 pub mod xorshift;
 
 /// Length of a transport packet (4.4.1).

@@ -6,9 +6,9 @@ use crate::interleaver::Branches;
 use crate::{randomizer, reed_solomon, BLOCK_LENGTH, GROUP_LENGTH, NULL_PACKET, PACKET_LENGTH, SYNC};
 
 pub struct Sender {
-    place: usize,
-    branches: Branches,
-    inner: InnerCoder,
+    pub place: usize,
+    pub branches: Branches,
+    pub inner: InnerCoder,
 }
 
 impl Sender {

@@ -4,7 +4,7 @@ use mathlib.Core.Path.{_≡_, sym, ap, _∙_}
 use mathlib.Core.Bool.{true}
 use mathlib.Core.List.{List}
 use Prim.Native.Nat.{ℕ}
-use Rattle.dvbs_bridge.specs.State.{stateBytes}
+use Rattle.receiver_state.specs.State.{stateBytes}
 use Rattle.dvbs_bridge.specs.Calls.{refuses, BridgeTakes, wrong-length, no-state, as-receiver}
 use Rattle.dvbs_bridge.proofs.Takes.{refused-same}
 

@@ -7,6 +7,7 @@ use lib.Dec.{eqb}
 use lib.ListN.{length, take, replicate}
 use Rattle.common.specs.Choice.{pick}
 use Rattle.common.specs.Lists.{All}
+use Rattle.state_bytes.proofs.States.{stands-length, one-state}
 use Rattle.randomizer.specs.Stream.{Packet}
 use Rattle.receiver.specs.Receive.{freshReceiver, Receives}
 use Rattle.receiver.specs.Kept as kept
@@ -14,10 +15,10 @@ use Rattle.receiver.specs.Kept.{Kept}
 use Rattle.receiver.specs.declared.Receiver.{Receiver}
 use Rattle.receiver.proofs.Promised.{promised-received}
 use Rattle.sent_blocks.specs.Blocks.{interleavedBlocks}
-use Rattle.dvbs_bridge.specs.State.{stateBytes, StandsFor}
+use Rattle.receiver_state.specs.State.{stateBytes, StandsFor}
 use Rattle.dvbs_bridge.specs.Calls.{wrong-length, no-state, as-receiver}
 use Rattle.dvbs_bridge.specs.Pass.{BridgePass, none, call}
-use Rattle.dvbs_bridge.proofs.States.{stands-length, one-receiver, stands-fresh}
+use Rattle.receiver_state.proofs.States.{reads, stands-fresh}
 
 -- calls of the receiver with these blocks, answers and packets, and a receiver after them for which these bytes stand
 pub record AsKept (s : Receiver) (blocks : List (List ℕ)) (numbers : List ℕ) (packets : List (List ℕ)) (bytes : List ℕ) : Type 0 where
@@ -28,11 +29,11 @@ pub record AsKept (s : Receiver) (blocks : List (List ℕ)) (numbers : List ℕ)
 pub pass-kept : {state last : List ℕ} {blocks : List (List ℕ)} {numbers : List ℕ} {packets : List (List ℕ)} (s : Receiver) → StandsFor state s
     → BridgePass state blocks numbers packets last → AsKept s blocks numbers packets last
 pass-kept s h none = record { last = s; calls = kept.none; stands = h }
-pass-kept s h (call block output r after exit l (wrong-length n q a x) rest) = absurd (n (stands-length _ s h))
+pass-kept s h (call block output r after exit l (wrong-length n q a x) rest) = absurd (n (stands-length reads _ s h))
 pass-kept s h (call block output r after exit l (no-state n f q a x) rest) = absurd (f s h)
 pass-kept s h (call {blocks = blocks} {numbers = numbers} {packets = packets} block output r after exit l (as-receiver t k received g q a m) rest) =
     let w = pass-kept (received .receiver) m rest in
-    let own = subst (λ (x : Receiver). Receives x block output received exit) (one-receiver _ t s k h) g in
+    let own = subst (λ (x : Receiver). Receives x block output received exit) (one-state reads _ t s k h) g in
     record {
       last = w .last;
       calls =

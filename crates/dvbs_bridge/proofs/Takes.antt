@@ -8,6 +8,7 @@ use Prim.Native.Nat.{ℕ}
 use lib.ListN.{length}
 use Rattle.common.specs.Lists.{ByteEntries}
 use Rattle.common.proofs.Choice.{false-true}
+use Rattle.state_bytes.proofs.States.{written-read, stands-read, none-stands}
 use Rattle.answer.specs.Number.{numberOf}
 use Rattle.reed_solomon.specs.Marks.{noMarks}
 use Rattle.group_sync.specs.declared.Outcome.{Outcome}
@@ -19,16 +20,12 @@ use Rattle.receiver.specs.declared.Receiver.{Receiver}
 use Rattle.receiver.specs.declared.Received.{Received}
 use Rattle.receiver.proofs.Calls.{ready-number}
 use Rattle.receiver.proofs.Reached.{Sound, sound-call, Refused, ready-or-refused, refused-state, refused-written, call-decoded}
-use Rattle.dvbs_bridge.specs.State.{stateLength, stateBytes, StandsFor}
-use Rattle.dvbs_bridge.specs.Reading.{stateOf}
+use Rattle.receiver_state.specs.State.{stateLength, stateBytes, StandsFor}
+use Rattle.receiver_state.specs.Reading.{stateOf}
 use Rattle.dvbs_bridge.specs.Calls.{refuses, BridgeTakes, no-state, as-receiver}
-use Rattle.dvbs_bridge.proofs.States.{written-read, stands-read, stands-written, stands-sound, stands-for-read}
+use Rattle.receiver_state.proofs.States.{reads, stands-written, stands-sound}
 
 -- ---- refusals
-
--- bytes that read as a receiver out of range stand for none
-pub none-stands : (state : List ℕ) → receiverInRange (stateOf state) ≡ false → (s : Receiver) → StandsFor state s → ⊥
-none-stands state f s h = false-true (sym f ∙ ap receiverInRange (stands-for-read state s h) ∙ h .range)
 
 -- a block that comes to something is taken
 outcome-taken : (o : Outcome) → refuses (outcomeNumber o) ≡ false
@@ -61,24 +58,21 @@ module _ (state block output : List ℕ) (n : length state ≡ stateLength) (e :
   five : receiverInRange (stateOf state) ≡ false → r ≡ 5
   five f = q ∙ g .number ∙ simp f
 
-  none : receiverInRange (stateOf state) ≡ false → (s : Receiver) → StandsFor state s → ⊥
-  none f s h = none-stands state f s h
-
   same-output : receiverInRange (stateOf state) ≡ false → exit ≡ output
   same-output f = g .written ∙ simp f
 
   stands : receiverInRange (stateOf state) ≡ true → StandsFor state (stateOf state)
-  stands t = stands-read state n e t
+  stands t = stands-read reads state n e t
 
   -- a call that is refused, where the bytes of the state are left alone
   pub refused-takes : refuses r ≡ true → BridgeTakes state block output r state exit
   refused-takes h = by (receiverInRange (stateOf state)) refl
     where
       by : (t : Bool) → receiverInRange (stateOf state) ≡ t → BridgeTakes state block output r state exit
-      by false f = no-state n (none f) (five f) refl (same-output f)
+      by false f = no-state n (none-stands reads state f) (five f) refl (same-output f)
       by true t =
           let k = refused-same (stateOf state) block output received exit g (sym (ap refuses q) ∙ h) .0 in
-          as-receiver (stateOf state) (stands t) received g q (sym (written-read state n e) ∙ ap stateBytes (sym k))
+          as-receiver (stateOf state) (stands t) received g q (sym (written-read reads state n e) ∙ ap stateBytes (sym k))
           (subst (StandsFor state) (sym k) (stands t))
 
   -- a call that is not, where the bytes of the receiver after it are written

@@ -13,7 +13,7 @@ use Rattle.receiver.specs.Receive.{freshReceiver, Receives}
 use Rattle.receiver.specs.Run.{takenBy}
 use Rattle.receiver.specs.declared.Receiver.{Receiver}
 use Rattle.receiver.specs.declared.Received.{Received}
-use Rattle.dvbs_bridge.specs.State.{stateLength, stateBytes, StandsFor}
+use Rattle.receiver_state.specs.State.{stateLength, stateBytes, StandsFor}
 
 -- ---- a fresh state
 

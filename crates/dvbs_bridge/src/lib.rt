@@ -4,13 +4,10 @@ ghost use mathlib.Core.Path.{_≡_};
 ghost use Rattle.dvbs_bridge.specs.Calls.{freshNumber, freshBytes, refuses, BridgeTakes, BridgeCounts};
 use answer::Answer;
 use receiver::Receiver;
-
-mod layout;
-
-use layout::COUNTS;
-use layout::STATE_LENGTH;
-use layout::read_state;
-use layout::write_state;
+use receiver_state::COUNTS;
+use receiver_state::STATE_LENGTH;
+use receiver_state::read_state;
+use receiver_state::write_state;
 
 // Whether an answer of the receiver is a refusal: other than 0 and 8 to 11.
 fn is_refusal(number: u8) -> bool

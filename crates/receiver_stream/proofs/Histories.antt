@@ -40,7 +40,7 @@ none-refused true false true e = absurd (omega arith)
 none-refused true false false e = (refl, refl)
 
 -- marks are one for each byte, and 0 or 1
-marks-each : (bytes marks : List ℕ) → marksFor bytes marks ≡ true → (length marks ≡ length bytes) × Entries (λ m. m < 2) marks
+pub marks-each : (bytes marks : List ℕ) → marksFor bytes marks ≡ true → (length marks ≡ length bytes) × Entries (λ m. m < 2) marks
 marks-each bytes marks h =
     let p = both-true (eqb (length marks) (length bytes)) (ltb (largest marks) 2) h in
     let l = ltb-true (largest marks) 2 (p .1) in

@@ -6,7 +6,9 @@
 
 use reference::bridge::expected::STATE_LENGTH;
 use reference::bridge::{expected, library};
+use reference::guarded::Guarded;
 use reference::receiver::{FILLING, MOST_BLOCKS};
+use reference::samples::{block_receiver, packets, stream};
 use reference::sender::interleaved_stream;
 use reference::xorshift::Xorshift;
 use reference::{exports, BLOCK_LENGTH, INVERTED_SYNC, PACKET_LENGTH, SYNC};
@@ -17,45 +19,6 @@ const PLACE: usize = 1134;
 const COUNTS: usize = 1136;
 const MARKS: usize = 1200;
 
-mod guarded {
-    use std::ffi::c_void;
-
-    extern "C" {
-        fn mmap(at: *mut c_void, length: usize, protection: i32, flags: i32, file: i32, offset: i64) -> *mut c_void;
-    }
-
-    const PAGE: usize = 4096;
-    const NONE: i32 = 0;
-    const READ_WRITE: i32 = 3;
-    const PRIVATE_ANONYMOUS: i32 = 0x22;
-    const FIXED: i32 = 0x10;
-
-    /// A page between two that may not be touched.
-    pub struct Page(*mut u8);
-
-    impl Page {
-        pub fn new() -> Self {
-            unsafe {
-                let all = mmap(std::ptr::null_mut(), 3 * PAGE, NONE, PRIVATE_ANONYMOUS, -1, 0);
-                assert_ne!(all as isize, -1, "mmap");
-                let middle = mmap((all as *mut u8).add(PAGE) as *mut _, PAGE, READ_WRITE, PRIVATE_ANONYMOUS | FIXED, -1, 0);
-                assert_ne!(middle as isize, -1, "mmap");
-                Page(middle as *mut u8)
-            }
-        }
-
-        /// The bytes, at the end of the page or at its start; the others of the page are not 0.
-        pub fn lend(&mut self, bytes: &[u8], at_end: bool) -> &mut [u8] {
-            assert!(bytes.len() <= PAGE);
-            let page = unsafe { std::slice::from_raw_parts_mut(self.0, PAGE) };
-            let from = if at_end { PAGE - bytes.len() } else { 0 };
-            let lent = &mut page[from..from + bytes.len()];
-            lent.copy_from_slice(bytes);
-            lent
-        }
-    }
-}
-
 struct Score {
     only_kind: Option<String>,
     only_case: Option<u64>,
@@ -65,9 +28,9 @@ struct Score {
     failed: u64,
     passed_all: u64,
     failed_all: u64,
-    state: guarded::Page,
-    block: guarded::Page,
-    output: guarded::Page,
+    state: Guarded,
+    block: Guarded,
+    output: Guarded,
 }
 
 impl Score {
@@ -142,80 +105,6 @@ impl Score {
     }
 }
 
-fn packets(r: &mut Xorshift, count: usize) -> Vec<u8> {
-    let mut all = r.bytes(PACKET_LENGTH * count);
-    all.iter_mut().step_by(PACKET_LENGTH).for_each(|byte| *byte = SYNC);
-    all
-}
-
-/// The blocks of a sender, begun at any of them, harmed or not, some of them left out or doubled.
-fn stream(r: &mut Xorshift, blocks: usize) -> Vec<u8> {
-    let from = r.below(9);
-    let sent = packets(r, from + blocks);
-    let mut all = interleaved_stream(&sent).split_off(BLOCK_LENGTH * from);
-    match r.below(4) {
-        0 => (),
-        1 => {
-            let one_in = 15 + r.below(200);
-            for byte in all.iter_mut() {
-                if r.below(one_in) == 0 {
-                    *byte = r.byte();
-                }
-            }
-        }
-        2 => {
-            let (low, length) = (r.below(all.len()), r.below(1500));
-            let high = (low + length).min(all.len());
-            all[low..high].iter_mut().for_each(|byte| *byte = r.byte());
-        }
-        _ => {
-            let at = BLOCK_LENGTH * r.below(blocks);
-            if r.below(2) == 0 {
-                all.drain(at..at + BLOCK_LENGTH);
-            } else {
-                let again = all[at..at + BLOCK_LENGTH].to_vec();
-                all.splice(at..at, again);
-            }
-        }
-    }
-    all
-}
-
-/// A state in range, which a pass may reach or not.
-fn in_range(r: &mut Xorshift) -> Vec<u8> {
-    let mut state = r.bytes(STATE_LENGTH);
-    if r.below(2) == 0 {
-        state[..POSITIONS].fill(0);
-    }
-    for branch in 0..12 {
-        state[POSITIONS + branch] = r.below((187 - 17 * branch).max(1)) as u8;
-    }
-    state[PLACE] = r.below(9) as u8;
-    state[PLACE + 1] = if state[PLACE] == 8 { 0 } else { r.below(2) as u8 };
-    let most = [5, 11, 12, 300, MOST_BLOCKS - 1, MOST_BLOCKS][r.below(6)];
-    let filling = most.min(FILLING);
-    let mut left = most - filling;
-    let mut share = |r: &mut Xorshift| {
-        let some = if left == 0 { 0 } else { r.next() % (left + 1) };
-        left -= some;
-        some
-    };
-    let (delivered, lost, waiting) = (share(r), share(r), share(r));
-    let outofstep = most - filling - delivered - lost - waiting;
-    let accepted = delivered + waiting + outofstep;
-    let changed = [0, 16 * accepted, r.next() % (16 * accepted + 1)][r.below(3)];
-    let bits = [changed, 8 * changed, changed + r.next() % (7 * changed + 1)][r.below(3)];
-    let counts = [most, filling, delivered, lost, waiting, outofstep, changed, bits];
-    for (k, count) in counts.iter().enumerate() {
-        state[COUNTS + 8 * k..COUNTS + 8 * k + 8].copy_from_slice(&count.to_le_bytes());
-    }
-    // No marks, some, or as many as not.
-    let one_in = [0, 40, 2][r.below(3)];
-    state[MARKS..].iter_mut().for_each(|mark| *mark = (one_in > 0 && r.below(one_in.max(1)) == 0) as u8);
-    assert!(expected::read(&state).is_some());
-    state
-}
-
 /// A block that makes a codeword come out of these cells cannot be known; any bytes, and zeros, which make one of zeros.
 fn some_block(r: &mut Xorshift) -> Vec<u8> {
     if r.below(2) == 0 {
@@ -264,7 +153,7 @@ fn state_kinds(s: &mut Score) {
     let mut tell = |answer: u8| if answer == 5 { refused += 1 } else { accepted += 1 };
     s.kind("random states", 500_000, |s, r, case| {
         // All bytes at random; only cells and marks in range; all in range; all but one byte.
-        let mut state = in_range(r);
+        let mut state = block_receiver(r);
         match case % 4 {
             0 => state = r.bytes(STATE_LENGTH),
             1 => {
@@ -289,7 +178,7 @@ fn state_kinds(s: &mut Score) {
     // Every bit that is no cell's and no mark's, and some of those.
     const BITS: usize = 8 * (MARKS - POSITIONS);
     s.kind("single bits of states in range", 800, |s, r, case| {
-        let mut state = in_range(r);
+        let mut state = block_receiver(r);
         if case % 2 == 0 {
             let reached = 13 + r.below(20);
             expected::fresh(&mut state);
@@ -320,7 +209,7 @@ fn state_kinds(s: &mut Score) {
 
 fn refusal_kinds(s: &mut Score) {
     s.kind("refusals", 256, |s, r, case| {
-        let states = [in_range(r), r.bytes(STATE_LENGTH)];
+        let states = [block_receiver(r), r.bytes(STATE_LENGTH)];
         for state in states {
             let mut long = state.clone();
             long.extend(r.bytes(3));
@@ -341,7 +230,7 @@ fn refusal_kinds(s: &mut Score) {
     });
     // The last block that can be counted, and the one after it.
     s.kind("full counts", 200, |s, r, _| {
-        let mut state = in_range(r);
+        let mut state = block_receiver(r);
         let mut numbers = [MOST_BLOCKS - 1, FILLING, 0, MOST_BLOCKS - 1 - FILLING, 0, 0, 0, 0];
         if r.below(2) == 0 {
             numbers.swap(2, 3);
@@ -422,7 +311,7 @@ fn main() {
     let mut arguments = std::env::args().skip(1);
     let only_kind = arguments.next();
     let only_case = arguments.next().map(|case| case.parse().expect("a case"));
-    let page = guarded::Page::new;
+    let page = || Guarded::new(STATE_LENGTH + 3);
     let mut s = Score {
         only_kind,
         only_case,

@@ -5,14 +5,14 @@ use mathlib.Core.List.{List, _++_}
 use Prim.Native.Nat.{ℕ, _+_, _*_}
 use native.Mathlib.Omega.{arith}
 use borrow.Author.Tests.{not-true, not-false}
-use lib.ListN.{take, drop}
+use lib.ListN.{drop}
+use Rattle.state_bytes.proofs.Copies.{front}
+use Rattle.state_bytes.proofs.States.{stands-read, none-stands}
 use Rattle.receiver.specs.Receive.{receiverInRange}
-use Rattle.dvbs_bridge.specs.State.{StandsFor}
-use Rattle.dvbs_bridge.specs.Reading.{stateOf}
+use Rattle.receiver_state.specs.State.{StandsFor}
+use Rattle.receiver_state.specs.Reading.{stateOf}
 use Rattle.dvbs_bridge.specs.Calls.{other-length, unknown, none-read, short, counted}
-use Rattle.dvbs_bridge.proofs.Copies.{front}
-use Rattle.dvbs_bridge.proofs.States.{stands-read, stands-sound, count-written}
-use Rattle.dvbs_bridge.proofs.Takes.{none-stands}
+use Rattle.receiver_state.proofs.States.{reads, count-held}
 use borrow.Author.Needs.{needs}
 use Rattle.dvbs_bridge.proofs.dvbs_bridge_count.Statement.{statement}
 use Rattle.dvbs_bridge.proofs.dvbs_bridge_count.Tie as tie
@@ -45,14 +45,14 @@ ranged c = ap receiverInRange (sym (c .before .read-state .ensures)) ∙ sym (c 
 returns-3 : tie.Need-returns-3
 returns-3 c =
     none-read (c .before .before .before .before .before .if1 .left) (c .before .before .before .before .if2 .left)
-    (none-stands (c .before .before .before .before .before .before .before .before .args .state .now) (ranged (c .before .before) ∙ not-true _ (c .before .if3 .taken)))
+    (none-stands reads (c .before .before .before .before .before .before .before .before .args .state .now) (ranged (c .before .before) ∙ not-true _ (c .before .if3 .taken)))
     (c .number3 .ensures) refl
 
 -- past the third test the bytes stand for the receiver that is read
 standing : (c : tie.Else3) → let a = c .before .before .before .before .before .before .before .args in StandsFor (a .state .now) (stateOf (a .state .now))
 standing c =
     let a = c .before .before .before .before .before .before .before .args in
-    stands-read (a .state .now) (c .before .before .before .before .if1 .left) (λ i. c .before .before .before .before .before .before .shared-slice-known .given i .fits)
+    stands-read reads (a .state .now) (c .before .before .before .before .if1 .left) (λ i. c .before .before .before .before .before .before .shared-slice-known .given i .fits)
     (ranged (c .before) ∙ not-false _ (c .if3 .left))
 
 number-requires-4 : tie.Need-number-requires-4
@@ -94,8 +94,7 @@ returns-5 c =
     counted s h k (c .before .before .before .before .before .if4 .left) refl
     (c .before .before .put .ensures
     ∙ front (a .state .now) (a .output .now) (1136 + 8 * a .number) (1136 + 8 * a .number + 8) 8 refl (omega arith)
-    ∙ ap (λ (l : List ℕ). take 8 (drop (1136 + 8 * a .number) l) ++ drop 8 (a .output .now)) (h .written)
-    ∙ ap (λ (l : List ℕ). l ++ drop 8 (a .output .now)) (count-written s (stands-sound (a .state .now) s h) (a .number) (omega arith)))
+    ∙ ap (λ (l : List ℕ). l ++ drop 8 (a .output .now)) (count-held (a .state .now) s h (a .number) (omega arith)))
 
 pub dvbs-bridge-count-spec : {M : Type 1} → statement M
 dvbs-bridge-count-spec =

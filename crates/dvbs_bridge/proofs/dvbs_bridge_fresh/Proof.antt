@@ -2,7 +2,7 @@
 -- Assumes nothing.
 use mathlib.Core.Path.{refl, ap, _∙_}
 use borrow.Author.Tests.{eq-eqb, ne-eqb}
-use Rattle.dvbs_bridge.specs.State.{stateBytes}
+use Rattle.receiver_state.specs.State.{stateBytes}
 use borrow.Author.Needs.{needs}
 use Rattle.dvbs_bridge.proofs.dvbs_bridge_fresh.Statement.{statement}
 use Rattle.dvbs_bridge.proofs.dvbs_bridge_fresh.Tie as tie

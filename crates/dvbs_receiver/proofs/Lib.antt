@@ -1,0 +1,4 @@
+pub mod States
+mod Feeding
+pub mod Laws
+pub mod Passes

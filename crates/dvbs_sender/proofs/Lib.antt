@@ -1,0 +1,4 @@
+pub mod States
+mod Sends
+pub mod Laws
+pub mod Passes

@@ -1,0 +1,4 @@
+pub mod Copies
+pub mod Fields
+pub mod States
+pub mod Calls

@@ -1,0 +1,460 @@
+//! Compares the parts of the library whose state is bytes with the reference, and
+//! with the library's own runs: answers and every byte of state and output, on seeded,
+//! repeatable inputs. What the library is lent ends, or begins, where memory may not
+//! be touched.
+//!
+//! `compare_states` runs all; `compare_states KIND` one kind; `compare_states KIND CASE` one case.
+
+use reference::exports;
+use reference::guarded::Guarded;
+use reference::inner_code::SENT;
+use reference::receiver::MOST_BLOCKS;
+use reference::samples::{block_receiver, stream};
+use reference::sender_state::expected::{holds, pattern_length, STATE_LENGTH};
+use reference::sender_state::{expected, library};
+use reference::xorshift::Xorshift;
+use reference::{receiver_state, BLOCK_LENGTH, PACKET_LENGTH, SYNC};
+
+/// Where the parts of a sender's state begin that are not its cells.
+const POSITIONS: usize = 1122;
+const PLACE: usize = 1134;
+/// The symbols that a packet gives at most.
+const MOST_SYMBOLS: usize = 1632;
+
+struct Score {
+    only_kind: Option<String>,
+    only_case: Option<u64>,
+    kind: &'static str,
+    case: u64,
+    passed: u64,
+    failed: u64,
+    passed_all: u64,
+    failed_all: u64,
+    lent: [Guarded; 5],
+}
+
+impl Score {
+    fn kind(&mut self, kind: &'static str, cases: u64, mut run: impl FnMut(&mut Score, &mut Xorshift, u64)) {
+        if self.only_kind.as_deref().map_or(false, |only| only != kind) {
+            return;
+        }
+        (self.kind, self.passed, self.failed) = (kind, 0, 0);
+        let name = kind.bytes().fold(0x300_421_u64, |sum, b| sum.wrapping_mul(257) ^ b as u64);
+        for case in 0..cases {
+            if self.only_case.map_or(false, |only| only != case) {
+                continue;
+            }
+            self.case = case;
+            run(self, &mut Xorshift::new(name.wrapping_mul(1 << 24).wrapping_add(case)), case);
+        }
+        println!("states, {kind}: {} compared, {} different", self.passed + self.failed, self.failed);
+        self.passed_all += self.passed;
+        self.failed_all += self.failed;
+    }
+
+    /// A number and some bytes of both sides.
+    fn same(&mut self, inputs: &str, want: (u64, &[&[u8]]), got: (u64, &[&[u8]])) {
+        if want == got {
+            self.passed += 1;
+            return;
+        }
+        self.failed += 1;
+        if self.failed <= 5 {
+            println!("DIFFERENT {} {}: {inputs}", self.kind, self.case);
+            println!("  number: reference {}, library {}", want.0, got.0);
+            for (k, (a, b)) in want.1.iter().zip(got.1).enumerate() {
+                println!("  bytes {k}: {} and {}, first that differs {:?}", a.len(), b.len(), a.iter().zip(b.iter()).position(|(x, y)| x != y));
+            }
+        }
+    }
+
+    fn fresh(&mut self, r: &mut Xorshift, length: usize, mode: u8) -> (u8, Vec<u8>) {
+        let before = r.bytes(length);
+        let mut a = before.clone();
+        let want = expected::fresh(&mut a, mode);
+        let lent = self.lent[0].lend(&before, r.below(2) == 0);
+        let got = library::fresh(lent, mode);
+        let lent = lent.to_vec();
+        self.same(&format!("fresh, state of {length}, mode {mode}"), (want as u64, &[&a]), (got as u64, &[&lent]));
+        (got, lent)
+    }
+
+    /// Sends a packet on both sides: the answer where a byte was lent for it, the state, and the output with how much of it was written.
+    fn send(&mut self, r: &mut Xorshift, state: &[u8], packet: &[u8], output: &[u8], answer: &[u8]) -> (Option<u8>, Vec<u8>, Vec<u8>, usize) {
+        let (mut a, mut b, mut c) = (state.to_vec(), output.to_vec(), answer.to_vec());
+        let want = expected::send(&mut a, packet, &mut b, &mut c);
+        let at_end = r.below(2) == 0;
+        let [own, given, room, told, _] = &mut self.lent;
+        let (own, given, room, told) = (own.lend(state, at_end), given.lend(packet, at_end), room.lend(output, at_end), told.lend(answer, at_end));
+        let got = library::send(own, given, room, told);
+        let (own, room, told) = (own.to_vec(), room.to_vec(), told.to_vec());
+        let inputs = format!("send, state of {}, packet of {}, output of {}, answer of {}", state.len(), packet.len(), output.len(), answer.len());
+        self.same(&inputs, (want, &[&a, &b, &c]), (got, &[&own, &room, &told]));
+        (told.first().copied(), own, room, got as usize)
+    }
+}
+
+/// A packet, one without its sync byte, or no bytes.
+fn some_packet(r: &mut Xorshift) -> Vec<u8> {
+    let mut packet = r.bytes(PACKET_LENGTH);
+    packet[0] = SYNC;
+    match r.below(8) {
+        0 => packet[0] = r.byte(),
+        1 => packet.clear(),
+        _ => (),
+    }
+    packet
+}
+
+/// A state in range, which a list of packets may reach or not.
+fn in_range(r: &mut Xorshift) -> Vec<u8> {
+    let mut state = r.bytes(STATE_LENGTH);
+    for branch in 0..12 {
+        state[POSITIONS + branch] = r.below((17 * branch).max(1)) as u8;
+    }
+    let mode = r.below(6) as u8;
+    let pattern = r.below(pattern_length(mode));
+    let held = r.below(1 + holds(mode, pattern) as usize);
+    state[PLACE..].copy_from_slice(&[r.below(8) as u8, mode, r.below(64) as u8, pattern as u8, held as u8]);
+    assert!(expected::read(&state).is_some());
+    state
+}
+
+fn sender_kinds(s: &mut Score) {
+    // Beside the reference after every packet, with the state moved to other memory between every two; at the end beside the library's own run.
+    s.kind("a sender's packets", 300, |s, r, case| {
+        let mode = SENT[case as usize % SENT.len()];
+        let packets = if case < 60 { case as usize / 5 } else { 1 + r.below(40) };
+        let (answer, mut state) = s.fresh(r, STATE_LENGTH, mode);
+        assert_eq!(answer, 0);
+        let (mut all, mut symbols) = (Vec::new(), Vec::new());
+        for _ in 0..packets {
+            let packet = some_packet(r);
+            let output = r.bytes(MOST_SYMBOLS);
+            let (answer, after, left, written) = s.send(r, &state, &packet, &output, &[0xA5]);
+            assert!(answer == Some(0) || answer == Some(15));
+            symbols.extend(&left[..written]);
+            // Exactly as much room as is needed; and one less, which is refused as a packet of another length is, and changes nothing.
+            s.send(r, &state, &packet, &output[..written], &[0xA5]);
+            if r.below(4) == 0 {
+                assert_eq!(s.send(r, &state, &packet, &output[..written - 1], &[0xA5]).0, Some(4));
+                let length = 1 + r.below(187);
+                let other = r.bytes(length);
+                assert_eq!(s.send(r, &state, &other, &output, &[0xA5]).0, Some(1));
+            }
+            // For no bytes a run is given 188 that do not begin with the sync byte.
+            all.extend(if packet.is_empty() { vec![0; PACKET_LENGTH] } else { packet });
+            state = after;
+        }
+        let (mut output, mut told) = (vec![0; MOST_SYMBOLS * packets], [0xA5]);
+        let written = exports::library::send_run(mode, &all, &mut output, &mut told) as usize;
+        s.same("the library's run", (written as u64, &[&output[..written]]), (symbols.len() as u64, &[&symbols]));
+    });
+    let (mut accepted, mut refused) = (0u64, 0u64);
+    let mut tell = |answer: Option<u8>| if answer == Some(5) { refused += 1 } else { accepted += 1 };
+    s.kind("a sender's random states", 60_000, |s, r, case| {
+        // All bytes at random; only the cells; all in range; all but one byte.
+        let mut state = in_range(r);
+        match case % 4 {
+            0 => state = r.bytes(STATE_LENGTH),
+            1 => {
+                let few = r.bytes(STATE_LENGTH - POSITIONS);
+                state[POSITIONS..].copy_from_slice(&few);
+            }
+            2 => (),
+            _ => state[POSITIONS + r.below(STATE_LENGTH - POSITIONS)] = r.byte(),
+        }
+        let packet = some_packet(r);
+        let length = [543, 544, 979, 1088, 1224, 1632, 1700][r.below(7)];
+        let output = r.bytes(length);
+        tell(s.send(r, &state, &packet, &output, &[0xA5]).0);
+    });
+    // Every bit that is no cell's, and some of those.
+    const BITS: usize = 8 * (STATE_LENGTH - POSITIONS);
+    s.kind("single bits of a sender's states", 400, |s, r, _| {
+        let state = in_range(r);
+        let packet = some_packet(r);
+        let output = r.bytes(MOST_SYMBOLS);
+        for bit in 0..BITS + 16 {
+            let bit = if bit < BITS { 8 * POSITIONS + bit } else { r.below(8 * POSITIONS) };
+            let mut other = state.clone();
+            other[bit / 8] ^= 1 << (bit % 8);
+            tell(s.send(r, &other, &packet, &output, &[0xA5]).0);
+        }
+    });
+    // Each value of each number, with each mode, place of a pattern and held bit.
+    s.kind("every number of a sender's state", 256, |s, r, value| {
+        let packet = some_packet(r);
+        let output = r.bytes(MOST_SYMBOLS);
+        for mode in 0..8 {
+            for pattern in 0..9 {
+                for held in 0..3 {
+                    let mut state = in_range(r);
+                    state[PLACE + 1..].copy_from_slice(&[mode, r.below(64) as u8, pattern, held]);
+                    s.send(r, &state, &packet, &output, &[0xA5]);
+                }
+            }
+            for field in PLACE..STATE_LENGTH {
+                let mut state = in_range(r);
+                state[field] = value as u8;
+                s.send(r, &state, &packet, &output, &[0xA5]);
+            }
+            s.fresh(r, STATE_LENGTH, value as u8);
+        }
+    });
+    s.kind("a sender's refusals", 128, |s, r, case| {
+        let mut not_sent = in_range(r);
+        not_sent[PLACE + 1..].copy_from_slice(&[4, 0, 0, 0]);
+        for state in [in_range(r), not_sent, r.bytes(STATE_LENGTH)] {
+            let mut long = state.clone();
+            long.extend(r.bytes(3));
+            for length in [0, 1, case as usize, STATE_LENGTH - 1, STATE_LENGTH, STATE_LENGTH + 1, STATE_LENGTH + 3] {
+                for packet in [0, 1, 187, 188, 189] {
+                    for output in [0, 543, 1632] {
+                        for answer in [0, 1, 2] {
+                            let (packet, output, answer) = (r.bytes(packet), r.bytes(output), r.bytes(answer));
+                            s.send(r, &long[..length], &packet, &output, &answer);
+                        }
+                    }
+                }
+                s.fresh(r, length, case as u8 % 8);
+            }
+        }
+    });
+    if s.only_kind.is_none() {
+        println!("states of a sender: {accepted} stood for one, {refused} for none");
+        assert!(accepted > 20_000 && refused > 20_000);
+    }
+}
+
+/// The length of a receiver's state, where its bytes begin that are held, and where its counts begin.
+const RECEIVER: usize = receiver_state::expected::STATE_LENGTH;
+const PENDING: usize = 2322;
+const HELD: usize = 2730;
+const COUNTS: usize = 1136;
+/// A report has at most this many bytes.
+const REPORT: usize = 310;
+
+impl Score {
+    fn receiver_fresh(&mut self, r: &mut Xorshift, length: usize) -> (u8, Vec<u8>) {
+        let before = r.bytes(length);
+        let mut a = before.clone();
+        let want = receiver_state::expected::fresh(&mut a);
+        let lent = self.lent[0].lend(&before, r.below(2) == 0);
+        let got = receiver_state::library::fresh(lent);
+        let lent = lent.to_vec();
+        self.same(&format!("fresh, state of {length}"), (want as u64, &[&a]), (got as u64, &[&lent]));
+        (got, lent)
+    }
+
+    /// Feeds a piece on both sides: the answer where a byte was lent for it, the state, and the packets that were written.
+    fn feed(&mut self, r: &mut Xorshift, state: &[u8], piece: &[u8], marks: &[u8], output: &[u8], answer: &[u8]) -> (Option<u8>, Vec<u8>, Vec<u8>) {
+        let (mut a, mut b, mut c) = (state.to_vec(), output.to_vec(), answer.to_vec());
+        let want = receiver_state::expected::feed(&mut a, piece, marks, &mut b, &mut c);
+        let at_end = r.below(2) == 0;
+        let [own, given, room, told, marked] = &mut self.lent;
+        let (own, given, room, told) = (own.lend(state, at_end), given.lend(piece, at_end), room.lend(output, at_end), told.lend(answer, at_end));
+        let got = receiver_state::library::feed(own, given, marked.lend(marks, at_end), room, told);
+        let (own, room, told) = (own.to_vec(), room.to_vec(), told.to_vec());
+        let inputs = format!(
+            "feed, state of {}, piece of {}, marks of {}, output of {}, answer of {}",
+            state.len(),
+            piece.len(),
+            marks.len(),
+            output.len(),
+            answer.len()
+        );
+        self.same(&inputs, (want, &[&a, &b, &c]), (got, &[&own, &room, &told]));
+        (told.first().copied(), own, room[..got as usize].to_vec())
+    }
+
+    fn report(&mut self, r: &mut Xorshift, state: &[u8], output: &[u8], answer: &[u8]) -> (Option<u8>, Vec<u8>) {
+        let (mut b, mut c) = (output.to_vec(), answer.to_vec());
+        let want = receiver_state::expected::report(state, &mut b, &mut c);
+        let at_end = r.below(2) == 0;
+        let [own, _, room, told, _] = &mut self.lent;
+        let (own, room, told) = (own.lend(state, at_end), room.lend(output, at_end), told.lend(answer, at_end));
+        let got = receiver_state::library::report(own, room, told);
+        let (own, room, told) = (own.to_vec(), room.to_vec(), told.to_vec());
+        let inputs = format!("report, state of {}, output of {}, answer of {}", state.len(), output.len(), answer.len());
+        self.same(&inputs, (want, &[state, &b, &c]), (got, &[&own, &room, &told]));
+        (told.first().copied(), room[..got as usize].to_vec())
+    }
+}
+
+/// A receiver's state in range, which a pass may reach or not.
+fn receiver_in_range(r: &mut Xorshift) -> Vec<u8> {
+    let mut state = block_receiver(r);
+    let held = [0, 1, 203, r.below(204)][r.below(4)];
+    let one_in = 1 + r.below(40);
+    let mut pending = r.bytes(held);
+    pending.resize(204, 0);
+    let mut marks: Vec<u8> = (0..held).map(|_| (r.below(one_in) == 0) as u8).collect();
+    marks.resize(204, 0);
+    state.extend(pending);
+    state.extend(marks);
+    state.push(held as u8);
+    assert!(receiver_state::expected::stands(&state));
+    state
+}
+
+/// Marks for so many bytes: none, or some.
+fn some_marks(r: &mut Xorshift, length: usize) -> Vec<u8> {
+    let one_in = [0, 60][r.below(2)];
+    (0..length).map(|_| (one_in > 0 && r.below(one_in) == 0) as u8).collect()
+}
+
+fn receiver_kinds(s: &mut Score) {
+    // Beside the reference after every piece, with the state moved to other memory between every two; at the end beside the library's own run.
+    s.kind("a receiver's pieces", 300, |s, r, case| {
+        let blocks = if case < 30 { case as usize } else { 12 + r.below(50) };
+        let mut all = if blocks == 0 { Vec::new() } else { stream(r, blocks) };
+        let rest = r.below(204);
+        all.extend(r.bytes(rest));
+        let marks = some_marks(r, all.len());
+        let longest = [1, 20, 204, 500, 1500][r.below(5)].max(all.len() / 60);
+        let (answer, mut state) = s.receiver_fresh(r, RECEIVER);
+        assert_eq!(answer, 0);
+        let (mut at, mut given) = (0, Vec::new());
+        while at < all.len() {
+            let end = (at + r.below(longest + 1)).min(all.len());
+            let (piece, own) = (&all[at..end], &marks[at..end]);
+            let room = PACKET_LENGTH * ((state[HELD] as usize + piece.len()) / BLOCK_LENGTH);
+            let more = r.below(3);
+            let output = r.bytes(room + more);
+            let (answer, after, packets) = s.feed(r, &state, piece, own, &output, &[0xA5]);
+            assert_eq!(answer, Some(0));
+            given.extend(packets);
+            // A call that is refused in between changes nothing.
+            if room > 0 {
+                assert_eq!(s.feed(r, &state, piece, own, &output[..room - 1], &[0xA5]).0, Some(4));
+            }
+            if r.below(8) == 0 && !piece.is_empty() {
+                assert_eq!(s.feed(r, &state, piece, &own[1..], &output, &[0xA5]).0, Some(20));
+                let mut wrong = own.to_vec();
+                wrong[r.below(piece.len())] = 2;
+                assert_eq!(s.feed(r, &state, piece, &wrong, &output, &[0xA5]).0, Some(20));
+            }
+            state = after;
+            at = end;
+        }
+        let (answer, text) = s.report(r, &state, &[0; REPORT], &[0xA5]);
+        assert_eq!(answer, Some(0));
+        s.report(r, &state, &vec![0; text.len()], &[0xA5]);
+        assert_eq!(s.report(r, &state, &vec![0; text.len() - 1], &[0xA5]).0, Some(4));
+        assert!(text.ends_with(format!("rest={}\n", all.len() % BLOCK_LENGTH).as_bytes()));
+        let (mut output, mut counts, mut told) = (vec![0; PACKET_LENGTH * (all.len() / BLOCK_LENGTH)], vec![0; 64], [0xA5]);
+        let written = exports::library::receive_run_marked(&all, &marks, &mut output, &mut counts, &mut told) as usize;
+        s.same("the library's run", (told[0] as u64, &[&output[..written], &counts]), (0, &[&given, &state[COUNTS..COUNTS + 64]]));
+    });
+    let (mut accepted, mut refused) = (0u64, 0u64);
+    let mut tell = |answer: Option<u8>| if answer == Some(5) { refused += 1 } else { accepted += 1 };
+    s.kind("a receiver's random states", 60_000, |s, r, case| {
+        // All bytes at random; only those that are held, with their marks; all in range; all but one byte.
+        let mut state = receiver_in_range(r);
+        match case % 4 {
+            0 => state = r.bytes(RECEIVER),
+            1 => {
+                let few = r.bytes(RECEIVER - PENDING);
+                state[PENDING..].copy_from_slice(&few);
+            }
+            2 => (),
+            _ => {
+                let low = [0, PENDING, HELD][r.below(3)];
+                state[low + r.below(RECEIVER - low)] = r.byte();
+            }
+        }
+        let length = r.below(500);
+        let (piece, marks) = (r.bytes(length), some_marks(r, length));
+        let room = r.below(600);
+        let output = r.bytes(room);
+        tell(s.feed(r, &state, &piece, &marks, &output, &[0xA5]).0);
+        s.report(r, &state, &output, &[0xA5]);
+    });
+    // Every bit behind those of the receiver of blocks, and some of those.
+    const BITS: usize = 8 * (RECEIVER - PENDING);
+    s.kind("single bits of a receiver's states", 30, |s, r, _| {
+        let state = receiver_in_range(r);
+        let length = r.below(300);
+        let (piece, marks) = (r.bytes(length), some_marks(r, length));
+        for bit in 0..BITS + 300 {
+            let bit = if bit < BITS { 8 * PENDING + bit } else { r.below(8 * PENDING) };
+            let mut other = state.clone();
+            other[bit / 8] ^= 1 << (bit % 8);
+            tell(s.feed(r, &other, &piece, &marks, &[0; 2 * PACKET_LENGTH], &[0xA5]).0);
+            s.report(r, &other, &[0; REPORT], &[0xA5]);
+        }
+    });
+    // Each number of bytes that are held, and more than there can be.
+    s.kind("every number of bytes held", 256, |s, r, held| {
+        let mut state = receiver_in_range(r);
+        state[HELD] = held as u8;
+        for clear in [false, true] {
+            if clear {
+                state[PENDING..HELD].fill(0);
+            }
+            for length in [0, 1, 203, 204, 205, 500] {
+                let (piece, marks) = (r.bytes(length), some_marks(r, length));
+                s.feed(r, &state, &piece, &marks, &[0; 4 * PACKET_LENGTH], &[0xA5]);
+            }
+            s.report(r, &state, &[0; REPORT], &[0xA5]);
+        }
+    });
+    // The last blocks that can be counted, and bytes after them.
+    s.kind("a receiver's full counts", 200, |s, r, case| {
+        let mut state = receiver_in_range(r);
+        let taken = MOST_BLOCKS - case % 3;
+        for (k, count) in [taken, 11, 0, taken - 11, 0, 0, 0, 0].iter().enumerate() {
+            state[COUNTS + 8 * k..COUNTS + 8 * k + 8].copy_from_slice(&count.to_le_bytes());
+        }
+        let room = 204 * (case % 3) as usize;
+        let left = room.saturating_sub(state[HELD] as usize);
+        for length in [0, 1, left, left + 1, left + 204] {
+            let (piece, marks) = (r.bytes(length), some_marks(r, length));
+            let answer = s.feed(r, &state, &piece, &marks, &[0; 4 * PACKET_LENGTH], &[0xA5]).0;
+            assert_eq!(answer, Some(if length > left { 7 } else { 0 }));
+        }
+    });
+    s.kind("a receiver's refusals", 64, |s, r, case| {
+        for state in [receiver_in_range(r), r.bytes(RECEIVER)] {
+            let mut long = state.clone();
+            long.extend(r.bytes(3));
+            for length in [0, 1, case as usize, PENDING, RECEIVER - 1, RECEIVER, RECEIVER + 1, RECEIVER + 3] {
+                for piece in [0, 1, 204, 409] {
+                    for marks in [piece, piece + 1] {
+                        for output in [0, 187, 600] {
+                            for answer in [0, 1, 2] {
+                                let (piece, output, answer) = (r.bytes(piece), r.bytes(output), r.bytes(answer));
+                                let mut marks = some_marks(r, marks);
+                                if r.below(4) == 0 {
+                                    marks.iter_mut().for_each(|mark| *mark *= 2);
+                                }
+                                s.feed(r, &long[..length], &piece, &marks, &output, &answer);
+                                s.report(r, &long[..length], &output, &answer);
+                            }
+                        }
+                    }
+                }
+                s.receiver_fresh(r, length);
+            }
+        }
+    });
+    if s.only_kind.is_none() {
+        println!("states of a receiver: {accepted} stood for one, {refused} for none");
+        assert!(accepted > 20_000 && refused > 20_000);
+    }
+}
+
+fn main() {
+    let mut arguments = std::env::args().skip(1);
+    let only_kind = arguments.next();
+    let only_case = arguments.next().map(|case| case.parse().expect("a case"));
+    let lent = [RECEIVER + 3, 1600, 1700, 2, 1600].map(Guarded::new);
+    let mut s = Score { only_kind, only_case, kind: "", case: 0, passed: 0, failed: 0, passed_all: 0, failed_all: 0, lent };
+    sender_kinds(&mut s);
+    receiver_kinds(&mut s);
+    println!("comparisons of states: {} passed, {} failed", s.passed_all, s.failed_all);
+    if s.failed_all > 0 {
+        std::process::exit(1);
+    }
+}
