@@ -10,7 +10,7 @@ import numpy as np
 from gnuradio import blocks, dtv, gr
 
 BLOCKS = 9600
-TURNS = 7
+TURNS = 15
 OUTER = (2, 8, 0x11D, 255, 239, 8, 51, 8)
 stages = ctypes.CDLL(sys.argv[1])
 stages.kernel_inner_code.restype = ctypes.c_uint64

@@ -20,7 +20,7 @@ use masks::MASKS_5;
 use masks::MASKS_6;
 use masks::MASKS_7;
 
-// A table that is that of the masks of a place of the group, which each call shows.
+// The masks of a place of the group, as they are given: each call shows, by computation, that its table is that of the place.
 fn table(place: u8, masks: [u8; 188]) -> [u8; 188]
     requires { ⌜ areMasks place masks ≡ true ⌝ }
     ensures { λ r. ⌜ Table place r ⌝ }
@@ -31,7 +31,7 @@ fn table(place: u8, masks: [u8; 188]) -> [u8; 188]
 // Where sixteen bytes begin, the last ones with four that are there already.
 fn start(k: usize) -> usize
     requires { ⌜ k < 12 ⌝ }
-    ensures { λ r. ⌜ (r ≤ 16 * k) × (16 * k ≤ r + 4) × (r + 16 ≤ 188) × (k < 11 → r ≡ 16 * k) × (11 ≤ k → r ≡ 172) ⌝ }
+    ensures { λ r. ⌜ (r ≤ 16 * k) × (r + 16 ≤ 188) × (k < 11 → r ≡ 16 * k) × (11 ≤ k → r ≡ 172) ⌝ }
 {
     if k < 11 {
         return 16 * k;
@@ -62,7 +62,8 @@ fn xor_sixteen(
 
 // The packet as it is sent at one place of its group, sixteen bytes at a time.
 // A function for each place, with each call at a number that is written out: so the compiler sees the masks, and they become constants of its instructions.
-// In a loop, or where one function serves several places, it lays out 188 masks in memory at each call. Each has the same needs, which the prover closes by itself.
+// In a loop, or where one function serves several places, it lays out 188 masks in memory at each call. Each has the same needs,
+// which the prover closes by itself, with no proof beside it. Twelve sixteens are 192, and with them all 188 bytes are there.
 fn sent_0(packet: &[u8]) -> [u8; 188]
     requires { ⌜ length (now packet) ≡ 188 ⌝ }
     ensures { λ r. ⌜ take 192 r ≡ take 192 (randomized 0 (now (packet .entry))) ⌝ }

@@ -61,7 +61,7 @@ loop-again c =
     let a = t .args in
     let l = c .before .before .loop in
     let at = c .before .before .before .start .result in
-    (search needs, search needs, begun-more (a .place) (a .packet .now) (a .t3) (t .good .1 .1 .0 .1 .0 .1) at (l .j) (l .r) (l .inv .1) (omega (arith, c .before .before .before .start .ensures .2)) (l .inv .2))
+    (search needs, search needs, begun-more (a .place) (a .packet .now) (a .t3) (t .good .1 .1 .0 .1 .0 .1) at (l .j) (l .r) (l .inv .1) (omega (arith, c .before .before .before .start .ensures .1)) (l .inv .2))
 
 returns : tie.Need-returns Inv-loop μ-loop
 returns c =
@@ -70,7 +70,7 @@ returns c =
     let l = c .before .loop in
     let e = c .before .before .start .ensures in
     let n : l .j ≡ 16 = omega (arith, l .inv .0) in
-    begun-rounded (a .place) (a .packet .now) (a .t3) (t .good .1 .1 .0 .1 .0 .1) (a .k) (c .before .before .start .result) (l .r) (l .inv .1) (e .3) (e .4)
+    begun-rounded (a .place) (a .packet .now) (a .t3) (t .good .1 .1 .0 .1 .0 .1) (a .k) (c .before .before .start .result) (l .r) (l .inv .1) (e .2) (e .3)
     (subst (λ (i : ℕ). Begun (a .place) (a .packet .now) (a .t3) (c .before .before .start .result + i) (l .r)) n (l .inv .2))
 
 pub xor-sixteen-spec : {M : Type 1} → statement M
