@@ -4,4 +4,5 @@ pub mod Polynomial
 pub mod Homomorphism
 pub mod Syndromes
 pub mod Terms
+pub mod Recurrence
 pub mod Elimination

@@ -253,42 +253,23 @@ module _ (K : Field) where
 
   -- ---- the quotient by one root of a product
 
-  divided-value : (u v : F) → u ≡ 𝟘 → v ≡ v + u
-  divided-value u v h = simp (ring, h)
+  quotient-last : (c a : F) → a + c * 𝟘 ≡ a
+  quotient-last c a = simp ring
 
-  -- where c is a root of p, the quotient by x + c vanishes at the other roots
-  pub quotient-zero : (c : F) (p : List F) (x : F) → eval (ops K) p c ≡ 𝟘 → (x ≡ c → ⊥) → eval (ops K) p x ≡ 𝟘 → eval (ops K) (quotient c p) x ≡ 𝟘
-  quotient-zero c p x h n e =
-      cancel K (x + c) (eval (ops K) (quotient c p) x) (λ z. n (eq-of-add K x c z))
-      (divided-value (eval (ops K) p c) ((x + c) * eval (ops K) (quotient c p) x) h ∙ sym (division c p x) ∙ e)
+  quotient-same : (c a u : F) → a + (c + c) * u ≡ a
+  quotient-same c a u = simp ring
 
-  timesLinear-zero : (c d : F) (p : List F) → Zero (timesLinearFrom c d p) → (d ≡ 𝟘) × Zero p
-  unfolding timesLinearFrom
-  timesLinear-zero c d [] h = (h .0, tt)
-  timesLinear-zero c d (a ∷ p) h =
-      let t = timesLinear-zero c a p (h .1) in
-      (head-zero c d a (t .0) (h .0), (t .0, t .1))
-    where
-      head-zero : (c d a : F) → a ≡ 𝟘 → d + c * a ≡ 𝟘 → d ≡ 𝟘
-      head-zero c d a z e = sym (ap (λ y. d + c * y) z ∙ ap (λ y. d + y) (mul-zero K c) ∙ add-zero K d) ∙ e
+  horner-timesLinearFrom : (c a : F) (p : List F) → horner c (timesLinearFrom c a p) ≡ a ∷ p
+  unfolding timesLinearFrom horner eval
+  horner-timesLinearFrom c a [] = ap (λ u. u ∷ []) (quotient-last c a)
+  horner-timesLinearFrom c a (b ∷ p) =
+      ap₂ _∷_ (eval-timesLinearFrom c a (b ∷ p) c ∙ quotient-same c a (eval (ops K) (b ∷ p) c)) (horner-timesLinearFrom c b p)
 
-  factor-sum : (a u v : F) → a * (u + v) ≡ a * u + a * v
-  factor-sum a u v = simp ring
-
-  -- p has the values of (x + c) r and few coefficients: then its quotient by x + c has the value of r at c
-  pub quotient-value : (xs : List F) (c : F) (p r : List F) → Distinct xs → length (timesLinear c (plus (ops K) (quotient c p) r)) ≤ length xs → eval (ops K) p c ≡ 𝟘
-      → ((x : F) → eval (ops K) p x ≡ (x + c) * eval (ops K) r x) → eval (ops K) (quotient c p) c ≡ eval (ops K) r c
-  quotient-value xs c p r d l z h =
-      eq-of-add K _ _ (sym (eval-plus (quotient c p) r c) ∙ eval-Zero (plus (ops K) (quotient c p) r) c (timesLinear-zero c 𝟘 (plus (ops K) (quotient c p) r) none .1))
-    where
-      vanishes : (x : F) → eval (ops K) (timesLinear c (plus (ops K) (quotient c p) r)) x ≡ 𝟘
-      vanishes x =
-          eval-timesLinear c (plus (ops K) (quotient c p) r) x ∙ ap (λ y. (x + c) * y) (eval-plus (quotient c p) r x)
-          ∙ factor-sum (x + c) (eval (ops K) (quotient c p) x) (eval (ops K) r x)
-          ∙ add-eq-zero K _ _ (divided-value (eval (ops K) p c) ((x + c) * eval (ops K) (quotient c p) x) z ∙ sym (division c p x) ∙ h x)
-
-      none : Zero (timesLinear c (plus (ops K) (quotient c p) r))
-      none = root-bound xs (timesLinear c (plus (ops K) (quotient c p) r)) l d (All-each (λ x. eval (ops K) (timesLinear c (plus (ops K) (quotient c p) r)) x ≡ 𝟘) vanishes xs)
+  -- the quotient of (x + c) p by x + c is p
+  pub quotient-timesLinear : (c : F) (p : List F) → quotient c (timesLinear c p) ≡ p
+  unfolding timesLinearFrom quotient horner
+  quotient-timesLinear c [] = refl
+  quotient-timesLinear c (a ∷ p) = horner-timesLinearFrom c a p
 
   -- ---- a polynomial with known roots is a product
 

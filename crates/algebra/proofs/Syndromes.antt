@@ -43,7 +43,7 @@ module _ (K : Field) where
   dot-add-step : (a u v s t : F) → a * (u + v) + (s + t) ≡ (a * u + s) + (a * v + t)
   dot-add-step a u v s t = simp ring
 
-  dot-add : (p : List F) (f g : ℕ → F) → dot p (λ i. f i + g i) ≡ dot p f + dot p g
+  pub dot-add : (p : List F) (f g : ℕ → F) → dot p (λ i. f i + g i) ≡ dot p f + dot p g
   unfolding dot
   dot-add [] f g = sym (zero-add K 𝟘)
   dot-add (a ∷ p) f g = ap (λ y. a * (f zero + g zero) + y) (dot-add p (λ i. f (suc i)) (λ i. g (suc i))) ∙ dot-add-step a (f zero) (g zero) _ _
@@ -70,7 +70,7 @@ module _ (K : Field) where
   dot-power-move : (y x u : F) → y * (x * u) ≡ (y * x) * u
   dot-power-move y x u = simp ring
 
-  dot-power : (p : List F) (y x : F) → dot p (λ i. y * power (ops K) x i) ≡ y * eval (ops K) p x
+  pub dot-power : (p : List F) (y x : F) → dot p (λ i. y * power (ops K) x i) ≡ y * eval (ops K) p x
   unfolding dot eval power
   dot-power [] y x = dot-power-nil y
   dot-power (a ∷ p) y x = ap (λ f. a * (y * 𝟙) + dot p f) (fun-ext (λ i. dot-power-move y x (power (ops K) x i))) ∙ ap (λ u. a * (y * 𝟙) + u) (dot-power p (y * x) x) ∙ dot-power-step a y x (eval (ops K) p x)
@@ -96,7 +96,7 @@ module _ (K : Field) where
   abbrev pub AllZero : List Term → Type 0
   AllZero E = All (λ e. e .1 ≡ 𝟘) E
 
-  vanish : (E : List Term) (p : List F) → All (λ x. eval (ops K) p x ≡ 𝟘) (places E) → All (λ e. e .1 * eval (ops K) p (e .0) ≡ 𝟘) E
+  pub vanish : (E : List Term) (p : List F) → All (λ x. eval (ops K) p x ≡ 𝟘) (places E) → All (λ e. e .1 * eval (ops K) p (e .0) ≡ 𝟘) E
   vanish [] p h = tt
   vanish (e ∷ E) p h = (ap (λ u. e .1 * u) (h .0) ∙ mul-zero K (e .1), vanish E p (h .1))
 
@@ -235,7 +235,7 @@ module _ (K : Field) where
   paired-shifted q (e ∷ E) j = ap (λ u. u + paired (shifted j E) q) (swap-step (e .1) _ _) ∙ ap (λ u. (e .1 * eval (ops K) q (e .0)) * power (ops K) (e .0) j + u) (paired-shifted q E j)
 
   -- Σ_i q_i S_(j + i) = Σ Y q(X) X^j
-  dot-shifted : (q : List F) (E : List Term) (j : ℕ) → dot q (λ i. syndrome E (j +ℕ i)) ≡ syndrome (weighted q E) j
+  pub dot-shifted : (q : List F) (E : List Term) (j : ℕ) → dot q (λ i. syndrome E (j +ℕ i)) ≡ syndrome (weighted q E) j
   dot-shifted q E j = ap (dot q) (fun-ext (λ i. syndrome-shifted E j i)) ∙ dot-syndrome q (shifted j E) ∙ paired-shifted q E j
 
   weighted-none : (q : List F) (E : List Term) → AllZero (weighted q E) → All (λ e. e .1 * eval (ops K) q (e .0) ≡ 𝟘) E

@@ -13,15 +13,15 @@ use lib.Seq.{drop-cons, drop-length, length-take-le, getD-take, take-suc, take-t
 use Rattle.common.proofs.Lists.{getD-map-in, zeros-at}
 use Rattle.algebra.specs.Field.{Field, ops}
 use Rattle.algebra.specs.Polynomial.{eval, plus, scale}
-use Rattle.algebra.proofs.Ring.{ring}
-use Rattle.algebra.proofs.Polynomial.{eval-plus, eval-scale, fromRoots, eval-timesLinear, quotient-at, length-quotient}
+use Rattle.algebra.proofs.Ring.{ring, mul-div}
+use Rattle.algebra.proofs.Polynomial.{eval-plus, eval-scale, fromRoots, eval-timesLinear, horner, quotient, quotient-at, length-quotient}
 use Rattle.algebra.proofs.Syndromes.{dot, dot-ext}
 use Rattle.galois.specs.Field256.{numbers, mul, inv, scaled}
 use Rattle.galois.proofs.Laws.{mul-lt, mul-zero-right, mul-comm}
 use Rattle.galois.proofs.Instance.{bytes, byte, byte-zero, byte-one, byte-add, byte-mul, byte-inv}
 use Rattle.galois.specs.Lanes.{productsOf, hornerStep}
 use Rattle.galois.proofs.Elements.{elements}
-use Rattle.error_correction.specs.Correction.{monic, RootProduct, quotientBy, numeratorAt, denominatorAt, FractionsAt, errorValue}
+use Rattle.error_correction.specs.Correction.{monic, RootProduct, quotientBy, numeratorAt, denominatorAt, FractionsAt, errorValue, ErrorValues}
 use Rattle.galois.proofs.Words.{elements-plus, elements-scale, length-sum, sum-at}
 use Rattle.galois.proofs.LanePowers.{length-advanced, advanced-at, eval-from}
 use Rattle.galois.proofs.Words.{length-products, products-at}
@@ -29,12 +29,21 @@ use Rattle.galois.proofs.Words.{length-products, products-at}
 -- ---- identities
 
 module _ (K : Field) where
-  open Field K using (F, add as _⊕_, mul as _⊗_, 𝟘, 𝟙)
+  open Field K using (F, add as _⊕_, mul as _⊗_, 𝟘, 𝟙, inv)
 
   infixl 65 _⊕_
   infixl 70 _⊗_
   linear-identity : (c e y : F) → c ⊗ e ⊕ (𝟘 ⊕ y ⊗ e) ≡ (y ⊕ c) ⊗ e
   linear-identity c e y = simp ring
+
+  alone-identity : (o y s : F) → o ≡ 𝟙 → ((o ⊕ y ⊗ 𝟘) ⊗ s ⊕ 𝟘) ⊗ inv ((o ⊕ y ⊗ 𝟘) ⊕ y ⊗ 𝟘) ≡ s
+  alone-identity o y s e = ap₂ (λ u v. u ⊗ inv v) numerator denominator ∙ mul-div K s 𝟙 (K .one·ne·zero)
+    where
+      numerator : (o ⊕ y ⊗ 𝟘) ⊗ s ⊕ 𝟘 ≡ s ⊗ 𝟙
+      numerator = rw e (simp ring)
+
+      denominator : (o ⊕ y ⊗ 𝟘) ⊕ y ⊗ 𝟘 ≡ 𝟙
+      denominator = rw e (simp ring)
 
   next-identity : (a y b : F) → a ⊗ y ⊕ b ≡ b ⊕ y ⊗ a
   next-identity a y b = simp ring
@@ -409,3 +418,29 @@ module _ (p s places u v w r : List ℕ) (f : FractionsAt p s places u v) (e : w
   value-of l h =
       ap byte (quotient-lane l h) ∙ byte-mul (getD u l 0) (inv (getD v l 0))
       ∙ ap₂ (bytes .mul) (f .numerator l h) (byte-inv (getD v l 0) ∙ ap (bytes .inv) (f .denominator l h))
+
+-- ---- one error alone
+
+-- its value is the first syndrome
+alone-at : (p s : List ℕ) (y : ℕ) → 0 < length p → byte (getD s 0 0) ≡ errorValue (monic 1 p) s y
+unfolding errorValue quotient horner dot eval
+alone-at [] s y h = absurd (omega arith)
+alone-at (a ∷ p) s y h = sym (alone-identity bytes (byte 1) (byte y) (byte (getD s 0 0)) byte-one)
+
+pub value-alone : (p s places : List ℕ) (count : ℕ) → length p ≡ 16 → getD s 0 0 < 256 → count ≡ 1 → ErrorValues p s places count (getD s 0 0 ∷ replicate 15 0)
+value-alone p s places count n b e =
+    record {
+      own = λ l h. first l (omega arith) ∙ alone-at p s (getD places l 0) (omega arith) ∙ ap (λ (k : ℕ). errorValue (monic k p) s (getD places l 0)) (sym e);
+      small = λ l h. subst (λ (k : ℕ). getD {A = ℕ} (getD s 0 0 ∷ replicate 15 0) k 0 < 256) (nothing l (omega arith)) b;
+      rest = λ l h. rest l (omega arith);
+    }
+  where
+    nothing : (l : ℕ) → l < 1 → 0 ≡ l
+    nothing l h = omega arith
+
+    first : (l : ℕ) → l < 1 → byte (getD {A = ℕ} (getD s 0 0 ∷ replicate 15 0) l 0) ≡ byte (getD s 0 0)
+    first l h = ap (λ (k : ℕ). byte (getD {A = ℕ} (getD s 0 0 ∷ replicate 15 0) k 0)) (sym (nothing l h))
+
+    rest : (l : ℕ) → 1 ≤ l → getD {A = ℕ} (getD s 0 0 ∷ replicate 15 0) l 0 ≡ 0
+    rest zero h = absurd (omega arith)
+    rest (suc l) h = zeros-at 15 l

@@ -1,3 +1,5 @@
 pub mod RootSearch
-mod ErrorTerms
+pub mod Zeros
+pub mod RootCount
+mod CorrectedBlock
 mod ErrorValues

@@ -242,6 +242,10 @@ module _ (degrees places : List ℕ) (count : ℕ) (v x : List ℕ) (i : ℕ) (d
 
 -- ---- the loop over all places
 
+empty : (l : List ℕ) → length l ≡ 0 → l ≡ []
+empty [] h = refl
+empty (a ∷ l) h = absurd (omega arith)
+
 -- the roots among the first i degrees are listed, and x has the next places
 pub record Searched (u q degrees places : List ℕ) (count i : ℕ) : Type 0 where
   pub number : count ≡ length (zerosFrom 0 (take i (valuesOf u q)))
@@ -288,6 +292,22 @@ module _ (u q degrees places : List ℕ) (count i : ℕ) (s : Searched u q degre
         placed = s .placed ∙ ap (λ (l : List ℕ). map (pow 2) (zerosFrom 0 l)) e;
       }
 
+  -- as many as there can be: the rest has none
+  pub searched-stop : length (rootsOf u q) ≤ count → FoundRoots u q degrees places count
+  searched-stop h = record { number = s .number ∙ ap length e; listed = s .listed ∙ e; placed = s .placed ∙ ap (map (pow 2)) e }
+    where
+      rest : List ℕ
+      rest = zerosFrom (0 + length (take i (valuesOf u q))) (drop i (valuesOf u q))
+
+      whole : rootsOf u q ≡ zerosFrom 0 (take i (valuesOf u q)) ++ rest
+      whole = ap (zerosFrom 0) (sym (take-append-drop i (valuesOf u q))) ∙ zeros-append 0 (take i (valuesOf u q)) (drop i (valuesOf u q))
+
+      none : rest ≡ []
+      none = empty rest (omega (arith, s .number, ap length whole, length-append (zerosFrom 0 (take i (valuesOf u q))) rest))
+
+      e : zerosFrom 0 (take i (valuesOf u q)) ≡ rootsOf u q
+      e = sym (append-nil (zerosFrom 0 (take i (valuesOf u q)))) ∙ ap (λ (l : List ℕ). zerosFrom 0 (take i (valuesOf u q)) ++ l) (sym none) ∙ sym whole
+
 -- where there is no root nothing is listed
 pub found-none : (u q degrees places : List ℕ) (count : ℕ) → length (rootsOf u q) ≡ count → count ≡ 0 → FoundRoots u q degrees places count
 found-none u q degrees places count n z =
@@ -296,10 +316,6 @@ found-none u q degrees places count n z =
       listed = ap (λ (k : ℕ). take k degrees) z ∙ sym (empty (rootsOf u q) (n ∙ z));
       placed = ap (λ (k : ℕ). take k places) z ∙ sym (ap (map (pow 2)) (empty (rootsOf u q) (n ∙ z)));
     }
-  where
-    empty : (l : List ℕ) → length l ≡ 0 → l ≡ []
-    empty [] h = refl
-    empty (a ∷ l) h = absurd (omega arith)
 
 -- ---- sixteen lanes none of which is zero
 

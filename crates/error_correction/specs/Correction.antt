@@ -1,7 +1,6 @@
 -- What the steps from the error locator to the corrected block give.
 -- Assumes nothing.
 use mathlib.Core.Path.{_≡_}
-use mathlib.Core.Bool.{Bool, true, false}
 use mathlib.Core.List.{List, [], _∷_, _++_, map}
 use Prim.Native.Nat.{ℕ, _+_, _-_, _≤_, _<_, Fin}
 use lib.Bits.{bitXor}
@@ -12,7 +11,7 @@ use Rattle.common.specs.Lists.{listOf}
 use Rattle.algebra.specs.Field.{ops}
 use Rattle.algebra.specs.Polynomial.{eval}
 use Rattle.algebra.proofs.Polynomial.{quotient, fromRoots}
-use Rattle.algebra.proofs.Syndromes.{Term, dot, syndrome}
+use Rattle.algebra.proofs.Syndromes.{dot}
 use Rattle.galois.specs.Field256.{pow}
 use Rattle.galois.proofs.Instance.{bytes, byte}
 use Rattle.galois.proofs.Elements.{elements, alpha}
@@ -109,25 +108,6 @@ pub record ErrorValues (p s places : List ℕ) (count : ℕ) (e : List ℕ) : Ty
   pub own : (l : ℕ) → l < count → byte (getD e l 0) ≡ errorValue (monic count p) s (getD places l 0)
   pub small : (l : ℕ) → l < count → getD e l 0 < 256
   pub rest : (l : ℕ) → count ≤ l → getD e l 0 ≡ 0
-
--- the sum of a list in the field
-unfoldable pub sumOf : List ℕ → ℕ
-sumOf [] = 0
-sumOf (x ∷ l) = bitXor x (sumOf l)
-
--- places and values as terms
-unfoldable pub termsOf : List ℕ → List ℕ → List (Term bytes)
-termsOf [] es = []
-termsOf (x ∷ xs) [] = []
-termsOf (x ∷ xs) (e ∷ es) = (byte x, byte e) ∷ termsOf xs es
-
--- the terms have the sixteen syndromes
-pub record Explains (terms : List (Term bytes)) (s : List ℕ) : Type 0 where
-  pub each : (j : ℕ) → j < 16 → syndrome bytes terms j ≡ byte (getD s j 0)
-
-abbrev pub Explained : List ℕ → List ℕ → List ℕ → Bool → Type 0
-Explained places values s true = Explains (termsOf places values) s
-Explained places values s false = Explains (termsOf places values) s → ⊥
 
 -- a block with the errors taken away; the coefficient of x^d stands at place 203 - d
 unfoldable pub correctedBy : List ℕ → List ℕ → List ℕ → List ℕ

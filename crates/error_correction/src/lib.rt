@@ -1,4 +1,4 @@
-// Where the errors are, what they are, and whether that explains all sixteen syndromes. At an erasure, a byte that is marked, there may be one.
+// Where the errors are, and what they are. At an erasure, a byte that is marked, there may be one.
 // Inner: its functions may require what the crates above have tested. docs/ARCHITECTURE.md names the public surface.
 ghost use mathlib.Core.Path.{_≡_};
 ghost use mathlib.Core.List.{_∷_};
@@ -6,7 +6,10 @@ ghost use Prim.Native.Nat.{ℕ, _+_, _-_, _<_, _≤_};
 ghost use lib.Dec.{eqb};
 ghost use lib.ListN.{length, getD, take, drop};
 ghost use Rattle.common.specs.Choice.{indicator};
-ghost use Rattle.error_correction.specs.Correction.{EndsAt, Unmarked, ByDegree, masked, Masked, zerosFrom, NoZero, Listed, rootsOf, onePolynomial, FoundRoots, monic, RootProduct, FractionsAt, ErrorValues, sumOf, Explained, correctedBy, changedIn};
+ghost use Rattle.algebra.proofs.Polynomial.{Zero};
+ghost use Rattle.galois.proofs.Instance.{bytes};
+ghost use Rattle.galois.proofs.Elements.{elements};
+ghost use Rattle.error_correction.specs.Correction.{EndsAt, Unmarked, ByDegree, masked, Masked, zerosFrom, NoZero, Listed, rootsOf, onePolynomial, FoundRoots, monic, RootProduct, FractionsAt, ErrorValues, correctedBy, changedIn};
 
 // The degrees of the erasures and those at which the locator vanishes, in order, their places, and how many they are. The places after them are zero.
 pub struct Roots {
@@ -138,12 +141,21 @@ fn zero_lanes(v: [u8; 16]) -> u8
 }
 
 // The degrees below 204 of the erasures and those at which the locator vanishes, sixteen places at a time (Chien search); u has the marks by degree, and
-// f says how many bytes are marked. Most sixteens have no root, and are passed over.
+// f says how many bytes are marked. Most sixteens have no root, and are passed over. The search ends with as many roots as there can be, the erasures and
+// the degree of the locator.
 pub fn find_roots(u: &[u8], f: usize, q: [u8; 9]) -> Roots
-    requires { ⌜ (length (now u) ≡ 208) × (f ≡ 0 → Unmarked (now u)) × (length (rootsOf (now u) q) ≤ 16) ⌝ }
+    requires { ⌜
+        (length (now u) ≡ 208)
+        × (f ≤ 16)
+        × (f ≡ 0 → Unmarked (now u))
+        × (f ≡ length (rootsOf (now u) onePolynomial))
+        × (Zero bytes (elements q) → ⊥)
+        × (length (rootsOf (now u) q) ≤ 16) ⌝ }
     ensures { λ r. ⌜ FoundRoots (now (u .entry)) q (r .degrees) (r .places) (r .count) ⌝ }
 {
-    let end = degree(&q) + 1;
+    let d = degree(&q);
+    let end = d + 1;
+    let most = f + d;
     let degrees = [0u8; 16];
     let places = [0u8; 16];
     let mut found = Roots {
@@ -154,6 +166,9 @@ pub fn find_roots(u: &[u8], f: usize, q: [u8; 9]) -> Roots
     let mut x = galois::lanes::first_powers();
     let mut i: u8 = 0;
     while i < 208 {
+        if found.count == most {
+            return found;
+        }
         let v = with_erasures(u, f, i as usize, galois::lanes::evaluate(&q[..end], x));
         if zero_lanes(v) != 0 {
             let degrees = found.degrees;
@@ -247,53 +262,26 @@ fn value_fractions(p: [u8; 16], degree: usize, s: [u8; 16], places: [u8; 16]) ->
     }
 }
 
-// The values of the errors at the places, which are roots of p, by Forney's formula, and zeros after them.
+// The values of the errors at the places, which are roots of p, by Forney's formula, and zeros after them. That of one error alone is the first syndrome.
 pub fn error_values(p: [u8; 16], s: [u8; 16], places: [u8; 16], count: usize) -> [u8; 16]
     requires { ⌜ count ≤ 16 ⌝ }
     ensures { λ r. ⌜ ErrorValues p s places count r ⌝ }
 {
+    let mut e = [0u8; 16];
+    if count == 1 {
+        e[0] = s[0];
+        return e;
+    }
     let f = value_fractions(p, count, s, places);
     let numerators = f.numerators;
     let denominators = f.denominators;
     let values = galois::lanes::products(numerators, galois::lanes::inverses(denominators));
-    let mut e = [0u8; 16];
     let mut l: usize = 0;
     while l < count {
         e[l] = values[l];
         l += 1;
     }
     e
-}
-
-// The sum of sixteen bytes in the field.
-fn total(w: [u8; 16]) -> u8
-    ensures { λ r. ⌜ r ≡ sumOf w ⌝ }
-{
-    let mut t: u8 = 0;
-    let mut l: usize = 0;
-    while l < 16 {
-        t = t ^ w[l];
-        l += 1;
-    }
-    t
-}
-
-// Whether errors of these values at these places have the sixteen syndromes.
-pub fn explains(places: [u8; 16], values: [u8; 16], s: &[u8]) -> bool
-    requires { ⌜ length (now s) ≡ 16 ⌝ }
-    ensures { λ r. ⌜ Explained places values (now (s .entry)) r ⌝ }
-{
-    let mut w = values;
-    let mut j: usize = 0;
-    while j < 16 {
-        if total(w) != s[j] {
-            return false;
-        }
-        let next = galois::lanes::products(places, w);
-        w = next;
-        j += 1;
-    }
-    true
 }
 
 // Takes the errors away, and counts those that are not zero.

@@ -1,35 +1,43 @@
--- The masks with the sequence made a byte at a time: antt computes them many times faster than bit by bit.
+-- The masks made a byte at a time are those of the sequence made bit by bit.
 -- Assumes nothing.
-use mathlib.Core.Path.{_≡_, refl, ap}
+use mathlib.Core.Path.{_≡_, refl, sym, ap, ap₂, _∙_}
+use mathlib.Core.Bool.{true}
 use mathlib.Core.List.{List, [], _∷_}
 use Prim.Native.Nat.{ℕ, zero, suc, _+_, _*_, _%_}
+use native.Mathlib.Decide.{ℕ-discrete}
+use borrow.Author.Tests.{eq-eqb, ne-eqb}
+use lib.Dec.{eqb}
+use lib.ListN.{take, drop}
+use Rattle.common.specs.Choice.{pick}
+use Rattle.common.proofs.Choice.{false-true}
 use Rattle.randomizer.specs.Prbs.{loaded, sequence, period, enabled, masks}
-
--- Some bytes of the sequence, from the fifteen stages of the register: a is stage 1 and o is stage 15.
--- The eight bits of a byte, p first, hang only on the stages before it.
-unfoldable pub run : (count a b c d e f g h i j k l m n o : ℕ) → List ℕ
-run zero a b c d e f g h i j k l m n o = []
-run (suc count) a b c d e f g h i j k l m n o =
-    let p = (n + o) % 2 in
-    let q = (m + n) % 2 in
-    let r = (l + m) % 2 in
-    let s = (k + l) % 2 in
-    let t = (j + k) % 2 in
-    let u = (i + j) % 2 in
-    let v = (h + i) % 2 in
-    let w = (g + h) % 2 in
-    ((((((((0 * 2 + p) * 2 + q) * 2 + r) * 2 + s) * 2 + t) * 2 + u) * 2 + v) * 2 + w) ∷ run count w v u t s r q p a b c d e f g
+use Rattle.randomizer.specs.Masks.{run, unsynced, same, masksAt, areMasks, Table}
 
 sequence-run : (count a b c d e f g h i j k l m n o : ℕ)
     → sequence count (a ∷ b ∷ c ∷ d ∷ e ∷ f ∷ g ∷ h ∷ i ∷ j ∷ k ∷ l ∷ m ∷ n ∷ o ∷ []) ≡ run count a b c d e f g h i j k l m n o
-unfolding sequence run
+unfolding sequence
 sequence-run zero a b c d e f g h i j k l m n o = refl
 sequence-run (suc count) a b c d e f g h i j k l m n o = rw (sequence-run count)
 
-unfoldable pub quick : List ℕ
-unfolding run enabled
-quick = 0xFF ∷ enabled 1 (run 1503 1 0 0 1 0 1 0 1 0 0 0 0 0 0 0)
+enabled-unsynced : (n : ℕ) (l : List ℕ) → enabled n l ≡ unsynced n l
+unfolding enabled
+enabled-unsynced n [] = refl
+enabled-unsynced n (b ∷ bs) = ap (λ (l : List ℕ). pick (eqb (n % 188) 0) 0 b ∷ l) (enabled-unsynced (n + 1) bs)
 
-pub masks-quick : masks ≡ quick
-unfolding quick masks period loaded
-masks-quick = ap (λ (l : List ℕ). 0xFF ∷ enabled 1 l) (sequence-run 1503 1 0 0 1 0 1 0 1 0 0 0 0 0 0 0)
+masks-run : masks ≡ 0xFF ∷ unsynced 1 (run 1503 1 0 0 1 0 1 0 1 0 0 0 0 0 0 0)
+unfolding masks period loaded
+masks-run = ap (λ (l : List ℕ). 0xFF ∷ l) (enabled-unsynced 1 (sequence 1503 loaded) ∙ ap (unsynced 1) (sequence-run 1503 1 0 0 1 0 1 0 1 0 0 0 0 0 0 0))
+
+same-is : (xs ys : List ℕ) → same xs ys ≡ true → xs ≡ ys
+same-is [] [] h = refl
+same-is [] (y ∷ ys) h = false-true h
+same-is (x ∷ xs) [] h = false-true h
+same-is (x ∷ xs) (y ∷ ys) h = go (ℕ-discrete x y) (same-is xs ys)
+  where
+    go : Dec (x ≡ y) → (same xs ys ≡ true → xs ≡ ys) → x ∷ xs ≡ y ∷ ys
+    go (yes e) r = ap₂ _∷_ e (r (rw (eq-eqb x y e) at h))
+    go (no e) r = false-true (rw (ne-eqb x y e) at h)
+
+-- a table that the test takes is that of the place
+pub table-is : (place : ℕ) (table : List ℕ) → areMasks place table ≡ true → Table place table
+table-is place table h = record { is = same-is table (masksAt place) h ∙ ap (λ (l : List ℕ). take 188 (drop (188 * place) l)) (sym masks-run) }

@@ -1,3 +1,4 @@
 pub mod Prbs
 pub mod Packet
+pub mod Masks
 pub mod Stream

@@ -1,12 +1,11 @@
 -- What one call gives for a packet at a place of its group of eight: 0 to 7, document 01's group place.
 -- Clauses: document 01, "Randomizing" and "Answer numbers".
 -- Assumes nothing.
-use mathlib.Core.Path.{_≡_}
 use mathlib.Core.List.{List, [], _∷_, _++_, zipWith}
-use Prim.Native.Nat.{ℕ, _+_, _*_, _≤_}
+use Prim.Native.Nat.{ℕ, _*_}
 use lib.Bits.{bitXor}
 use lib.Dec.{ltb, eqb}
-use lib.ListN.{length, getD, take, drop}
+use lib.ListN.{length, getD, drop}
 use Rattle.common.specs.Choice.{pick}
 use Rattle.common.specs.Refusal.{unless, when, firstDue}
 use Rattle.randomizer.specs.Prbs.{masks}
@@ -20,14 +19,6 @@ randomized place packet = zipWith bitXor packet (drop (188 * place) masks)
 unfoldable pub derandomized : ℕ → List ℕ → List ℕ
 unfolding randomized
 derandomized place packet = 0x47 ∷ drop 1 (randomized place packet)
-
--- Sixteen bytes of the packet from a place on, each xored with its mask, are written to their place in the output.
--- That the packet is whole and the output has room for it is what the next sixteen ask.
-pub record SixteenWritten (packet masks : List ℕ) (at : ℕ) (before after : List ℕ) : Type 0 where
-  pub is : after ≡ take at before ++ take 16 (drop at (zipWith bitXor packet masks)) ++ drop (at + 16) before
-  pub same : length after ≡ length before
-  pub whole : length packet ≡ 188
-  pub room : 188 ≤ length after
 
 -- the number of the answer, by the tests in the order of document 01
 abbrev pub randomizeNumber : ℕ → List ℕ → List ℕ → ℕ

@@ -8,8 +8,9 @@ mod SparseMultiple
 mod SparseDivision
 mod DivisionInPlace
 mod Residue
-mod Zeros
+mod Erasures
 mod Completeness
+mod Values
 mod Soundness
 mod Outcome
 mod FiniteSearch

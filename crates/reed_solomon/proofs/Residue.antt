@@ -1,44 +1,57 @@
 -- The test of a residue for zero, and the syndromes; check bytes and residue as the only sixteen bytes with their values at the roots of g.
 -- Assumes nothing.
-use mathlib.Core.Path.{_≡_, sym, ap, ap₂, _∙_}
-use mathlib.Core.Bool.{true, false}
+use mathlib.Core.Path.{_≡_, refl, sym, ap, ap₂, _∙_}
+use mathlib.Core.Bool.{Bool, true, false}
 use mathlib.Core.List.{List, [], _∷_, _++_, append-nil, reverse, reverse-cons}
 use Prim.Native.Nat.{ℕ, zero, suc, _+_, _-_, _≤_, _<_, Fin}
+use native.Mathlib.Decide.{ℕ-discrete}
 use native.Mathlib.Nat.{zero-add}
 use native.Mathlib.Numerals.{add-one}
 use native.Mathlib.Omega.{arith}
 use borrow.Author.Tests.{eq-eqb, ne-eqb}
-use lib.ListN.{length, getD, take, drop, replicate, length-drop, length-reverse, drop-of-length-le, take-append-drop, List·getD-append}
-use lib.Seq.{drop-cons, getD-append-add}
+use lib.ListN.{length, getD, take, drop, replicate, length-take, length-drop, length-reverse, drop-of-length-le, take-append-drop, List·getD-append}
+use lib.Seq.{drop-cons, getD-take, getD-append-add}
 use Rattle.common.specs.Lists.{Bytes}
+use Rattle.common.proofs.Choice.{false-true}
 use Rattle.algebra.specs.Field.{ops}
 use Rattle.algebra.specs.Polynomial.{power, eval}
 use Rattle.algebra.proofs.Ring.{add-comm, zero-add as field-zero-add}
-use Rattle.galois.proofs.Instance.{bytes}
+use Rattle.galois.proofs.Instance.{bytes, byte, byte-zero, byte-inj}
 use Rattle.galois.specs.Lanes.{PowersFrom, ValuesAt}
 use Rattle.galois.proofs.Elements.{elements, alpha}
 use Rattle.galois.proofs.LanePowers.{powers-at, values-bytes}
 use Rattle.galois.proofs.Words.{length-sum, bytes-plus, bytes-drop}
+use Rattle.error_locator.specs.Locator.{Modified}
 use Rattle.reed_solomon.specs.Encode.{checkBytes}
-use Rattle.reed_solomon.specs.Steps.{residueOf, allZero, SameValues, SyndromesOf}
+use Rattle.reed_solomon.specs.Steps.{residueOf, allZero, SameValues, SyndromesOf, Recurs, Recurring}
 use Rattle.reed_solomon.proofs.Codewords.{blockSyndrome, generator-root, same-sixteen}
 use Rattle.reed_solomon.proofs.LongDivision.{high, high-append, high-plus, high-zeros, high-check, check-remainder}
 
 -- ---- the test for zero
 
-module _ (l : List ℕ) (j : ℕ) (n : length l ≡ 16) where
-  pub zero-skip : j < 16 → getD l j 0 ≡ 0 → allZero (drop j l) ≡ allZero (drop (j + 1) l)
-  zero-skip h e =
-      let b : j < length l = omega arith in
-      rw (drop-cons l j 0, add-one) (simp (eq-eqb _ _ e))
+module _ (l : List ℕ) (j : ℕ) where
+  pub zero-skip : j < length l → getD l j 0 ≡ 0 → allZero (drop j l) ≡ allZero (drop (j + 1) l)
+  zero-skip h e = rw (drop-cons l j 0, add-one) (simp (eq-eqb _ _ e))
 
-  pub zero-stop : j < 16 → (getD l j 0 ≡ 0 → ⊥) → allZero (drop j l) ≡ false
-  zero-stop h e =
-      let b : j < length l = omega arith in
-      rw (drop-cons l j 0) (simp (ne-eqb _ _ e))
+  pub zero-stop : j < length l → (getD l j 0 ≡ 0 → ⊥) → allZero (drop j l) ≡ false
+  zero-stop h e = rw (drop-cons l j 0) (simp (ne-eqb _ _ e))
 
-  pub zero-end : 16 ≤ j → allZero (drop j l) ≡ true
-  zero-end h = ap allZero (drop-of-length-le l {i = j} (omega arith))
+  pub zero-end : length l ≤ j → allZero (drop j l) ≡ true
+  zero-end h = ap allZero (drop-of-length-le l {i = j} h)
+
+-- the test tells of each byte
+pub zero-each : (l : List ℕ) → allZero l ≡ true → (j : ℕ) → getD l j 0 ≡ 0
+zero-each [] h j = refl
+zero-each (x ∷ l) h j = go (ℕ-discrete x 0) j (zero-each l)
+  where
+    go : Dec (x ≡ 0) → (j : ℕ) → (allZero l ≡ true → (k : ℕ) → getD l k 0 ≡ 0) → getD (x ∷ l) j 0 ≡ 0
+    go (yes e) zero r = e
+    go (yes e) (suc k) r = r (rw (eq-eqb x 0 e) at h) k
+    go (no e) k r = false-true (rw (ne-eqb x 0 e) at h)
+
+pub zero-of : (l : List ℕ) → ((j : ℕ) → j < length l → getD l j 0 ≡ 0) → allZero l ≡ true
+zero-of [] h = refl
+zero-of (x ∷ l) h = rw (eq-eqb x 0 (h 0 (omega arith))) (zero-of l (λ j b. h (suc j) (omega arith)))
 
 -- ---- the syndromes
 
@@ -101,3 +114,19 @@ module _ (block : List ℕ) (n : length block ≡ 204) where
       (λ j h.
       let k : 204 - length block ≡ 0 = omega arith in
       v .each j h ∙ ap (λ (i : ℕ). high (alpha j) (block ++ replicate i 0)) k ∙ ap (high (alpha j)) (append-nil block) ∙ sym (residue-value j h))
+
+-- ---- the recurrence
+
+-- the syndromes that all the places modify are zero
+pub recurring : (s rs t : List ℕ) (n : ℕ) → length rs ≡ n → length t ≡ 16 → ((i : ℕ) → getD t i 0 < 256) → Modified s rs t → (b : Bool) → b ≡ allZero (take (16 - n) t) → Recurring s rs b
+recurring s rs t n e l small m true h =
+    record {
+      each = λ j k.
+          sym (m .each j k) ∙ ap byte (sym (getD-take (16 - n) t j 0 (omega arith)) ∙ zero-each (take (16 - n) t) (sym h) j) ∙ byte-zero;
+    }
+recurring s rs t n e l small m false h = λ r. false-true (h ∙ zero-of (take (16 - n) t) (λ j k. zero-at r j (omega (arith, length-take (16 - n) t))))
+  where
+    zero-at : Recurs s rs → (j : ℕ) → j < 16 - n → getD (take (16 - n) t) j 0 ≡ 0
+    zero-at r j k =
+        getD-take (16 - n) t j 0 k
+        ∙ byte-inj (getD t j 0) 0 (small j) (omega arith) (m .each j (omega arith) ∙ r .each j (omega arith) ∙ sym byte-zero)

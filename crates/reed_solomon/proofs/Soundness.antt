@@ -2,30 +2,29 @@
 -- Assumes nothing.
 use mathlib.Core.Path.{_≡_, refl, sym, ap, ap₂, _∙_}
 use mathlib.Core.List.{List, [], _∷_, map}
-use Prim.Native.Nat.{ℕ, zero, suc, _+_, _-_, _≤_, _<_, Fin}
+use Prim.Native.Nat.{ℕ, zero, suc, _+_, _-_, _<_, Fin}
 use Prim.{tt}
 use native.Mathlib.Nat.{not-suc-le-zero, le-of-suc-le-suc}
 use native.Mathlib.Omega.{arith}
 use lib.Bits.{bitXor, xor-lt}
-use lib.ListN.{length, getD, take, set, length-set}
+use lib.ListN.{length, getD, set, length-set}
 use lib.Seq.{getD-set-other}
 use Rattle.common.specs.Lists.{All, Bytes}
 use Rattle.algebra.specs.Field.{Field, ops}
 use Rattle.algebra.specs.Polynomial.{power}
 use Rattle.common.proofs.Lists.{All-at}
 use Rattle.algebra.proofs.Lists.{Away, Distinct}
-use Rattle.algebra.proofs.Ring.{ring, zero-mul, add-zero as field-add-zero}
-use Rattle.algebra.proofs.Syndromes.{Term, syndrome}
+use Rattle.algebra.proofs.Ring.{ring, add-zero as field-add-zero}
+use Rattle.algebra.proofs.Syndromes.{syndrome}
 use Rattle.algebra.proofs.Terms.{power-swap}
-use Rattle.galois.specs.Field256.{pow}
-use Rattle.galois.proofs.Instance.{bytes, byte, byte-zero, byte-add, byte-power}
+use Rattle.galois.proofs.Instance.{bytes, byte, byte-add}
 use Rattle.reed_solomon.specs.Code.{distance}
 use Rattle.reed_solomon.specs.Steps.{weighed}
 use Rattle.galois.proofs.Elements.{alpha}
-use Rattle.error_correction.specs.Correction.{termsOf, correctedBy}
+use Rattle.error_correction.specs.Correction.{correctedBy}
 use Rattle.reed_solomon.proofs.Distance.{distance-none}
 use Rattle.reed_solomon.proofs.LongDivision.{high, high-cons}
-use Rattle.reed_solomon.proofs.Completeness.{degreeTerms}
+use Rattle.reed_solomon.proofs.Values.{degreeTerms}
 
 -- ---- identities
 
@@ -154,29 +153,7 @@ module _ (d : ℕ → ℕ → ℕ) (none : (x : ℕ) → d x x ≡ 0) (one : (x 
       → distance d a (correctedBy a ds es) ≡ weighed d es
   corrected-distance a ds es n h w m = corrected-from a a ds es n n h w (agree-self a ds) m ∙ omega (arith, distance-none d none a)
 
--- ---- sixteen lanes, of which the values from place n on are zero
-
-terms-none : (xs es : List ℕ) (j : ℕ) → ((l : ℕ) → getD es l 0 ≡ 0) → syndrome bytes (termsOf xs es) j ≡ bytes .𝟘
-unfolding termsOf syndrome
-terms-none [] es j z = refl
-terms-none (x ∷ xs) [] j z = refl
-terms-none (x ∷ xs) (e ∷ es) j z =
-    ap₂ (λ (u v : Fin 256). bytes .add (bytes .mul u (power (ops bytes) (byte x) j)) v) (ap byte (z 0) ∙ byte-zero) (terms-none xs es j (λ l. z (suc l)))
-    ∙ field-add-zero bytes (bytes .mul (bytes .𝟘) (power (ops bytes) (byte x) j)) ∙ zero-mul bytes (power (ops bytes) (byte x) j)
-
-pub terms-cut : (n : ℕ) (xs es : List ℕ) (j : ℕ) → ((l : ℕ) → n ≤ l → getD es l 0 ≡ 0) → syndrome bytes (termsOf xs es) j ≡ syndrome bytes (termsOf (take n xs) (take n es)) j
-unfolding termsOf syndrome
-terms-cut zero xs es j z = terms-none xs es j (λ l. z l (omega arith))
-terms-cut (suc n) [] es j z = refl
-terms-cut (suc n) (x ∷ xs) [] j z = refl
-terms-cut (suc n) (x ∷ xs) (e ∷ es) j z =
-    ap (λ (u : Fin 256). bytes .add (bytes .mul (byte e) (power (ops bytes) (byte x) j)) u) (terms-cut n xs es j (λ l h. z (suc l) (omega arith)))
-
-pub terms-by-degree : (ds es : List ℕ) → termsOf (map (pow 2) ds) es ≡ degreeTerms ds es
-unfolding termsOf degreeTerms
-terms-by-degree [] es = refl
-terms-by-degree (d ∷ ds) [] = refl
-terms-by-degree (d ∷ ds) (e ∷ es) = ap₂ (λ (u : Fin 256) (l : List (Term bytes)). (u, byte e) ∷ l) (byte-power 2 d) (terms-by-degree ds es)
+-- ---- degrees
 
 pub distinct-unmap : (f : ℕ → Fin 256) (l : List ℕ) → Distinct (map f l) → Distinct l
 distinct-unmap f [] h = tt

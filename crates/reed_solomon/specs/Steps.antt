@@ -7,14 +7,16 @@ use mathlib.Core.List.{List, [], _∷_}
 use Prim.Native.Nat.{ℕ, _+_, _-_, _≤_, _<_}
 use lib.Bits.{bitXor}
 use lib.Dec.{eqb}
-use lib.ListN.{getD, take, drop}
+use lib.ListN.{length, getD, take, drop}
 use Rattle.common.specs.Choice.{pick}
 use Rattle.algebra.specs.Field.{ops}
 use Rattle.algebra.specs.Polynomial.{eval, plus}
+use Rattle.algebra.proofs.Polynomial.{fromRoots}
+use Rattle.algebra.proofs.Syndromes.{dot}
 use Rattle.galois.specs.Field256.{numbers}
 use Rattle.galois.proofs.Instance.{bytes, byte}
 use Rattle.galois.specs.Lanes.{productsOf}
-use Rattle.galois.proofs.Elements.{word, alpha}
+use Rattle.galois.proofs.Elements.{word, elements, alpha}
 use Rattle.reed_solomon.specs.Encode.{checkBytes}
 
 -- ---- the division
@@ -65,6 +67,14 @@ allZero (x ∷ l) = pick (eqb x 0) (allZero l) false
 -- the values of a list, the highest coefficient first, at the sixteen roots
 pub record SyndromesOf (l s : List ℕ) : Type 0 where
   pub each : (j : ℕ) → j < 16 → byte (getD s j 0) ≡ eval (ops bytes) (word l) (alpha j)
+
+-- they obey the linear recurrence whose polynomial is the product g of x + r over the places r: Σ g_k S_(j + k) is zero
+pub record Recurs (s rs : List ℕ) : Type 0 where
+  pub each : (j : ℕ) → j + length rs < 16 → dot bytes (fromRoots bytes (elements rs)) (λ k. byte (getD s (j + k) 0)) ≡ bytes .𝟘
+
+abbrev pub Recurring : List ℕ → List ℕ → Bool → Type 0
+Recurring s rs true = Recurs s rs
+Recurring s rs false = Recurs s rs → ⊥
 
 -- ---- the errors
 

@@ -84,11 +84,11 @@ fn correct_errors(block: &mut [u8], residue: [u8; 16], marks: &[u8], f: usize) -
     let degrees = roots.degrees;
     let places = roots.places;
     let count = roots.count;
-    let p = error_correction::root_product(places, count);
-    let values = error_correction::error_values(p, s, places, count);
-    if !error_correction::explains(places, values, &s) {
+    if !syndromes::recur(s, places, count) {
         return Decoded::Uncorrectable;
     }
+    let p = error_correction::root_product(places, count);
+    let values = error_correction::error_values(p, s, places, count);
     let bits = error_bits::set_bits(values, count);
     let bytes = error_correction::correct(block, degrees, values, count);
     Decoded::Corrected(Changed { bytes, bits })
@@ -102,7 +102,7 @@ pub fn decode(block: &mut [u8]) -> Decoded
         return Decoded::BlockLength;
     }
     let residue = division::residue(block);
-    if division::is_zero(residue) {
+    if division::is_zero(&residue) {
         return Decoded::Corrected(Changed { bytes: 0, bits: 0 });
     }
     let none = [0u8; 204];
@@ -149,7 +149,7 @@ pub fn decode_marked(block: &mut [u8], marks: &[u8]) -> Decoded
         return Decoded::Uncorrectable;
     }
     let residue = division::residue(block);
-    if division::is_zero(residue) {
+    if division::is_zero(&residue) {
         return Decoded::Corrected(Changed { bytes: 0, bits: 0 });
     }
     correct_errors(block, residue, marks, f)

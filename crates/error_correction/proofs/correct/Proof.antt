@@ -4,7 +4,7 @@ use mathlib.Core.Path.{sym, subst}
 use mathlib.Core.Logic.{⊎-elim}
 use Prim.Native.Nat.{_+_, _-_}
 use native.Mathlib.Omega.{arith}
-use Rattle.error_correction.proofs.ErrorTerms.{Correcting, correcting-none, changed-fits, fixed, correcting-same, correcting-more, correcting-count, correcting-block}
+use Rattle.error_correction.proofs.CorrectedBlock.{Correcting, correcting-none, changed-fits, fixed, correcting-same, correcting-more, correcting-count, correcting-block}
 use borrow.Author.Needs.{needs}
 use Rattle.error_correction.proofs.correct.Statement.{statement}
 use Rattle.error_correction.proofs.correct.Tie as tie

@@ -37,6 +37,9 @@ returns-3 c = (c .before .before .before .before .if1 .left, valid (c .before .b
 residue-requires : tie.Need-residue-requires
 residue-requires c κs = search needs
 
+slice-aggregate-is-zero : tie.Need-slice-aggregate-is-zero
+slice-aggregate-is-zero c = search needs
+
 is-zero-requires : tie.Need-is-zero-requires
 is-zero-requires c κs = search needs
 
@@ -45,17 +48,17 @@ same-length c = search needs
 
 returns-4 : tie.Need-returns-4
 returns-4 c =
-    let t = c .before .before .before .before .before .before .before .before .before .before .before in
-    let n = c .before .before .before .before .before .before .before .before .if1 .left in
-    let m = valid (c .before .before .before .before .before .before) in (
+    let t = c .before .before .before .before .before .before .before .before .before .before .before .before in
+    let n = c .before .before .before .before .before .before .before .before .before .if1 .left in
+    let m = valid (c .before .before .before .before .before .before .before) in (
       n,
       m,
-      clean (t .args .block .now) n (t .args .marks .now) (m .size) (omega (arith, c .before .before .before .before .before .count-marks .ensures, c .before .before .before .before .if3 .left)) (bytes-of (t .args .block .now) (λ i. c .before .before .before .before .before .before .before .before .before .before .slice-known .given i .fits))
-          (ap allZero (sym (c .before .before .residue .ensures)) ∙ sym (c .before .is-zero .ensures) ∙ c .if4 .taken),
+      clean (t .args .block .now) n (t .args .marks .now) (m .size) (omega (arith, c .before .before .before .before .before .before .count-marks .ensures, c .before .before .before .before .before .if3 .left)) (bytes-of (t .args .block .now) (λ i. c .before .before .before .before .before .before .before .before .before .before .before .slice-known .given i .fits))
+          (ap allZero (sym (c .before .before .before .residue .ensures)) ∙ sym (c .before .is-zero .ensures) ∙ c .if4 .taken),
     )
 
 correct-errors-requires : tie.Need-correct-errors-requires
-correct-errors-requires c κs = (c .before .before .before .before .before .before .before .before .before .if1 .left, c .before .before .before .residue .ensures, valid (c .before .before .before .before .before .before .before), c .before .before .before .before .before .before .count-marks .ensures, omega arith)
+correct-errors-requires c κs = (c .before .before .before .before .before .before .before .before .before .before .if1 .left, c .before .before .before .before .residue .ensures, valid (c .before .before .before .before .before .before .before .before), c .before .before .before .before .before .before .before .count-marks .ensures, omega arith)
 
 same-length-2 : tie.Need-same-length-2
 same-length-2 c = search needs
@@ -74,6 +77,7 @@ decode-marked-spec =
     cast-f
     returns-3
     residue-requires
+    slice-aggregate-is-zero
     is-zero-requires
     same-length
     returns-4
