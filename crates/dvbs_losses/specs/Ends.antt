@@ -23,7 +23,8 @@ use Rattle.program_io.specs.declared.words.Arguments.{Arguments}
 use Rattle.program_io.specs.declared.words.Word.{Word}
 use Rattle.losses.specs.History.{LossesCame, Listed}
 use Rattle.losses.specs.declared.LossStream.{LossStream}
-use Rattle.dvbs_losses.specs.Text.{listText, restText}
+use Rattle.answer_lines.specs.Lines.{listText}
+use Rattle.dvbs_losses.specs.Text.{restText}
 use Rattle.dvbs_losses.specs.declared.Ended.{Ended}
 use Rattle.dvbs_losses.specs.declared.Turned.{Turned}
 

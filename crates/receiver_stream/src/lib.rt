@@ -161,7 +161,7 @@ fn take_piece(stream: ReceiverStream, piece: &[u8], marks: &[u8], output: &mut [
 }
 
 // The report on these counts, in form 2, with so many bytes after the last whole block.
-fn report_of(counts: Counts, rest: u64) -> Report
+pub fn report_of(counts: Counts, rest: u64) -> Report
     ensures { λ r. ⌜ r ≡ reportOf counts rest ⌝ }
 {
     Report {
