@@ -2,24 +2,15 @@
 -- Assumes nothing.
 use mathlib.Core.Path.{_≡_, sym, ap, _∙_, subst, subst₂}
 use mathlib.Core.Bool.{true}
-use mathlib.Core.List.{List, [], _∷_, _++_, map, flatten}
+use mathlib.Core.List.{List, _++_, flatten}
 use Prim.Native.Nat.{ℕ, zero, suc, _+_, _-_, _*_, _/_, _%_, _≤_, _<_}
-use Prim.{tt}
 use native.Mathlib.Nat.{div-add-mod, mod-lt}
 use native.Mathlib.Omega.{arith}
 use lib.ListN.{length, take, replicate, length-map, length-append}
 use lib.Seq.{length-take-le}
-use Rattle.common.specs.Lists.{All, Bytes, ByteEntries, chunksOf}
-use Rattle.common.proofs.Lists.{All-map}
-use Rattle.common.proofs.Entries.{bytes-of, bytes-entries}
+use Rattle.common.specs.Lists.{All, Bytes, chunksOf}
 use Rattle.common.proofs.Chunks.{chunks-back}
-use Rattle.reed_solomon.specs.Encode.{encoded}
-use Rattle.reed_solomon.proofs.LongDivision.{encoded-bytes}
-use Rattle.randomizer.specs.Packet.{randomized}
-use Rattle.randomizer.specs.Stream.{Packet, randomizedFrom}
-use Rattle.randomizer.proofs.Whole.{packet-lengths, randomized-stream}
-use Rattle.interleaver.specs.declared.branches.Side.the-variants.{Sending}
-use Rattle.interleaver.proofs.Streams.{delayed-bytes}
+use Rattle.randomizer.specs.Stream.{Packet}
 use Rattle.convolutional_code.specs.Bits.{bitsOf}
 use Rattle.convolutional_code.proofs.Bits.{length-bits, bits-bits}
 use Rattle.puncturing.specs.Mode.{modeOf}
@@ -30,9 +21,9 @@ use Rattle.inner_code.specs.Step.{symbolsOf}
 use Rattle.inner_code.specs.Encode.{coderAt}
 use Rattle.reader.specs.Read.{symbolsPerPattern, runBits, runLength}
 use Rattle.reader.specs.Clear.{AllClear}
-use Rattle.reader_stream.specs.Packing.{packedBytes}
+use Rattle.bit_packing.specs.Packing.{packedBytes}
 use Rattle.reader_stream.specs.History.{SymbolsEnded}
-use Rattle.reader_stream.proofs.Bytes.{length-bytes, bytes-back}
+use Rattle.bit_packing.proofs.Bytes.{length-bytes, bytes-back}
 use Rattle.reader_stream.proofs.Histories.{every-end}
 use Rattle.reader_stream.proofs.Unharmed.{WholeStream, read-whole, last-pattern}
 use Rattle.sender.specs.Input.{Input, packetFor, packetsFor}
@@ -40,50 +31,24 @@ use Rattle.sender.proofs.Inputs.{packets-sent}
 use Rattle.receiver.specs.Receive.{freshReceiver}
 use Rattle.receiver.specs.Kept.{Kept}
 use Rattle.receiver.specs.declared.Receiver.{Receiver}
-use Rattle.receiver.proofs.Decoding.{sent-length, sent-bytes}
 use Rattle.receiver.proofs.Reception.{blocks-count, begun-anywhere}
 use Rattle.receiver.proofs.Promised.{kept-calls}
-use Rattle.sent_blocks.specs.Blocks.{codedBlocks, interleavedBlocks, sentBytes}
+use Rattle.sent_blocks.specs.Blocks.{interleavedBlocks, sentBytes}
 use Rattle.sender.proofs.Counts.{block-bits}
 use Rattle.sent_blocks.proofs.Lengths.{interleaved-count, interleaved-whole}
+use Rattle.sent_blocks.proofs.Packets.{bytes-sent}
 use Rattle.link.specs.Link.{Link, StreamLink, bytesRead, bitCount, blocksInBits, BroughtBack, Arrived, StreamArrived}
 use Rattle.link.proofs.Sent.{sent-coded, sent-front, front-within, front-last}
-
--- ---- the interleaved blocks are of bytes
-
-coded-bytes : (n : ℕ) (ps : List (List ℕ)) → All Packet ps → All ByteEntries (map encoded (randomizedFrom n ps))
-unfolding randomizedFrom
-coded-bytes n [] ws = tt
-coded-bytes n (p ∷ ps) ws = (
-  bytes-entries (encoded (randomized (n % 8) p)) (encoded-bytes (randomized (n % 8) p) (sent-length n p (ws .0)) (sent-bytes n p (ws .0))),
-  coded-bytes (n + 1) ps (ws .1),
-)
-
-flat-bytes : (blocks : List (List ℕ)) → All Bytes blocks → Bytes (flatten blocks)
-unfolding flatten
-flat-bytes [] g = tt
-flat-bytes (b ∷ bs) g = joined b (flatten bs) (g .0) (flat-bytes bs (g .1))
-  where
-    joined : (x y : List ℕ) → Bytes x → Bytes y → Bytes (x ++ y)
-    joined [] y h k = k
-    joined (b ∷ x) y h k = (h .0, joined x y (h .1) k)
 
 module _ (packets : List (List ℕ)) (ws : All Packet packets) where
   abbrev sent : List (List ℕ)
   sent = interleavedBlocks packets
 
-  pub interleaved-bytes : Bytes (flatten sent)
-  interleaved-bytes =
-      flat-bytes sent
-      (All-map ByteEntries Bytes bytes-of sent
-      (delayed-bytes Sending (codedBlocks packets)
-      (subst (λ (x : List (List ℕ)). All ByteEntries (map encoded x)) (randomized-stream packets (packet-lengths packets ws)) (coded-bytes 0 packets ws))))
-
   -- the first n bits that are sent make the blocks that are whole in them
   front-blocks : (n : ℕ) → n ≤ length (bitsOf (sentBytes packets)) → chunksOf 204 (packedBytes (take n (bitsOf (sentBytes packets)))) ≡ take (blocksInBits n) sent
   front-blocks n h =
       let e : n / 8 / 204 ≡ n / 1632 = omega arith in
-      ap (chunksOf 204) (bytes-back (flatten sent) interleaved-bytes n h)
+      ap (chunksOf 204) (bytes-back (flatten sent) (bytes-sent packets ws) n h)
       ∙ chunks-back 204 (omega arith) sent (interleaved-whole packets) (n / 8) (omega (arith, length-bits (flatten sent)))
       ∙ ap (λ (k : ℕ). take k sent) e
 

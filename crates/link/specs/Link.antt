@@ -7,7 +7,7 @@ use mathlib.Core.List.{List, _++_, flatten}
 use Prim.Native.Nat.{ℕ, _+_, _-_, _*_, _/_, _%_, _≤_, _<_}
 use lib.ListN.{length, take, replicate}
 use Rattle.common.specs.Lists.{All, chunksOf}
-use Rattle.reader_stream.specs.Packing.{packedBytes}
+use Rattle.bit_packing.specs.Packing.{packedBytes}
 use Rattle.puncturing.specs.Mode.{modeOf}
 use Rattle.puncturing.specs.Step.{patternLength}
 use Rattle.reader.specs.Cost.{Costed}

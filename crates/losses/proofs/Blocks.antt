@@ -128,9 +128,9 @@ none-left l e = by (restOf 204 l) (omega (arith, length-rest 204 l))
 
 module _ {i next : LossStream} {part marks block own : List ℕ} (b : block ≡ heldBytes i ++ part) (m : own ≡ heldMarks i ++ marks)
     (size : length block ≡ 204) (many : length own ≡ 204) (empty : next .held ≡ 0) where
-  pub takes-whole : {output exit : List ℕ} {count : ℕ} → TakesBlock (i .receiver) (i .certainty) block own output count (next .receiver) (next .certainty) exit
-      → TakesLines i part marks output count next exit
-  takes-whole {output} {exit} {count} t =
+  pub takes-whole : {room output roomAfter exit : List ℕ} {number count : ℕ}
+      → TakesBlock (i .receiver) (i .certainty) block own room output number count (next .receiver) (next .certainty) roomAfter exit → TakesLines i part marks output count next exit
+  takes-whole t =
       let c = t .call in
       record {
         lines = callLines (i .receiver) (i .certainty) c;
@@ -161,13 +161,15 @@ module _ (s : Receiver) (k : Certainty) {block marks room packet : List ℕ} {r 
   call = record { block = block; marks = marks; output = room; left = v .left; decoded = v .decoded }
 
   -- while the delays fill
-  pub filling-block : s .counts .taken < 11 → (output : List ℕ) → TakesBlock s k block marks output 0 (r .receiver) k output
+  pub filling-block : s .counts .taken < 11 → (output : List ℕ) → TakesBlock s k block marks room output (numberOf (r .answer)) 0 (r .receiver) k packet output
   filling-block h output = record {
     call = call;
     lent = refl;
     marked = refl;
     decodes = v .decodes;
     output-fits = enough;
+    answered = v .number;
+    given = v .written;
     state = v .state;
     certainty = sym (ap (λ (t : Bool). pick t k (certaintyNext k (answerOf s call) (startedAt (afterCall s call .sync .place)))) (lt-ltb _ _ h));
     writes = subst (λ (l : List ℕ). Writes l output 0 output) (sym none) (writes-none output);
@@ -181,13 +183,15 @@ module _ (s : Receiver) (k : Certainty) {block marks room packet : List ℕ} {r 
   pub decided-block : 11 ≤ s .counts .taken → (number : ℕ) (due start : Bool) (kept : Certainty) (output exit : List ℕ) (count : ℕ)
       → number ≡ numberOf (r .answer) → due ≡ startDueAt (s .sync .place) → start ≡ startedAt (r .receiver .sync .place)
       → kept ≡ certaintyNext k number start → Writes (linesNow k (s .counts .taken - 11) number due start) output count exit
-      → TakesBlock s k block marks output count (r .receiver) kept exit
+      → TakesBlock s k block marks room output (numberOf (r .answer)) count (r .receiver) kept packet exit
   decided-block h number due start kept output exit count n d t e w = record {
     call = call;
     lent = refl;
     marked = refl;
     decodes = v .decodes;
     output-fits = enough;
+    answered = v .number;
+    given = v .written;
     state = v .state;
     certainty =
         e ∙ ap₂ (λ (i : ℕ) (b : Bool). certaintyNext k i b) answered begun
@@ -231,8 +235,8 @@ module _ (i : LossStream) (p : length (i .pending) ≡ 204) (m : length (i .mark
     writes = writes-none output;
   }
 
-  pub part-whole : 204 ≤ i .held + length part → {next : Receiver} {kept : Certainty} {count : ℕ} {exit : List ℕ}
-      → TakesBlock (i .receiver) (i .certainty) pending own output count next kept exit
+  pub part-whole : 204 ≤ i .held + length part → {room roomAfter : List ℕ} {next : Receiver} {kept : Certainty} {number count : ℕ} {exit : List ℕ}
+      → TakesBlock (i .receiver) (i .certainty) pending own room output number count next kept roomAfter exit
       → TakesLines i part marks output count (record { receiver = next; certainty = kept; pending = pending; marks = own; held = 0 }) exit
   part-whole h t =
       let f = y .within in

@@ -2,11 +2,10 @@
 -- Assumes nothing.
 use mathlib.Core.Path.{_≡_, refl, sym, ap, ap₂, subst, _∙_}
 use mathlib.Core.Bool.{false, false≢true}
-use mathlib.Core.List.{List, [], _∷_, map}
+use mathlib.Core.List.{List, [], _∷_}
 use mathlib.Core.Logic.{_⊎_, inl, inr}
 use Prim.Native.Nat.{ℕ, zero, suc, _+_, _%_, _≤_, _<_}
 use Prim.{tt}
-use native.Mathlib.Nat.{not-suc-le-zero}
 use native.Mathlib.Omega.{arith}
 use lib.ListN.{length, getD, take, drop, List·getD-append}
 use Rattle.common.specs.Lists.{All}
@@ -15,9 +14,9 @@ use Rattle.reed_solomon.specs.Encode.{encoded, checkBytes}
 use Rattle.reed_solomon.specs.declared.Decoded.{Decoded}
 use Rattle.reed_solomon.specs.declared.Decoded.the-variants.{Corrected, Uncorrectable, BlockLength, MarkValue}
 use Rattle.randomizer.specs.Packet.{randomized, derandomized}
-use Rattle.randomizer.specs.Stream.{Packet, randomizedFrom}
+use Rattle.randomizer.specs.Stream.{Packet}
 use Rattle.randomizer.proofs.Laws.{first-byte}
-use Rattle.randomizer.proofs.Whole.{packet-lengths, randomized-stream}
+use Rattle.randomizer.proofs.Whole.{packet-lengths}
 use Rattle.group_sync.specs.Group.{dueByte, freshSync, groupStep}
 use Rattle.group_sync.specs.Stream.{outcomes}
 use Rattle.group_sync.specs.declared.BlockDecoding.the-variants as decoding
@@ -25,6 +24,7 @@ use Rattle.group_sync.specs.declared.Outcome.{Outcome}
 use Rattle.group_sync.specs.declared.Outcome.the-variants.{Filling, Delivered, Lost, Waiting, OutOfStep}
 use Rattle.group_sync.specs.declared.GroupSync.{GroupSync}
 use Rattle.sent_blocks.specs.Blocks.{codedBlocks}
+use Rattle.sent_blocks.proofs.Packets.{coded-at}
 use Rattle.receiver.specs.Receive.{decodingOf}
 use Rattle.receiver.specs.Run.{Call}
 use Rattle.receiver.specs.Begun.{lefts, decodings, packetOf}
@@ -36,35 +36,24 @@ use Rattle.losses.proofs.Stretches.{Given, FirstGiven, Sent, in-place}
 
 -- ---- a coded packet of a sender
 
-coded-from : (n : ℕ) (ps : List (List ℕ)) (i : ℕ) → i < length ps → getD (map encoded (randomizedFrom n ps)) i [] ≡ encoded (randomized ((n + i) % 8) (getD ps i []))
-unfolding randomizedFrom
-coded-from n [] i h = absurd (not-suc-le-zero h)
-coded-from n (p ∷ ps) zero h = let e : n ≡ n + 0 = omega arith in ap (λ (k : ℕ). encoded (randomized (k % 8) p)) e
-coded-from n (p ∷ ps) (suc i) h =
-    let e : n + 1 + i ≡ n + suc i = omega arith in
-    coded-from (n + 1) ps i (omega arith) ∙ ap (λ (k : ℕ). encoded (randomized (k % 8) (getD ps i []))) e
-
 module _ (packets : List (List ℕ)) (ws : All Packet packets) (n : ℕ) (h : n < length packets) where
   pub own : Packet (getD packets n [])
   own = All-at Packet packets [] n ws h
 
-  pub coded-at : getD (codedBlocks packets) n [] ≡ encoded (randomized (n % 8) (getD packets n []))
-  coded-at =
-      let e : 0 + n ≡ n = omega arith in
-      ap (λ (l : List (List ℕ)). getD (map encoded l) n []) (sym (randomized-stream packets (packet-lengths packets ws)))
-      ∙ coded-from 0 packets n h ∙ ap (λ (k : ℕ). encoded (randomized (k % 8) (getD packets n []))) e
+  pub coded-own : getD (codedBlocks packets) n [] ≡ encoded (randomized (n % 8) (getD packets n []))
+  coded-own = coded-at packets (packet-lengths packets ws) n h
 
   -- it begins with the sync byte of its place, and gives the packet back there
   first-due : getD (getD (codedBlocks packets) n []) 0 0 ≡ dueByte (n % 8)
   first-due =
       let p = getD packets n [] in
       let s : n % 8 ≤ 7 = omega arith in
-      ap (λ (l : List ℕ). getD l 0 0) coded-at
+      ap (λ (l : List ℕ). getD l 0 0) coded-own
       ∙ List·getD-append (randomized (n % 8) p) (checkBytes (randomized (n % 8) p)) 0 0 (let e = sent-length n p own in omega arith)
       ∙ first-byte (n % 8) p s (own .size) (own .sync)
 
   given-back : derandomized (n % 8) (take 188 (getD (codedBlocks packets) n [])) ≡ getD packets n []
-  given-back = ap (λ (l : List ℕ). derandomized (n % 8) (take 188 l)) coded-at ∙ coded-back n (getD packets n []) own
+  given-back = ap (λ (l : List ℕ). derandomized (n % 8) (take 188 l)) coded-own ∙ coded-back n (getD packets n []) own
 
 -- ---- the packets that are given
 

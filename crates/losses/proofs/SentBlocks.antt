@@ -56,7 +56,7 @@ use Rattle.losses.specs.Promise.{answerAt, Stretches, WrongTold, LeftOut
 use Rattle.losses.proofs.Histories.{all-back, calls-count, calls-unrefused}
 use Rattle.losses.proofs.Pieces.{zeros-part}
 use Rattle.losses.proofs.Truth.{blocks-length, answer-is}
-use Rattle.losses.proofs.Gaps.{own, coded-at, wrong-told}
+use Rattle.losses.proofs.Gaps.{own, coded-own, wrong-told}
 use Rattle.losses.proofs.Unbroken.{unbroken}
 
 -- ---- no mark
@@ -156,12 +156,12 @@ module _ {bytes lines : List ℕ} (l : Listed bytes (unmarked bytes) lines) (pac
         let p = getD packets n [] in
         let w = own packets ws n b in
         let x = randomized (n % 8) p in
-        let e : gathered (flatten (lentBlocks (l .calls))) block ≡ encoded x = block-sent ∙ coded-at packets ws n b in
+        let e : gathered (flatten (lentBlocks (l .calls))) block ≡ encoded x = block-sent ∙ coded-own packets ws n b in
         decodes-near (encoded x) (encoded x) (getD (lefts (drop 11 (l .calls))) block []) (getD (map (λ d. d .decoded) (drop 11 (l .calls))) block Uncorrectable)
         (encoded-length x (sent-length n p w) (sent-bytes n p w)) (encoded-codeword x (sent-length n p w) (sent-bytes n p w)) (omega (arith, differ-none (encoded x)))
         (subst (λ (y : List ℕ). Decodes y (getD (lefts (drop 11 (l .calls))) block []) (getD (map (λ d. d .decoded) (drop 11 (l .calls))) block Uncorrectable)) e
         (block-decodes (l .calls) (unrefused l) (plain l) block h)) .block
-        ∙ sym (coded-at packets ws n b)
+        ∙ sym (coded-own packets ws n b)
 
   -- a block that was given came whole
   came-whole : (block place : ℕ) → getD (blocksOf (l .calls)) block Lost ≡ Delivered place → block + 11 < length (l .calls)

@@ -133,7 +133,7 @@ watched-calls (c ∷ cs) s k w = watched-calls cs (afterCall s c) (certaintyAfte
 
 -- ---- how many lines
 
-more-waiting : (k : Certainty) → waitingOf (oneMore k) ≤ waitingOf k + 1
+pub more-waiting : (k : Certainty) → waitingOf (oneMore k) ≤ waitingOf k + 1
 more-waiting Sure = omega arith
 more-waiting (Unsure n) = omega arith
 

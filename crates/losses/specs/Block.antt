@@ -8,7 +8,7 @@ use Prim.Native.Nat.{ℕ, _+_, _/_, _≤_, _<_}
 use lib.ListN.{length, drop}
 use Rattle.reed_solomon.specs.Marks.{noMarks, DecodesMarked}
 use Rattle.receiver.specs.Receive.{delayedBlock, delayedMarks}
-use Rattle.receiver.specs.Run.{Call, OutputFits, afterCall}
+use Rattle.receiver.specs.Run.{Call, OutputFits, answerOf, outputOf, afterCall}
 use Rattle.receiver.specs.declared.Receiver.{Receiver}
 use Rattle.losses.specs.Watch.{waitingOf, certaintyInRange, callLines, certaintyAfter}
 use Rattle.losses.specs.Feed.{Writes, TakesPiece}
@@ -24,13 +24,15 @@ pub record Watched (s : Receiver) (k : Certainty) : Type 0 where
   pub range : certaintyInRange k (s .sync .place) (s .counts .taken) ≡ true
   pub most : s .counts .taken ≤ 4294967295
 
--- a call of the receiver, the lines that it decides, and what is known after it
-pub record TakesBlock (s : Receiver) (k : Certainty) (block marks output : List ℕ) (count : ℕ) (next : Receiver) (kept : Certainty) (exit : List ℕ) : Type 0 where
+-- a call of the receiver, its answer and output, the lines that it decides, and what is known after it
+pub record TakesBlock (s : Receiver) (k : Certainty) (block marks room output : List ℕ) (number count : ℕ) (next : Receiver) (kept : Certainty) (roomAfter exit : List ℕ) : Type 0 where
   pub call : Call
   pub lent : call .block ≡ block
   pub marked : call .marks ≡ marks
   pub decodes : DecodesMarked (delayedMarks s (call .marks)) (delayedBlock s (call .block)) (call .left) (call .decoded)
   pub output-fits : OutputFits call
+  pub answered : number ≡ answerOf s call
+  pub given : roomAfter ≡ outputOf s call
   pub state : next ≡ afterCall s call
   pub certainty : kept ≡ certaintyAfter s k call
   pub writes : Writes (callLines s k call) output count exit

@@ -108,6 +108,13 @@ pub data FeedsLosses (i : LossStream) (piece marks output : List ℕ) (number co
 
 -- ---- the end
 
+-- the packets that wait when the input ends are in doubt, where there is room for their lines
+abbrev pub endNumber : Certainty → List ℕ → ℕ
+endNumber k output = firstDue (when (ltb (length output) (waitingOf k)) 4 ∷ [])
+
+abbrev pub linesAtEnd : Certainty → ℕ → List ℕ → List ℕ
+linesAtEnd k taken output = pick (eqb (endNumber k output) 0) (waitingLines k (taken - 11)) []
+
 abbrev pub lossCloseNumber : LossStream → List ℕ → ℕ
 lossCloseNumber i output = firstDue (unless (lossStreamInRange i) 5 ∷ when (ltb (length output) (waitingOf (i .certainty))) 4 ∷ [])
 

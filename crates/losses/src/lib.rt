@@ -9,7 +9,7 @@ ghost use Rattle.common.specs.Choice.{pick};
 ghost use Rattle.answer.specs.Number.{numberOf};
 ghost use Rattle.losses.specs.List.{line as List·line, doubts};
 ghost use Rattle.losses.specs.Watch.{waitingOf, startDueAt, startedAt, linesNow, oneMore, certaintyNext, mostWaiting, certaintyInRange};
-ghost use Rattle.losses.specs.Feed.{freshLossStream, lossStreamInRange, capacityOf, marksOf, marksFit, Writes, FeedsLosses, lossCloseNumber, closeLines};
+ghost use Rattle.losses.specs.Feed.{freshLossStream, lossStreamInRange, capacityOf, marksOf, marksFit, Writes, FeedsLosses, endNumber, linesAtEnd, lossCloseNumber, closeLines};
 ghost use Rattle.losses.specs.Block.{marksFront, Watched, TakesBlock, PartReady, PieceReady, TakesLines};
 ghost use Rattle.losses.specs.Run.{ListsRecording};
 use answer::Answer;
@@ -55,11 +55,12 @@ struct Decided {
     count: usize,
 }
 
-// The same with the receiver.
-struct BlockTaken {
-    receiver: Receiver,
-    certainty: Certainty,
-    count: usize,
+// The same with the answer of the receiver's call, and the receiver after it.
+pub struct BlockTaken {
+    pub answer: Answer,
+    pub receiver: Receiver,
+    pub certainty: Certainty,
+    pub count: usize,
 }
 
 // How many lines were written, and the stream after it.
@@ -69,7 +70,7 @@ struct Taken {
 }
 
 // How many packets wait.
-fn waiting(certainty: Certainty) -> u8
+pub fn waiting(certainty: Certainty) -> u8
     ensures { λ r. ⌜ r ≡ waitingOf certainty ⌝ }
 {
     match certainty {
@@ -90,7 +91,7 @@ fn one_more(certainty: Certainty) -> Certainty
 }
 
 // Whether B8 is due.
-fn start_due(place: Place) -> bool
+pub fn start_due(place: Place) -> bool
     ensures { λ r. ⌜ r ≡ startDueAt place ⌝ }
 {
     match place {
@@ -100,7 +101,7 @@ fn start_due(place: Place) -> bool
 }
 
 // Whether a packet that was given began with B8, by the place behind it.
-fn started(place: Place) -> bool
+pub fn started(place: Place) -> bool
     ensures { λ r. ⌜ r ≡ startedAt place ⌝ }
 {
     match place {
@@ -127,7 +128,7 @@ fn next_block(taken: u64) -> u64
 }
 
 // Whether no more packets wait than can.
-fn certainty_in_range(certainty: Certainty, place: Place, taken: u64) -> bool
+pub fn certainty_in_range(certainty: Certainty, place: Place, taken: u64) -> bool
     ensures { λ r. ⌜ r ≡ certaintyInRange certainty place taken ⌝ }
 {
     let count = waiting(certainty);
@@ -207,43 +208,66 @@ fn decide(
     }
 }
 
-// Takes a block with its marks by a call of the receiver, and writes the lines that it decides.
-fn take_block(
+// Takes a block with its marks by a call of the receiver, which writes a packet to the output, and writes the lines that it decides.
+pub fn take_block(
     receiver: Receiver,
     certainty: Certainty,
     block: &[u8],
     marks: &[u8],
+    output: &mut [u8],
     lines: &mut [u64],
 ) -> BlockTaken
-    requires { ⌜ Watched receiver certainty × (waitingOf certainty < length (now lines)) ⌝ }
+    requires { ⌜ Watched receiver certainty × (waitingOf certainty < length (now lines)) × (188 ≤ length (now output)) ⌝ }
     ensures { λ r. ⌜
-        TakesBlock receiver certainty (now (block .entry)) (now (marks .entry)) (now (lines .entry)) (r .count) (r .receiver) (r .certainty) (now (lines .exit)) ⌝ }
+        TakesBlock receiver certainty (now (block .entry)) (now (marks .entry)) (now (output .entry)) (now (lines .entry)) (numberOf (r .answer)) (r .count) (r .receiver) (r .certainty) (now (output .exit)) (now (lines .exit)) ⌝ }
 {
     let before = receiver.sync;
     let place = before.place;
     let counts = receiver.counts;
     let taken = counts.taken;
     let due = start_due(place);
-    let mut output = [0u8; Receiver::PACKET_LENGTH];
-    let received = receiver.receive_marked(block, marks, &mut output);
+    let received = receiver.receive_marked(block, marks, output);
+    let answer = received.answer;
     let next = received.receiver;
     if taken < 11 {
         return BlockTaken {
+            answer,
             receiver: next,
             certainty,
             count: 0,
         };
     }
-    let answer = received.answer;
     let after = next.sync;
     let place = after.place;
     let start = started(place);
     let decided = decide(certainty, taken - 11, answer.number(), due, start, lines);
     let kept = decided.certainty;
     BlockTaken {
+        answer,
         receiver: next,
         certainty: kept,
         count: decided.count,
+    }
+}
+
+// Ends the list: writes a line for each packet that still waits, in doubt.
+pub fn tell_waiting(certainty: Certainty, taken: u64, lines: &mut [u64]) -> Listed
+    requires { ⌜ (waitingOf certainty ≤ 7) × (waitingOf certainty ≤ taken - 11) × (taken ≤ 4294967295) ⌝ }
+    ensures { λ r. ⌜
+        (numberOf (r .answer) ≡ endNumber certainty (now (lines .entry)))
+        × Writes (linesAtEnd certainty taken (now (lines .entry))) (now (lines .entry)) (r .count) (now (lines .exit)) ⌝ }
+{
+    let count = waiting(certainty) as usize;
+    if lines.len() < count {
+        return Listed {
+            answer: Answer::OutputLength,
+            count: 0,
+        };
+    }
+    put_doubts(next_block(taken) - count as u64, count, lines);
+    Listed {
+        answer: Answer::Done,
+        count,
     }
 }
 
@@ -272,7 +296,8 @@ fn take_part(stream: LossStream, part: &[u8], marks: &[u8], lines: &mut [u64]) -
             },
         };
     }
-    let taken = take_block(receiver, certainty, &pending, &own, lines);
+    let mut output = [0u8; Receiver::PACKET_LENGTH];
+    let taken = take_block(receiver, certainty, &pending, &own, &mut output, lines);
     let next = taken.receiver;
     let kept = taken.certainty;
     Taken {
@@ -470,18 +495,7 @@ impl LossStream {
                 count: 0,
             };
         }
-        let count = waiting(certainty) as usize;
-        if lines.len() < count {
-            return Listed {
-                answer: Answer::OutputLength,
-                count: 0,
-            };
-        }
-        put_doubts(next_block(taken) - count as u64, count, lines);
-        Listed {
-            answer: Answer::Done,
-            count,
-        }
+        tell_waiting(certainty, taken, lines)
     }
 }
 

@@ -19,8 +19,8 @@ use Rattle.puncturing.specs.Mode.{modeOf}
 use Rattle.branch_metrics.specs.Cost.{softly}
 use Rattle.reader.specs.Cost.{differing}
 use Rattle.reader.specs.Read.{runBits}
-use Rattle.reader_stream.specs.Packing.{packedBytes}
-use Rattle.reader_stream.proofs.Bytes.{packed-pieces, length-bytes}
+use Rattle.bit_packing.specs.Packing.{packedBytes}
+use Rattle.bit_packing.proofs.Bytes.{packed-pieces, length-bytes}
 use Rattle.sender.specs.Input.{Input, packetFor, packetsFor}
 use Rattle.receiver.specs.Receive.{freshReceiver}
 use Rattle.receiver.specs.Kept.{Kept, none, call}

@@ -8,7 +8,7 @@ use Rattle.branch_metrics.specs.Cost.{softly}
 use Rattle.branch_metrics.specs.declared.soft_decision.Received.{Received}
 use Rattle.reader.specs.Cost.{differing}
 use Rattle.reader.specs.Read.{symbolsPerPattern, runBits}
-use Rattle.reader_stream.specs.Packing.{packedBytes}
+use Rattle.bit_packing.specs.Packing.{packedBytes}
 use Rattle.reader_stream.specs.History.{SymbolsEnded}
 use Rattle.noise_tolerance.specs.Noise.{QuietEnd, softDoubt, NoisyStream, StreamBack}
 use Rattle.noise_tolerance.specs.Table.{hardLimits, softLimits}

@@ -17,8 +17,8 @@ use Rattle.common.proofs.Lists.{getD-map-in}
 use Rattle.common.proofs.Chunks.{length-chunks, chunks-whole}
 use Rattle.convolutional_code.specs.Bits.{bitsOf}
 use Rattle.convolutional_code.proofs.Bits.{length-bits}
-use Rattle.reader_stream.specs.Packing.{byteOf, packedBytes}
-use Rattle.reader_stream.proofs.Bytes.{bytes-back, length-bytes}
+use Rattle.bit_packing.specs.Packing.{byteOf, packedBytes}
+use Rattle.bit_packing.proofs.Bytes.{bytes-back, length-bytes}
 use Rattle.puncturing.specs.Step.{patternLength}
 use Rattle.interleaver.proofs.BlockLists.{flatten-at, length-flatten}
 use Rattle.reader.specs.Read.{symbolsPerPattern}

@@ -17,8 +17,8 @@ use Rattle.common.proofs.Computed.{below-at}
 use Rattle.randomizer.specs.Stream.{Packet}
 use Rattle.convolutional_code.specs.Bits.{bitsOf}
 use Rattle.convolutional_code.proofs.Bits.{bits-bits}
-use Rattle.reader_stream.specs.Packing.{packedBytes}
-use Rattle.reader_stream.proofs.Bytes.{length-bytes}
+use Rattle.bit_packing.specs.Packing.{packedBytes}
+use Rattle.bit_packing.proofs.Bytes.{length-bytes}
 use Rattle.puncturing.specs.Mode.{modeOf}
 use Rattle.puncturing.specs.Step.{patternLength}
 use Rattle.branch_metrics.specs.Cost.{softly}
@@ -29,9 +29,10 @@ use Rattle.sender.proofs.Inputs.{packets-sent}
 use Rattle.receiver.specs.Receive.{freshReceiver}
 use Rattle.receiver.specs.Kept.{Kept}
 use Rattle.sent_blocks.specs.Blocks.{sentBytes}
+use Rattle.sent_blocks.proofs.Packets.{bytes-sent}
 use Rattle.link.proofs.Bursts.{burst-promised}
 use Rattle.link.specs.Link.{StreamLink, bytesRead, bitCount, blocksInBits}
-use Rattle.link.proofs.Link.{interleaved-bytes, sent-length-is, coded, bit-count}
+use Rattle.link.proofs.Link.{sent-length-is, coded, bit-count}
 use Rattle.noise_tolerance.specs.Noise.{softDoubt}
 use Rattle.noise_tolerance.specs.Table.{hardLimits, softLimits}
 use Rattle.noise_tolerance.specs.Harm.{isStruck, costOf, doubtOf, isLost, doubtUnlost, Spoils, harmTable, harmAt, HarmedStream, Recovered}
@@ -133,11 +134,11 @@ module _ (inputs : List (List ℕ)) (g : All Input inputs) (bs : All Bytes input
             let f = kept-front n b in
             let e : take n (chunksOf 204 (packedBytes bits)) ≡ take n (chunksOf 204 (bytesRead k)) = ap (λ (x : List ℕ). take n (chunksOf 204 x)) bytes-read in
             let q : length (take n (chunksOf 204 (packedBytes bits))) ≡ n =
-            blocks-count harmed rate l c (k .points) (k .assumed .gathered) (sentBytes packets) bits (interleaved-bytes packets ws) unsure n (r .within) whole (r .wrong) in
+            blocks-count harmed rate l c (k .points) (k .assumed .gathered) (sentBytes packets) bits (bytes-sent packets ws) unsure n (r .within) whole (r .wrong) in
             let m : length packets ≡ length inputs = length-map inputs packetFor in
             let p = burst-promised packets ws 0 (take n (chunksOf 204 (packedBytes bits))) (omega (arith, q, m, whole, r .within, sent-length-is inputs g bs limit)) (omega (arith, q, m, whole, r .within, sent-length-is inputs g bs limit, limit))
-            (blocks-whole harmed rate l c (k .points) (k .assumed .gathered) (sentBytes packets) bits (interleaved-bytes packets ws) unsure n (r .within) whole (r .wrong))
-            (within-bursts harmed rate l c (k .points) (k .assumed .gathered) (sentBytes packets) bits (interleaved-bytes packets ws) unsure n (r .within) whole (r .wrong))
+            (blocks-whole harmed rate l c (k .points) (k .assumed .gathered) (sentBytes packets) bits (bytes-sent packets ws) unsure n (r .within) whole (r .wrong))
+            (within-bursts harmed rate l c (k .points) (k .assumed .gathered) (sentBytes packets) bits (bytes-sent packets ws) unsure n (r .within) whole (r .wrong))
             (take n (k .numbers)) (f .front) (f .middle)
             (subst (λ (x : List (List ℕ)). Kept freshReceiver x (take n (k .numbers)) (f .front) (f .middle)) (sym e) (f .kept)) in
             let z : length (take n (chunksOf 204 (packedBytes bits))) - 11 - 0 ≡ n - 11 = omega (arith, q) in

@@ -7,8 +7,8 @@ use native.Mathlib.Omega.{arith}
 use borrow.Rule.Slice.PartMut.{putMid}
 use lib.ListN.{length, take, drop, length-append, length-take, length-drop, drop-of-length-le}
 use lib.Seq.{length-take-le, take-length, take-append-le, take-at, take-add}
-use Rattle.reader_stream.specs.Packing.{carriedBits, Packs}
-use Rattle.reader_stream.proofs.Packing.{carried-length, packs-fit, packs-all, packs-none, packs-more}
+use Rattle.bit_packing.specs.Packing.{carriedBits, Packs}
+use Rattle.bit_packing.proofs.Packing.{carried-length, packs-fit, packs-all, packs-none, packs-more}
 use Rattle.convolutional_code.specs.Bits.{Bits, none}
 use Rattle.reader_stream.specs.Runs.{fullSymbols, keptBits, keptSymbols, DecidedCosts, few-costs, run-costs, RunsReady, FeedsSymbols, gathered, read, heldOf, Closes}
 use Rattle.reader_stream.specs.declared.symbol_runs.SymbolRuns.{SymbolRuns}

@@ -18,14 +18,14 @@ use Rattle.reader.proofs.Patterns.{memory-in-range}
 use Rattle.reader.proofs.Costs.{excess}
 use Rattle.reader.proofs.Reading.{decoded-as, read-as}
 use Rattle.reader.proofs.Streams.{take-bits}
-use Rattle.reader_stream.specs.Packing.{packedBytes, carriedBits}
+use Rattle.bit_packing.specs.Packing.{packedBytes, carriedBits}
 use Rattle.reader_stream.specs.Runs.{fullSymbols, keptSymbols, keptBits, Decided, few, run, DecidedCosts, few-costs, run-costs, Ended, heldOf, Closes}
 use Rattle.reader_stream.specs.Stream.{heldCosts, heldBits, FinishesReader}
 use Rattle.reader_stream.specs.History.{ReaderFeedings, none, feeding, CostsRead, SymbolsRead, SymbolsEnded}
 use Rattle.reader_stream.specs.declared.ReaderStream.{ReaderStream}
 use Rattle.reader_stream.specs.declared.Finished.{Finished}
-use Rattle.reader_stream.proofs.Bytes.{packed-few}
-use Rattle.reader_stream.proofs.Packing.{carried-length, packs-on}
+use Rattle.bit_packing.proofs.Bytes.{packed-few}
+use Rattle.bit_packing.proofs.Packing.{carried-length, packs-on}
 use Rattle.reader_stream.proofs.Costs.{costed-take, costed-drop}
 use Rattle.reader_stream.proofs.Runs.{numbers, held-length}
 

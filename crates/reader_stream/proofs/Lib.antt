@@ -1,5 +1,3 @@
-pub mod Bytes
-pub mod Packing
 pub mod Costs
 pub mod Runs
 mod Feeding

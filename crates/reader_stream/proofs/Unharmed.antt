@@ -26,7 +26,7 @@ use Rattle.reader.proofs.Costs.{sent-small}
 use Rattle.reader.proofs.Unharmed.{clear-length, clear-take, clear-drop, hard-clear, clear-best}
 use Rattle.reader.proofs.SoftLaws.{signalsI, signalsQ, noneLost, signals-clear}
 use Rattle.reader.proofs.Streams.{take-bits, drop-bits, symbols-divided, rest-few, fits, front-is, back-is, memory-append}
-use Rattle.reader_stream.specs.Packing.{packedBytes}
+use Rattle.bit_packing.specs.Packing.{packedBytes}
 use Rattle.reader_stream.specs.Runs.{keptPatterns, fullSymbols, keptSymbols, keptBits, Decided, few, run, Ended, ReadToEnd}
 use Rattle.reader_stream.specs.Stream.{FinishesReader}
 use Rattle.reader_stream.specs.History.{ReaderFeedings}

@@ -7,7 +7,7 @@ use Prim.Native.Nat.{ℕ, _%_}
 use lib.ListN.{length, take}
 use Rattle.common.specs.Lists.{restOf}
 use Rattle.reader.specs.Cost.{Costed}
-use Rattle.reader_stream.specs.Packing.{packedBytes}
+use Rattle.bit_packing.specs.Packing.{packedBytes}
 use Rattle.reader_stream.specs.Runs.{Decided, ReadToEnd, DecidedCosts}
 use Rattle.reader_stream.specs.Stream.{heldCosts, heldBits, ReaderReady, FreshReader, FeedsReader}
 use Rattle.reader_stream.specs.declared.ReaderStream.{ReaderStream}

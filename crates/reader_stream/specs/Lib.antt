@@ -1,4 +1,3 @@
-pub mod Packing
 pub mod Runs
 pub mod Stream
 pub mod History

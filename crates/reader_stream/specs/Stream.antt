@@ -5,7 +5,7 @@ use mathlib.Core.Path.{_≡_}
 use mathlib.Core.List.{List, [], _++_}
 use Prim.Native.Nat.{ℕ, _<_}
 use lib.ListN.{take}
-use Rattle.reader_stream.specs.Packing.{carriedBits, Packs}
+use Rattle.bit_packing.specs.Packing.{carriedBits, Packs}
 use Rattle.reader_stream.specs.Runs.{DecidedCosts, heldOf, RunsReady, RunsHold, Closes}
 use Rattle.reader_stream.specs.declared.ReaderStream.{ReaderStream}
 use Rattle.reader_stream.specs.declared.Finished.{Finished}

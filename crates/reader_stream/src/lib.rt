@@ -7,10 +7,9 @@ ghost use Prim.Native.Nat.{_+_, _*_, _<_, _≤_};
 ghost use lib.ListN.{length};
 ghost use Rattle.common.specs.Lists.{All};
 ghost use Rattle.reader_stream.specs.Stream.{ReaderReady, FreshReader, FeedsReader, FinishesReader};
-use crate::bit_packing::pack;
 use crate::symbol_runs::SymbolRuns;
+use bit_packing::pack;
 
-pub mod bit_packing;
 pub mod symbol_runs;
 
 // The runs in progress, and the bits that fill no byte yet, which are the last `held` of `carry`.

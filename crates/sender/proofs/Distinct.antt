@@ -2,30 +2,25 @@
 -- The bit is the lowest of byte 12, which the interleaver does not delay, and which every mode codes.
 -- Assumes nothing.
 use mathlib.Core.Path.{_≡_, refl, ap, sym, _∙_}
-use mathlib.Core.List.{List, [], _∷_, map}
+use mathlib.Core.List.{List, [], _∷_}
 use Prim.Native.Nat.{ℕ, zero, suc, _+_, _-_, _*_, _%_, _<_}
-use native.Mathlib.Nat.{not-suc-le-zero, le-of-suc-le-suc}
 use native.Mathlib.Omega.{arith}
-use borrow.Author.Tests.{le-ltb}
 use lib.Bits.{bitXor}
 use lib.ListN.{length, getD, drop, length-drop, List·getD-append}
 use Rattle.common.specs.Lists.{All, Length}
-use Rattle.common.proofs.Lists.{All-at, getD-map-in}
+use Rattle.common.proofs.Lists.{All-at}
 use Rattle.common.proofs.Xor.{xor-low, xor-undo}
-use Rattle.reed_solomon.specs.Encode.{checkBytes, encoded}
+use Rattle.reed_solomon.specs.Encode.{checkBytes}
 use Rattle.randomizer.specs.Prbs.{masks}
 use Rattle.randomizer.specs.Packet.{randomized}
-use Rattle.randomizer.specs.Stream.{randomizedFrom}
 use Rattle.randomizer.proofs.Xors.{getD-xors}
 use Rattle.randomizer.proofs.Laws.{length-masks, length-randomized}
-use Rattle.randomizer.proofs.Whole.{randomized-stream}
-use Rattle.interleaver.specs.declared.branches.Side.the-variants.{Sending}
-use Rattle.interleaver.specs.Stream.{earlier, interleaved}
-use Rattle.interleaver.proofs.Streams.{delayed-at}
+use Rattle.interleaver.specs.Stream.{interleaved}
 use Rattle.interleaver.proofs.BlockLists.{flatten-at}
 use Rattle.convolutional_code.specs.Bits.{bitsOf}
 use Rattle.sent_blocks.specs.Blocks.{codedBlocks, sentBytes, interleavedBlocks}
 use Rattle.sent_blocks.proofs.Lengths.{coded-count, interleaved-count, interleaved-whole}
+use Rattle.sent_blocks.proofs.Packets.{coded-at, not-delayed}
 
 -- ---- bits and bytes
 
@@ -39,29 +34,9 @@ low-bit (b ∷ bs) (suc i) =
 
 -- ---- blocks and packets
 
--- byte 12 is not delayed
-not-delayed : (blocks : List (List ℕ)) (b : ℕ) → b < length blocks → getD (getD (interleaved blocks) b []) 12 0 ≡ getD (getD blocks b []) 12 0
-unfolding earlier
-not-delayed blocks b h =
-    let e : b - 0 ≡ b = omega arith in
-    delayed-at Sending blocks b 12 h (omega arith) ∙ rw (le-ltb b 0 (omega arith)) (ap (λ (i : ℕ). getD (getD blocks i []) 12 0) e)
-
-length-from : (n : ℕ) (ps : List (List ℕ)) → length (randomizedFrom n ps) ≡ length ps
-unfolding randomizedFrom
-length-from n [] = refl
-length-from n (p ∷ ps) = ap suc (length-from (n + 1) ps)
-
-randomized-at : (n : ℕ) (ps : List (List ℕ)) (b : ℕ) → b < length ps → getD (randomizedFrom n ps) b [] ≡ randomized ((n + b) % 8) (getD ps b [])
-unfolding randomizedFrom
-randomized-at n [] b h = absurd (not-suc-le-zero h)
-randomized-at n (p ∷ ps) zero h = let e : n % 8 ≡ (n + 0) % 8 = omega arith in ap (λ (k : ℕ). randomized k p) e
-randomized-at n (p ∷ ps) (suc b) h =
-    let e : (n + 1 + b) % 8 ≡ (n + suc b) % 8 = omega arith in
-    randomized-at (n + 1) ps b (le-of-suc-le-suc h) ∙ ap (λ (k : ℕ). randomized k (getD ps b [])) e
-
 -- what byte 12 of a packet is xored with
 mask : ℕ → ℕ
-mask b = getD (drop (188 * ((0 + b) % 8)) masks) 12 0
+mask b = getD (drop (188 * (b % 8)) masks) 12 0
 
 module _ (ps : List (List ℕ)) (g : All (Length 188) ps) (b : ℕ) (h : b < length ps) where
   size : length (getD ps b []) ≡ 188
@@ -71,21 +46,19 @@ module _ (ps : List (List ℕ)) (g : All (Length 188) ps) (b : ℕ) (h : b < len
   unfolding mask randomized
   coded-byte =
       let p = getD ps b [] in
-      let m = randomized ((0 + b) % 8) p in
-      let n : length m ≡ 188 = length-randomized ((0 + b) % 8) p (omega arith) size in
-      ap (λ (l : List (List ℕ)). getD (getD (map encoded l) b []) 12 0) (sym (randomized-stream ps g))
-      ∙ ap (λ (l : List ℕ). getD l 12 0)
-      (getD-map-in encoded (randomizedFrom 0 ps) [] [] b (omega (arith, length-from 0 ps)) ∙ ap encoded (randomized-at 0 ps b h))
+      let m = randomized (b % 8) p in
+      let n : length m ≡ 188 = length-randomized (b % 8) p (omega arith) size in
+      ap (λ (l : List ℕ). getD l 12 0) (coded-at ps g b h)
       ∙ List·getD-append m (checkBytes m) 0 12 (omega arith)
-      ∙ getD-xors p (drop (188 * ((0 + b) % 8)) masks) 12 (omega (arith, size))
-      (omega (arith, length-drop (188 * ((0 + b) % 8)) masks, length-masks))
+      ∙ getD-xors p (drop (188 * (b % 8)) masks) 12 (omega (arith, size))
+      (omega (arith, length-drop (188 * (b % 8)) masks, length-masks))
 
   -- the lowest bit of byte 12 of packet b, as it is sent
   sent-low : getD (sentBytes ps) (204 * b + 12) 0 % 2 ≡ bitXor (getD (getD ps b []) 12 0) (mask b) % 2
   sent-low =
       ap (λ (x : ℕ). x % 2)
       (flatten-at (interleavedBlocks ps) (interleaved-whole ps) b 12 (omega (arith, interleaved-count ps)) (omega arith)
-      ∙ not-delayed (codedBlocks ps) b (omega (arith, coded-count ps))
+      ∙ not-delayed (codedBlocks ps) b 12 (omega (arith, coded-count ps)) (omega arith) refl
       ∙ coded-byte)
 
 -- two lists that send the same bit there agree in it

@@ -1,8 +1,9 @@
 -- `losses::take_part` meets its contract.
 -- Assumes nothing.
 use mathlib.Core.Path.{_≡_, refl}
+use Prim.Native.Nat.{ℕ}
 use native.Mathlib.Omega.{arith}
-use lib.ListN.{length}
+use lib.ListN.{length, length-replicate}
 use Rattle.losses.proofs.Blocks.{part-kept, part-whole}
 use borrow.Author.Needs.{needs}
 use Rattle.losses.proofs.take_part.Statement.{statement}
@@ -45,18 +46,21 @@ slice-aggregate-take-block c = search needs
 slice-aggregate-take-block-2 : tie.Need-slice-aggregate-take-block-2
 slice-aggregate-take-block-2 c = search needs
 
+slice-aggregate-take-block-3 : tie.Need-slice-aggregate-take-block-3
+slice-aggregate-take-block-3 c = search needs
+
 take-block-requires : tie.Need-take-block-requires
 take-block-requires c κs =
-    let s = c .before .before .before .before .before .before .before .before .before .before .before .before .before .before .before .before in
-    (s .pre .watched, omega (arith, s .pre .enough, c .before .before .before .if1 .left))
+    let s = c .before .before .before .before .before .before .before .before .before .before .before .before .before .before .before .before .before in
+    (s .pre .watched, omega (arith, s .pre .enough, c .before .before .before .before .if1 .left), omega (arith, length-replicate {A = ℕ} 188 0))
 
 same-length : tie.Need-same-length
 same-length c = search needs
 
 returns-2 : tie.Need-returns-2
 returns-2 c =
-    let s = c .before .before .before .before .before .before .before .before .before .before .before .before .before .before .before .before .before .before .before .before in
-    part-whole (s .args .stream) (size s) (many s) (s .pre) (c .before .before .before .before .before .before .before .before .before .before .before .before .put .ensures) (c .before .before .before .before .before .before .before .before .before .put2 .ensures) (omega (arith, c .before .before .before .before .before .before .before .if1 .left)) (c .before .before .before .take-block .ensures)
+    let s = c .before .before .before .before .before .before .before .before .before .before .before .before .before .before .before .before .before .before .before .before .before .before in
+    part-whole (s .args .stream) (size s) (many s) (s .pre) (c .before .before .before .before .before .before .before .before .before .before .before .before .before .before .put .ensures) (c .before .before .before .before .before .before .before .before .before .before .before .put2 .ensures) (omega (arith, c .before .before .before .before .before .before .before .before .before .if1 .left)) (c .before .before .before .before .take-block .ensures)
 
 pub take-part-spec : {M : Type 1} → statement M
 take-part-spec =
@@ -70,6 +74,7 @@ take-part-spec =
     returns
     slice-aggregate-take-block
     slice-aggregate-take-block-2
+    slice-aggregate-take-block-3
     take-block-requires
     same-length
     returns-2)

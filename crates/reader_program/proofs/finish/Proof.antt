@@ -5,7 +5,7 @@ use Prim.Native.Nat.{_≤_}
 use native.Mathlib.Omega.{arith}
 use lib.ListN.{length}
 use lib.Seq.{length-take-le}
-use Rattle.reader_stream.proofs.Packing.{packs-fit}
+use Rattle.bit_packing.proofs.Packing.{packs-fit}
 use Rattle.reader_program.specs.Ends.{input-failed, output-failed, errors-failed, whole, part}
 use Rattle.received_symbols.proofs.Pieces.{taken-ready}
 use Rattle.reader_program.proofs.Going.{files-written, files-told}

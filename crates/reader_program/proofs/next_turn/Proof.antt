@@ -6,7 +6,7 @@ use Prim.Native.Nat.{ℕ, _+_, _-_, _≤_}
 use native.Mathlib.Omega.{arith}
 use lib.ListN.{length, take, drop, length-take, length-drop}
 use lib.Seq.{length-take-le}
-use Rattle.reader_stream.proofs.Packing.{packs-fit}
+use Rattle.bit_packing.proofs.Packing.{packs-fit}
 use Rattle.received_symbols.specs.Pass.{TakesBytes}
 use Rattle.reader_program.proofs.Turning.{few-held, most-few, most-some, joined-part, room}
 use borrow.Author.Needs.{needs}

@@ -8,7 +8,7 @@ use borrow.Rule.Slice.PartMut.{same-len-mid}
 use lib.ListN.{length, drop}
 use lib.Seq.{length-take-le}
 use Rattle.reader_stream.proofs.Runs.{all-take, all-drop}
-use Rattle.reader_stream.proofs.Packing.{packs-fit}
+use Rattle.bit_packing.proofs.Packing.{packs-fit}
 use Rattle.reader_stream.proofs.Feeding.{Feeding, feeding-none, fed-some, pack-fits, feeding-more, count-fits, feeding-all}
 use Rattle.reader_stream.proofs.ReaderStream.feed.Statement.{statement}
 use Rattle.reader_stream.proofs.ReaderStream.feed.Tie as tie

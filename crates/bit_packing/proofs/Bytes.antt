@@ -9,12 +9,12 @@ use lib.ListN.{length, take, length-map}
 use Rattle.common.specs.Lists.{All, Bytes, Length, chunksOf, restOf}
 use Rattle.common.proofs.Chunks.{length-chunks, chunks-few, cut, chunks-back}
 use Rattle.convolutional_code.specs.Bits.{bitsOf}
-use Rattle.reader_stream.specs.Packing.{byteOf, packedBytes}
+use Rattle.bit_packing.specs.Packing.{byteOf, packedBytes}
 
 -- ---- the bits of bytes
 
 -- a byte is the number that its bits make
-digits : (b : ℕ) → b < 256
+pub digits : (b : ℕ) → b < 256
     → 128 * (b / 128 % 2) + 64 * (b / 64 % 2) + 32 * (b / 32 % 2) + 16 * (b / 16 % 2) + 8 * (b / 8 % 2) + 4 * (b / 4 % 2) + 2 * (b / 2 % 2) + b % 2 ≡ b
 digits b h =
     let h7 : b / 128 % 2 ≡ b / 128 = omega arith in

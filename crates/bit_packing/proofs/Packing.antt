@@ -12,8 +12,8 @@ use Rattle.common.specs.Lists.{restOf}
 use Rattle.common.proofs.Chunks.{length-rest, rest-few, cut}
 use Rattle.convolutional_code.specs.Bits.{bitsOf}
 use Rattle.convolutional_code.proofs.Bits.{length-bits}
-use Rattle.reader_stream.specs.Packing.{packedBytes, carriedBits, Packs}
-use Rattle.reader_stream.proofs.Bytes.{length-bytes, bytes-back, packed-few, packed-pieces}
+use Rattle.bit_packing.specs.Packing.{packedBytes, carriedBits, Packs}
+use Rattle.bit_packing.proofs.Bytes.{length-bytes, bytes-back, packed-few, packed-pieces}
 
 -- ---- the bits that are carried
 

@@ -1,8 +1,9 @@
 // Bits packed into bytes, eight to a byte, the first on top. They come in pieces, and those that fill no byte yet are carried from one call to the next.
+// Inner: its functions may require what the crates above have tested. docs/ARCHITECTURE.md names the public surface.
 ghost use Prim.Native.Nat.{_+_, _*_, _<_};
 ghost use lib.ListN.{length};
 ghost use Rattle.convolutional_code.specs.Bits.{Bits};
-ghost use Rattle.reader_stream.specs.Packing.{carriedBits, Packs};
+ghost use Rattle.bit_packing.specs.Packing.{carriedBits, Packs};
 
 // The bits that fill no byte yet, which are the last `held` of `carry`, and how many bytes were packed.
 pub struct Packed {

@@ -1,4 +1,4 @@
--- `reader_stream::bit_packing::pack` meets its contract.
+-- `bit_packing::pack` meets its contract.
 -- Assumes nothing.
 use mathlib.Core.Path.{_≡_, refl, ap, _∙_}
 use mathlib.Core.Logic.{⊎-elim}
@@ -6,10 +6,10 @@ use Prim.Native.Nat.{_-_}
 use native.Mathlib.Omega.{arith}
 use lib.ListN.{length, length-set}
 use Rattle.convolutional_code.proofs.Bits.{bits-at}
-use Rattle.reader_stream.specs.Packing.{carriedBits}
-use Rattle.reader_stream.proofs.Packing.{Packing, carried-length, packing-start, packing-held, packing-whole, packing-as, packing-done}
-use Rattle.reader_stream.proofs.bit_packing.pack.Statement.{statement}
-use Rattle.reader_stream.proofs.bit_packing.pack.Tie as tie
+use Rattle.bit_packing.specs.Packing.{carriedBits}
+use Rattle.bit_packing.proofs.Packing.{Packing, carried-length, packing-start, packing-held, packing-whole, packing-as, packing-done}
+use Rattle.bit_packing.proofs.pack.Statement.{statement}
+use Rattle.bit_packing.proofs.pack.Tie as tie
 
 abbrev Inv-loop : tie.InvT-loop
 Inv-loop carry held bits output₀ byte₀ n₀ k₀ i₀ output byte n k i = (Packing (carriedBits carry held) bits output₀ output byte n k i) × (length output ≡ length output₀)

@@ -1,0 +1,30 @@
+-- The bits of a sender's blocks from one of them on, straight or all inverted, and what the aligner gives of them.
+-- Clauses: EN 300 421, 4.4.1 to 4.4.3 (source document 002).
+-- Assumes nothing.
+use mathlib.Core.Path.{_≡_}
+use mathlib.Core.Bool.{Bool}
+use mathlib.Core.List.{List, flatten}
+use Prim.Native.Nat.{ℕ}
+use lib.ListN.{length, drop}
+use Rattle.convolutional_code.specs.Bits.{bitsOf}
+use Rattle.sent_blocks.specs.Blocks.{interleavedBlocks}
+use Rattle.block_sync.specs.Decision.{turnedBits}
+use Rattle.block_sync.specs.Grid.{begun}
+use Rattle.block_sync.specs.History.{GivenBlock}
+use Rattle.block_sync.specs.declared.BlockSync.{BlockSync}
+
+-- the bits of the blocks from block b on, as they come
+abbrev pub bitsFrom : Bool → ℕ → List (List ℕ) → List ℕ
+bitsFrom inverted b packets = turnedBits inverted (bitsOf (flatten (drop b (interleavedBlocks packets))))
+
+-- These blocks are given, in order, the first as one that begins anew and the others as following; no bit is skipped, none is left.
+pub record GivesSent (packets : List (List ℕ)) (b : ℕ) (given : List GivenBlock) (skipped : ℕ) (t : BlockSync) : Type 0 where
+  pub blocks : given ≡ begun (drop b (interleavedBlocks packets))
+  pub skips : skipped ≡ 0
+  pub none-left : t .held ≡ 0
+
+-- The same after other bits, all of which are skipped.
+pub record GivesSentAfter (packets : List (List ℕ)) (b : ℕ) (before : List ℕ) (given : List GivenBlock) (skipped : ℕ) (t : BlockSync) : Type 0 where
+  pub blocks : given ≡ begun (drop b (interleavedBlocks packets))
+  pub skips : skipped ≡ length before
+  pub none-left : t .held ≡ 0
