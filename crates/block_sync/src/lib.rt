@@ -4,7 +4,6 @@ ghost use mathlib.Core.Path.{_≡_};
 ghost use mathlib.Core.List.{_++_};
 ghost use Prim.Native.Nat.{_+_, _-_, _≤_, _<_};
 ghost use lib.ListN.{length, take, drop};
-ghost use Rattle.common.specs.Choice.{pick};
 ghost use Rattle.common.specs.Lists.{padded};
 ghost use Rattle.block_sync.specs.Decision.{isSync, syncOrEnd, inStep, polarityAt, keeps, turnedBit, turnedBits, blockOf, Decides, usedBits, blockGiven};
 ghost use Rattle.block_sync.specs.Feed.{freshBlockSync, idleStep, TurnsBuffer, FeedsSync, FinishesSync};

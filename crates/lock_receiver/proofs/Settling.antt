@@ -11,10 +11,10 @@ use lib.Seq.{take-at, drop-at, take-add, drop-drop, length-take-le}
 use Rattle.common.specs.Lists.{chunks}
 use Rattle.common.proofs.Chunks.{length-first}
 use Rattle.interleaver.proofs.BlockLists.{flatten-join}
-use Rattle.losses.specs.Watch.{waitingOf}
+use Rattle.losses.specs.Watch.{waitingOf, isSure}
 use Rattle.losses.specs.declared.Certainty.{Certainty}
 use Rattle.losses.specs.declared.Certainty.the-variants.{Sure, Unsure}
-use Rattle.lock_receiver.specs.Take.{isSure, WritesPackets, Settles}
+use Rattle.lock_receiver.specs.Take.{WritesPackets, Settles}
 
 -- ---- packets in an array
 

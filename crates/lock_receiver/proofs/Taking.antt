@@ -1,9 +1,9 @@
 -- One block: what the step of the list of losses and what is settled of the packets come to.
 -- Assumes nothing.
-use mathlib.Core.Path.{_≡_, sym, ap, ap₂, subst, subst₂, _∙_}
-use mathlib.Core.Bool.{Bool, true, false}
+use mathlib.Core.Path.{_≡_, sym, ap, ap₂, subst, _∙_}
+use mathlib.Core.Bool.{Bool, false}
 use mathlib.Core.List.{List}
-use Prim.Native.Nat.{ℕ, _+_, _≤_, _<_}
+use Prim.Native.Nat.{ℕ, _≤_, _<_}
 use native.Mathlib.Decide.{decLt}
 use native.Mathlib.Omega.{arith}
 use borrow.Author.Tests.{eq-eqb, ne-eqb, lt-ltb, le-ltb}
@@ -14,8 +14,6 @@ use Rattle.common.specs.Lists.{chunks}
 use Rattle.answer.specs.Number.{numberOf}
 use Rattle.reed_solomon.specs.Marks.{areMarks, noMarks}
 use Rattle.reed_solomon.proofs.Marks.{are-marks-none}
-use Rattle.group_sync.specs.declared.GroupStep.{GroupStep}
-use Rattle.reception_counts.specs.Counts.{outcomeNumber}
 use Rattle.receiver.specs.Receive.{Ready}
 use Rattle.receiver.specs.Run.{Call, answerOf, afterCall, outputOf}
 use Rattle.receiver.specs.declared.Receiver.{Receiver}
@@ -24,7 +22,7 @@ use Rattle.losses.specs.Watch.{waitingOf, startDueAt, startedAt, oneMore, certa
 use Rattle.losses.specs.Feed.{Writes}
 use Rattle.losses.specs.Block as losses
 use Rattle.losses.specs.declared.Certainty.{Certainty}
-use Rattle.losses.specs.declared.Certainty.the-variants.{Sure, Unsure}
+use Rattle.losses.specs.declared.Certainty.the-variants.{Unsure}
 use Rattle.losses.proofs.Decisions.{range-fits, most-seven}
 use Rattle.losses.proofs.Watching.{watched-call, more-waiting}
 use Rattle.lock_receiver.specs.Take.{waitingPackets, givenNow, heldNext, WritesPackets, Settles, LockReady, TakesOne}
@@ -110,6 +108,7 @@ module _ (v : LockReceiver) {block output lines room packet linesExit : List ℕ
       decodes = t .decodes;
       output-fits = t .output-fits;
       answered = n ∙ t .answered;
+      packet-size = ap length (sym packet-is) ∙ whole;
       state = ap (λ (x : LockReceiver). x .receiver) l ∙ t .state;
       certainty = ap (λ (x : LockReceiver). x .certainty) l ∙ t .certainty;
       waits =

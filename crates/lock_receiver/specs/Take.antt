@@ -19,10 +19,10 @@ use Rattle.reed_solomon.specs.Marks.{DecodesMarked}
 use Rattle.receiver.specs.Receive.{freshReceiver, receiverInRange, delayedBlock, delayedMarks}
 use Rattle.receiver.specs.Run.{Call, answerOf, afterCall, outputOf, Plain, OutputFits}
 use Rattle.receiver.specs.declared.Receiver.{Receiver}
-use Rattle.losses.specs.Watch.{waitingOf, waitingLines, startDueAt, startedAt, certaintyNext, certaintyInRange, callLines, certaintyAfter}
+use Rattle.losses.specs.Watch.{waitingOf, isSure, waitingLines, startDueAt, startedAt, certaintyNext, certaintyInRange, callLines, certaintyAfter}
 use Rattle.losses.specs.Feed.{Writes}
 use Rattle.losses.specs.declared.Certainty.{Certainty}
-use Rattle.losses.specs.declared.Certainty.the-variants.{Sure, Unsure}
+use Rattle.losses.specs.declared.Certainty.the-variants.{Unsure}
 use Rattle.lock_receiver.specs.declared.LockReceiver.{LockReceiver}
 use Rattle.lock_receiver.specs.declared.LockStep.{LockStep}
 
@@ -41,11 +41,6 @@ abbrev pub lockInRange : LockReceiver → Bool
 lockInRange v = pick (receiverInRange (v .receiver)) (certaintyInRange (v .certainty) (v .receiver .sync .place) (v .receiver .counts .taken)) false
 
 -- ---- what a block decides
-
--- B8 fixed the place, and every block since was given
-abbrev pub isSure : Certainty → Bool
-isSure Sure = true
-isSure (Unsure n) = false
 
 -- the packets that are given, by the number of the block's answer, whether B8 was due and whether it came
 abbrev pub givenNow : Certainty → ℕ → Bool → Bool → List (List ℕ) → List ℕ → List (List ℕ)
@@ -84,6 +79,7 @@ pub record TakesOne (v : LockReceiver) (block output lines : List ℕ) (r : Lock
   pub decodes : DecodesMarked (delayedMarks (v .receiver) (call .marks)) (delayedBlock (v .receiver) (call .block)) (call .left) (call .decoded)
   pub output-fits : OutputFits call
   pub answered : numberOf (r .answer) ≡ answerOf (v .receiver) call
+  pub packet-size : length (take 188 (outputOf (v .receiver) call)) ≡ 188
   pub state : r .lock .receiver ≡ afterCall (v .receiver) call
   pub certainty : r .lock .certainty ≡ certaintyAfter (v .receiver) (v .certainty) call
   pub waits : waitingPackets (r .lock) ≡ callHeld (v .receiver) (v .certainty) (waitingPackets v) call

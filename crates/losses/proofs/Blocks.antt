@@ -27,21 +27,21 @@ use Rattle.losses.proofs.Decisions.{writes-none}
 
 -- ---- calls after calls
 
-after-both : (s : Receiver) (a b : List Call) → afterCalls s (a ++ b) ≡ afterCalls (afterCalls s a) b
+pub after-both : (s : Receiver) (a b : List Call) → afterCalls s (a ++ b) ≡ afterCalls (afterCalls s a) b
 after-both s [] b = refl
 after-both s (c ∷ a) b = after-both (afterCall s c) a b
 
-decodes-both : (s : Receiver) (a b : List Call) → DecodedCalls s a → DecodedCalls (afterCalls s a) b → DecodedCalls s (a ++ b)
+pub decodes-both : (s : Receiver) (a b : List Call) → DecodedCalls s a → DecodedCalls (afterCalls s a) b → DecodedCalls s (a ++ b)
 decodes-both s [] b p q = q
 decodes-both s (c ∷ a) b p q = (p .0, decodes-both (afterCall s c) a b (p .1) q)
 
-lines-both : (s : Receiver) (k : Certainty) (a b : List Call) → linesOf s k (a ++ b) ≡ linesOf s k a ++ linesOf (afterCalls s a) (certaintyOf s k a) b
+pub lines-both : (s : Receiver) (k : Certainty) (a b : List Call) → linesOf s k (a ++ b) ≡ linesOf s k a ++ linesOf (afterCalls s a) (certaintyOf s k a) b
 lines-both s k [] b = refl
 lines-both s k (c ∷ a) b =
     ap (λ (l : List ℕ). callLines s k c ++ l) (lines-both (afterCall s c) (certaintyAfter s k c) a b)
     ∙ sym (append-assoc (callLines s k c) (linesOf (afterCall s c) (certaintyAfter s k c) a) (linesOf (afterCalls (afterCall s c) a) (certaintyOf (afterCall s c) (certaintyAfter s k c) a) b))
 
-certainty-both : (s : Receiver) (k : Certainty) (a b : List Call) → certaintyOf s k (a ++ b) ≡ certaintyOf (afterCalls s a) (certaintyOf s k a) b
+pub certainty-both : (s : Receiver) (k : Certainty) (a b : List Call) → certaintyOf s k (a ++ b) ≡ certaintyOf (afterCalls s a) (certaintyOf s k a) b
 certainty-both s k [] b = refl
 certainty-both s k (c ∷ a) b = certainty-both (afterCall s c) (certaintyAfter s k c) a b
 

@@ -46,27 +46,27 @@ use Rattle.losses.proofs.Streams.{stream-in-range, fit-count, fit-small
 -- ---- the calls by group synchronization
 
 module _ (s : Receiver) (k : Certainty) (c : Call) (cs : List Call) (u : Unrefused s (c ∷ cs)) where
-  ready : Ready s (c .block) (c .marks) (c .output)
+  pub ready : Ready s (c .block) (c .marks) (c .output)
   ready = record { range = sound-range s (u .sound); size = u .sizes .0; marked = u .marked .0; enough = u .outputs .0; more = let m = u .most in omega arith }
 
   state-is : afterCall s c ≡ stateAfter s (c .block) (c .marks) (c .left) (c .decoded)
   state-is = ready-state s (c .block) (c .marks) (c .output) ready (c .left) (c .decoded)
 
   module _ (h : 11 ≤ s .counts .taken) where
-    abbrev made : GroupStep
+    abbrev pub made : GroupStep
     made = groupStep (s .sync) (decodingOf (c .decoded) (getD (c .left) 0 0))
 
     step-is : stepOf s (c .left) (c .decoded) ≡ made
     step-is = ap (λ (t : Bool). pick t (record { outcome = Filling; sync = s .sync }) made) (le-ltb _ _ h)
 
-    sync-is : afterCall s c .sync ≡ made .sync
+    pub sync-is : afterCall s c .sync ≡ made .sync
     unfolding stateAfter
     sync-is = ap (λ (r : Receiver). r .sync) state-is ∙ ap (λ (x : GroupStep). x .sync) step-is
 
-    number-is : answerOf s c ≡ outcomeNumber (made .outcome)
+    pub number-is : answerOf s c ≡ outcomeNumber (made .outcome)
     number-is = ready-number s (c .block) (c .marks) (c .output) ready (c .left) (c .decoded) ∙ ap (λ (x : GroupStep). outcomeNumber (x .outcome)) step-is
 
-    started-is : startedAt (afterCall s c .sync .place) ≡ startedAt (made .sync .place)
+    pub started-is : startedAt (afterCall s c .sync .place) ≡ startedAt (made .sync .place)
     started-is = ap (λ (x : GroupSync). startedAt (x .place)) sync-is
 
     lines-are : callLines s k c ≡ linesNow k (s .counts .taken - 11) (outcomeNumber (made .outcome)) (startDueAt (s .sync .place)) (startedAt (made .sync .place))
@@ -74,7 +74,7 @@ module _ (s : Receiver) (k : Certainty) (c : Call) (cs : List Call) (u : Unrefus
         ap (λ (t : Bool). pick t [] (linesNow k (s .counts .taken - 11) (answerOf s c) (startDueAt (s .sync .place)) (startedAt (afterCall s c .sync .place)))) (le-ltb _ _ h)
         ∙ ap₂ (λ (n : ℕ) (t : Bool). linesNow k (s .counts .taken - 11) n (startDueAt (s .sync .place)) t) number-is started-is
 
-    certainty-is : certaintyAfter s k c ≡ certaintyNext k (outcomeNumber (made .outcome)) (startedAt (made .sync .place))
+    pub certainty-is : certaintyAfter s k c ≡ certaintyNext k (outcomeNumber (made .outcome)) (startedAt (made .sync .place))
     certainty-is =
         ap (λ (t : Bool). pick t k (certaintyNext k (answerOf s c) (startedAt (afterCall s c .sync .place)))) (le-ltb _ _ h)
         ∙ ap₂ (λ (n : ℕ) (t : Bool). certaintyNext k n t) number-is started-is
@@ -84,10 +84,10 @@ module _ (s : Receiver) (k : Certainty) (c : Call) (cs : List Call) (u : Unrefus
     none-lines =
         ap (λ (t : Bool). pick t [] (linesNow k (s .counts .taken - 11) (answerOf s c) (startDueAt (s .sync .place)) (startedAt (afterCall s c .sync .place)))) (lt-ltb _ _ h)
 
-    none-changed : certaintyAfter s k c ≡ k
+    pub none-changed : certaintyAfter s k c ≡ k
     none-changed = ap (λ (t : Bool). pick t k (certaintyNext k (answerOf s c) (startedAt (afterCall s c .sync .place)))) (lt-ltb _ _ h)
 
-    sync-kept : afterCall s c .sync ≡ s .sync
+    pub sync-kept : afterCall s c .sync ≡ s .sync
     unfolding stateAfter
     sync-kept =
         ap (λ (r : Receiver). r .sync) state-is
@@ -181,7 +181,7 @@ module _ {bytes marks : List ℕ} {cs : List Call} (on : CallsOn freshReceiver b
     decodes = on .decodes;
   }
 
-taken-all : (cs : List Call) (s : Receiver) → Unrefused s cs → afterCalls s cs .counts .taken ≡ s .counts .taken + length cs
+pub taken-all : (cs : List Call) (s : Receiver) → Unrefused s cs → afterCalls s cs .counts .taken ≡ s .counts .taken + length cs
 taken-all [] s u = omega arith
 taken-all (c ∷ cs) s u = omega (arith, taken-all cs (afterCall s c) (next-unrefused s c cs u), taken-after s c cs u)
 

@@ -24,7 +24,7 @@ use Rattle.group_sync.specs.declared.GroupStep.{GroupStep}
 use Rattle.group_sync.proofs.Synchronization.{sync-in-range}
 use Rattle.reception_counts.specs.Counts.{outcomeNumber}
 use Rattle.losses.specs.List.{line, confirmed, linesFrom, doubts}
-use Rattle.losses.specs.Watch.{waitingOf, startDueAt, startedAt, waitingLines, linesNow, oneMore, certaintyNext, mostWaiting}
+use Rattle.losses.specs.Watch.{waitingOf, isSure, startDueAt, startedAt, waitingLines, linesNow, oneMore, certaintyNext, mostWaiting}
 use Rattle.losses.specs.declared.Certainty.{Certainty}
 use Rattle.losses.specs.declared.Certainty.the-variants.{Sure, Unsure}
 use Rattle.losses.proofs.Steps.{NotGiven, Stepped, passed, starts, follows, stepped}
@@ -73,11 +73,7 @@ pub record Fits (k : Certainty) (place : Place) (block : ℕ) : Type 0 where
   pub by-place : waitingOf k ≤ mostWaiting place
   pub by-block : waitingOf k ≤ block
 
-abbrev sureOf : Certainty → Bool
-sureOf Sure = true
-sureOf (Unsure n) = false
-
-abbrev dueOf : Place → ℕ
+abbrev pub dueOf : Place → ℕ
 dueOf NotKnown = 1
 dueOf (Known p) = p
 
@@ -88,13 +84,13 @@ openLines place k block os = pick (confirmed (dueOf place) os) [] (waitingLines 
 -- ---- what they mean
 
 abbrev Means : GroupSync → Certainty → ℕ → List BlockDecoding → Type 0
-Means s k block ds = allLines s k block ds ≡ openLines (s .place) k block (outcomes s ds) ++ linesFrom block (sureOf k) (outcomes s ds)
+Means s k block ds = allLines s k block ds ≡ openLines (s .place) k block (outcomes s ds) ++ linesFrom block (isSure k) (outcomes s ds)
 
 none-open : (t : Bool) (rest : List ℕ) → pick t [] [] ++ rest ≡ rest
 none-open true rest = refl
 none-open false rest = refl
 
-due-is : (place : Place) → startDueAt place ≡ eqb (dueOf place) 0
+pub due-is : (place : Place) → startDueAt place ≡ eqb (dueOf place) 0
 due-is NotKnown = refl
 due-is (Known p) = refl
 
@@ -115,8 +111,8 @@ open-more block n h false rest =
 
 -- a packet that is given at the place that is known
 follow : (k : Certainty) (place : Place) (p block : ℕ) (os : List Outcome) → 0 < p → waitingOf k ≤ block
-    → openLines (Known (placeAfter p)) (oneMore k) (block + 1) os ++ linesFrom (block + 1) (sureOf (oneMore k)) os
-    ≡ openLines place k block (Delivered p ∷ os) ++ linesFrom block (sureOf k) (Delivered p ∷ os)
+    → openLines (Known (placeAfter p)) (oneMore k) (block + 1) os ++ linesFrom (block + 1) (isSure (oneMore k)) os
+    ≡ openLines place k block (Delivered p ∷ os) ++ linesFrom block (isSure k) (Delivered p ∷ os)
 follow Sure place p block os h m = simp (ne-eqb p 0 (λ e. omega arith)) refl
 follow (Unsure n) place p block os h m = simp (ne-eqb p 0 (λ e. omega arith)) (open-more block n m (confirmed (placeAfter p) os) (linesFrom (block + 1) false os))
 
@@ -142,15 +138,15 @@ module _ (s : GroupSync) (k : Certainty) (block : ℕ) (ds : List BlockDecoding)
   abbrev Step : GroupStep → Type 0
   Step g =
       stepLines (s .place) k block g ++ allLines (g .sync) (stepCertainty k g) (block + 1) ds
-      ≡ openLines (s .place) k block (g .outcome ∷ outcomes (g .sync) ds) ++ linesFrom block (sureOf k) (g .outcome ∷ outcomes (g .sync) ds)
+      ≡ openLines (s .place) k block (g .outcome ∷ outcomes (g .sync) ds) ++ linesFrom block (isSure k) (g .outcome ∷ outcomes (g .sync) ds)
 
   -- nothing waits behind a block that was not given, or that begins a group
   none-waits : (x : GroupSync) (m : Certainty) → waitingOf m ≡ 0 → syncInRange x ≡ true
-      → allLines x m (block + 1) ds ≡ linesFrom (block + 1) (sureOf m) (outcomes x ds)
+      → allLines x m (block + 1) ds ≡ linesFrom (block + 1) (isSure m) (outcomes x ds)
   none-waits x m z l =
       ih x m (record { by-place = omega arith; by-block = omega arith }) l
-      ∙ ap (λ (w : ℕ). pick (confirmed (dueOf (x .place)) (outcomes x ds)) [] (doubts (block + 1 - w) w) ++ linesFrom (block + 1) (sureOf m) (outcomes x ds)) z
-      ∙ none-open (confirmed (dueOf (x .place)) (outcomes x ds)) (linesFrom (block + 1) (sureOf m) (outcomes x ds))
+      ∙ ap (λ (w : ℕ). pick (confirmed (dueOf (x .place)) (outcomes x ds)) [] (doubts (block + 1 - w) w) ++ linesFrom (block + 1) (isSure m) (outcomes x ds)) z
+      ∙ none-open (confirmed (dueOf (x .place)) (outcomes x ds)) (linesFrom (block + 1) (isSure m) (outcomes x ds))
 
   passed-lines : (number : ℕ) (x : GroupSync) → syncInRange x ≡ true
       → (waitingLines k block ++ line block number ∷ []) ++ allLines x (Unsure 0) (block + 1) ds

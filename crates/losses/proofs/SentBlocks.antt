@@ -179,7 +179,7 @@ module _ {bytes lines : List ℕ} (l : Listed bytes (unmarked bytes) lines) (pac
           number-apart : Lost ≡ Delivered place → ⊥
           number-apart f = let n = ap outcomeNumber f in omega arith
 
-  stretches : Stretches packets at (l .calls)
+  pub stretches : Stretches packets at (l .calls)
   stretches = record {
     sent = λ block place e.
         let h = came-whole block place e in

@@ -54,12 +54,12 @@ every-block (o ∷ os) block sure (suc i) h =
     (every-block os (block + 1) (sureAfter sure o) i (omega arith))
 
 -- every line is that of a block
-record LineIn (block : ℕ) (os : List Outcome) (l : ℕ) : Type 0 where
+pub record LineIn (block : ℕ) (os : List Outcome) (l : ℕ) : Type 0 where
   pub index : ℕ
   pub within : index < length os
   pub is : l ≡ line (block + index) (numberAt os index)
 
-in-either : (x : ℕ) (a b : List ℕ) → In x (a ++ b) → In x a ⊎ In x b
+pub in-either : (x : ℕ) (a b : List ℕ) → In x (a ++ b) → In x a ⊎ In x b
 in-either x [] b h = inr h
 in-either x (y ∷ a) b (inl e) = inl (inl e)
 in-either x (y ∷ a) b (inr h) = by (in-either x a b h)
@@ -72,7 +72,7 @@ only-line : (l v : ℕ) → In l (v ∷ []) → l ≡ v
 only-line l v (inl e) = e
 only-line l v (inr h) = absurd h
 
-own-line : (o : Outcome) (os : List Outcome) (block : ℕ) (sure : Bool) (l : ℕ) → In l (lineOf block sure o os) → l ≡ line block (outcomeNumber o)
+pub own-line : (o : Outcome) (os : List Outcome) (block : ℕ) (sure : Bool) (l : ℕ) → In l (lineOf block sure o os) → l ≡ line block (outcomeNumber o)
 own-line Filling os block sure l h = only-line l (line block 9) h
 own-line (Delivered place) os block sure l h = by (eqb place 0) sure (confirmed (placeAfter place) os) h
   where
@@ -85,7 +85,7 @@ own-line Lost os block sure l h = only-line l (line block 8) h
 own-line Waiting os block sure l h = only-line l (line block 10) h
 own-line OutOfStep os block sure l h = only-line l (line block 11) h
 
-every-line : (os : List Outcome) (block : ℕ) (sure : Bool) (l : ℕ) → In l (linesFrom block sure os) → LineIn block os l
+pub every-line : (os : List Outcome) (block : ℕ) (sure : Bool) (l : ℕ) → In l (linesFrom block sure os) → LineIn block os l
 every-line [] block sure l h = absurd h
 every-line (o ∷ os) block sure l h =
     by (in-either l (lineOf block sure o os) (linesFrom (block + 1) (sureAfter sure o) os) h) (every-line os (block + 1) (sureAfter sure o) l)

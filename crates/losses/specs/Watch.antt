@@ -18,6 +18,11 @@ abbrev pub waitingOf : Certainty → ℕ
 waitingOf Sure = 0
 waitingOf (Unsure n) = n
 
+-- B8 fixed the place, and every block since was given
+abbrev pub isSure : Certainty → Bool
+isSure Sure = true
+isSure (Unsure n) = false
+
 -- whether B8 is due at a place, and whether it came, by the place behind it
 abbrev pub startDueAt : Place → Bool
 startDueAt NotKnown = false

@@ -1,15 +1,14 @@
 -- `lock_receiver::settle` meets its contract.
 -- Assumes nothing.
-use mathlib.Core.Path.{_≡_, refl, sym, _∙_}
+use mathlib.Core.Path.{_≡_, sym, _∙_}
 use mathlib.Core.Bool.{false}
 use Prim.Native.Nat.{_*_, _≤_}
 use native.Mathlib.Omega.{arith}
 use lib.ListN.{length}
 use lib.Seq.{length-take-le}
-use Rattle.losses.specs.Watch.{waitingOf, oneMore}
+use Rattle.losses.specs.Watch.{waitingOf, isSure, oneMore}
 use Rattle.losses.specs.declared.Certainty.{Certainty}
 use Rattle.losses.specs.declared.Certainty.the-variants.{Sure, Unsure}
-use Rattle.lock_receiver.specs.Take.{isSure}
 use Rattle.lock_receiver.proofs.Settling.{settles-none, settles-confirmed, settles-restart, settles-sure, settles-waits}
 use borrow.Author.Needs.{needs}
 use Rattle.lock_receiver.proofs.settle.Statement.{statement}
