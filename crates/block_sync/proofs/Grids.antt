@@ -15,7 +15,7 @@ use Rattle.common.proofs.Choice.{false-true}
 use Rattle.common.proofs.Chunks.{chunks-few, chunks-more}
 use Rattle.sync_search.specs.Sync.{byteAt, first}
 use Rattle.block_sync.specs.Decision.{isSync, syncOrEnd, inStep, polarityAt, keeps, lockedAs, unlocked, Decides, follows, begins, searches, usedBits, blockOf}
-use Rattle.block_sync.specs.Feed.{holding, heldBits, turnedStep, FinishesSync}
+use Rattle.block_sync.specs.Feed.{holding, heldBits, turnedStep}
 use Rattle.block_sync.specs.Feed as feed
 use Rattle.block_sync.specs.History.{GivenBlock, stepGiven, SyncFeedings, Part, partOf, partGiven, givenOf, skippedOf, Aligned, few, turn}
 use Rattle.block_sync.specs.Grid.{syncByte, turnedByte, SyncGrid, gridBlocks, followers, begun, Drained, done, more, GridGiven}

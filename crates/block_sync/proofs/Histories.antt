@@ -8,7 +8,7 @@ use native.Mathlib.Omega.{arith}
 use lib.ListN.{length, take, drop, replicate, length-append, length-drop}
 use lib.Seq.{length-take-le, take-length, take-append-seam}
 use Rattle.block_sync.specs.Decision.{unlocked, Decides, usedBits}
-use Rattle.block_sync.specs.Feed.{holding, heldBits, freshBlockSync, turnedStep, TurnsBuffer, FeedsSync, refused, gathered, turned, FinishesSync}
+use Rattle.block_sync.specs.Feed.{holding, heldBits, freshBlockSync, turnedStep, TurnsBuffer, FeedsSync, FinishesSync}
 use Rattle.block_sync.specs.Feed as feed
 use Rattle.block_sync.specs.History.{GivenBlock, stepGiven, SyncFeedings, fresh, feeding, SyncEndings, none, ending, Part, partOf, partBits, partGiven, givenOf, skippedOf, Aligned, few, SyncCame, Accounted, SameSync}
 use Rattle.block_sync.specs.declared.Lock.{Lock}

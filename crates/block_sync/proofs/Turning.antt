@@ -3,7 +3,7 @@
 use mathlib.Core.Path.{_≡_, refl, sym, _∙_, ap, ap₂}
 use mathlib.Core.Bool.{Bool, true, false}
 use mathlib.Core.List.{List, [], _∷_, _++_, map, append-nil}
-use Prim.Native.Nat.{ℕ, zero, suc, _+_, _*_, _/_, _%_, _-_, _<_}
+use Prim.Native.Nat.{ℕ, zero, suc, _+_, _*_, _/_, _%_, _<_}
 use native.Mathlib.Omega.{arith}
 use lib.ListN.{length, getD, length-map, drop-of-length-le}
 use Rattle.common.specs.Lists.{chunksOf}
@@ -11,7 +11,6 @@ use Rattle.common.proofs.Lists.{getD-map-in}
 use Rattle.common.proofs.Chunks.{chunks-few, chunks-more}
 use Rattle.convolutional_code.specs.Bits.{bitsOf, Bits, none, more}
 use Rattle.bit_packing.specs.Packing.{byteOf, carriedBits, packedBytes, Packs}
-use Rattle.bit_packing.proofs.Bytes.{length-bytes}
 use Rattle.block_sync.specs.Decision.{turnedBit, turnedBits, blockOf}
 
 pub turned-length : (inverted : Bool) (l : List ℕ) → length (turnedBits inverted l) ≡ length l
@@ -30,10 +29,6 @@ pub turned-bits : (inverted : Bool) (l : List ℕ) → Bits (turnedBits inverted
 unfolding turnedBits
 turned-bits inverted [] = none
 turned-bits inverted (b ∷ l) = more (bit inverted b) (turned-bits inverted l)
-
-pub block-length : (inverted : Bool) (l : List ℕ) → length l ≡ 1632 → length (blockOf inverted l) ≡ 204
-unfolding blockOf
-block-length inverted l e = length-bytes (turnedBits inverted l) ∙ ap (λ (n : ℕ). n / 8) (turned-length inverted l ∙ e)
 
 -- nothing is carried
 carried-none : (carry : ℕ) → carriedBits carry 0 ≡ []

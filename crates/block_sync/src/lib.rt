@@ -2,8 +2,8 @@
 // A decision is made only when the buffer of 8,168 bits, five blocks and a sync byte, is full, so that it does not depend on the pieces.
 ghost use mathlib.Core.Path.{_≡_};
 ghost use mathlib.Core.List.{_++_};
-ghost use Prim.Native.Nat.{_+_, _-_, _≤_, _<_};
-ghost use lib.ListN.{length, take, drop};
+ghost use Prim.Native.Nat.{_+_, _-_, _≤_};
+ghost use lib.ListN.{length, take};
 ghost use Rattle.common.specs.Lists.{padded};
 ghost use Rattle.block_sync.specs.Decision.{isSync, syncOrEnd, inStep, polarityAt, keeps, turnedBit, turnedBits, blockOf, Decides, usedBits, blockGiven};
 ghost use Rattle.block_sync.specs.Feed.{freshBlockSync, idleStep, TurnsBuffer, FeedsSync, FinishesSync};

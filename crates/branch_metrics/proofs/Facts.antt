@@ -12,7 +12,7 @@ use lib.ListN.{length, getD, set, take, drop, length-append, length-drop}
 use lib.Seq.{length-take-le, getD-take}
 use Rattle.common.proofs.Each.{Each, each-none, each-more}
 use Rattle.common.proofs.Lists.{put-own}
-use Rattle.puncturing.specs.Mode.{modeOf}
+use Rattle.puncturing.specs.Mode.{modeOf, qpskCount}
 use Rattle.puncturing.specs.Step.{patternLength}
 use Rattle.puncturing.proofs.Places.{tested-at, agreed-at}
 use Rattle.common.specs.Choice.{pick}
@@ -104,14 +104,14 @@ width-three q e = ap width e
 
 -- ---- the places of a run
 
-kind-lt : (rate place : ℕ) → rate < 5 → place < patternLength rate → (0 < kind rate place) × (kind rate place ≤ 3)
+kind-lt : (rate place : ℕ) → rate < qpskCount → place < patternLength rate → (0 < kind rate place) × (kind rate place ≤ 3)
 unfolding kind modeOf flatten
 kind-lt rate place h l = (
   ltb→lt 0 (kind rate place) (tested-at (λ r p. ltb 0 (kind r p)) tt rate place h l),
   leb→le (kind rate place) 3 (tested-at (λ r p. leb (kind r p) 3) tt rate place h l),
 )
 
-pub table-is : (rate place : ℕ) → rate < 5 → place < patternLength rate
+pub table-is : (rate place : ℕ) → rate < qpskCount → place < patternLength rate
     → getD (3 ∷ 0 ∷ 0 ∷ 0 ∷ 0 ∷ 0 ∷ 0 ∷ 3 ∷ 1 ∷ 3 ∷ 1 ∷ 0 ∷ 0 ∷ 0 ∷ 3 ∷ 1 ∷ 2 ∷ 0 ∷ 0 ∷ 0 ∷ 0 ∷ 3 ∷ 1 ∷ 2 ∷ 1 ∷ 2 ∷ 0 ∷ 0 ∷ 3 ∷ 1 ∷ 1 ∷ 1 ∷ 2 ∷ 1 ∷ 2 ∷ []) (7 * rate + place) 0 ≡ kind rate place
 unfolding kind modeOf flatten
 table-is rate place h l =
@@ -270,7 +270,7 @@ in-pattern l rate n p {k} {place} g e h =
     let lt : place < patternLength rate = rw (g .here) (mod-lt k z) in
     (lt, rw e lt)
 
-pub asks : (l : List ℕ) (rate n len : ℕ) {k place j : ℕ} {output₀ output : List ℕ} → Spreading l rate n k place j output₀ output → k < n → rate < 5
+pub asks : (l : List ℕ) (rate n len : ℕ) {k place j : ℕ} {output₀ output : List ℕ} → Spreading l rate n k place j output₀ output → k < n → rate < qpskCount
     → place < patternLength rate → first rate n ≤ 2 * len → (q : ℕ) → q ≡ kind rate place → (j + width q ≤ 2 * len) × (0 < q) × (q ≤ 3)
 asks l rate n len {k} {place} {j} g h hr hp fits q e =
     let w : width q ≡ width (kindAt rate k) = ap width (e ∙ ap (kind rate) (g .here)) in

@@ -17,8 +17,8 @@ use Rattle.convolutional_code.specs.Costs.{oneCost, decisionCost, pairCost}
 use Rattle.branch_metrics.specs.Cost.{BitCosts, numberCosts, symbolCosts, free, byLevel, decidedAs, softly}
 use Rattle.branch_metrics.specs.SoftPairs.{numberDecision, marked, symbolPair}
 use Rattle.branch_metrics.proofs.Facts.{pair-is}
-use Rattle.branch_metrics.specs.declared.soft_decision.Received.{Received}
-use Rattle.branch_metrics.specs.declared.soft_decision.Received.the-variants.{At, Lost}
+use Rattle.branch_metrics.specs.declared.soft_decision.ReceivedSymbol.{ReceivedSymbol}
+use Rattle.branch_metrics.specs.declared.soft_decision.ReceivedSymbol.the-variants.{At, Lost}
 
 pub byte-is : (b : Bool) → (boolByte b ≡ indicator b) × (boolByte b ≤ 1)
 byte-is true = (refl, omega arith)
@@ -71,7 +71,7 @@ number-lt x = by (isNan x)
     by true = omega arith
     by false = omega (arith, level-le x)
 
-pub symbol-lt : (r : Received) → symbolPair r < 81
+pub symbol-lt : (r : ReceivedSymbol) → symbolPair r < 81
 unfolding symbolPair
 symbol-lt (At p) = omega (arith, number-lt (p .i), number-lt (p .q))
 symbol-lt Lost = omega arith
@@ -97,7 +97,7 @@ number-is x v = by (isNan x)
     by false = ap (λ (o : ℕ). pick (eqb v 0) (7 - levelOf x) o) level
 
 -- and the pair of a symbol what the symbol does
-pub symbol-is : (r : Received) (sent : ℕ) → pairCost (symbolPair r) (sent / 2) (sent % 2) ≡ softly r sent
+pub symbol-is : (r : ReceivedSymbol) (sent : ℕ) → pairCost (symbolPair r) (sent / 2) (sent % 2) ≡ softly r sent
 unfolding symbolPair symbolCosts
 symbol-is (At p) sent =
     pair-is (numberDecision (p .i)) (numberDecision (p .q)) (sent / 2) (sent % 2) (number-lt (p .q))

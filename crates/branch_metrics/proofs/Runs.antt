@@ -19,8 +19,8 @@ use Rattle.common.proofs.Lists.{All-of, put-own, put-other}
 use Rattle.common.proofs.Outputs.{length-placed}
 use Rattle.branch_metrics.specs.Cost.{received, receivedOf}
 use Rattle.branch_metrics.specs.SoftPairs.{numberDecision, marked, symbolPair, symbolAt}
-use Rattle.branch_metrics.specs.declared.soft_decision.Received.{Received}
-use Rattle.branch_metrics.specs.declared.soft_decision.Received.the-variants.{Lost}
+use Rattle.branch_metrics.specs.declared.soft_decision.ReceivedSymbol.{ReceivedSymbol}
+use Rattle.branch_metrics.specs.declared.soft_decision.ReceivedSymbol.the-variants.{Lost}
 use Rattle.branch_metrics.proofs.Numbers.{symbol-lt}
 
 pub is-lost : (i q : Float) (n : ℕ) → (n ≡ 0 → ⊥) → Lost ≡ received i q n
@@ -47,7 +47,7 @@ received-at (i ∷ is) (q ∷ qs) (m ∷ lost) a b (suc k) h = received-at is qs
 
 -- ---- symbols that are given by their places, and their pairs
 
-abbrev pub Holds : (ℕ → Received) → ℕ → ℕ → Type 0
+abbrev pub Holds : (ℕ → ReceivedSymbol) → ℕ → ℕ → Type 0
 Holds f t v = v ≡ symbolPair (f t)
 
 -- a symbol of the three lists, by its numbers and its mark
@@ -59,7 +59,7 @@ place-pair i q (suc mark) =
     ap (λ (b : Bool). 9 * pick b (numberDecision i) 8 + pick b (numberDecision q) 8) e
 
 -- sixteen pairs are put
-pub sixteen-more : (f : ℕ → Received) (size : ℕ) {output : List ℕ} (k : ℕ) (pairs exit : List ℕ) → length pairs ≡ 16 → k + 16 ≤ size
+pub sixteen-more : (f : ℕ → ReceivedSymbol) (size : ℕ) {output : List ℕ} (k : ℕ) (pairs exit : List ℕ) → length pairs ≡ 16 → k + 16 ≤ size
     → ((i : ℕ) → i < 16 → getD pairs i 0 ≡ symbolPair (f (k + i))) → Each (Holds f) size output k
     → exit ≡ take k output ++ pairs ++ drop (k + length pairs) output → Each (Holds f) size exit (k + 16)
 sixteen-more f size {output} k pairs exit l h w e x =
@@ -76,7 +76,7 @@ sixteen-more f size {output} k pairs exit l h w e x =
         (put-own output pairs k (t - k) fits (omega (arith, l)) ∙ w (t - k) (omega arith))
 
 -- every pair that is written is one
-pub along-small : (f : ℕ → Received) (n : ℕ) (l : List ℕ) → n ≤ length l → ((t : ℕ) → t < n → getD l t 0 ≡ symbolPair (f t)) → All (λ p. p < 81) (take n l)
+pub along-small : (f : ℕ → ReceivedSymbol) (n : ℕ) (l : List ℕ) → n ≤ length l → ((t : ℕ) → t < n → getD l t 0 ≡ symbolPair (f t)) → All (λ p. p < 81) (take n l)
 along-small f n l long w =
     All-of (λ p. p < 81) (take n l) 0
     (λ t h. let b : t < n = omega (arith, length-take n l) in rw (getD-take n l t 0 b, w t b) (symbol-lt (f t)))

@@ -9,8 +9,8 @@ use lib.ListN.{getD}
 use Rattle.common.specs.Choice.{pick}
 use Rattle.branch_metrics.specs.Level.{levelOf}
 use Rattle.branch_metrics.specs.Cost.{received}
-use Rattle.branch_metrics.specs.declared.soft_decision.Received.{Received}
-use Rattle.branch_metrics.specs.declared.soft_decision.Received.the-variants.{At, Lost}
+use Rattle.branch_metrics.specs.declared.soft_decision.ReceivedSymbol.{ReceivedSymbol}
+use Rattle.branch_metrics.specs.declared.soft_decision.ReceivedSymbol.the-variants.{At, Lost}
 
 -- the decision on a number: its level, or 8 for a NaN, of which nothing is known
 unfoldable pub numberDecision : Float → ℕ
@@ -20,10 +20,10 @@ numberDecision x = cond (isNan x) 8 (levelOf x)
 abbrev pub marked : ℕ → ℕ → ℕ
 marked mark d = pick (eqb mark 0) d 8
 
-unfoldable pub symbolPair : Received → ℕ
+unfoldable pub symbolPair : ReceivedSymbol → ℕ
 symbolPair (At p) = 9 * numberDecision (p .i) + numberDecision (p .q)
 symbolPair Lost = 80
 
 -- the symbol at a place of three lists
-abbrev pub symbolAt : List Float → List Float → List ℕ → ℕ → Received
+abbrev pub symbolAt : List Float → List Float → List ℕ → ℕ → ReceivedSymbol
 symbolAt is qs lost k = received (getD is k nan) (getD qs k nan) (getD lost k 0)

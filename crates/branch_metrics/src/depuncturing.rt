@@ -4,6 +4,7 @@ ghost use mathlib.Core.Path.{_≡_};
 ghost use Prim.Native.Nat.{ℕ, _+_, _*_, _/_, _%_, _<_, _≤_};
 ghost use lib.ListN.{length, getD};
 ghost use Rattle.convolutional_code.specs.Costs.{Pairs};
+ghost use Rattle.puncturing.specs.Mode.{qpskCount};
 ghost use Rattle.puncturing.specs.Step.{patternLength};
 ghost use Rattle.branch_metrics.specs.Steps.{width, first, decisionAt, stepPair, runStep};
 use common::put;
@@ -48,7 +49,7 @@ const SENT_KINDS: [u8; 35] = [
 ];
 
 // The decisions on the coded bits of a step as one number, 9 x + y, of which the decoder takes its branch metrics; and the first coded bit after it.
-struct Step {
+struct DepuncturedStep {
     pair: u8,
     next: usize,
 }
@@ -63,25 +64,25 @@ fn decision_at(pairs: &[u8], j: usize) -> u8
 }
 
 // A step of kind q, whose first coded bit is j. The decision on one that is not sent is 8.
-fn step_of(pairs: &[u8], q: u8, j: usize) -> Step
+fn step_of(pairs: &[u8], q: u8, j: usize) -> DepuncturedStep
     requires { ⌜ (j + width q ≤ 2 * length (now pairs)) × (0 < q) × (q ≤ 3) × Pairs (now pairs) ⌝ }
     ensures { λ r. ⌜ (r .pair ≡ stepPair (now (pairs .entry)) q j) × (r .next ≡ j + width q) ⌝ }
 {
     let a = decision_at(pairs, j);
     if q == 1 {
-        return Step {
+        return DepuncturedStep {
             pair: 72 + a,
             next: j + 1,
         };
     }
     if q == 2 {
-        return Step {
+        return DepuncturedStep {
             pair: 9 * a + 8,
             next: j + 1,
         };
     }
     let b = decision_at(pairs, j + 1);
-    Step {
+    DepuncturedStep {
         pair: 9 * a + b,
         next: j + 2,
     }
@@ -98,7 +99,7 @@ fn following(place: usize, pattern: usize) -> usize
 
 // Writes the decisions of n steps, place by place of the pattern.
 fn spread_places(pairs: &[u8], rate: usize, pattern: usize, n: usize, output: &mut [u8])
-    requires { ⌜ (rate < 5) × (pattern ≡ patternLength rate) × (0 < pattern) × (pattern ≤ 7) × (first rate n ≤ 2 * length (now pairs)) × (n ≤ length (now output)) × Pairs (now pairs) ⌝ }
+    requires { ⌜ (rate < qpskCount) × (pattern ≡ patternLength rate) × (0 < pattern) × (pattern ≤ 7) × (first rate n ≤ 2 * length (now pairs)) × (n ≤ length (now output)) × Pairs (now pairs) ⌝ }
     ensures { λ _. ⌜ (length (now (output .exit)) ≡ length (now (output .entry))) × ((t : ℕ) → t < n → getD (now (output .exit)) t 0 ≡ runStep (now (pairs .entry)) rate t) ⌝ }
 {
     let kinds = SENT_KINDS;
@@ -139,7 +140,7 @@ fn spread_3_4(pairs: &[u8], n: usize, output: &mut [u8])
 
 // Writes the decisions of n steps. At rate 1/2 every coded bit is sent, and a symbol is a step.
 pub fn spread_pairs(pairs: &[u8], rate: usize, pattern: usize, n: usize, output: &mut [u8])
-    requires { ⌜ (rate < 5) × (pattern ≡ patternLength rate) × (0 < pattern) × (pattern ≤ 7) × (first rate n ≤ 2 * length (now pairs)) × (n ≤ length (now output)) × Pairs (now pairs) ⌝ }
+    requires { ⌜ (rate < qpskCount) × (pattern ≡ patternLength rate) × (0 < pattern) × (pattern ≤ 7) × (first rate n ≤ 2 * length (now pairs)) × (n ≤ length (now output)) × Pairs (now pairs) ⌝ }
     ensures { λ _. ⌜ (length (now (output .exit)) ≡ length (now (output .entry))) × ((t : ℕ) → t < n → getD (now (output .exit)) t 0 ≡ runStep (now (pairs .entry)) rate t) ⌝ }
 {
     if rate == 0 {

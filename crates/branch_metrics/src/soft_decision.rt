@@ -17,7 +17,7 @@ pub struct Point {
 }
 
 // A symbol as the demodulator hands it over.
-pub enum Received {
+pub enum ReceivedSymbol {
     // The point that was received.
     At(Point),
     // The symbol was lost.
@@ -65,26 +65,26 @@ fn number_decision(x: f32) -> u8
 }
 
 // The decisions on I and Q of a received symbol as one number, 9 i + q.
-pub fn symbol_pair(symbol: Received) -> u8
+pub fn symbol_pair(symbol: ReceivedSymbol) -> u8
     ensures { λ r. ⌜ r ≡ symbolPair symbol ⌝ }
 {
     match symbol {
-        Received::At(point) => 9 * number_decision(point.i) + number_decision(point.q),
-        Received::Lost => 80,
+        ReceivedSymbol::At(point) => 9 * number_decision(point.i) + number_decision(point.q),
+        ReceivedSymbol::Lost => 80,
     }
 }
 
 // The symbol at a place of the three lists.
-fn received_at(is: &[f32], qs: &[f32], lost: &[u8], at: usize) -> Received
+fn received_at(is: &[f32], qs: &[f32], lost: &[u8], at: usize) -> ReceivedSymbol
     requires { ⌜ (at < length (now is)) × (at < length (now qs)) × (at < length (now lost)) ⌝ }
     ensures { λ r. ⌜ r ≡ symbolAt (now (is .entry)) (now (qs .entry)) (now (lost .entry)) at ⌝ }
 {
     let i = is[at];
     let q = qs[at];
     if lost[at] == 0 {
-        Received::At(Point { i, q })
+        ReceivedSymbol::At(Point { i, q })
     } else {
-        Received::Lost
+        ReceivedSymbol::Lost
     }
 }
 

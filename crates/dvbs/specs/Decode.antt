@@ -2,45 +2,30 @@
 -- Clauses: document 01, "Outer code"; document 02, P3 and P11.
 -- Assumes nothing.
 use mathlib.Core.Path.{_≡_}
-use mathlib.Core.Bool.{true, false}
-use mathlib.Core.List.{List}
-use Prim.Native.Nat.{ℕ, _≤_, _<_}
+use mathlib.Core.List.{List, [], _∷_}
+use Prim.Native.Nat.{ℕ, _<_}
 use lib.ListN.{length, set}
-use Rattle.reed_solomon.specs.Decode.{Decodes, decodedNumber}
-use Rattle.reed_solomon.specs.Marks.{areMarks, DecodesMarked}
+use lib.Dec.{eqb, ltb}
+use Rattle.common.specs.Choice.{pick}
+use Rattle.common.specs.Refusal.{unless, when, firstDue}
+use Rattle.reed_solomon.specs.Decode.{decodedNumber, changedBy}
+use Rattle.reed_solomon.specs.Marks.{areMarks}
 use Rattle.reed_solomon.specs.declared.Decoded.{Decoded}
-use Rattle.reed_solomon.specs.declared.Decoded.the-variants.{Corrected, Uncorrectable, BlockLength, MarkValue}
 
 -- the numbers of changed bytes and bits go into the first two bytes where the block is accepted; otherwise the lent bytes stay
 abbrev pub countAfter : Decoded → List ℕ → List ℕ
-countAfter (Corrected changed) count = set (set count 0 (changed .bytes)) 1 (changed .bits)
-countAfter Uncorrectable count = count
-countAfter BlockLength count = count
-countAfter MarkValue count = count
+countAfter decoded count = pick (eqb (decodedNumber decoded) 0) (set (set count 0 (changedBy decoded .bytes)) 1 (changedBy decoded .bits)) count
 
--- a decoding, its number and its counts
-pub record Answered (Decoding : Decoded → Type 0) (count after : List ℕ) (number : ℕ) : Type 0 where
-  pub answer : Decoded
-  pub decodes : Decoding answer
-  pub numbered : number ≡ decodedNumber answer
-  pub counted : after ≡ countAfter answer count
-
--- a refusal: the number, and all as before
-pub record Refused (came left count after : List ℕ) (number wanted : ℕ) : Type 0 where
-  pub numbered : number ≡ wanted
-  pub block-kept : left ≡ came
-  pub count-kept : after ≡ count
-
--- 3 for a block that is not 204 bytes, then 4 where fewer than two bytes are lent for the counts, then the decoding
-pub data DecodeExported (came left count after : List ℕ) (number : ℕ) : Type 0 where
-  block-length : (length came ≡ 204 → ⊥) → Refused came left count after number 3 → DecodeExported came left count after number
-  count-short : length came ≡ 204 → length count < 2 → Refused came left count after number 4 → DecodeExported came left count after number
-  answered : length came ≡ 204 → 2 ≤ length count → Answered (Decodes came left) count after number → DecodeExported came left count after number
+-- the tests before the decoding: 3 for a block that is not 204 bytes, then 4 where fewer than two bytes are lent for the counts
+abbrev pub decodeRefusal : List ℕ → List ℕ → ℕ
+decodeRefusal came count = firstDue (unless (eqb (length came) 204) 3 ∷ when (ltb (length count) 2) 4 ∷ [])
 
 -- with marks: 20 after 3, where there is not a mark, 0 or 1, for each byte
-pub data DecodeMarkedExported (marks came left count after : List ℕ) (number : ℕ) : Type 0 where
-  block-size : (length came ≡ 204 → ⊥) → Refused came left count after number 3 → DecodeMarkedExported marks came left count after number
-  mark-value : length came ≡ 204 → areMarks marks ≡ false → Refused came left count after number 20 → DecodeMarkedExported marks came left count after number
-  short-count : length came ≡ 204 → areMarks marks ≡ true → length count < 2 → Refused came left count after number 4 → DecodeMarkedExported marks came left count after number
-  decoded : length came ≡ 204 → areMarks marks ≡ true → 2 ≤ length count → Answered (DecodesMarked marks came left) count after number
-      → DecodeMarkedExported marks came left count after number
+abbrev pub decodeMarkedRefusal : List ℕ → List ℕ → List ℕ → ℕ
+decodeMarkedRefusal marks came count = firstDue (unless (eqb (length came) 204) 3 ∷ unless (areMarks marks) 20 ∷ when (ltb (length count) 2) 4 ∷ [])
+
+-- What the call gives, where its tests give the number refusal: all as before; or what decoding leaves and answers, as `Decoding` says, with its counts.
+pub data DecodeExported (Decoding : Decoded → Type 0) (refusal : ℕ) (came left count after : List ℕ) (number : ℕ) : Type 0 where
+  refused : number ≡ refusal → 0 < number → left ≡ came → after ≡ count → DecodeExported Decoding refusal came left count after number
+  decoded : refusal ≡ 0 → (answer : Decoded) → Decoding answer → number ≡ decodedNumber answer → after ≡ countAfter answer count
+      → DecodeExported Decoding refusal came left count after number

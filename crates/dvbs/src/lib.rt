@@ -9,9 +9,10 @@ ghost use lib.Dec.{eqb};
 ghost use lib.ListN.{length, drop, set};
 ghost use Rattle.common.specs.Choice.{pick};
 ghost use Rattle.answer.specs.Number.{numberOf};
-ghost use Rattle.reed_solomon.specs.Decode.{decodedNumber};
+ghost use Rattle.reed_solomon.specs.Decode.{Decodes, decodedNumber};
+ghost use Rattle.reed_solomon.specs.Marks.{DecodesMarked};
 ghost use Rattle.reception_counts.specs.Bytes.{countBytes};
-ghost use Rattle.dvbs.specs.Decode.{countAfter, DecodeExported, DecodeMarkedExported};
+ghost use Rattle.dvbs.specs.Decode.{countAfter, decodeRefusal, decodeMarkedRefusal, DecodeExported};
 ghost use Rattle.dvbs.specs.SendRun.{sendRunCount, sendRunOutput, sendRunAnswer};
 ghost use Rattle.dvbs.specs.ReceiveRun.{ReceiveRunExported, ReceiveMarkedRunExported};
 ghost use Rattle.dvbs.specs.RecordingBlock.{RecordingBlockExported};
@@ -73,7 +74,9 @@ fn put_decoded(decoded: Decoded, count: &mut [u8]) -> u8
 // Decodes a block in place: the number of the answer. Where it is 0, the first two bytes of count have the numbers of bytes and bits changed.
 #[no_mangle]
 pub extern "C" fn dvbs_rs_decode(block: &mut [u8], count: &mut [u8]) -> u8
-    ensures { λ r. ⌜ DecodeExported (now (block .entry)) (now (block .exit)) (now (count .entry)) (now (count .exit)) r ⌝ }
+    ensures { λ r. ⌜
+        DecodeExported (Decodes (now (block .entry)) (now (block .exit))) (decodeRefusal (now (block .entry)) (now (count .entry)))
+        (now (block .entry)) (now (block .exit)) (now (count .entry)) (now (count .exit)) r ⌝ }
 {
     if block.len() != 204 {
         return 3;
@@ -90,7 +93,9 @@ pub extern "C" fn dvbs_rs_decode(block: &mut [u8], count: &mut [u8]) -> u8
 #[no_mangle]
 pub extern "C" fn dvbs_rs_decode_marked(block: &mut [u8], marks: &[u8], count: &mut [u8]) -> u8
     ensures { λ r. ⌜
-        DecodeMarkedExported (now (marks .entry)) (now (block .entry)) (now (block .exit)) (now (count .entry)) (now (count .exit)) r ⌝ }
+        DecodeExported (DecodesMarked (now (marks .entry)) (now (block .entry)) (now (block .exit)))
+        (decodeMarkedRefusal (now (marks .entry)) (now (block .entry)) (now (count .entry)))
+        (now (block .entry)) (now (block .exit)) (now (count .entry)) (now (count .exit)) r ⌝ }
 {
     if block.len() != 204 {
         return 3;

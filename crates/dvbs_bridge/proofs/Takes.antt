@@ -4,12 +4,8 @@ use mathlib.Core.Path.{_≡_, refl, sym, ap, subst, _∙_}
 use mathlib.Core.Bool.{Bool, true, false}
 use mathlib.Core.List.{List}
 use mathlib.Core.Logic.{_⊎_, inl, inr}
-use Prim.Native.Nat.{ℕ, _<_}
-use native.Mathlib.Omega.{arith}
-use borrow.Author.Tests.{ne-eqb}
-use lib.Dec.{eqb}
+use Prim.Native.Nat.{ℕ}
 use lib.ListN.{length}
-use Rattle.common.specs.Choice.{pick}
 use Rattle.common.specs.Lists.{ByteEntries}
 use Rattle.common.proofs.Choice.{false-true}
 use Rattle.answer.specs.Number.{numberOf}
@@ -17,12 +13,12 @@ use Rattle.reed_solomon.specs.Marks.{noMarks}
 use Rattle.group_sync.specs.declared.Outcome.{Outcome}
 use Rattle.group_sync.specs.declared.Outcome.the-variants.{Filling, Delivered, Lost, Waiting, OutOfStep}
 use Rattle.reception_counts.specs.Counts.{outcomeNumber}
-use Rattle.receiver.specs.Receive.{receiverInRange, stepOf, outputAfter, receiveRefusal, Ready, Receives}
+use Rattle.receiver.specs.Receive.{receiverInRange, stepOf, Ready, Receives}
 use Rattle.receiver.specs.Run.{Call}
 use Rattle.receiver.specs.declared.Receiver.{Receiver}
 use Rattle.receiver.specs.declared.Received.{Received}
 use Rattle.receiver.proofs.Calls.{ready-number}
-use Rattle.receiver.proofs.Reached.{Sound, sound-call, Refused, ready-or-refused, refused-state}
+use Rattle.receiver.proofs.Reached.{Sound, sound-call, Refused, ready-or-refused, refused-state, refused-written, call-decoded}
 use Rattle.dvbs_bridge.specs.State.{stateLength, stateBytes, StandsFor}
 use Rattle.dvbs_bridge.specs.Reading.{stateOf}
 use Rattle.dvbs_bridge.specs.Calls.{refuses, BridgeTakes, no-state, as-receiver}
@@ -47,9 +43,6 @@ pub refused-same : (s : Receiver) (block output : List ℕ) (received : Received
     → refuses (numberOf (received .answer)) ≡ true → (received .receiver ≡ s) × (exit ≡ output)
 refused-same s block output received exit g h = by (ready-or-refused s block noMarks output)
   where
-    unpicked : (n : ℕ) (a b : List ℕ) → 0 < n → pick (eqb n 0) a b ≡ b
-    unpicked n a b h = simp (ne-eqb n 0 (λ e. omega arith))
-
     by : Ready s block noMarks output ⊎ Refused s block noMarks output → (received .receiver ≡ s) × (exit ≡ output)
     by (inl y) =
         let o = stepOf s (g .left) (g .decoded) .outcome in
@@ -57,7 +50,7 @@ refused-same s block output received exit g h = by (ready-or-refused s block noM
         false-true (sym (outcome-taken o) ∙ sym (ap refuses e) ∙ h)
     by (inr f) = (
       g .state ∙ refused-state s block noMarks output (g .left) (g .decoded) f,
-      g .written ∙ unpicked (receiveRefusal s block noMarks output) (outputAfter (stepOf s (g .left) (g .decoded) .outcome) (g .left) output) output (f .some),
+      g .written ∙ refused-written s block noMarks output (g .left) (g .decoded) f,
     )
 
 -- ---- the call
@@ -95,6 +88,7 @@ module _ (state block output : List ℕ) (n : length state ≡ stateLength) (e :
       by : (t : Bool) → receiverInRange (stateOf state) ≡ t → BridgeTakes state block output r (stateBytes (received .receiver)) exit
       by false f = absurd (false-true (sym h ∙ ap refuses (five f)))
       by true t =
-          let c : Call = record { block = block; marks = noMarks; output = output; left = g .left; decoded = g .decoded } in
-          let sound = subst Sound (sym (g .state)) (sound-call (stateOf state) c (stands-sound state (stateOf state) (stands t)) (g .decodes)) in
+          let d = call-decoded g in
+          let c : Call = record { block = block; marks = noMarks; output = output; left = d .left; decoded = d .decoded } in
+          let sound = subst Sound (sym (d .state)) (sound-call (stateOf state) c (stands-sound state (stateOf state) (stands t)) (d .decodes)) in
           as-receiver (stateOf state) (stands t) received g q refl (stands-written (received .receiver) sound)

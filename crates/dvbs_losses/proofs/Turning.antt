@@ -24,7 +24,7 @@ use Rattle.program_io.specs.declared.input.Filled.{Filled}
 use Rattle.program_io.specs.declared.output.Output.{Output}
 use Rattle.program_io.proofs.Traces.{traced-on}
 use Rattle.losses.specs.Watch.{waitingOf}
-use Rattle.losses.specs.Feed.{freshLossStream, capacityOf, marksOf, marksFit, lossFeedNumber, FeedsLosses, refused, fed, Writes, lossCloseNumber, endLines, closeLines}
+use Rattle.losses.specs.Feed.{freshLossStream, capacityOf, marksOf, marksFit, lossFeedNumber, FeedsLosses, refused, fed, WritesLines, lossCloseNumber, endLines, closeLines}
 use Rattle.losses.specs.History.{LossesCame}
 use Rattle.losses.specs.declared.LossStream.{LossStream}
 use Rattle.losses.proofs.Decisions.{most-seven}
@@ -35,7 +35,7 @@ use Rattle.answer_lines.proofs.Lists.{list-append}
 use Rattle.dvbs_losses.specs.Text.{restText}
 use Rattle.dvbs_losses.specs.Ends.{Going, BadMark, Stops, Turns, AllRead, Whole, Cut, Failed, Status, part, Ends}
 use Rattle.dvbs_losses.specs.Ends as ends
-use Rattle.dvbs_losses.specs.declared.Ended.{Ended}
+use Rattle.dvbs_losses.specs.declared.LossesEnded.{LossesEnded}
 use Rattle.dvbs_losses.specs.declared.Turned.{Turned}
 use Rattle.dvbs_losses.proofs.Lists.{padded-both, padded-length}
 
@@ -135,14 +135,14 @@ module _ (bytes piece : List ℕ) {marks : Input} {output : Output} {i : LossStr
 
 -- ---- the end
 
-pub close-count : (i : LossStream) {lines exit : List ℕ} {count : ℕ} → Writes (closeLines i lines) lines count exit → length exit ≡ length lines → count ≤ length lines
+pub close-count : (i : LossStream) {lines exit : List ℕ} {count : ℕ} → WritesLines (closeLines i lines) lines count exit → length exit ≡ length lines → count ≤ length lines
 close-count i {lines} {exit} {count} w l = omega (arith, w .counted, ap length (w .written), length-append (closeLines i lines) (drop count lines))
 
 pub cut-of : {bytes : List ℕ} {marks : Input} {output : Output} {i : LossStream} → Going bytes marks output i → Cut output
 cut-of g = record { lines = g .lines; written = g .written }
 
 pub finished : {input marks : Input} {output : Output} {i : LossStream} {rest : ℕ} (a : AllRead input marks output i rest) → inputFailed input ≡ false
-    → {lines exit text : List ℕ} {count : ℕ} → Writes (closeLines i lines) lines count exit → length lines ≡ 8 → text ≡ listText (take count exit) ++ restText rest
+    → {lines exit text : List ℕ} {count : ℕ} → WritesLines (closeLines i lines) lines count exit → length lines ≡ 8 → text ≡ listText (take count exit) ++ restText rest
     → {written last : Output} → files.Writes output text written → files.Closes written last → outputFailed last ≡ false
     → (status : ℤ) → Whole (record { status = status; input = input; marks = marks; output = last })
 finished {input} {marks} {output} {i} {rest} a u {lines} {exit} {text} {count} w n e {written} {last} f h v status =
@@ -150,7 +150,7 @@ finished {input} {marks} {output} {i} {rest} a u {lines} {exit} {text} {count} w
     let range = came-range (g .came) in
     let room : waitingOf (i .certainty) ≤ length lines = let r = stream-range i range in omega (arith, r .waiting .0, most-seven (i .receiver .sync .place)) in
     let z : lossCloseNumber i lines ≡ 0 = simp (range, le-ltb _ _ room) in
-    let k : Writes (endLines i) lines count exit = subst (λ (x : ℕ). Writes (pick (eqb x 0) (endLines i) []) lines count exit) z w in
+    let k : WritesLines (endLines i) lines count exit = subst (λ (x : ℕ). WritesLines (pick (eqb x 0) (endLines i) []) lines count exit) z w in
     let t : take count exit ≡ endLines i = ap (take count) (k .written) ∙ take-at (endLines i) (drop count lines) count (sym (k .counted)) in
     let x : text ≡ listText (endLines i) ++ restText rest = e ∙ ap (λ (l : List ℕ). listText l ++ restText rest) t in
     record {
@@ -246,7 +246,7 @@ module _ {start input own : Input} {output : Output} {i : LossStream} {blocks : 
       output-is = w .output-is ∙ r .output-is;
     }
 
-    pub running-stops : t .failed ≡ true → (e : Ended) → e .status ≡ pos 1 → e .input ≡ filled .input → e .marks ≡ t .marks → e .output ≡ t .output → Ends start e
+    pub running-stops : t .failed ≡ true → (e : LossesEnded) → e .status ≡ pos 1 → e .input ≡ filled .input → e .marks ≡ t .marks → e .output ≡ t .output → Ends start e
     running-stops h e s a m o = record {
       input-is = ap (λ (x : Input). originFile (inputOrigin x)) a ∙ ap originFile (f .origin) ∙ r .input-is;
       marks-are = ap inputOrigin m ∙ w .marks-are ∙ r .marks-are;
@@ -262,7 +262,7 @@ module _ {start input own : Input} {output : Output} {i : LossStream} {blocks : 
         by (ends.output-failed g) = ends.output-failed (ap outputFailed o ∙ g)
         by (ends.mark-refused g q) = ends.mark-refused (subst BadMark (sym m) g) (cut q)
 
-pub ends-finished : {start input own : Input} {output : Output} {i : LossStream} {blocks : ℕ} (r : Running start input own output i blocks) (before : Input) → inputOrigin before ≡ inputOrigin input → (e : Ended)
+pub ends-finished : {start input own : Input} {output : Output} {i : LossStream} {blocks : ℕ} (r : Running start input own output i blocks) (before : Input) → inputOrigin before ≡ inputOrigin input → (e : LossesEnded)
     → Status e × (inputOrigin (e .input) ≡ inputOrigin before) × (inputOrigin (e .marks) ≡ inputOrigin own) × (outputFile (e .output) ≡ outputFile output) → Ends start e
 ends-finished r before q e f = record {
   input-is = ap originFile (f .1 ∙ q) ∙ r .input-is;

@@ -12,20 +12,19 @@ use lib.ListN.{length}
 use Rattle.common.specs.Choice.{pick}
 use Rattle.common.specs.Lists.{padded, largest}
 use Rattle.program_io.specs.Checksum.{noBytes, traced}
-use Rattle.program_io.specs.Calls.{askedOf, versionText, Gives, Refuses, NamedInput}
+use Rattle.program_io.specs.Calls.{askedOf, NamedInput, AnswersCall}
 use Rattle.program_io.specs.Files.{inputOrigin, originFile, inputTrace, inputOver, inputEnded, inputFailed, outputFile, outputTrace, outputFailed, outputClosed}
 use Rattle.program_io.specs.Words.{argumentCount, wordArgument, wordBytes, wordIsOption}
-use Rattle.program_io.specs.declared.calls.Answered.{Answered}
-use Rattle.program_io.specs.declared.calls.Asked.the-variants.{Help, Version, Work}
+use Rattle.program_io.specs.declared.calls.Asked.the-variants.{Work}
 use Rattle.program_io.specs.declared.input.Input.{Input}
 use Rattle.program_io.specs.declared.output.Output.{Output}
 use Rattle.program_io.specs.declared.words.Arguments.{Arguments}
 use Rattle.program_io.specs.declared.words.Word.{Word}
-use Rattle.losses.specs.History.{LossesCame, Listed}
+use Rattle.losses.specs.History.{LossesCame, LossList}
 use Rattle.losses.specs.declared.LossStream.{LossStream}
 use Rattle.answer_lines.specs.Lines.{listText}
 use Rattle.dvbs_losses.specs.Text.{restText}
-use Rattle.dvbs_losses.specs.declared.Ended.{Ended}
+use Rattle.dvbs_losses.specs.declared.LossesEnded.{LossesEnded}
 use Rattle.dvbs_losses.specs.declared.Turned.{Turned}
 
 -- dvbs_losses
@@ -82,14 +81,14 @@ pub record AllRead (input marks : Input) (output : Output) (i : LossStream) (res
   pub ended : inputFailed input ≡ false → (inputEnded input ≡ true) ⊎ (length bytes ≡ 204 * 4294967295)
 
 -- status 0: all was read; the list of its whole blocks was written, with the number of bytes after them as its last line, and the output was closed
-pub record Whole (r : Ended) : Type 0 where
+pub record Whole (r : LossesEnded) : Type 0 where
   pub bytes : List ℕ
   pub after-it : List ℕ
   pub own : List ℕ
   pub lines : List ℕ
   pub whole : length bytes % 204 ≡ 0
   pub few : length after-it < 204
-  pub listed : Listed bytes (padded (length bytes) own) lines
+  pub listed : LossList bytes (padded (length bytes) own) lines
   pub read : inputTrace (r .input) ≡ traced noBytes (bytes ++ after-it)
   pub ended : (inputEnded (r .input) ≡ true) ⊎ (length bytes ≡ 204 * 4294967295)
   pub marks-read : inputTrace (r .marks) ≡ traced noBytes own
@@ -104,18 +103,18 @@ pub record Cut (output : Output) : Type 0 where
   pub written : outputTrace output ≡ traced noBytes (listText lines)
 
 -- status 1: what failed; where it was not the output, the list has no last line
-pub data Failed (r : Ended) : Type 0 where
+pub data Failed (r : LossesEnded) : Type 0 where
   input-failed : inputFailed (r .input) ≡ true → Cut (r .output) → Failed r
   marks-failed : inputFailed (r .marks) ≡ true → Cut (r .output) → Failed r
   mark-refused : BadMark (r .marks) → Cut (r .output) → Failed r
   output-failed : outputFailed (r .output) ≡ true → Failed r
 
-pub data Status (r : Ended) : Type 0 where
+pub data Status (r : LossesEnded) : Type 0 where
   whole : r .status ≡ pos 0 → Whole r → Status r
   part : r .status ≡ pos 1 → Failed r → Status r
 
 -- the files are standard input, the marks as they were made, and standard output
-pub record Ends (start : Input) (r : Ended) : Type 0 where
+pub record Ends (start : Input) (r : LossesEnded) : Type 0 where
   pub input-is : originFile (inputOrigin (r .input)) ≡ pos 0
   pub marks-are : inputOrigin (r .marks) ≡ inputOrigin start
   pub output-is : outputFile (r .output) ≡ pos 1
@@ -123,10 +122,6 @@ pub record Ends (start : Input) (r : Ended) : Type 0 where
 
 -- The status of the program: what every program answers where it is asked for its usage or its version; 2 for a wrong call; or how the list ended.
 pub data Exits (status : ℤ) : Type 0 where
-  help : (a : Arguments) (w : Word) (r : Answered) → wordArgument w ≡ 1 → askedOf (argumentCount a) (wordBytes w) ≡ Help → Gives usageText r → status ≡ r .status → Exits status
-  version : (a : Arguments) (w : Word) (r : Answered) → wordArgument w ≡ 1 → askedOf (argumentCount a) (wordBytes w) ≡ Version → Gives (versionText programName) r → status ≡ r .status
-      → Exits status
-  wrong : (a : Arguments) (w : Word) (r : Answered) → wordArgument w ≡ 1 → askedOf (argumentCount a) (wordBytes w) ≡ Work → rightCall (argumentCount a) (wordIsOption w) ≡ false
-      → Refuses usageText r → status ≡ r .status → Exits status
-  ran : (a : Arguments) (w : Word) (marks : Input) (r : Ended) → wordArgument w ≡ 1 → askedOf (argumentCount a) (wordBytes w) ≡ Work
+  answered : AnswersCall programName usageText (λ a w. rightCall (argumentCount a) (wordIsOption w) ≡ false) status → Exits status
+  ran : (a : Arguments) (w : Word) (marks : Input) (r : LossesEnded) → wordArgument w ≡ 1 → askedOf (argumentCount a) (wordBytes w) ≡ Work
       → rightCall (argumentCount a) (wordIsOption w) ≡ true → NamedInput (argumentCount a) marks → Ends marks r → status ≡ r .status → Exits status

@@ -23,7 +23,7 @@ use program_io::Word;
 use reception_counts::Counts;
 
 // How it ended, with the files as it left them.
-pub struct Ended {
+pub struct LossesEnded {
     pub status: i32,
     pub input: Input,
     pub marks: Input,
@@ -94,7 +94,13 @@ fn turn(marks: Input, output: Output, stream: LossStream, block: [u8; 204]) -> T
 }
 
 // Writes the end of the list, where no read failed, and closes the output. So many bytes came after the last whole block.
-fn finish(input: Input, marks: Input, output: Output, stream: LossStream, rest: usize) -> Ended
+fn finish(
+    input: Input,
+    marks: Input,
+    output: Output,
+    stream: LossStream,
+    rest: usize,
+) -> LossesEnded
     requires { ⌜ AllRead input marks output stream rest ⌝ }
     ensures { λ r. ⌜
         (Status r)
@@ -103,7 +109,7 @@ fn finish(input: Input, marks: Input, output: Output, stream: LossStream, rest: 
         × (outputFile (r .output) ≡ outputFile output) ⌝ }
 {
     if input.failed() {
-        return Ended {
+        return LossesEnded {
             status: 1,
             input,
             marks,
@@ -111,7 +117,7 @@ fn finish(input: Input, marks: Input, output: Output, stream: LossStream, rest: 
         };
     }
     if marks.failed() {
-        return Ended {
+        return LossesEnded {
             status: 1,
             input,
             marks,
@@ -127,14 +133,14 @@ fn finish(input: Input, marks: Input, output: Output, stream: LossStream, rest: 
     let written = output.write_text(b"standard output", &text[..size]);
     let output = written.close(b"standard output");
     if output.failed() {
-        return Ended {
+        return LossesEnded {
             status: 1,
             input,
             marks,
             output,
         };
     }
-    Ended {
+    LossesEnded {
         status: 0,
         input,
         marks,
@@ -143,7 +149,7 @@ fn finish(input: Input, marks: Input, output: Output, stream: LossStream, rest: 
 }
 
 // The list of what is on standard input, with these marks, a block at a time, so that a live feed's lines come out when their blocks are whole.
-fn run(marks: Input) -> Ended
+fn run(marks: Input) -> LossesEnded
     requires { ⌜ inputTrace marks ≡ noBytes ⌝ }
     ensures { λ r. ⌜ Ends marks r ⌝ }
 {
@@ -166,7 +172,7 @@ fn run(marks: Input) -> Ended
         output = turned.output;
         stream = turned.stream;
         if failed {
-            return Ended {
+            return LossesEnded {
                 status: 1,
                 input,
                 marks: own,

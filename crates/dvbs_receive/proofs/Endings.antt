@@ -13,18 +13,18 @@ use Rattle.program_io.specs.declared.input.Input.{Input}
 use Rattle.program_io.specs.declared.output.Output.{Output}
 use Rattle.receiver_stream.specs.History.{ReceiverCame}
 use Rattle.receiver_stream.specs.declared.ReceiverStream.{ReceiverStream}
-use Rattle.pass.specs.Pass.{Came, BadMark, Passes, whole, input-failed, marks-failed, output-failed, refused}
+use Rattle.pass.specs.Pass.{PassCame, BadMark, Passes, whole, input-failed, marks-failed, output-failed, refused}
 use Rattle.pass.specs.Pass as pass
 use Rattle.pass.specs.declared.Ending.the-variants.{Whole, Failed, Refused}
 use Rattle.pass.specs.declared.Pass.{Pass}
 use Rattle.program_io.specs.Calls.{NamedInput, without, named}
 use Rattle.dvbs_receive.specs.Ends as own
 use Rattle.dvbs_receive.specs.Ends.{Tells, told, lost, untold, Ends}
-use Rattle.dvbs_receive.specs.declared.Told.{Told}
+use Rattle.dvbs_receive.specs.declared.PassTold.{PassTold}
 
 -- the same with another output of the same bytes
-same-came : {start input marks : Input} {output o : Output} {stream : ReceiverStream} → Came true start input marks output stream → outputTrace o ≡ outputTrace output
-    → outputFailed o ≡ false → Came true start input marks o stream
+same-came : {start input marks : Input} {output o : Output} {stream : ReceiverStream} → PassCame true start input marks output stream → outputTrace o ≡ outputTrace output
+    → outputFailed o ≡ false → PassCame true start input marks o stream
 same-came g t u = record {
   bytes = g .bytes;
   came = g .came;
@@ -49,7 +49,7 @@ stream-came (refused b e f q) w = let z : _≡_ {A = ℕ} 0 1 = cc in absurd (om
 module _ {start input : Input} {output errors : Output} {p : Pass} (k : Passes input start output true p) (i : StandardInput input) (o : FreshOutput (pos 1) output)
     (f : FreshOutput (pos 2) errors) where
   -- all was read and written
-  pub ends-told : p .ending ≡ Whole → {t : Told} → Tells (p .stream) (p .output) t → {status : ℤ} → status ≡ t .status
+  pub ends-told : p .ending ≡ Whole → {t : PassTold} → Tells (p .stream) (p .output) t → {status : ℤ} → status ≡ t .status
       → Ends start (record { status = status; input = p .input; marks = p .marks; output = t .output; errors = t .errors })
   ends-told w {t} (told s a b u c d v r) {status} q = by (k .ends)
     where

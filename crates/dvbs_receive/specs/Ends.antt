@@ -11,10 +11,9 @@ use lib.IntN.{ℤ, pos}
 use Rattle.common.specs.Choice.{pick}
 use Rattle.answer_lines.specs.Lines.{refusalText}
 use Rattle.program_io.specs.Checksum.{noBytes, traced}
-use Rattle.program_io.specs.Calls.{askedOf, Answers, NamedInput}
+use Rattle.program_io.specs.Calls.{askedOf, NamedInput, AnswersCall}
 use Rattle.program_io.specs.Files.{inputOrigin, originFile, inputEnded, inputFailed, outputFile, outputTrace, outputFailed, outputClosed}
 use Rattle.program_io.specs.Words.{argumentCount, wordArgument, wordBytes, wordIsOption}
-use Rattle.program_io.specs.declared.calls.Answered.{Answered}
 use Rattle.program_io.specs.declared.calls.Asked.{Asked}
 use Rattle.program_io.specs.declared.calls.Asked.the-variants.{Help, Version, Work}
 use Rattle.program_io.specs.declared.input.Input.{Input}
@@ -25,9 +24,9 @@ use Rattle.report.specs.Text.{reportText}
 use Rattle.receiver_stream.specs.Feed.{capacityOf}
 use Rattle.receiver_stream.specs.Reporting.{streamReport}
 use Rattle.receiver_stream.specs.declared.ReceiverStream.{ReceiverStream}
-use Rattle.pass.specs.Pass.{Came, BadMark}
-use Rattle.dvbs_receive.specs.declared.Ended.{Ended}
-use Rattle.dvbs_receive.specs.declared.Told.{Told}
+use Rattle.pass.specs.Pass.{PassCame, BadMark}
+use Rattle.dvbs_receive.specs.declared.ReceiveEnded.{ReceiveEnded}
+use Rattle.dvbs_receive.specs.declared.PassTold.{PassTold}
 
 -- dvbs_receive
 abbrev pub programName : List ℕ
@@ -48,7 +47,7 @@ rightCall Version count option = false
 rightCall Work count option = pick (ltb 1 count) false (not option)
 
 -- The output was closed, and the report told whole; or one of the two failed, and where it was the first, nothing was told.
-pub data Tells (stream : ReceiverStream) (output : Output) (r : Told) : Type 0 where
+pub data Tells (stream : ReceiverStream) (output : Output) (r : PassTold) : Type 0 where
   told : r .status ≡ pos 0 → outputFile (r .output) ≡ outputFile output → outputTrace (r .output) ≡ outputTrace output → outputFailed (r .output) ≡ false
       → outputClosed (r .output) ≡ true → outputFile (r .errors) ≡ pos 2 → outputFailed (r .errors) ≡ false
       → outputTrace (r .errors) ≡ traced noBytes (reportText (streamReport stream)) → Tells stream output r
@@ -58,28 +57,28 @@ pub data Tells (stream : ReceiverStream) (output : Output) (r : Told) : Type 0 w
 
 -- status 0: all was read, up to the end of the input or the last block that can be counted, and what it comes to was written; the output was closed,
 -- and the report was told
-pub record Whole (start : Input) (r : Ended) : Type 0 where
+pub record Whole (start : Input) (r : ReceiveEnded) : Type 0 where
   pub stream : ReceiverStream
-  pub all : Came true start (r .input) (r .marks) (r .output) stream
+  pub all : PassCame true start (r .input) (r .marks) (r .output) stream
   pub ended : (inputEnded (r .input) ≡ true) ⊎ (capacityOf stream ≡ 0)
   pub closed : outputClosed (r .output) ≡ true
   pub told-whole : outputFailed (r .errors) ≡ false
   pub told : outputTrace (r .errors) ≡ traced noBytes (reportText (streamReport stream))
 
 -- status 1: what failed, and then no line of the report was told; or a mark above 1, which was told with its block
-pub data Failed (r : Ended) : Type 0 where
+pub data Failed (r : ReceiveEnded) : Type 0 where
   input-failed : inputFailed (r .input) ≡ true → outputTrace (r .errors) ≡ noBytes → Failed r
   marks-failed : inputFailed (r .marks) ≡ true → outputTrace (r .errors) ≡ noBytes → Failed r
   output-failed : outputFailed (r .output) ≡ true → outputTrace (r .errors) ≡ noBytes → Failed r
   errors-failed : outputFailed (r .errors) ≡ true → Failed r
   mark-refused : (block : ℕ) → BadMark (r .marks) block → outputTrace (r .errors) ≡ traced noBytes (refusalText block 20) → Failed r
 
-pub data Status (start : Input) (r : Ended) : Type 0 where
+pub data Status (start : Input) (r : ReceiveEnded) : Type 0 where
   whole : r .status ≡ pos 0 → Whole start r → Status start r
   part : r .status ≡ pos 1 → Failed r → Status start r
 
 -- the files are standard input, the marks as they were made, standard output and standard error
-pub record Ends (start : Input) (r : Ended) : Type 0 where
+pub record Ends (start : Input) (r : ReceiveEnded) : Type 0 where
   pub input-is : originFile (inputOrigin (r .input)) ≡ pos 0
   pub marks-are : inputOrigin (r .marks) ≡ inputOrigin start
   pub output-is : outputFile (r .output) ≡ pos 1
@@ -88,8 +87,7 @@ pub record Ends (start : Input) (r : Ended) : Type 0 where
 
 -- The status of the program: that of what every program answers, which is 2 for a wrong call; or how the pass ended.
 pub data Exits (status : ℤ) : Type 0 where
-  answered : (a : Arguments) (w : Word) (r : Answered) → wordArgument w ≡ 1 → rightCall (askedOf (argumentCount a) (wordBytes w)) (argumentCount a) (wordIsOption w) ≡ false
-      → Answers (askedOf (argumentCount a) (wordBytes w)) programName usageText r → status ≡ r .status → Exits status
-  ran : (a : Arguments) (w : Word) (marks : Input) (r : Ended) → wordArgument w ≡ 1
+  answered : AnswersCall programName usageText (λ a w. rightCall (askedOf (argumentCount a) (wordBytes w)) (argumentCount a) (wordIsOption w) ≡ false) status → Exits status
+  ran : (a : Arguments) (w : Word) (marks : Input) (r : ReceiveEnded) → wordArgument w ≡ 1
       → rightCall (askedOf (argumentCount a) (wordBytes w)) (argumentCount a) (wordIsOption w) ≡ true → NamedInput (argumentCount a) marks → Ends marks r
       → status ≡ r .status → Exits status

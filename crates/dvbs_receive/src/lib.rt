@@ -22,7 +22,7 @@ use program_io::Word;
 use receiver_stream::ReceiverStream;
 
 // How it ended, with the files as it left them.
-pub struct Ended {
+pub struct ReceiveEnded {
     pub status: i32,
     pub input: Input,
     pub marks: Input,
@@ -31,7 +31,7 @@ pub struct Ended {
 }
 
 // The end of what was written, and what was told of it.
-struct Told {
+struct PassTold {
     status: i32,
     output: Output,
     errors: Output,
@@ -47,13 +47,13 @@ fn tell_mark(block: u64, errors: Output) -> Output
 }
 
 // Closes the output, and tells the report where nothing was lost.
-fn tell_report(stream: ReceiverStream, output: Output, errors: Output) -> Told
+fn tell_report(stream: ReceiverStream, output: Output, errors: Output) -> PassTold
     requires { ⌜ (ReceiverCame stream) × (outputFailed output ≡ false) × (FreshOutput (pos 2) errors) ⌝ }
     ensures { λ r. ⌜ Tells stream output r ⌝ }
 {
     let output = output.close(b"standard output");
     if output.failed() {
-        return Told {
+        return PassTold {
             status: 1,
             output,
             errors,
@@ -61,7 +61,7 @@ fn tell_report(stream: ReceiverStream, output: Output, errors: Output) -> Told
     }
     let errors = pass::write_report(stream, errors);
     let status = if errors.failed() { 1 } else { 0 };
-    Told {
+    PassTold {
         status,
         output,
         errors,
@@ -69,7 +69,7 @@ fn tell_report(stream: ReceiverStream, output: Output, errors: Output) -> Told
 }
 
 // The pass on standard input, with these marks.
-fn run(marks: Input) -> Ended
+fn run(marks: Input) -> ReceiveEnded
     requires { ⌜ inputTrace marks ≡ noBytes ⌝ }
     ensures { λ r. ⌜ Ends marks r ⌝ }
 {
@@ -77,7 +77,7 @@ fn run(marks: Input) -> Ended
     let output = Output::standard();
     let errors = Output::errors();
     if marks.failed() {
-        return Ended {
+        return ReceiveEnded {
             status: 1,
             input,
             marks,
@@ -107,7 +107,7 @@ fn run(marks: Input) -> Ended
             let told = tell_report(stream, output, errors);
             let output = told.output;
             let errors = told.errors;
-            Ended {
+            ReceiveEnded {
                 status: told.status,
                 input,
                 marks,
@@ -115,7 +115,7 @@ fn run(marks: Input) -> Ended
                 errors,
             }
         }
-        Ending::Failed => Ended {
+        Ending::Failed => ReceiveEnded {
             status: 1,
             input,
             marks,
@@ -124,7 +124,7 @@ fn run(marks: Input) -> Ended
         },
         Ending::Refused(block) => {
             let errors = tell_mark(block, errors);
-            Ended {
+            ReceiveEnded {
                 status: 1,
                 input,
                 marks,

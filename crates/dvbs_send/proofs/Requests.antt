@@ -13,13 +13,13 @@ use Rattle.inner_code.specs.Encode.{newNumber}
 use Rattle.program_io.specs.Words.{sameBytes}
 use Rattle.rate_words.specs.Words.{modeNamed}
 use Rattle.dvbs_send.specs.Ends.{flushWord, noRequest, requestOf}
-use Rattle.dvbs_send.specs.declared.Request.{Request}
+use Rattle.dvbs_send.specs.declared.SendRequest.{SendRequest}
 
 module _ (count : ℕ) (first second : List ℕ) where
-  abbrev one : Request
+  abbrev one : SendRequest
   one = record { mode = modeNamed first; flush = false }
 
-  abbrev two : Request
+  abbrev two : SendRequest
   two = record { mode = modeNamed second; flush = true }
 
   picked : (a b c : Bool) → eqb count 1 ≡ a → eqb count 2 ≡ b → sameBytes first flushWord ≡ c → pick a one (pick b (pick c two noRequest) noRequest) ≡ requestOf count first second

@@ -17,16 +17,15 @@ use Rattle.sender_stream.specs.History.{Transmitted}
 use Rattle.program_io.specs.Checksum.{noBytes, traced}
 use Rattle.program_io.specs.Words.{argumentCount, wordArgument, wordBytes, sameBytes}
 use Rattle.program_io.specs.Files.{inputOrigin, originFile, inputTrace, inputEnded, inputFailed, outputFile, outputTrace, outputFailed, outputClosed}
-use Rattle.program_io.specs.Calls.{askedOf, versionText, Gives, Refuses}
+use Rattle.program_io.specs.Calls.{askedOf, AnswersCall}
 use Rattle.program_io.specs.declared.words.Arguments.{Arguments}
 use Rattle.program_io.specs.declared.words.Word.{Word}
 use Rattle.program_io.specs.declared.input.Input.{Input}
 use Rattle.program_io.specs.declared.output.Output.{Output}
-use Rattle.program_io.specs.declared.calls.Answered.{Answered}
-use Rattle.program_io.specs.declared.calls.Asked.the-variants.{Help, Version, Work}
+use Rattle.program_io.specs.declared.calls.Asked.the-variants.{Work}
 use Rattle.rate_words.specs.Words.{modeNamed}
 use Rattle.dvbs_send.specs.Lines.{replacedCount, answersOf, toldOf, countsOf}
-use Rattle.dvbs_send.specs.declared.Request.{Request}
+use Rattle.dvbs_send.specs.declared.SendRequest.{SendRequest}
 use Rattle.dvbs_send.specs.declared.Sending.{Sending}
 use Rattle.program_io.specs.declared.calls.Ended.{Ended}
 
@@ -137,11 +136,11 @@ abbrev pub flushWord : List ℕ
 flushWord = 0x2D ∷ 0x2D ∷ 0x66 ∷ 0x6C ∷ 0x75 ∷ 0x73 ∷ 0x68 ∷ []
 
 -- a request for no mode
-abbrev pub noRequest : Request
+abbrev pub noRequest : SendRequest
 noRequest = record { mode = 6; flush = false }
 
 -- MODE, or --flush MODE
-abbrev pub requestOf : ℕ → List ℕ → List ℕ → Request
+abbrev pub requestOf : ℕ → List ℕ → List ℕ → SendRequest
 requestOf count first second =
     pick (eqb count 1) (record { mode = modeNamed first; flush = false })
     (pick (eqb count 2) (pick (sameBytes first flushWord) (record { mode = modeNamed second; flush = true }) noRequest) noRequest)
@@ -168,17 +167,12 @@ pub record Called (a : Arguments) (first second : Word) : Type 0 where
   pub second-is : wordArgument second ≡ 2
   pub work : askedOf (argumentCount a) (wordBytes first) ≡ Work
 
-abbrev pub requested : Arguments → Word → Word → Request
+abbrev pub requested : Arguments → Word → Word → SendRequest
 requested a first second = requestOf (argumentCount a) (wordBytes first) (wordBytes second)
 
 -- The status of the program: that of giving the usage or the version, where these are asked for; 2 and the usage on standard error where the words name no
 -- mode that is sent; else how the run in that mode ended.
 pub data Exits (status : ℤ) : Type 0 where
-  help : (a : Arguments) (first : Word) (r : Answered) → wordArgument first ≡ 1 → askedOf (argumentCount a) (wordBytes first) ≡ Help → Gives usage r
-      → status ≡ r .status → Exits status
-  version : (a : Arguments) (first : Word) (r : Answered) → wordArgument first ≡ 1 → askedOf (argumentCount a) (wordBytes first) ≡ Version
-      → Gives (versionText name) r → status ≡ r .status → Exits status
-  wrong : (a : Arguments) (first second : Word) (r : Answered) → Called a first second → modeOf (requested a first second .mode) .sent ≡ false
-      → Refuses usage r → status ≡ r .status → Exits status
+  answered : AnswersCall name usage (λ a first. (second : Word) × Called a first second × (modeOf (requested a first second .mode) .sent ≡ false)) status → Exits status
   ran : (a : Arguments) (first second : Word) (r : Ended) → Called a first second
       → Ends (requested a first second .mode) (requested a first second .flush) r → status ≡ r .status → Exits status

@@ -25,7 +25,7 @@ use sender_stream::SenderStream;
 mod lines;
 
 // What the words of a call ask for. Mode 6 is none.
-pub struct Request {
+pub struct SendRequest {
     pub mode: u8,
     pub flush: bool,
 }
@@ -40,7 +40,7 @@ pub struct Sending {
 }
 
 // Standard error after the lines of some packets, and how many of them were replaced.
-struct Told {
+struct PacketsTold {
     errors: Output,
     replaced: u64,
 }
@@ -49,7 +49,7 @@ struct Told {
 const MOST: u64 = 9223372036854775808;
 
 // Tells of a packet, where it was replaced.
-fn tell_answer(told: Told, packet: u64, number: u8) -> Told
+fn tell_answer(told: PacketsTold, packet: u64, number: u8) -> PacketsTold
     requires { ⌜ told .replaced < 18446744073709551615 ⌝ }
     ensures { λ r. ⌜
         (Writes (told .errors) (answerLine packet number) (r .errors)) × (r .replaced ≡ told .replaced + unequal number 0) ⌝ }
@@ -61,7 +61,7 @@ fn tell_answer(told: Told, packet: u64, number: u8) -> Told
     let mut text = [0u8; 96];
     let n = lines::replaced_line(packet, number as u64, &mut text);
     let errors = errors.write(b"standard error", &text[..n]);
-    Told {
+    PacketsTold {
         errors,
         replaced: told.replaced + 1,
     }
@@ -69,18 +69,18 @@ fn tell_answer(told: Told, packet: u64, number: u8) -> Told
 
 // Tells of each that was replaced of some packets, of which the first has this number. Where none was, which is nearly always, no packet is looked at by
 // itself.
-fn tell_answers(errors: Output, first: u64, answers: &[u8]) -> Told
+fn tell_answers(errors: Output, first: u64, answers: &[u8]) -> PacketsTold
     requires { ⌜ first + length (now answers) < 18446744073709551616 ⌝ }
     ensures { λ r. ⌜
         (Writes errors (answerLines first (now (answers .entry))) (r .errors)) × (r .replaced ≡ replacedCount (now (answers .entry))) ⌝ }
 {
     if common::largest_of(answers) == 0 {
-        return Told {
+        return PacketsTold {
             errors,
             replaced: 0,
         };
     }
-    let mut told = Told {
+    let mut told = PacketsTold {
         errors,
         replaced: 0,
     };
@@ -284,28 +284,28 @@ fn send_all(mode: u8, flush: bool, input: Input, output: Output, errors: Output)
 }
 
 // What the words ask for: MODE, or --flush MODE.
-fn request_of(count: usize, first: Word, second: Word) -> Request
+fn request_of(count: usize, first: Word, second: Word) -> SendRequest
     ensures { λ r. ⌜ r ≡ requestOf count (wordBytes first) (wordBytes second) ⌝ }
 {
     if count == 1 {
-        return Request {
+        return SendRequest {
             mode: rate_words::mode_of(first),
             flush: false,
         };
     }
     if count != 2 {
-        return Request {
+        return SendRequest {
             mode: 6,
             flush: false,
         };
     }
     if !first.is(b"--flush") {
-        return Request {
+        return SendRequest {
             mode: 6,
             flush: false,
         };
     }
-    Request {
+    SendRequest {
         mode: rate_words::mode_of(second),
         flush: true,
     }

@@ -17,7 +17,7 @@ use Rattle.reed_solomon.specs.Decode.{changedBy}
 use Rattle.reed_solomon.specs.declared.Changed.{Changed}
 use Rattle.reed_solomon.specs.declared.Decoded.{Decoded}
 use Rattle.reed_solomon.specs.declared.Decoded.the-variants.{Corrected}
-use Rattle.reed_solomon.specs.Marks.{noMarks, cost}
+use Rattle.reed_solomon.specs.Marks.{noMarks, cost, DecodesMarked}
 use Rattle.reed_solomon.proofs.Laws.{Same, decodes-near-marked}
 use Rattle.reed_solomon.proofs.Marks.{are-marks-none, marks-of}
 use Rattle.randomizer.specs.Stream.{Packet}
@@ -29,7 +29,7 @@ use Rattle.receiver.specs.Receive.{freshReceiver, marksIn, delayedBlock, delaye
 use Rattle.receiver.specs.Kept.{Kept}
 use Rattle.receiver.specs.declared.Receiver.{Receiver}
 use Rattle.receiver.specs.declared.Received.{Received}
-use Rattle.receiver.proofs.Calls.{state-range, ready-number, ready-state, changed-is}
+use Rattle.receiver.proofs.Calls.{state-range, ready-number, ready-state, ready-refusal, changed-is}
 use Rattle.receiver.proofs.MarkDelays.{leave-marks}
 use Rattle.receiver.proofs.Reached.{sound-range, sound-fresh}
 use Rattle.receiver.proofs.Promised.{promised-received}
@@ -69,15 +69,18 @@ invented-changes s block marks output r exit p y h c w l n =
     state : r .receiver ≡ stateAfter s block marks (p .left) (p .decoded)
     state = p .state ∙ ready-state s block marks output y (p .left) (p .decoded)
 
+    decodes : DecodesMarked (delayedMarks s marks) (delayedBlock s block) (p .left) (p .decoded)
+    decodes = p .decodes (ready-refusal s block marks output y) h
+
     same : Same (p .left) c (p .decoded) (Corrected (changes (delayedBlock s block) c))
     same =
         decodes-near-marked (delayedMarks s marks) (delayedBlock s block) c (p .left) (p .decoded) (length-out Receiving (s .deinterleaver .branches) block)
-        (leave-marks (marksIn s) marks (state-range s (y .range) .marks) (marks-of marks (y .marked))) w l (p .decodes)
+        (leave-marks (marksIn s) marks (state-range s (y .range) .marks) (marks-of marks (y .marked))) w l decodes
 
     added : (f : Changed → ℕ) → f noChange ≡ 0
         → ofAccepted (stepOf s (p .left) (p .decoded) .outcome) (f (changes (delayedBlock s block) (p .left))) ≡ f (changes (delayedBlock s block) c)
     added f z =
-        simp (le-ltb _ _ h) (sym (changed-is s block marks output y f z (p .left) (p .decoded) (p .decodes)) ∙ ap (λ (x : Decoded). f (changedBy x)) (same .answer))
+        simp (le-ltb _ _ h) (sym (changed-is s block marks output y f z (p .left) (p .decoded) decodes) ∙ ap (λ (x : Decoded). f (changedBy x)) (same .answer))
 
 -- A receiver that never gives a packet, whatever its answers are (8, 9 or 10 for all, say): of twelve packets that were sent the first is given.
 pub giving-none : (packets : List (List ℕ)) → All Packet packets → 11 < length packets → length packets ≤ 4294967295 → (numbers : List ℕ) (last : Receiver)

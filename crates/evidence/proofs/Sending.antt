@@ -74,7 +74,7 @@ half-whole bits = omega arith
 low-decided : (rate : ℕ) → rate < modeCount → (bs cs : List ℕ) → length (bitsOf bs) % patternLength rate ≡ 0 → length (bitsOf cs) % patternLength rate ≡ 0
     → streamSymbols (modeOf rate) bs ≡ streamSymbols (modeOf rate) cs → (i : ℕ) → i < length bs / 3 → i < length cs / 3
     → getD bs (3 * i) 0 % 2 ≡ getD cs (3 * i) 0 % 2
-low-decided rate h bs cs m n e i k l = by (decLt rate 5)
+low-decided rate h bs cs m n e i k l = by (decLt rate qpskCount)
   where
     by : Dec (rate < qpskCount) → getD bs (3 * i) 0 % 2 ≡ getD cs (3 * i) 0 % 2
     by (yes q) = low bs cs (3 * i) (decided rate q (bits-bits bs) (bits-bits cs) m n (sym (stream-qpsk rate q bs) ∙ e ∙ stream-qpsk rate q cs))

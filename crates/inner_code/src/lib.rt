@@ -34,7 +34,7 @@ pub struct InnerCoder {
 // A fresh coder. The answer stands beside it, as it stands beside a fresh sender, whose arrays no enum can hold.
 // Where the answer is 6 the coder holds the rate that was wanted, and every call refuses it: with 5 where there is no such mode, with 6 where the
 // mode is not sent.
-pub struct Created {
+pub struct CoderCreated {
     pub answer: Answer,
     pub coder: InnerCoder,
 }
@@ -58,7 +58,7 @@ impl InnerCoder {
     // The bits of each mode's puncturing pattern.
     pub const PATTERN_LENGTHS: [u8; code_tables::MODES] = code_tables::PATTERN_LENGTHS;
 
-    pub fn new(rate: u8) -> Created
+    pub fn new(rate: u8) -> CoderCreated
         ensures { λ r. ⌜ (numberOf (r .answer) ≡ newNumber rate) × (r .coder ≡ freshCoder rate) ⌝ }
     {
         let coder = InnerCoder {
@@ -68,12 +68,12 @@ impl InnerCoder {
             held: 0,
         };
         if is_sent(rate) {
-            return Created {
+            return CoderCreated {
                 answer: Answer::Done,
                 coder,
             };
         }
-        Created {
+        CoderCreated {
             answer: Answer::UnknownRate,
             coder,
         }

@@ -13,7 +13,7 @@ use Rattle.common.proofs.Chunks.{chunks-back}
 use Rattle.randomizer.specs.Stream.{Packet}
 use Rattle.convolutional_code.specs.Bits.{bitsOf}
 use Rattle.convolutional_code.proofs.Bits.{length-bits, bits-bits}
-use Rattle.puncturing.specs.Mode.{modeOf}
+use Rattle.puncturing.specs.Mode.{modeOf, qpskCount}
 use Rattle.puncturing.specs.Step.{patternLength}
 use Rattle.puncturing.proofs.Steps.{some-bits}
 use Rattle.puncturing.proofs.Places.{up, length-le}
@@ -25,7 +25,10 @@ use Rattle.bit_packing.specs.Packing.{packedBytes}
 use Rattle.reader_stream.specs.History.{SymbolsEnded}
 use Rattle.bit_packing.proofs.Bytes.{length-bytes, bytes-back}
 use Rattle.reader_stream.proofs.Histories.{every-end}
-use Rattle.reader_stream.proofs.Unharmed.{WholeStream, read-whole, last-pattern}
+use Rattle.reader.proofs.Costs.{sent-small}
+use Rattle.symbol_turns.specs.Turn.{turnedCost}
+use Rattle.symbol_turns.proofs.Turns.{clear-turned}
+use Rattle.reader_stream.proofs.Unharmed.{WholeStream, read-whole, all-front, last-pattern}
 use Rattle.sender.specs.Input.{Input, packetFor, packetsFor}
 use Rattle.sender.proofs.Inputs.{packets-sent}
 use Rattle.receiver.specs.Receive.{freshReceiver}
@@ -37,7 +40,7 @@ use Rattle.sent_blocks.specs.Blocks.{interleavedBlocks, sentBytes}
 use Rattle.sender.proofs.Counts.{block-bits}
 use Rattle.sent_blocks.proofs.Lengths.{interleaved-count, interleaved-whole}
 use Rattle.sent_blocks.proofs.Packets.{bytes-sent}
-use Rattle.link.specs.Link.{Link, StreamLink, bytesRead, bitCount, blocksInBits, BroughtBack, Arrived, StreamArrived}
+use Rattle.link.specs.Link.{Link, StreamLink, TurnedClear, bytesRead, bitCount, blocksInBits, BroughtBack, Arrived, StreamArrived}
 use Rattle.link.proofs.Sent.{sent-coded, sent-front, front-within, front-last}
 
 module _ (packets : List (List ℕ)) (ws : All Packet packets) where
@@ -88,7 +91,7 @@ module _ (inputs : List (List ℕ)) (g : All Input inputs) (bs : All Bytes input
         packets = sym (m .given) ∙ r .given ∙ ap (λ (k : ℕ). take k packets) e;
       }
 
-  module _ (rate : ℕ) (hr : rate < 5) (q : modeOf rate .sent ≡ true) where
+  module _ (rate : ℕ) (hr : rate < qpskCount) (q : modeOf rate .sent ≡ true) where
     -- by runs
     pub arrived : (l : Link rate inputs) → Arrived rate inputs l
     arrived l =
@@ -142,10 +145,19 @@ module _ (inputs : List (List ℕ)) (g : All Input inputs) (bs : All Bytes input
     stream-arrived cost l =
         all-arrived l (read-whole cost rate (bitsOf (sentBytes packets)) (bits-bits (sentBytes packets)) (l .points) (l .came) (l .unread) (l .assumed) (coded l) (read-ended l .read))
 
+    -- by a stream of symbols that came turned in one of the eight ways and are clear about the turned ones, where the decisions are turned back before they are
+    -- read: `costed-turned` gives what those cost
+    pub turned-arrived : {R : Type 0} (cost : R → ℕ → ℕ) (turn : ℕ) → turn < 8 → (l : StreamLink (turnedCost cost turn) (TurnedClear cost turn) rate inputs) → StreamArrived l
+    turned-arrived cost turn h l =
+        let small : All (λ s. s < 4) (l .came) =
+        all-front (l .came) (l .unread) (subst (All (λ s. s < 4)) (sym (coded l)) (sent-small rate 0 hr (omega arith) (bits-bits (sentBytes packets)))) in
+        all-arrived l
+        (read-whole (turnedCost cost turn) rate (bitsOf (sentBytes packets)) (bits-bits (sentBytes packets)) (l .points) (l .came) (l .unread) (clear-turned cost turn h (l .came) small (l .assumed)) (coded l) (read-ended l .read))
+
 -- ---- how many blocks that is
 
 -- where less than a pattern is left unread, at most one block is not whole
-pub all-but-one : (rate n : ℕ) → rate < 5 → n ≤ blocksInBits (patternLength rate * (1632 * n / patternLength rate)) + 1
+pub all-but-one : (rate n : ℕ) → rate < qpskCount → n ≤ blocksInBits (patternLength rate * (1632 * n / patternLength rate)) + 1
 all-but-one rate n hr =
     let p = patternLength rate in
     omega (arith, div-add-mod (1632 * n) p, mod-lt (1632 * n) (some-bits rate hr), length-le rate (up rate hr))

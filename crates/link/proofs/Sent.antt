@@ -11,7 +11,7 @@ use lib.ListN.{length, take, length-append}
 use Rattle.common.specs.Lists.{All}
 use Rattle.convolutional_code.specs.Bits.{bitsOf}
 use Rattle.convolutional_code.proofs.Bits.{bits-bits}
-use Rattle.puncturing.specs.Mode.{modeOf}
+use Rattle.puncturing.specs.Mode.{modeOf, qpskCount}
 use Rattle.puncturing.specs.Step.{patternLength}
 use Rattle.inner_code.specs.Step.{symbolsOf}
 use Rattle.inner_code.proofs.Stream.{symbols-fresh, stream-qpsk}
@@ -38,7 +38,7 @@ runs-whole rate (r ∷ rs) g =
     ∙ (ap (λ (n : ℕ). (n + length (flatten rs)) % s) (g .0 .whole) ∙ (ap (λ (n : ℕ). n % s) (zero-add (length (flatten rs))) ∙ runs-whole rate rs (g .1))))
 
 -- the symbols of a fresh sender that was given any inputs are the coding of the bits of the blocks, with null packets put in
-pub sent-coded : (rate : ℕ) → rate < 5 → modeOf rate .sent ≡ true → {inputs : List (List ℕ)} {symbols : List ℕ} {last : Sender} → All Input inputs
+pub sent-coded : (rate : ℕ) → rate < qpskCount → modeOf rate .sent ≡ true → {inputs : List (List ℕ)} {symbols : List ℕ} {last : Sender} → All Input inputs
     → SendCalls modeOf (freshSender rate) inputs symbols last → symbols ≡ symbolsOf (coderAt rate 0) (bitsOf (sentBytes (packetsFor inputs)))
 unfolding onAir
 sent-coded rate hr q {inputs} g c =
@@ -47,7 +47,7 @@ sent-coded rate hr q {inputs} g c =
 
 -- ---- the theorem, of such a sender
 
-module _ (rate : ℕ) (hr : rate < 5) (q : modeOf rate .sent ≡ true) {inputs : List (List ℕ)} {symbols : List ℕ} {last : Sender} (g : All Input inputs)
+module _ (rate : ℕ) (hr : rate < qpskCount) (q : modeOf rate .sent ≡ true) {inputs : List (List ℕ)} {symbols : List ℕ} {last : Sender} (g : All Input inputs)
     (c : SendCalls modeOf (freshSender rate) inputs symbols last) (rs : List (List ℕ)) (runs : All (Run rate) rs) (rest : List ℕ) (e : flatten rs ++ rest ≡ symbols) where
   abbrev bytes : List ℕ
   bytes = sentBytes (packetsFor inputs)

@@ -3,16 +3,18 @@
 -- Clauses: document 01, "What the board carries"; document 02, P1 and P2.
 -- Assumes nothing.
 use mathlib.Core.Path.{_≡_}
-use mathlib.Core.List.{List, _++_, flatten}
+use mathlib.Core.List.{List, _++_, map, flatten}
 use Prim.Native.Nat.{ℕ, _+_, _-_, _*_, _/_, _%_, _≤_, _<_}
 use lib.ListN.{length, take, replicate}
 use Rattle.common.specs.Lists.{All, chunksOf}
 use Rattle.bit_packing.specs.Packing.{packedBytes}
 use Rattle.puncturing.specs.Mode.{modeOf}
 use Rattle.puncturing.specs.Step.{patternLength}
+use Rattle.reader.specs.Clear.{AllClear}
 use Rattle.reader.specs.Cost.{Costed}
 use Rattle.reader.specs.Read.{symbolsPerPattern}
 use Rattle.reader.specs.Runs.{Run, Readings}
+use Rattle.symbol_turns.specs.Turn.{turned}
 use Rattle.reader_stream.specs.Stream.{FinishesReader}
 use Rattle.reader_stream.specs.History.{ReaderFeedings}
 use Rattle.reader_stream.specs.declared.ReaderStream.{ReaderStream}
@@ -76,6 +78,10 @@ pub record StreamLink {R : Type 0} (cost : R → ℕ → ℕ) (Came : List R →
   pub given : List (List ℕ)
   pub receiver : Receiver
   pub received : Kept freshReceiver (chunksOf 204 (first ++ take (finished .count) exit)) numbers given receiver
+
+-- What may be assumed of symbols that came turned: those that were received are clear about the turned ones.
+abbrev pub TurnedClear : {R : Type 0} → (R → ℕ → ℕ) → ℕ → List R → List ℕ → Type 0
+TurnedClear cost turn points came = AllClear cost points (map (turned turn) came)
 
 -- the bytes that were read, and how many bits, with those that fill no byte
 abbrev pub bytesRead : {R : Type 0} {cost : R → ℕ → ℕ} {Came : List R → List ℕ → Type 0} {rate : ℕ} {inputs : List (List ℕ)} → StreamLink cost Came rate inputs → List ℕ

@@ -29,17 +29,17 @@ unfolding listOf
 harmed start many sent = listOf (length sent) (λ i. pick (inside start many i) (otherByte (getD sent i 0)) (getD sent i 0))
 
 -- a row: a burst makes so many bytes of a block wrong; or the block is then not corrected to what was sent
-pub data Case : Type 0 where
-  puts : (start many block wrong : ℕ) → Case
-  not-corrected : (start many block : ℕ) → Case
+pub data BurstCase : Type 0 where
+  puts : (start many block wrong : ℕ) → BurstCase
+  not-corrected : (start many block : ℕ) → BurstCase
 
-abbrev pub Holds : Case → Type 0
+abbrev pub Holds : BurstCase → Type 0
 Holds (puts start many block wrong) = wrongIn (sentBytes packets) (harmed start many (sentBytes packets)) block ≡ wrong
 Holds (not-corrected start many block) =
     (cs : List Call) → All (Length 204) (lentBlocks cs) → receivedBytes cs ≡ harmed start many (sentBytes packets) → All Plain cs → All OutputFits cs
     → DecodedCalls freshReceiver cs → getD (lefts cs) (block + 11) [] ≡ getD (codedBlocks packets) block [] → ⊥
 
-abbrev pub cases : List Case
+abbrev pub cases : List BurstCase
 cases =
     -- 96 bytes from the first byte of block 20 on: eight wrong bytes in it
     puts 4080 96 20 8

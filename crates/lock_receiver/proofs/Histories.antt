@@ -17,19 +17,20 @@ use Rattle.common.proofs.Lists.{All-append}
 use Rattle.common.proofs.Chunks.{chunks-joined}
 use Rattle.interleaver.proofs.BlockLists.{length-flatten}
 use Rattle.reed_solomon.specs.Marks.{DecodesMarked}
-use Rattle.receiver.specs.Receive.{freshReceiver, delayedBlock, delayedMarks}
+use Rattle.receiver.specs.Receive.{freshReceiver, receiverInRange, delayedBlock, delayedMarks}
 use Rattle.receiver.specs.Run.{Call, DecodedCalls, OutputFits, Plain, lentBlocks, afterCall, afterCalls, outputOf, answerOf}
 use Rattle.receiver.specs.Begun.{lefts, deliveredPackets}
 use Rattle.receiver.specs.declared.Receiver.{Receiver}
 use Rattle.receiver.proofs.Outcomes.{Unrefused, plain-marked}
-use Rattle.receiver.proofs.Reached.{sound-fresh}
+use Rattle.receiver.proofs.Reached.{sound-fresh, reached-in-range}
 use Rattle.receiver.proofs.Reception.{blocks-count}
-use Rattle.losses.specs.Watch.{isSure, startDueAt, startedAt, waitingLines, callLines, certaintyAfter, linesOf, certaintyOf}
+use Rattle.losses.specs.Watch.{isSure, startDueAt, startedAt, waitingLines, callLines, certaintyInRange, certaintyAfter, linesOf, certaintyOf}
 use Rattle.losses.specs.Feed.{lentMarks}
 use Rattle.losses.specs.History.{blocksOf}
 use Rattle.losses.specs.declared.Certainty.{Certainty}
 use Rattle.losses.specs.declared.Certainty.the-variants.{Unsure}
 use Rattle.losses.proofs.Blocks.{after-both, decodes-both, lines-both, certainty-both}
+use Rattle.losses.proofs.Watching.{watched-calls}
 use Rattle.losses.proofs.Histories.{fresh-lines, taken-all}
 use Rattle.lock_receiver.specs.Take.{waitingPackets, freshLock, lockInRange, callGiven, callHeld, TakesOne, refused, taken}
 use Rattle.lock_receiver.specs.History.{LockTakes, fresh, refusing, taking, unlistedFrom, doubtfulFrom, Merged, LockCame}
@@ -194,6 +195,17 @@ every-run (taking {v = v} block output room exit roomExit r h z (taken e t)) =
     run-more (every-run h) (eqb-true _ _ (f .0)) (ltb-true _ _ (f .1)) t
 
 -- ---- what it comes to
+
+-- no number is out of its range, so that with room a block is refused only after the most that can be counted
+pub lock-in-range : {blocks given : List (List ℕ)} {lines : List ℕ} {v : LockReceiver} → LockTakes blocks given lines v → lockInRange v ≡ true
+unfolding freshReceiver
+lock-in-range {v = v} h =
+    let n = every-run h in
+    let w = watched-calls (n .calls) freshReceiver (Unsure 0) (record { range = refl; most = omega arith }) in
+    let a : receiverInRange (v .receiver) ≡ true = subst (λ (s : Receiver). receiverInRange s ≡ true) (sym (n .state)) (reached-in-range (n .calls) (n .decodes)) in
+    let b : certaintyInRange (v .certainty) (v .receiver .sync .place) (v .receiver .counts .taken) ≡ true
+    = subst₂ (λ (s : Receiver) (k : Certainty). certaintyInRange k (s .sync .place) (s .counts .taken) ≡ true) (sym (n .state)) (sym (n .certainty)) (w .range) in
+    simp (a, b)
 
 -- the marks of calls in which none come
 plain-marks : (cs : List Call) → All Plain cs → lentMarks cs ≡ chunksOf 204 (replicate (204 * length cs) 0)

@@ -19,7 +19,7 @@ use Rattle.receiver.specs.Run.{Call, answerOf, afterCall, outputOf}
 use Rattle.receiver.specs.declared.Receiver.{Receiver}
 use Rattle.receiver.proofs.Calls.{ready-number}
 use Rattle.losses.specs.Watch.{waitingOf, startDueAt, startedAt, oneMore, certaintyNext, callLines, certaintyAfter}
-use Rattle.losses.specs.Feed.{Writes}
+use Rattle.losses.specs.Feed.{WritesLines}
 use Rattle.losses.specs.Block as losses
 use Rattle.losses.specs.declared.Certainty.{Certainty}
 use Rattle.losses.specs.declared.Certainty.the-variants.{Unsure}
@@ -40,9 +40,6 @@ module _ (v : LockReceiver) {block output lines room packet linesExit : List ℕ
 
   abbrev call : Call
   call = t .call
-
-  few : waitingOf k ≤ 7
-  few = omega (arith, lock-range v (y .range) .waiting .0, most-seven (s .sync .place))
 
   -- while the delays fill nothing waits
   none-waits : s .counts .taken < 11 → waitingOf k ≡ 0
@@ -120,7 +117,7 @@ module _ (v : LockReceiver) {block output lines room packet linesExit : List ℕ
           (ap₂ (λ (i : ℕ) (x : Bool). givenNow k i due x (waitingPackets v) packet) (t .answered) started
           ∙ ap₂ (λ (x : Bool) (p : List ℕ). givenNow k (answerOf s call) x (startedAt (afterCall s call .sync .place)) (waitingPackets v) p) d packet-is)
           (w .gives);
-      tells = subst (λ (i : ℕ). Writes (callLines s k call) lines i linesExit) (sym o) (t .writes);
+      tells = subst (λ (i : ℕ). WritesLines (callLines s k call) lines i linesExit) (sym o) (t .writes);
     }
       where
         started : start ≡ startedAt (afterCall s call .sync .place)

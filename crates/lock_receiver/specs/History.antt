@@ -13,7 +13,7 @@ use Rattle.receiver.specs.Receive.{freshReceiver}
 use Rattle.receiver.specs.Run.{Plain, lentBlocks, afterCalls, packetsGiven}
 use Rattle.receiver.specs.Begun.{lefts, packetOf}
 use Rattle.losses.specs.List.{lineOf, sureAfter}
-use Rattle.losses.specs.History.{blocksOf, Listed}
+use Rattle.losses.specs.History.{blocksOf, LossList}
 use Rattle.lock_receiver.specs.Take.{waitingPackets, freshLock, lockRefusal, TakesBlock, waitingTold}
 use Rattle.lock_receiver.specs.declared.LockReceiver.{LockReceiver}
 use Rattle.lock_receiver.specs.declared.LockStep.{LockStep}
@@ -57,7 +57,7 @@ pub data Merged : List (List ℕ) → List (List ℕ) → List (List ℕ) → Ty
 -- The lines so far and those of an end are the list of losses of the blocks. The packets given are exactly those of the blocks that have no line. Together
 -- with those that were told and those that wait they are what the receiver gave, each in its order.
 pub record LockCame (blocks given : List (List ℕ)) (lines : List ℕ) (v : LockReceiver) : Type 0 where
-  pub listed : Listed (flatten blocks) (replicate (length (flatten blocks)) 0) (lines ++ waitingTold v)
+  pub listed : LossList (flatten blocks) (replicate (length (flatten blocks)) 0) (lines ++ waitingTold v)
   pub lent : lentBlocks (listed .calls) ≡ blocks
   pub plain : All Plain (listed .calls)
   pub state : v .receiver ≡ afterCalls freshReceiver (listed .calls)

@@ -20,7 +20,7 @@ use Rattle.receiver.specs.Receive.{freshReceiver, receiverInRange, delayedBlock
 use Rattle.receiver.specs.Run.{Call, answerOf, afterCall, outputOf, Plain, OutputFits}
 use Rattle.receiver.specs.declared.Receiver.{Receiver}
 use Rattle.losses.specs.Watch.{waitingOf, isSure, waitingLines, startDueAt, startedAt, certaintyNext, certaintyInRange, callLines, certaintyAfter}
-use Rattle.losses.specs.Feed.{Writes}
+use Rattle.losses.specs.Feed.{WritesLines}
 use Rattle.losses.specs.declared.Certainty.{Certainty}
 use Rattle.losses.specs.declared.Certainty.the-variants.{Unsure}
 use Rattle.lock_receiver.specs.declared.LockReceiver.{LockReceiver}
@@ -84,7 +84,7 @@ pub record TakesOne (v : LockReceiver) (block output lines : List ℕ) (r : Lock
   pub certainty : r .lock .certainty ≡ certaintyAfter (v .receiver) (v .certainty) call
   pub waits : waitingPackets (r .lock) ≡ callHeld (v .receiver) (v .certainty) (waitingPackets v) call
   pub gives : WritesPackets (callGiven (v .receiver) (v .certainty) (waitingPackets v) call) output (r .given) exit
-  pub tells : Writes (callLines (v .receiver) (v .certainty) call) lines (r .told) linesExit
+  pub tells : WritesLines (callLines (v .receiver) (v .certainty) call) lines (r .told) linesExit
 
 -- The tests before the work, in the order of document 01: 5 for a state out of range, 3 where the block has not 204 bytes, 4 where there is not room for
 -- eight packets and eight lines, 7 where the block cannot be counted; 0 where none refuses.

@@ -6,12 +6,12 @@ ghost use Prim.Native.Nat.{_≤_};
 ghost use lib.ListN.{length};
 ghost use Rattle.answer.specs.Number.{numberOf};
 ghost use Rattle.losses.specs.Watch.{waitingOf, isSure, oneMore};
-ghost use Rattle.losses.specs.Feed.{Writes};
+ghost use Rattle.losses.specs.Feed.{WritesLines};
 ghost use Rattle.lock_receiver.specs.Take.{freshLock, lockInRange, Settles, LockReady, TakesOne, refusedStep, TakesBlock, lockEndNumber, lockEndLines};
 use answer::Answer;
 use common::put;
 use losses::Certainty;
-use losses::Listed;
+use losses::LossesListed;
 use receiver::Receiver;
 use reception_counts::Counts;
 
@@ -205,17 +205,17 @@ impl LockReceiver {
     }
 
     // The end of the lock: a line for each packet that still waits, in doubt.
-    pub fn end(self, lines: &mut [u64]) -> Listed
+    pub fn end(self, lines: &mut [u64]) -> LossesListed
         ensures { λ r. ⌜
             (numberOf (r .answer) ≡ lockEndNumber self (now (lines .entry)))
-            × Writes (lockEndLines self (now (lines .entry))) (now (lines .entry)) (r .count) (now (lines .exit)) ⌝ }
+            × WritesLines (lockEndLines self (now (lines .entry))) (now (lines .entry)) (r .count) (now (lines .exit)) ⌝ }
     {
         let receiver = self.receiver;
         let certainty = self.certainty;
         let counts = receiver.counts;
         let taken = counts.taken;
         if !self.in_range() {
-            return Listed {
+            return LossesListed {
                 answer: Answer::StateRange,
                 count: 0,
             };

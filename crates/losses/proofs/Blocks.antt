@@ -18,8 +18,9 @@ use Rattle.receiver.specs.Receive.{ReceivesMarked}
 use Rattle.receiver.specs.Run.{Call, DecodedCalls, answerOf, afterCall, afterCalls, OutputFits}
 use Rattle.receiver.specs.declared.Receiver.{Receiver}
 use Rattle.receiver.specs.declared.Received.{Received}
+use Rattle.receiver.proofs.Reached.{CallDecoded, call-decoded}
 use Rattle.losses.specs.Watch.{startDueAt, startedAt, linesNow, certaintyNext, callLines, certaintyAfter, linesOf, certaintyOf}
-use Rattle.losses.specs.Feed.{heldBytes, heldMarks, Listing, TakesPiece, Writes}
+use Rattle.losses.specs.Feed.{heldBytes, heldMarks, Listing, ListsPiece, WritesLines}
 use Rattle.losses.specs.Block.{TakesBlock, PartReady, TakesLines}
 use Rattle.losses.specs.declared.Certainty.{Certainty}
 use Rattle.losses.specs.declared.LossStream.{LossStream}
@@ -74,7 +75,7 @@ module _ {s middle last : Receiver} {k kept : Certainty} {finally : Certainty} {
 -- ---- a piece after a piece
 
 module _ {i j next : LossStream} {a ma la b mb lb : List ℕ} where
-  pub takes-join : TakesPiece i a ma la j → TakesPiece j b mb lb next → TakesPiece i (a ++ b) (ma ++ mb) (la ++ lb) next
+  pub takes-join : ListsPiece i a ma la j → ListsPiece j b mb lb next → ListsPiece i (a ++ b) (ma ++ mb) (la ++ lb) next
   takes-join f g =
       let u = heldBytes i ++ a in
       let v = heldMarks i ++ ma in
@@ -100,7 +101,7 @@ module _ {i j next : LossStream} {a ma la b mb lb : List ℕ} where
 module _ {i next : LossStream} {part marks : List ℕ} where
   -- fewer bytes than a block
   pub takes-few : next .receiver ≡ i .receiver → next .certainty ≡ i .certainty → next .held ≡ length (heldBytes i ++ part) → heldBytes next ≡ heldBytes i ++ part → heldMarks next ≡ heldMarks i ++ marks
-      → length (heldBytes i ++ part) < 204 → length (heldMarks i ++ marks) < 204 → TakesPiece i part marks [] next
+      → length (heldBytes i ++ part) < 204 → length (heldMarks i ++ marks) < 204 → ListsPiece i part marks [] next
   takes-few r k n b m h l = record {
     listing = record {
       calls = [];
@@ -156,7 +157,10 @@ module _ {i next : LossStream} {part marks block own : List ℕ} (b : block ≡ 
 
 -- ---- a call of the receiver
 
-module _ (s : Receiver) (k : Certainty) {block marks room packet : List ℕ} {r : Received} (enough : 188 ≤ length room) (v : ReceivesMarked s block marks room r packet) where
+module _ (s : Receiver) (k : Certainty) {block marks room packet : List ℕ} {r : Received} (enough : 188 ≤ length room) (m : ReceivesMarked s block marks room r packet) where
+  abbrev v : CallDecoded s block marks room r packet
+  v = call-decoded m
+
   abbrev call : Call
   call = record { block = block; marks = marks; output = room; left = v .left; decoded = v .decoded }
 
@@ -172,7 +176,7 @@ module _ (s : Receiver) (k : Certainty) {block marks room packet : List ℕ} {r 
     given = v .written;
     state = v .state;
     certainty = sym (ap (λ (t : Bool). pick t k (certaintyNext k (answerOf s call) (startedAt (afterCall s call .sync .place)))) (lt-ltb _ _ h));
-    writes = subst (λ (l : List ℕ). Writes l output 0 output) (sym none) (writes-none output);
+    writes = subst (λ (l : List ℕ). WritesLines l output 0 output) (sym none) (writes-none output);
   }
     where
       none : callLines s k call ≡ []
@@ -182,7 +186,7 @@ module _ (s : Receiver) (k : Certainty) {block marks room packet : List ℕ} {r 
   -- and then
   pub decided-block : 11 ≤ s .counts .taken → (number : ℕ) (due start : Bool) (kept : Certainty) (output exit : List ℕ) (count : ℕ)
       → number ≡ numberOf (r .answer) → due ≡ startDueAt (s .sync .place) → start ≡ startedAt (r .receiver .sync .place)
-      → kept ≡ certaintyNext k number start → Writes (linesNow k (s .counts .taken - 11) number due start) output count exit
+      → kept ≡ certaintyNext k number start → WritesLines (linesNow k (s .counts .taken - 11) number due start) output count exit
       → TakesBlock s k block marks room output (numberOf (r .answer)) count (r .receiver) kept packet exit
   decided-block h number due start kept output exit count n d t e w = record {
     call = call;
@@ -196,7 +200,7 @@ module _ (s : Receiver) (k : Certainty) {block marks room packet : List ℕ} {r 
     certainty =
         e ∙ ap₂ (λ (i : ℕ) (b : Bool). certaintyNext k i b) answered begun
         ∙ sym (ap (λ (b : Bool). pick b k (certaintyNext k (answerOf s call) (startedAt (afterCall s call .sync .place)))) (le-ltb _ _ h));
-    writes = subst (λ (l : List ℕ). Writes l output count exit) lines w;
+    writes = subst (λ (l : List ℕ). WritesLines l output count exit) lines w;
   }
     where
       answered : number ≡ answerOf s call

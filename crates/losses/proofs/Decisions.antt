@@ -14,7 +14,7 @@ use Rattle.group_sync.specs.declared.Place.{Place}
 use Rattle.group_sync.specs.declared.Place.the-variants.{NotKnown, Known}
 use Rattle.losses.specs.List.{doubts}
 use Rattle.losses.specs.Watch.{waitingOf, waitingLines, mostWaiting, certaintyInRange}
-use Rattle.losses.specs.Feed.{Writes}
+use Rattle.losses.specs.Feed.{WritesLines}
 use Rattle.losses.specs.declared.Certainty.{Certainty}
 use Rattle.losses.proofs.Lines.{length-doubts}
 
@@ -28,19 +28,19 @@ set-behind (y ∷ a) (x ∷ d) v h =
     ap (λ (l : List ℕ). y ∷ l) (set-behind a d v (omega arith)) ∙ ap (λ (n : ℕ). (y ∷ (a ++ v ∷ [])) ++ drop n (x ∷ d)) e
 
 -- nothing written
-pub writes-none : (output : List ℕ) → Writes [] output 0 output
+pub writes-none : (output : List ℕ) → WritesLines [] output 0 output
 writes-none output = record { counted = refl; written = refl }
 
 -- the packets that wait
 pub writes-waiting : (k : Certainty) (block n : ℕ) (output exit : List ℕ) → n ≡ waitingOf k → exit ≡ doubts (block - n) n ++ drop n output
-    → Writes (waitingLines k block) output n exit
+    → WritesLines (waitingLines k block) output n exit
 writes-waiting k block n output exit e w = record {
   counted = e ∙ sym (length-doubts (block - waitingOf k) (waitingOf k));
   written = w ∙ ap (λ (m : ℕ). doubts (block - m) m ++ drop n output) e;
 }
 
 -- and the block's own line behind them
-pub writes-behind : (lines output exit : List ℕ) (n v : ℕ) → Writes lines output n exit → n < length output → Writes (lines ++ v ∷ []) output (n + 1) (set exit n v)
+pub writes-behind : (lines output exit : List ℕ) (n v : ℕ) → WritesLines lines output n exit → n < length output → WritesLines (lines ++ v ∷ []) output (n + 1) (set exit n v)
 writes-behind lines output exit n v w h =
     let e : n ≡ length lines = w .counted in
     record {

@@ -30,7 +30,7 @@ use Rattle.receiver.specs.Run.{Call}
 use Rattle.receiver.specs.Begun.{lefts, decodings, packetOf}
 use Rattle.receiver.proofs.Decoding.{sent-length, coded-back}
 use Rattle.losses.specs.List.{line, linesFrom}
-use Rattle.losses.specs.History.{blocksOf, Listed}
+use Rattle.losses.specs.History.{blocksOf, LossList}
 use Rattle.losses.specs.Promise.{In, Stretches, WrongTold}
 use Rattle.losses.proofs.Stretches.{Given, FirstGiven, Sent, in-place}
 
@@ -105,7 +105,7 @@ packet-at OutOfStep left packet e = absurd (omega (arith, ap length e))
 
 -- ---- the theorem
 
-pub wrong-told : {bytes marks lines : List ℕ} (l : Listed bytes marks lines) (packets : List (List ℕ)) → All Packet packets → (at : ℕ → ℕ) → Stretches packets at (l .calls)
+pub wrong-told : {bytes marks lines : List ℕ} (l : LossList bytes marks lines) (packets : List (List ℕ)) → All Packet packets → (at : ℕ → ℕ) → Stretches packets at (l .calls)
     → WrongTold packets at (l .calls) lines
 wrong-told {bytes} {marks} {lines} l packets ws at t block packet e =
     let cs = l .calls in

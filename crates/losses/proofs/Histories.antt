@@ -31,9 +31,9 @@ use Rattle.receiver.proofs.Reached.{sound-fresh, sound-range, reached-in-range}
 use Rattle.receiver.proofs.Reception.{blocks-count}
 use Rattle.losses.specs.List.{losses}
 use Rattle.losses.specs.Watch.{waitingOf, startDueAt, startedAt, waitingLines, linesNow, certaintyNext, callLines, certaintyAfter, linesOf, certaintyOf}
-use Rattle.losses.specs.Feed.{heldBytes, freshLossStream, lossStreamInRange, CallsOn, Listing, marksOf, marksFit, capacityOf, TakesPiece, FeedsLosses, refused, fed, endLines}
+use Rattle.losses.specs.Feed.{heldBytes, freshLossStream, lossStreamInRange, CallsOn, Listing, marksOf, marksFit, capacityOf, ListsPiece, FeedsLosses, refused, fed, endLines}
 use Rattle.losses.specs.Block.{Watched}
-use Rattle.losses.specs.History.{LossFeedings, none, feeding, LossesCame, Listed}
+use Rattle.losses.specs.History.{LossFeedings, none, feeding, LossesCame, LossList}
 use Rattle.losses.specs.declared.Certainty.{Certainty}
 use Rattle.losses.specs.declared.Certainty.the-variants.{Unsure}
 use Rattle.losses.specs.declared.LossStream.{LossStream}
@@ -220,7 +220,7 @@ module _ {bytes marks lines : List ℕ} {i : LossStream} (r : LossesCame bytes m
   came-capacity = omega (arith, came-taken, came-held, r .few)
 
   -- the lines so far and those of the end are the list
-  pub came-listed : Listed bytes marks (lines ++ endLines i)
+  pub came-listed : LossList bytes marks (lines ++ endLines i)
   came-listed =
       let cs = r .listing .calls in
       let n : i .receiver .counts .taken - 11 ≡ length cs - 11 = ap (λ (k : ℕ). k - 11) (came-taken ∙ sym (calls-count (r .listing .on) (r .small) (r .few))) in
@@ -235,7 +235,7 @@ module _ {bytes marks lines : List ℕ} {i : LossStream} (r : LossesCame bytes m
       }
 
   -- a piece more
-  came-piece : {piece own new : List ℕ} {next : LossStream} → TakesPiece i piece own new next → length own ≡ length piece → largest own < 2 → length bytes + length piece ≤ 204 * 4294967295
+  came-piece : {piece own new : List ℕ} {next : LossStream} → ListsPiece i piece own new next → length own ≡ length piece → largest own < 2 → length bytes + length piece ≤ 204 * 4294967295
       → LossesCame (bytes ++ piece) (marks ++ own) (lines ++ new) next
   came-piece {piece} {own} {new} {next} t m k h =
       let b : restOf 204 (heldBytes i ++ piece) ≡ restOf 204 (bytes ++ piece)

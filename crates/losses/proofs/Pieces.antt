@@ -15,7 +15,7 @@ use Rattle.reed_solomon.specs.Marks.{noMarks}
 use Rattle.receiver.specs.declared.Receiver.{Receiver}
 use Rattle.receiver.proofs.Reception.{blocks-count}
 use Rattle.losses.specs.Watch.{waitingOf}
-use Rattle.losses.specs.Feed.{heldBytes, heldMarks, Listing, marksOf, TakesPiece, Writes}
+use Rattle.losses.specs.Feed.{heldBytes, heldMarks, Listing, marksOf, ListsPiece, WritesLines}
 use Rattle.losses.specs.Block.{marksFront, Watched, PartReady, PieceReady, TakesLines}
 use Rattle.losses.specs.declared.Certainty.{Certainty}
 use Rattle.losses.specs.declared.LossStream.{LossStream}
@@ -25,7 +25,7 @@ use Rattle.losses.proofs.Watching.{watched-calls, lines-few}
 
 -- ---- lines written behind lines
 
-pub writes-both : {a b output exit exit′ : List ℕ} {m n : ℕ} → Writes a output m exit → Writes b (drop m exit) n exit′ → Writes (a ++ b) output (m + n) (take m exit ++ exit′)
+pub writes-both : {a b output exit exit′ : List ℕ} {m n : ℕ} → WritesLines a output m exit → WritesLines b (drop m exit) n exit′ → WritesLines (a ++ b) output (m + n) (take m exit ++ exit′)
 writes-both {a} {b} {output} {exit} {exit′} {m} {n} f g =
     let front : take m exit ≡ a = ap (take m) (f .written) ∙ take-at a (drop m output) m (sym (f .counted)) in
     let back : drop m exit ≡ drop m output = ap (drop m) (f .written) ∙ drop-at a (drop m output) m (sym (f .counted)) in
@@ -36,18 +36,18 @@ writes-both {a} {b} {output} {exit} {exit′} {m} {n} f g =
           ∙ sym (append-assoc a b (drop (m + n) output));
     }
 
-pub writes-length : {a output exit : List ℕ} {m : ℕ} → Writes a output m exit → m ≤ length output → length exit ≡ length output
+pub writes-length : {a output exit : List ℕ} {m : ℕ} → WritesLines a output m exit → m ≤ length output → length exit ≡ length output
 writes-length {a} {output} {exit} {m} w h = omega (arith, ap length (w .written), length-append a (drop m output), length-drop m output, w .counted)
 
 -- the same where the second list goes to the rest of the buffer
-pub writes-part : {a b output exit exit′ : List ℕ} {m n : ℕ} → m ≤ length output → Writes a output m exit → Writes b (midOf m (length exit - m) exit) n exit′ → length exit′ ≡ length exit - m
-    → Writes (a ++ b) output (m + n) (putMid m (length exit - m) exit exit′)
+pub writes-part : {a b output exit exit′ : List ℕ} {m n : ℕ} → m ≤ length output → WritesLines a output m exit → WritesLines b (midOf m (length exit - m) exit) n exit′ → length exit′ ≡ length exit - m
+    → WritesLines (a ++ b) output (m + n) (putMid m (length exit - m) exit exit′)
 writes-part {a} {b} {output} {exit} {exit′} {m} {n} h f g e =
     let mid : midOf m (length exit - m) exit ≡ drop m exit = take-all (length exit - m) (drop m exit) (omega (arith, length-drop m exit)) in
     let back : exit′ ++ drop (length exit - m) (drop m exit) ≡ exit′
     = ap (λ (l : List ℕ). exit′ ++ l) (drop-of-length-le (drop m exit) {i = length exit - m} (omega (arith, length-drop m exit))) ∙ append-nil exit′ in
-    subst (Writes (a ++ b) output (m + n)) (ap (λ (l : List ℕ). take m exit ++ l) (sym back))
-    (writes-both f (subst (λ (l : List ℕ). Writes b l n exit′) mid g))
+    subst (WritesLines (a ++ b) output (m + n)) (ap (λ (l : List ℕ). take m exit ++ l) (sym back))
+    (writes-both f (subst (λ (l : List ℕ). WritesLines b l n exit′) mid g))
 
 -- ---- the marks of a part
 
@@ -106,7 +106,7 @@ marks-count piece marks h = by (ℕ-discrete (length marks) 0)
 blocks-taken : {s : Receiver} {k : Certainty} {bytes marks lines : List ℕ} {last : Receiver} {kept : Certainty} (l : Listing s k bytes marks lines last kept) → length (l .calls) ≡ length bytes / 204
 blocks-taken {bytes = bytes} l = sym (blocks-count (l .calls)) ∙ ap length (l .on .blocks) ∙ length-chunks 204 bytes
 
-module _ {i j : LossStream} {a ma lines : List ℕ} (p : length (heldBytes i) ≡ i .held) (t : TakesPiece i a ma lines j) where
+module _ {i j : LossStream} {a ma lines : List ℕ} (p : length (heldBytes i) ≡ i .held) (t : ListsPiece i a ma lines j) where
   came-length : length (heldBytes i ++ a) ≡ i .held + length a
   came-length = length-append (heldBytes i) a ∙ ap (λ (n : ℕ). n + length a) p
 
@@ -138,8 +138,8 @@ part-room wi wj held at all count size room now part length middle a b c d e f g
 pub record Progress (i : LossStream) (piece marks output₀ output : List ℕ) (j : LossStream) (at count : ℕ) : Type 0 where
   pub within : at ≤ length piece
   pub lines : List ℕ
-  pub takes : TakesPiece i (take at piece) (take at (marksOf piece marks)) lines j
-  pub writes : Writes lines output₀ count output
+  pub takes : ListsPiece i (take at piece) (take at (marksOf piece marks)) lines j
+  pub writes : WritesLines lines output₀ count output
 
 module _ (i : LossStream) (piece marks output₀ : List ℕ) (p : length (i .pending) ≡ 204) (m : length (i .marks) ≡ 204) (y : PieceReady i piece marks output₀) where
   held : length (heldBytes i) ≡ i .held
@@ -185,7 +185,7 @@ module _ (i : LossStream) (piece marks output₀ : List ℕ) (p : length (i .pen
     progress-end h = record {
       lines = w .lines;
       takes =
-          subst₂ (λ (x z : List ℕ). TakesPiece i x z (w .lines) j) (take-all at piece h)
+          subst₂ (λ (x z : List ℕ). ListsPiece i x z (w .lines) j) (take-all at piece h)
           (take-all at (marksOf piece marks) (omega (arith, marks-count piece marks (y .marked)))) (w .takes);
       writes = w .writes;
     }
@@ -236,7 +236,7 @@ module _ (i : LossStream) (piece marks output₀ : List ℕ) (p : length (i .pen
           within = part-within;
           lines = w .lines ++ t .lines;
           takes =
-              subst₂ (λ (x z : List ℕ). TakesPiece i x z (w .lines ++ t .lines) next)
+              subst₂ (λ (x z : List ℕ). ListsPiece i x z (w .lines ++ t .lines) next)
               (ap (λ (x : List ℕ). take at piece ++ x) b ∙ sym (take-add at size piece))
               (ap (λ (x : List ℕ). take at (marksOf piece marks) ++ x) o ∙ sym (take-add at size (marksOf piece marks)))
               (takes-join (w .takes) (t .takes));

@@ -14,7 +14,7 @@ use lib.Seq.{take-at, length-take-le}
 use Rattle.common.specs.Choice.{pick}
 use Rattle.receiver.specs.Receive.{freshReceiver}
 use Rattle.losses.specs.Watch.{waitingOf}
-use Rattle.losses.specs.Feed.{freshLossStream, marksOf, marksFit, TakesPiece, Writes, lossFeedNumber, FeedsLosses, refused, fed, lossCloseNumber, endLines, closeLines}
+use Rattle.losses.specs.Feed.{freshLossStream, marksOf, marksFit, ListsPiece, WritesLines, lossFeedNumber, FeedsLosses, refused, fed, lossCloseNumber, endLines, closeLines}
 use Rattle.losses.specs.History.{LossesCame}
 use Rattle.losses.specs.Run.{listNumber, ListsRecording, listed}
 use Rattle.losses.specs.Run as run
@@ -44,12 +44,12 @@ run-refused (fed f n new t w) z = absurd (z n)
 pub record Left (bytes marks output : List ℕ) (count : ℕ) (next : LossStream) (exit : List ℕ) : Type 0 where
   pub lines : List ℕ
   pub came : LossesCame bytes (marksOf bytes marks) lines next
-  pub writes : Writes lines output count exit
+  pub writes : WritesLines lines output count exit
   pub tests : listNumber bytes marks output ≡ 0
   pub room : count + waitingOf (next .certainty) ≤ length output
 
 -- at most a line for each block
-fresh-room : {bytes marks new : List ℕ} {next : LossStream} → TakesPiece freshLossStream bytes marks new next → length new + waitingOf (next .certainty) ≤ length bytes / 204
+fresh-room : {bytes marks new : List ℕ} {next : LossStream} → ListsPiece freshLossStream bytes marks new next → length new + waitingOf (next .certainty) ≤ length bytes / 204
 unfolding freshLossStream
 fresh-room {bytes} t = omega (arith, lines-room refl t, zero-add (length bytes))
 
@@ -84,16 +84,16 @@ module _ {bytes marks output exit : List ℕ} {count : ℕ} {next : LossStream} 
       let h : waitingOf (next .certainty) ≤ length (midOf count (length exit - count) exit) = omega (arith, rest-length, l .room, e .1) in
       simp (came-range (l .came), le-ltb _ _ h)
 
-  pub run-closed : {n : ℕ} {exit′ : List ℕ} → Writes (closeLines next (midOf count (length exit - count) exit)) (midOf count (length exit - count) exit) n exit′ → ListsRecording bytes marks output 0 (count + n) (putMid count (length exit - count) exit exit′)
+  pub run-closed : {n : ℕ} {exit′ : List ℕ} → WritesLines (closeLines next (midOf count (length exit - count) exit)) (midOf count (length exit - count) exit) n exit′ → ListsRecording bytes marks output 0 (count + n) (putMid count (length exit - count) exit exit′)
   run-closed {n} {exit′} w =
       let k = left-count l in
-      let v : Writes (endLines next) (midOf count (length exit - count) exit) n exit′ = subst (λ (z : ℕ). Writes (pick (eqb z 0) (endLines next) []) (midOf count (length exit - count) exit) n exit′) close-number w in
+      let v : WritesLines (endLines next) (midOf count (length exit - count) exit) n exit′ = subst (λ (z : ℕ). WritesLines (pick (eqb z 0) (endLines next) []) (midOf count (length exit - count) exit) n exit′) close-number w in
       let m : n ≤ length (midOf count (length exit - count) exit) = omega (arith, v .counted, length-doubts (next .receiver .counts .taken - 11 - waitingOf (next .certainty)) (waitingOf (next .certainty)), rest-length, l .room, k .1) in
       listed (l .tests) refl (l .lines ++ endLines next) (came-listed (l .came))
       (writes-part (omega (arith, l .room)) (l .writes) v (writes-length v m ∙ rest-length))
 
-  pub run-count : {n : ℕ} {exit′ : List ℕ} → Writes (closeLines next (midOf count (length exit - count) exit)) (midOf count (length exit - count) exit) n exit′ → count + n ≤ length output
+  pub run-count : {n : ℕ} {exit′ : List ℕ} → WritesLines (closeLines next (midOf count (length exit - count) exit)) (midOf count (length exit - count) exit) n exit′ → count + n ≤ length output
   run-count {n} {exit′} w =
       let k = left-count l in
-      let v : Writes (endLines next) (midOf count (length exit - count) exit) n exit′ = subst (λ (z : ℕ). Writes (pick (eqb z 0) (endLines next) []) (midOf count (length exit - count) exit) n exit′) close-number w in
+      let v : WritesLines (endLines next) (midOf count (length exit - count) exit) n exit′ = subst (λ (z : ℕ). WritesLines (pick (eqb z 0) (endLines next) []) (midOf count (length exit - count) exit) n exit′) close-number w in
       omega (arith, v .counted, length-doubts (next .receiver .counts .taken - 11 - waitingOf (next .certainty)) (waitingOf (next .certainty)), l .room)

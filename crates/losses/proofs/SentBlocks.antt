@@ -51,7 +51,7 @@ use Rattle.receiver.proofs.Outcomes.{Unrefused, next-unrefused, branches-after,
 use Rattle.receiver.proofs.Reception.{came-gathered, coded-gathered, blocks-count, begun-anywhere}
 use Rattle.recording.specs.Block.{blockCount, blockRefusal, GivesBlock, blockRefused, blockDecoded}
 use Rattle.recording.specs.declared.block.DecodedBlock.{DecodedBlock}
-use Rattle.losses.specs.History.{blocksOf, Listed}
+use Rattle.losses.specs.History.{blocksOf, LossList}
 use Rattle.losses.specs.Promise.{answerAt, Stretches, WrongTold, LeftOut, startLines}
 use Rattle.losses.proofs.Histories.{all-back, calls-count, calls-unrefused}
 use Rattle.losses.proofs.Pieces.{zeros-part}
@@ -77,7 +77,7 @@ chunks-zero (suc n) k h =
 abbrev pub unmarked : List ℕ → List ℕ
 unmarked bytes = replicate (length bytes) 0
 
-module _ {bytes lines : List ℕ} (l : Listed bytes (unmarked bytes) lines) where
+module _ {bytes lines : List ℕ} (l : LossList bytes (unmarked bytes) lines) where
   pub none-marked : largest (unmarked bytes) < 2
   none-marked = omega (arith, largest-zeros (length bytes))
 
@@ -122,7 +122,7 @@ module _ (cs : List Call) (u : Unrefused freshReceiver cs) (pl : All Plain cs) (
 
 -- ---- blocks left out or doubled
 
-module _ {bytes lines : List ℕ} (l : Listed bytes (unmarked bytes) lines) (packets : List (List ℕ)) (ws : All Packet packets) (at : ℕ → ℕ) (t : LeftOut packets at (l .calls)) where
+module _ {bytes lines : List ℕ} (l : LossList bytes (unmarked bytes) lines) (packets : List (List ℕ)) (ws : All Packet packets) (at : ℕ → ℕ) (t : LeftOut packets at (l .calls)) where
   -- twelve blocks one after the other
   module _ (block : ℕ) (h : block + 11 < length (l .calls)) (c : (i : ℕ) → i < 11 → at (block + suc i) ≡ at (block + i) + 1) where
     in-order : (j : ℕ) → j ≤ 11 → at (block + j) ≡ at block + j
@@ -196,7 +196,7 @@ module _ {bytes lines : List ℕ} (l : Listed bytes (unmarked bytes) lines) (pac
 
 -- ---- one stretch
 
-pub unbroken-stream : {bytes lines : List ℕ} (l : Listed bytes (unmarked bytes) lines) (packets : List (List ℕ)) → All Packet packets → (m : ℕ) → m + length bytes / 204 ≤ length packets
+pub unbroken-stream : {bytes lines : List ℕ} (l : LossList bytes (unmarked bytes) lines) (packets : List (List ℕ)) → All Packet packets → (m : ℕ) → m + length bytes / 204 ≤ length packets
     → chunksOf 204 bytes ≡ take (length bytes / 204) (drop m (interleavedBlocks packets)) → lines ≡ startLines m (length bytes / 204)
 unbroken-stream {bytes} l packets ws m h b =
     let cs = l .calls in
@@ -240,7 +240,7 @@ decoded-lost came left Uncorrectable first n d = refl
 decoded-lost came left BlockLength first n d = absurd (d .0 n)
 decoded-lost came left MarkValue first n d = absurd d
 
-module _ {bytes lines : List ℕ} (l : Listed bytes (unmarked bytes) lines) where
+module _ {bytes lines : List ℕ} (l : LossList bytes (unmarked bytes) lines) where
   blocks-bytes : (block : ℕ) → block + 12 ≤ length bytes / 204 → gathered bytes block ≡ gathered (flatten (lentBlocks (l .calls))) block
   unfolding chunksOf
   blocks-bytes block h = gathered-same bytes (flatten (lentBlocks (l .calls))) block block each

@@ -25,7 +25,7 @@ use Rattle.receiver.specs.Run.{Call}
 use Rattle.receiver.specs.Begun.{decodings}
 use Rattle.receiver.proofs.Outcomes.{Unrefused, filled-come-to}
 use Rattle.losses.specs.List.{line, confirmed, lineOf, sureAfter, linesFrom}
-use Rattle.losses.specs.History.{blocksOf, Listed}
+use Rattle.losses.specs.History.{blocksOf, LossList}
 use Rattle.losses.specs.Promise.{In, answerAt, Complete}
 use Rattle.losses.proofs.Stretches.{behind}
 use Rattle.losses.proofs.Histories.{calls-unrefused}
@@ -123,7 +123,7 @@ module _ (cs : List Call) (u : Unrefused freshReceiver cs) where
       ∙ getD-map-in outcomeNumber (blocksOf cs) Lost 0 block (omega (arith, blocks-length))
 
 -- the theorem
-pub complete : {bytes marks lines : List ℕ} (l : Listed bytes marks lines) → largest marks < 2 → Complete (l .calls) lines
+pub complete : {bytes marks lines : List ℕ} (l : LossList bytes marks lines) → largest marks < 2 → Complete (l .calls) lines
 complete {bytes} {marks} {lines} l small = record {
   whole = λ block h.
       subst (λ (n : ℕ). (n ≡ 0) ⊎ In (line block n) lines) (sym (answer-is (l .calls) unrefused block h))

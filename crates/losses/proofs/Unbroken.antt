@@ -27,7 +27,7 @@ use Rattle.receiver.specs.Receive.{freshReceiver}
 use Rattle.receiver.specs.Begun.{decodings, BegunAt}
 use Rattle.receiver.proofs.Outcomes.{Unrefused, filled-come-to}
 use Rattle.losses.specs.List.{line, linesFrom}
-use Rattle.losses.specs.History.{blocksOf, Listed}
+use Rattle.losses.specs.History.{blocksOf, LossList}
 use Rattle.losses.specs.Promise.{waitLines, startLines}
 use Rattle.losses.proofs.Truth.{blocks-length}
 use Rattle.losses.proofs.Histories.{calls-unrefused}
@@ -101,7 +101,7 @@ waited-lines (d ∷ ds) s block n w k p e =
 
 -- ---- the theorem
 
-pub unbroken : {bytes marks lines : List ℕ} (l : Listed bytes marks lines) → largest marks < 2 → (m : ℕ) (packets : List (List ℕ)) → BegunAt m packets (l .calls)
+pub unbroken : {bytes marks lines : List ℕ} (l : LossList bytes marks lines) → largest marks < 2 → (m : ℕ) (packets : List (List ℕ)) → BegunAt m packets (l .calls)
     → lines ≡ startLines m (length (l .calls))
 unfolding freshReceiver
 unbroken {bytes} {marks} {lines} l small m packets b = l .listed ∙ by (decLt (length (l .calls)) 11)

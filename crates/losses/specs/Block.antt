@@ -11,7 +11,7 @@ use Rattle.receiver.specs.Receive.{delayedBlock, delayedMarks}
 use Rattle.receiver.specs.Run.{Call, OutputFits, answerOf, outputOf, afterCall}
 use Rattle.receiver.specs.declared.Receiver.{Receiver}
 use Rattle.losses.specs.Watch.{waitingOf, certaintyInRange, callLines, certaintyAfter}
-use Rattle.losses.specs.Feed.{Writes, TakesPiece}
+use Rattle.losses.specs.Feed.{WritesLines, ListsPiece}
 use Rattle.losses.specs.declared.Certainty.{Certainty}
 use Rattle.losses.specs.declared.LossStream.{LossStream}
 
@@ -35,7 +35,7 @@ pub record TakesBlock (s : Receiver) (k : Certainty) (block marks room output : 
   pub given : roomAfter ≡ outputOf s call
   pub state : next ≡ afterCall s call
   pub certainty : kept ≡ certaintyAfter s k call
-  pub writes : Writes (callLines s k call) output count exit
+  pub writes : WritesLines (callLines s k call) output count exit
 
 -- at most the bytes that complete a block, with a mark for each, and room for its lines
 pub record PartReady (i : LossStream) (part marks output : List ℕ) : Type 0 where
@@ -55,5 +55,5 @@ pub record PieceReady (i : LossStream) (piece marks output : List ℕ) : Type 0 
 -- what it comes to, with its lines in the output
 pub record TakesLines (i : LossStream) (piece marks output : List ℕ) (count : ℕ) (next : LossStream) (exit : List ℕ) : Type 0 where
   pub lines : List ℕ
-  pub takes : TakesPiece i piece marks lines next
-  pub writes : Writes lines output count exit
+  pub takes : ListsPiece i piece marks lines next
+  pub writes : WritesLines lines output count exit

@@ -77,14 +77,14 @@ abbrev pub capacityOf : LossStream → ℕ
 capacityOf i = 204 * (4294967295 - i .receiver .counts .taken) - i .held
 
 -- what a piece comes to, after the bytes held; the bytes after the last whole block are held
-pub record TakesPiece (i : LossStream) (piece marks lines : List ℕ) (next : LossStream) : Type 0 where
+pub record ListsPiece (i : LossStream) (piece marks lines : List ℕ) (next : LossStream) : Type 0 where
   pub listing : Listing (i .receiver) (i .certainty) (heldBytes i ++ piece) (heldMarks i ++ marks) lines (next .receiver) (next .certainty)
   pub held-is : next .held ≡ length (restOf 204 (heldBytes i ++ piece))
   pub bytes-kept : heldBytes next ≡ restOf 204 (heldBytes i ++ piece)
   pub marks-kept : heldMarks next ≡ restOf 204 (heldMarks i ++ marks)
 
 -- the lines are written to the front of the output
-pub record Writes (lines output : List ℕ) (count : ℕ) (exit : List ℕ) : Type 0 where
+pub record WritesLines (lines output : List ℕ) (count : ℕ) (exit : List ℕ) : Type 0 where
   pub counted : count ≡ length lines
   pub written : exit ≡ lines ++ drop count output
 
@@ -103,7 +103,7 @@ lossFeedNumber i piece marks output =
 -- what feeding promises: all as before, or the whole piece taken
 pub data FeedsLosses (i : LossStream) (piece marks output : List ℕ) (number count : ℕ) (next : LossStream) (exit : List ℕ) : Type 0 where
   refused : number ≡ lossFeedNumber i piece marks output → 0 < number → count ≡ 0 → next ≡ i → exit ≡ output → FeedsLosses i piece marks output number count next exit
-  fed : lossFeedNumber i piece marks output ≡ 0 → number ≡ 0 → (lines : List ℕ) → TakesPiece i piece (marksOf piece marks) lines next → Writes lines output count exit
+  fed : lossFeedNumber i piece marks output ≡ 0 → number ≡ 0 → (lines : List ℕ) → ListsPiece i piece (marksOf piece marks) lines next → WritesLines lines output count exit
       → FeedsLosses i piece marks output number count next exit
 
 -- ---- the end

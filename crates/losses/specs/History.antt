@@ -41,7 +41,7 @@ abbrev pub blocksOf : List Call → List Outcome
 blocksOf cs = outcomes freshSync (decodings (drop 11 cs))
 
 -- The list of bytes and their marks: a fresh receiver is called on each whole block, and the lines are the losses of what its blocks came to.
-pub record Listed (bytes marks lines : List ℕ) : Type 0 where
+pub record LossList (bytes marks lines : List ℕ) : Type 0 where
   pub calls : List Call
   pub on : CallsOn freshReceiver bytes marks calls
   pub listed : lines ≡ losses (blocksOf calls)

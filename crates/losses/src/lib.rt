@@ -9,7 +9,7 @@ ghost use Rattle.common.specs.Choice.{pick};
 ghost use Rattle.answer.specs.Number.{numberOf};
 ghost use Rattle.losses.specs.List.{line as List·line, doubts};
 ghost use Rattle.losses.specs.Watch.{waitingOf, startDueAt, startedAt, linesNow, oneMore, certaintyNext, mostWaiting, certaintyInRange};
-ghost use Rattle.losses.specs.Feed.{freshLossStream, lossStreamInRange, capacityOf, marksOf, marksFit, Writes, FeedsLosses, endNumber, linesAtEnd, lossCloseNumber, closeLines};
+ghost use Rattle.losses.specs.Feed.{freshLossStream, lossStreamInRange, capacityOf, marksOf, marksFit, WritesLines, FeedsLosses, endNumber, linesAtEnd, lossCloseNumber, closeLines};
 ghost use Rattle.losses.specs.Block.{marksFront, Watched, TakesBlock, PartReady, PieceReady, TakesLines};
 ghost use Rattle.losses.specs.Run.{ListsRecording};
 use answer::Answer;
@@ -37,14 +37,14 @@ pub struct LossStream {
 }
 
 // An answer, how many lines were written, and the stream after it.
-pub struct Fed {
+pub struct LossesFed {
     pub answer: Answer,
     pub count: usize,
     pub stream: LossStream,
 }
 
 // An answer, and how many lines were written.
-pub struct Listed {
+pub struct LossesListed {
     pub answer: Answer,
     pub count: usize,
 }
@@ -64,7 +64,7 @@ pub struct BlockTaken {
 }
 
 // How many lines were written, and the stream after it.
-struct Taken {
+struct LossesTaken {
     count: usize,
     stream: LossStream,
 }
@@ -177,7 +177,7 @@ fn decide(
         × (waitingOf certainty < length (now lines)) ⌝ }
     ensures { λ r. ⌜
         (r .certainty ≡ certaintyNext certainty number start)
-        × Writes (linesNow certainty block number due start) (now (lines .entry)) (r .count) (now (lines .exit)) ⌝ }
+        × WritesLines (linesNow certainty block number due start) (now (lines .entry)) (r .count) (now (lines .exit)) ⌝ }
 {
     let count = waiting(certainty) as usize;
     let first = block - count as u64;
@@ -251,28 +251,28 @@ pub fn take_block(
 }
 
 // Ends the list: writes a line for each packet that still waits, in doubt.
-pub fn tell_waiting(certainty: Certainty, taken: u64, lines: &mut [u64]) -> Listed
+pub fn tell_waiting(certainty: Certainty, taken: u64, lines: &mut [u64]) -> LossesListed
     requires { ⌜ (waitingOf certainty ≤ 7) × (waitingOf certainty ≤ taken - 11) × (taken ≤ 4294967295) ⌝ }
     ensures { λ r. ⌜
         (numberOf (r .answer) ≡ endNumber certainty (now (lines .entry)))
-        × Writes (linesAtEnd certainty taken (now (lines .entry))) (now (lines .entry)) (r .count) (now (lines .exit)) ⌝ }
+        × WritesLines (linesAtEnd certainty taken (now (lines .entry))) (now (lines .entry)) (r .count) (now (lines .exit)) ⌝ }
 {
     let count = waiting(certainty) as usize;
     if lines.len() < count {
-        return Listed {
+        return LossesListed {
             answer: Answer::OutputLength,
             count: 0,
         };
     }
     put_doubts(next_block(taken) - count as u64, count, lines);
-    Listed {
+    LossesListed {
         answer: Answer::Done,
         count,
     }
 }
 
 // Takes the part of a piece that at most completes a block, with a mark for each byte.
-fn take_part(stream: LossStream, part: &[u8], marks: &[u8], lines: &mut [u64]) -> Taken
+fn take_part(stream: LossStream, part: &[u8], marks: &[u8], lines: &mut [u64]) -> LossesTaken
     requires { ⌜ PartReady stream (now part) (now marks) (now lines) ⌝ }
     ensures { λ r. ⌜ TakesLines stream (now (part .entry)) (now (marks .entry)) (now (lines .entry)) (r .count) (r .stream) (now (lines .exit)) ⌝ }
 {
@@ -285,7 +285,7 @@ fn take_part(stream: LossStream, part: &[u8], marks: &[u8], lines: &mut [u64]) -
     common::put(marks, held, &mut own);
     let end = held + part.len();
     if end < Receiver::BLOCK_LENGTH {
-        return Taken {
+        return LossesTaken {
             count: 0,
             stream: LossStream {
                 receiver,
@@ -300,7 +300,7 @@ fn take_part(stream: LossStream, part: &[u8], marks: &[u8], lines: &mut [u64]) -
     let taken = take_block(receiver, certainty, &pending, &own, &mut output, lines);
     let next = taken.receiver;
     let kept = taken.certainty;
-    Taken {
+    LossesTaken {
         count: taken.count,
         stream: LossStream {
             receiver: next,
@@ -334,7 +334,7 @@ fn part_length(held: usize, left: usize) -> usize
 }
 
 // Takes a piece, with a mark for each byte or none at all.
-fn take_piece(stream: LossStream, piece: &[u8], marks: &[u8], lines: &mut [u64]) -> Taken
+fn take_piece(stream: LossStream, piece: &[u8], marks: &[u8], lines: &mut [u64]) -> LossesTaken
     requires { ⌜ PieceReady stream (now piece) (now marks) (now lines) ⌝ }
     ensures { λ r. ⌜
         TakesLines stream (now (piece .entry)) (marksOf (now (piece .entry)) (now (marks .entry))) (now (lines .entry)) (r .count) (r .stream) (now (lines .exit)) ⌝ }
@@ -352,7 +352,7 @@ fn take_piece(stream: LossStream, piece: &[u8], marks: &[u8], lines: &mut [u64])
         state = taken.stream;
         at = end;
     }
-    Taken {
+    LossesTaken {
         count,
         stream: state,
     }
@@ -435,35 +435,35 @@ impl LossStream {
     }
 
     // Takes a piece of the received bytes, of any length, with a mark for each or none at all, and writes the lines that are decided then.
-    pub fn feed(self, piece: &[u8], marks: &[u8], lines: &mut [u64]) -> Fed
+    pub fn feed(self, piece: &[u8], marks: &[u8], lines: &mut [u64]) -> LossesFed
         ensures { λ r. ⌜
             FeedsLosses self (now (piece .entry)) (now (marks .entry)) (now (lines .entry)) (numberOf (r .answer)) (r .count) (r .stream) (now (lines .exit)) ⌝ }
     {
         let certainty = self.certainty;
         let held = self.held;
         if !self.in_range() {
-            return Fed {
+            return LossesFed {
                 answer: Answer::StateRange,
                 count: 0,
                 stream: self,
             };
         }
         if !marks_fit(piece, marks) {
-            return Fed {
+            return LossesFed {
                 answer: Answer::MarkValue,
                 count: 0,
                 stream: self,
             };
         }
         if lines.len() < waiting(certainty) as usize + blocks_in(held, piece.len()) {
-            return Fed {
+            return LossesFed {
                 answer: Answer::OutputLength,
                 count: 0,
                 stream: self,
             };
         }
         if self.capacity() < piece.len() as u64 {
-            return Fed {
+            return LossesFed {
                 answer: Answer::CountsFull,
                 count: 0,
                 stream: self,
@@ -472,7 +472,7 @@ impl LossStream {
         let taken = take_piece(self, piece, marks, lines);
         let count = taken.count;
         let stream = taken.stream;
-        Fed {
+        LossesFed {
             answer: Answer::Done,
             count,
             stream,
@@ -480,17 +480,17 @@ impl LossStream {
     }
 
     // Ends the list: the packets that still wait are in doubt.
-    pub fn close(self, lines: &mut [u64]) -> Listed
+    pub fn close(self, lines: &mut [u64]) -> LossesListed
         ensures { λ r. ⌜
             (numberOf (r .answer) ≡ lossCloseNumber self (now (lines .entry)))
-            × Writes (closeLines self (now (lines .entry))) (now (lines .entry)) (r .count) (now (lines .exit)) ⌝ }
+            × WritesLines (closeLines self (now (lines .entry))) (now (lines .entry)) (r .count) (now (lines .exit)) ⌝ }
     {
         let receiver = self.receiver;
         let certainty = self.certainty;
         let counts = receiver.counts;
         let taken = counts.taken;
         if !self.in_range() {
-            return Listed {
+            return LossesListed {
                 answer: Answer::StateRange,
                 count: 0,
             };
@@ -500,7 +500,7 @@ impl LossStream {
 }
 
 // The list of a whole recording, with a mark for each byte or none at all.
-pub fn list_losses(bytes: &[u8], marks: &[u8], lines: &mut [u64]) -> Listed
+pub fn list_losses(bytes: &[u8], marks: &[u8], lines: &mut [u64]) -> LossesListed
     ensures { λ r. ⌜
         ListsRecording (now (bytes .entry)) (now (marks .entry)) (now (lines .entry)) (numberOf (r .answer)) (r .count) (now (lines .exit)) ⌝ }
 {
@@ -510,10 +510,10 @@ pub fn list_losses(bytes: &[u8], marks: &[u8], lines: &mut [u64]) -> Listed
     let count = fed.count;
     let last = fed.stream;
     if answer.number() != 0 {
-        return Listed { answer, count: 0 };
+        return LossesListed { answer, count: 0 };
     }
     let closed = last.close(&mut lines[count..]);
-    Listed {
+    LossesListed {
         answer: Answer::Done,
         count: count + closed.count,
     }

@@ -12,7 +12,7 @@ use Rattle.common.proofs.Lists.{zeros-at}
 use Rattle.convolutional_code.specs.Bits.{Bits}
 use Rattle.convolutional_code.specs.Code.{memoryAfter}
 use Rattle.convolutional_code.proofs.Bits.{zero-bits}
-use Rattle.puncturing.specs.Mode.{modes, modeOf}
+use Rattle.puncturing.specs.Mode.{modes, modeOf, qpskCount}
 use Rattle.puncturing.specs.Step.{patternLength, puncturedBy, heldBy}
 use Rattle.inner_code.specs.Step.{symbolsOf, symbolsBy}
 use Rattle.inner_code.specs.Encode.{coderAt}
@@ -30,9 +30,9 @@ use Rattle.noise_tolerance.proofs.Received.{spread, spread-splits, hard
 use Rattle.noise_tolerance.proofs.Noise.{twice, hard-twice}
 use Rattle.noise_tolerance.proofs.Sharp.{front, zeros, sentBits, silence, lastOne, binary, whole-is, one-is}
 
-free-is : (rate : ℕ) → rate < 5 → freeDistance rate ≡ free rate
+free-is : (rate : ℕ) → rate < qpskCount → freeDistance rate ≡ free rate
 unfolding table atRate free
-free-is = agree-at freeDistance free 5 tt
+free-is = agree-at freeDistance free qpskCount tt
 
 equal-none : (a : ℕ) → unequal a a ≡ 0
 equal-none a = rw (eq-eqb a a refl)
@@ -43,7 +43,7 @@ own-free [] = refl
 own-free (s ∷ ss) = omega (arith, equal-none (s / 2), equal-none (s % 2), own-free ss)
 
 -- two different sequences of whole patterns that lead from one memory to one have codings that differ in at least so many I and Q bits
-pub free-distance : (rate m : ℕ) → rate < 5 → m < 64 → (xs ys : List ℕ) → Bits xs → Bits ys → length xs ≡ length ys → length xs % patternLength rate ≡ 0
+pub free-distance : (rate m : ℕ) → rate < qpskCount → m < 64 → (xs ys : List ℕ) → Bits xs → Bits ys → length xs ≡ length ys → length xs % patternLength rate ≡ 0
     → memoryAfter m xs ≡ memoryAfter m ys → (xs ≡ ys → ⊥) → freeDistance rate ≤ hardCost (symbolsOf (coderAt rate m) xs) rate m ys
 free-distance rate m hr hm xs ys vx vy l whole one n =
     let ss = symbolsOf (coderAt rate m) xs in
@@ -73,15 +73,15 @@ pub record AsNear (rate : ℕ) : Type 0 where
   pub distinct : one ≡ other → ⊥
   pub near : hardCost (symbolsOf (coderAt rate 0) one) rate 0 other ≡ freeDistance rate
 
-near-is : (r : ℕ) → r < 5 → hardCost (symbolsOf (coderAt r 0) (sentBits r)) r 0 (silence r) ≡ freeDistance r
+near-is : (r : ℕ) → r < qpskCount → hardCost (symbolsOf (coderAt r 0) (sentBits r)) r 0 (silence r) ≡ freeDistance r
 unfolding front zeros modeOf modes symbolsBy puncturedBy heldBy totalCost table atRate
-near-is = agree-at (λ r. hardCost (symbolsOf (coderAt r 0) (sentBits r)) r 0 (silence r)) freeDistance 5 tt
+near-is = agree-at (λ r. hardCost (symbolsOf (coderAt r 0) (sentBits r)) r 0 (silence r)) freeDistance qpskCount tt
 
-end-is : (r : ℕ) → r < 5 → memoryAfter 0 (sentBits r) ≡ memoryAfter 0 (silence r)
+end-is : (r : ℕ) → r < qpskCount → memoryAfter 0 (sentBits r) ≡ memoryAfter 0 (silence r)
 unfolding front zeros memoryAfter
-end-is = agree-at (λ r. memoryAfter 0 (sentBits r)) (λ r. memoryAfter 0 (silence r)) 5 tt
+end-is = agree-at (λ r. memoryAfter 0 (sentBits r)) (λ r. memoryAfter 0 (silence r)) qpskCount tt
 
-pub as-near : (rate : ℕ) → rate < 5 → AsNear rate
+pub as-near : (rate : ℕ) → rate < qpskCount → AsNear rate
 as-near r hr = record {
   one = sentBits r;
   other = silence r;

@@ -13,11 +13,12 @@ use Rattle.puncturing.specs.Step.{patternLength}
 use Rattle.inner_code.specs.Step.{symbolsOf}
 use Rattle.inner_code.specs.Encode.{coderAt}
 use Rattle.viterbi_decoder.specs.Best.{Best}
+use Rattle.puncturing.specs.Mode.{qpskCount}
 use Rattle.reader.specs.Cost.{totalCost, runCost}
 use Rattle.reader.specs.Read.{symbolsPerPattern, runBits, runLength}
 use Rattle.reader.proofs.Patterns.{some-symbols, memory-in-range, run-whole}
 use Rattle.reader.proofs.Streams.{take-bits, drop-bits, fits, front-is}
-use Rattle.reader_stream.specs.Runs.{fullSymbols, keptBits, Decided, Ended, ReadToEnd}
+use Rattle.reader_stream.specs.Runs.{fullSymbols, keptBits, Decided, EndDecided, ReadToEnd}
 use Rattle.reader_stream.proofs.Costs.{map-take, map-drop}
 use Rattle.reader_stream.proofs.Unharmed.{WholeStream, no-more}
 use Rattle.noise_tolerance.specs.Noise.{SparseSymbols, QuietEnd, StreamBack}
@@ -44,11 +45,11 @@ join-agree a b x n d l e f = by (decLe d n)
         sym (take-take k (length a) (a ++ b) le)
         ∙ (ap (take k) (take-at a b (length a) refl ∙ e) ∙ take-take k (length a) x le)
 
-module _ {R : Type 0} {cost doubt : R → ℕ → ℕ} {u : ℕ} (kind : Kind cost doubt u) (rate : ℕ) (hr : rate < 5) {window most depth : ℕ} (tolerable : Tolerable rate window most depth)
+module _ {R : Type 0} {cost doubt : R → ℕ → ℕ} {u : ℕ} (kind : Kind cost doubt u) (rate : ℕ) (hr : rate < qpskCount) {window most depth : ℕ} (tolerable : Tolerable rate window most depth)
     (ps : ℕ) (covers : window + patternLength rate ≤ patternLength rate * ps + 1) (overlap : keptBits rate + depth ≤ runBits rate (fullSymbols rate)) where
   module _ (bits : List ℕ) (w : Bits bits) (rs left : List R) (ss unread : List ℕ) (size : length rs ≡ length ss)
       (g : SparseSymbols (symbolsPerPattern rate * ps) (u * most) (map doubt rs) ss) (e : ss ++ unread ≡ symbolsOf (coderAt rate 0) bits)
-      {out : List ℕ} {last : ℕ} (d : Decided cost rate 0 rs out last left) {output exit : List ℕ} {count rest : ℕ} (end : Ended cost rate last left output count rest exit) where
+      {out : List ℕ} {last : ℕ} (d : Decided cost rate 0 rs out last left) {output exit : List ℕ} {count rest : ℕ} (end : EndDecided cost rate last left output count rest exit) where
     abbrev p : ℕ
     p = patternLength rate
 

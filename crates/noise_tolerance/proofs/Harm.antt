@@ -12,7 +12,7 @@ use Rattle.convolutional_code.specs.Bits.{Bits}
 use Rattle.convolutional_code.specs.Code.{tapsX, tapsY, coded, nextMemory, memoryAfter}
 use Rattle.convolutional_code.proofs.Bits.{coded-lt}
 use Rattle.convolutional_code.specs.Costs.{Costs, costFrom}
-use Rattle.puncturing.specs.Mode.{modeOf}
+use Rattle.puncturing.specs.Mode.{modeOf, qpskCount}
 use Rattle.puncturing.specs.Step.{patternLength}
 use Rattle.branch_metrics.specs.Steps.{width, kind, kindCost, kindAt, first, puncturedCosts}
 use Rattle.reader.specs.Read.{symbolsPerPattern}
@@ -37,11 +37,11 @@ first-add rate q (suc j) =
     let m : (patternLength rate * q + j) % patternLength rate ≡ j % patternLength rate = mul-add-mod-self-left (patternLength rate) q j in
     rw e (omega (arith, first-add rate q j, ap (λ (i : ℕ). width (kind rate i)) m))
 
-first-pattern : (rate : ℕ) → rate < 5 → first rate (patternLength rate) ≡ 2 * symbolsPerPattern rate
+first-pattern : (rate : ℕ) → rate < qpskCount → first rate (patternLength rate) ≡ 2 * symbolsPerPattern rate
 unfolding first kind modeOf symbolsPerPattern flatten
-first-pattern = agree-at (λ r. first r (patternLength r)) (λ r. 2 * symbolsPerPattern r) 5 tt
+first-pattern = agree-at (λ r. first r (patternLength r)) (λ r. 2 * symbolsPerPattern r) qpskCount tt
 
-first-patterns : (rate : ℕ) → rate < 5 → (q : ℕ) → first rate (patternLength rate * q) ≡ 2 * (symbolsPerPattern rate * q)
+first-patterns : (rate : ℕ) → rate < qpskCount → (q : ℕ) → first rate (patternLength rate * q) ≡ 2 * (symbolsPerPattern rate * q)
 unfolding first
 first-patterns rate hr zero = let e : patternLength rate * 0 ≡ 0 = omega arith in rw e (omega arith)
 first-patterns rate hr (suc q) =
@@ -179,7 +179,7 @@ pub record Recoverable (rate window most depth charged longest span reach openin
 
 -- ---- a run
 
-module _ (u charged : ℕ) (counts : 0 < u) (c g : ℕ → ℕ → ℕ) (rate : ℕ) (hr : rate < 5) (qa qb : ℕ) (order : qa ≤ qb) (lo hi : ℕ) (between : lo ≤ hi)
+module _ (u charged : ℕ) (counts : 0 < u) (c g : ℕ → ℕ → ℕ) (rate : ℕ) (hr : rate < qpskCount) (qa qb : ℕ) (order : qa ≤ qb) (lo hi : ℕ) (between : lo ≤ hi)
     (lo-within : 2 * (symbolsPerPattern rate * qa) ≤ lo) (hi-within : hi ≤ 2 * (symbolsPerPattern rate * qb)) (cheap : (j v : ℕ) → v < 2 → c j v ≤ u)
     (weak : (j v o : ℕ) → v < 2 → o < 2 → c j v ≤ c j o + g j v + feeAt lo hi between (u * charged) j)
     (tells : (j v o : ℕ) → v < 2 → o < 2 → (j < 2 * (symbolsPerPattern rate * qa)) ⊎ (2 * (symbolsPerPattern rate * qb) ≤ j) → u * unlike v o + c j v ≤ c j o + g j v) where

@@ -9,12 +9,12 @@ use lib.Dec.{eqb}
 use lib.Ieee.{ofBits, binary32}
 use Rattle.common.specs.Choice.{pick}
 use Rattle.branch_metrics.specs.Cost.{BitCosts, symbolCosts, decidedAs, softly}
-use Rattle.branch_metrics.specs.declared.soft_decision.Received.{Received}
-use Rattle.branch_metrics.specs.declared.soft_decision.Received.the-variants.{At}
+use Rattle.branch_metrics.specs.declared.soft_decision.ReceivedSymbol.{ReceivedSymbol}
+use Rattle.branch_metrics.specs.declared.soft_decision.ReceivedSymbol.the-variants.{At}
 use Rattle.branch_metrics.proofs.Numbers.{costs-one}
 use Rattle.reader.specs.Cost.{differing}
 use Rattle.noise_tolerance.specs.Noise.{bitDoubt, softDoubt}
-use Rattle.noise_tolerance.specs.Harm.{Came, fine, struck, isStruck, costOf, doubtOf, isLost, doubtUnlost}
+use Rattle.noise_tolerance.specs.Harm.{SymbolCame, fine, struck, isStruck, costOf, doubtOf, isLost, doubtUnlost}
 use Rattle.noise_tolerance.proofs.Difference.{unlike}
 use Rattle.noise_tolerance.proofs.Received.{Kind, hardDoubt, hard-kind, soft-part, soft-cheap, bit-tells, soft-kind}
 use Rattle.noise_tolerance.proofs.HarmedRuns.{Harmable}
@@ -22,11 +22,11 @@ use Rattle.noise_tolerance.proofs.HarmedRuns.{Harmable}
 -- ---- struck
 
 module _ {R : Type 0} {cost doubt : R → ℕ → ℕ} {u : ℕ} (kind : Kind cost doubt u) where
-  part : Came R → ℕ → ℕ → ℕ
+  part : SymbolCame R → ℕ → ℕ → ℕ
   part (fine r) = kind .part r
   part (struck r) = kind .part r
 
-  part-doubt : Came R → ℕ → ℕ → ℕ
+  part-doubt : SymbolCame R → ℕ → ℕ → ℕ
   part-doubt (fine r) = kind .part-doubt r
   part-doubt (struck r) = λ b v. 0
 
@@ -45,23 +45,23 @@ module _ {R : Type 0} {cost doubt : R → ℕ → ℕ} {u : ℕ} (kind : Kind co
     cheap = cheaply;
   }
     where
-      splits : (r : Came R) (s : ℕ) → costOf cost r s ≡ part r 0 (s / 2) + part r 1 (s % 2)
+      splits : (r : SymbolCame R) (s : ℕ) → costOf cost r s ≡ part r 0 (s / 2) + part r 1 (s % 2)
       splits (fine r) s = kind .splits r s
       splits (struck r) s = kind .splits r s
 
-      doubt-splits : (r : Came R) (s : ℕ) → doubtOf doubt r s ≡ part-doubt r 0 (s / 2) + part-doubt r 1 (s % 2)
+      doubt-splits : (r : SymbolCame R) (s : ℕ) → doubtOf doubt r s ≡ part-doubt r 0 (s / 2) + part-doubt r 1 (s % 2)
       doubt-splits (fine r) s = kind .doubt-splits r s
       doubt-splits (struck r) s = refl
 
-      tells : (r : Came R) (b v o : ℕ) → isStruck r ≡ false → v < 2 → o < 2 → u * unlike v o + part r b v ≤ part r b o + part-doubt r b v
+      tells : (r : SymbolCame R) (b v o : ℕ) → isStruck r ≡ false → v < 2 → o < 2 → u * unlike v o + part r b v ≤ part r b o + part-doubt r b v
       tells (fine r) b v o e hv ho = kind .tells r b v o hv ho
       tells (struck r) b v o e hv ho = absurd (let z : _≡_ {A = ℕ} 1 0 = ap (λ (t : Bool). pick t 1 0) e in omega arith)
 
-      cheaply : (r : Came R) (b v : ℕ) → v < 2 → part r b v ≤ u
+      cheaply : (r : SymbolCame R) (b v : ℕ) → v < 2 → part r b v ≤ u
       cheaply (fine r) b v h = kind .cheap r b v
       cheaply (struck r) b v h = kind .cheap r b v
 
-      weak : (r : Came R) (b v o : ℕ) → v < 2 → o < 2 → part r b v ≤ part r b o + part-doubt r b v + u * 1
+      weak : (r : SymbolCame R) (b v o : ℕ) → v < 2 → o < 2 → part r b v ≤ part r b o + part-doubt r b v + u * 1
       weak r b v o hv ho = omega (arith, cheaply r b v hv)
 
 pub hard-struck-kind : Harmable (costOf differing) (doubtOf hardDoubt) isStruck 1 1
@@ -73,7 +73,7 @@ soft-struck-kind = struck-kind soft-kind
 -- ---- lost
 
 -- of a lost symbol no decision costs anything
-lost-free : (r : Received) → isLost r ≡ true → (b v : ℕ) → decidedAs (soft-part r b) v ≡ 0
+lost-free : (r : ReceivedSymbol) → isLost r ≡ true → (b v : ℕ) → decidedAs (soft-part r b) v ≡ 0
 unfolding isLost soft-part
 lost-free r e zero v = by (eqb v 0)
   where
@@ -92,10 +92,10 @@ lost-free r e (suc b) v = by (eqb v 0)
     by true = omega (arith, z)
     by false = omega (arith, z)
 
-unlost-part : Received → ℕ → ℕ → ℕ
+unlost-part : ReceivedSymbol → ℕ → ℕ → ℕ
 unlost-part r b v = pick (isLost r) 0 (bitDoubt (soft-part r b) v)
 
-point : Received
+point : ReceivedSymbol
 point = At (record { i = ofBits binary32 0x3f80_0000; q = ofBits binary32 0x3f80_0000 })
 
 point-unlost : isLost point ≡ false
@@ -121,10 +121,10 @@ lost-kind = record {
     split true x y = refl
     split false x y = refl
 
-    tells : (r : Received) (b v o : ℕ) → isLost r ≡ false → v < 2 → o < 2 → 7 * unlike v o + decidedAs (soft-part r b) v ≤ decidedAs (soft-part r b) o + unlost-part r b v
+    tells : (r : ReceivedSymbol) (b v o : ℕ) → isLost r ≡ false → v < 2 → o < 2 → 7 * unlike v o + decidedAs (soft-part r b) v ≤ decidedAs (soft-part r b) o + unlost-part r b v
     tells r b v o e hv ho = rw e (bit-tells (soft-part r b) v o hv ho)
 
-    weak : (r : Received) (b v o : ℕ) → v < 2 → o < 2 → (t : Bool) → isLost r ≡ t
+    weak : (r : ReceivedSymbol) (b v o : ℕ) → v < 2 → o < 2 → (t : Bool) → isLost r ≡ t
         → decidedAs (soft-part r b) v ≤ decidedAs (soft-part r b) o + unlost-part r b v + 7 * 0
     weak r b v o hv ho true e = omega (arith, lost-free r e b v)
     weak r b v o hv ho false e = rw e (omega (arith, bit-tells (soft-part r b) v o hv ho))

@@ -7,7 +7,7 @@ use Prim.Native.Nat.{ℕ, suc, _+_, _-_, _*_, _/_, _≤_, _<_}
 use Prim.{tt}
 use lib.Dec.{T, leb, leb→le, ltb, ltb→lt, eqb, eqb→eq}
 use Rattle.common.proofs.Computed.{below-at}
-use Rattle.puncturing.specs.Mode.{modeOf}
+use Rattle.puncturing.specs.Mode.{modeOf, qpskCount}
 use Rattle.puncturing.specs.Step.{patternLength}
 use Rattle.reader.specs.Read.{symbolsPerPattern, runBits}
 use Rattle.reader_stream.specs.Runs.{keptPatterns, runPatterns, fullSymbols, keptBits}
@@ -122,20 +122,20 @@ module _ (r u charged doubt depth : ℕ) (l : Spoils) where
     runs = leb→le _ _ (pass tests h 18);
   }
 
-pub hard-struck-fits : (rate : ℕ) → rate < 5 → HarmFits rate 1 1 (2 * harmAt rate .hard-struck .elsewhere) (hardLimits rate .unsure) (harmAt rate .hard-struck)
+pub hard-struck-fits : (rate : ℕ) → rate < qpskCount → HarmFits rate 1 1 (2 * harmAt rate .hard-struck .elsewhere) (hardLimits rate .unsure) (harmAt rate .hard-struck)
 unfolding fit table atRate harmTable harmAt free slope rise lead lag top homing modeOf keptBits keptPatterns fullSymbols runPatterns symbolsPerPattern
 hard-struck-fits rate h =
     fitting rate 1 1 (2 * harmAt rate .hard-struck .elsewhere) (hardLimits rate .unsure) (harmAt rate .hard-struck)
-    (below-at (λ r. fit r 1 1 (2 * harmAt r .hard-struck .elsewhere) (hardLimits r .unsure) (harmAt r .hard-struck)) 5 tt rate h)
+    (below-at (λ r. fit r 1 1 (2 * harmAt r .hard-struck .elsewhere) (hardLimits r .unsure) (harmAt r .hard-struck)) qpskCount tt rate h)
 
-pub soft-struck-fits : (rate : ℕ) → rate < 5 → HarmFits rate 7 1 (harmAt rate .soft-struck .elsewhere) (softLimits rate .unsure) (harmAt rate .soft-struck)
+pub soft-struck-fits : (rate : ℕ) → rate < qpskCount → HarmFits rate 7 1 (harmAt rate .soft-struck .elsewhere) (softLimits rate .unsure) (harmAt rate .soft-struck)
 unfolding fit table atRate harmTable harmAt free slope rise lead lag top homing modeOf keptBits keptPatterns fullSymbols runPatterns symbolsPerPattern
 soft-struck-fits rate h =
     fitting rate 7 1 (harmAt rate .soft-struck .elsewhere) (softLimits rate .unsure) (harmAt rate .soft-struck)
-    (below-at (λ r. fit r 7 1 (harmAt r .soft-struck .elsewhere) (softLimits r .unsure) (harmAt r .soft-struck)) 5 tt rate h)
+    (below-at (λ r. fit r 7 1 (harmAt r .soft-struck .elsewhere) (softLimits r .unsure) (harmAt r .soft-struck)) qpskCount tt rate h)
 
-pub lost-fits : (rate : ℕ) → rate < 5 → HarmFits rate 7 0 (harmAt rate .soft-lost .elsewhere) (softLimits rate .unsure) (harmAt rate .soft-lost)
+pub lost-fits : (rate : ℕ) → rate < qpskCount → HarmFits rate 7 0 (harmAt rate .soft-lost .elsewhere) (softLimits rate .unsure) (harmAt rate .soft-lost)
 unfolding fit table atRate harmTable harmAt free slope rise lead lag top homing modeOf keptBits keptPatterns fullSymbols runPatterns symbolsPerPattern
 lost-fits rate h =
     fitting rate 7 0 (harmAt rate .soft-lost .elsewhere) (softLimits rate .unsure) (harmAt rate .soft-lost)
-    (below-at (λ r. fit r 7 0 (harmAt r .soft-lost .elsewhere) (softLimits r .unsure) (harmAt r .soft-lost)) 5 tt rate h)
+    (below-at (λ r. fit r 7 0 (harmAt r .soft-lost .elsewhere) (softLimits r .unsure) (harmAt r .soft-lost)) qpskCount tt rate h)

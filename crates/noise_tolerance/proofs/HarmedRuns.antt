@@ -13,6 +13,7 @@ use lib.ListN.{length, getD, length-map, List·getD-eq-default}
 use Rattle.convolutional_code.specs.Bits.{Bits}
 use Rattle.viterbi_decoder.specs.Best.{Best}
 use Rattle.convolutional_code.specs.Costs.{costFrom}
+use Rattle.puncturing.specs.Mode.{qpskCount}
 use Rattle.puncturing.specs.Step.{patternLength}
 use Rattle.inner_code.specs.Step.{symbolsOf}
 use Rattle.inner_code.specs.Encode.{coderAt}
@@ -76,7 +77,7 @@ hit-within harmed some rate pos rs f l o h = record {
 doubled : {f e : ℕ} → f ≤ e → 2 * f ≤ 2 * e
 doubled h = omega arith
 
-module _ {R : Type 0} {cost doubt : R → ℕ → ℕ} {harmed : R → Bool} {u charged : ℕ} (kind : Harmable cost doubt harmed u charged) (rate : ℕ) (hr : rate < 5)
+module _ {R : Type 0} {cost doubt : R → ℕ → ℕ} {harmed : R → Bool} {u charged : ℕ} (kind : Harmable cost doubt harmed u charged) (rate : ℕ) (hr : rate < qpskCount)
     {window most depth longest span reach opening : ℕ} (n : Recoverable rate window most depth charged longest span reach opening)
     (patterns : ℕ) (covers : window + patternLength rate ≤ patternLength rate * patterns + 1)
     (s t : ℕ) (hs : s < 64) (ht : t < 64) (rs : List R) (bits : List ℕ) (w : Bits bits) (whole : length bits % patternLength rate ≡ 0)

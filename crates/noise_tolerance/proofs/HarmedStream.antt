@@ -14,6 +14,7 @@ use lib.Seq.{getD-take, getD-drop, getD-append-add, take-take, take-add, take-at
 use Rattle.convolutional_code.specs.Bits.{Bits}
 use Rattle.convolutional_code.specs.Code.{memoryAfter}
 use Rattle.viterbi_decoder.specs.Best.{Best}
+use Rattle.puncturing.specs.Mode.{qpskCount}
 use Rattle.puncturing.specs.Step.{patternLength}
 use Rattle.inner_code.specs.Step.{symbolsOf}
 use Rattle.inner_code.specs.Encode.{coderAt}
@@ -21,7 +22,7 @@ use Rattle.reader.specs.Cost.{runCost}
 use Rattle.reader.specs.Read.{symbolsPerPattern, runBits, runLength}
 use Rattle.reader.proofs.Patterns.{some-symbols}
 use Rattle.reader.proofs.Streams.{take-bits, drop-bits, fits, front-is, back-is, memory-append}
-use Rattle.reader_stream.specs.Runs.{runPatterns, keptPatterns, fullSymbols, keptSymbols, keptBits, Decided, few, run, Ended}
+use Rattle.reader_stream.specs.Runs.{runPatterns, keptPatterns, fullSymbols, keptSymbols, keptBits, Decided, few, run, EndDecided}
 use Rattle.reader_stream.proofs.Runs.{numbers}
 use Rattle.reader_stream.proofs.Unharmed.{kept-symbols, kept-bits, no-more}
 use Rattle.noise_tolerance.specs.Noise.{SparseSymbols}
@@ -67,7 +68,7 @@ pub record Beside (P S ahead behind far : ℕ) (Harmed : ℕ → Type 0) (x : �
   pub not-far : x ≤ P * (earliest / S) + 2 * far
   pub not-beyond : P * (latest / S) ≤ x + far
 
-module _ {R : Type 0} {cost doubt : R → ℕ → ℕ} {harmed : R → Bool} {u charged : ℕ} (kind : Harmable cost doubt harmed u charged) (rate : ℕ) (hr : rate < 5)
+module _ {R : Type 0} {cost doubt : R → ℕ → ℕ} {harmed : R → Bool} {u charged : ℕ} (kind : Harmable cost doubt harmed u charged) (rate : ℕ) (hr : rate < qpskCount)
     {window most depth span reach opening : ℕ} (longest : ℕ) (n : Recoverable rate window most depth charged longest span reach opening)
     (patterns : ℕ) (covers : window + patternLength rate ≤ patternLength rate * patterns + 1)
     (distance : ℕ) (spans : longest + symbolsPerPattern rate ≤ symbolsPerPattern rate * span + 1) (distant : fullSymbols rate ≤ distance)
@@ -531,7 +532,7 @@ module _ {R : Type 0} {cost doubt : R → ℕ → ℕ} {harmed : R → Bool} {u 
 
   -- ---- to the end
 
-  module _ {left : List R} {out : List ℕ} {last : ℕ} (d : Decided cost rate 0 all out last left) {output exit : List ℕ} {count rest : ℕ} (end : Ended cost rate last left output count rest exit) where
+  module _ {left : List R} {out : List ℕ} {last : ℕ} (d : Decided cost rate 0 all out last left) {output exit : List ℕ} {count rest : ℕ} (end : EndDecided cost rate last left output count rest exit) where
     start : State 0 0
     unfolding memoryAfter
     start = closed (let z : P * 0 ≡ 0 = omega arith in ap (λ (j : ℕ). memoryAfter 0 (take j bits)) z)

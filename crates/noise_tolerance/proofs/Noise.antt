@@ -13,7 +13,7 @@ use Rattle.inner_code.specs.Step.{symbolsOf}
 use Rattle.inner_code.specs.Encode.{coderAt}
 use Rattle.viterbi_decoder.specs.Best.{Best}
 use Rattle.branch_metrics.specs.Cost.{softly, receivedOf}
-use Rattle.branch_metrics.specs.declared.soft_decision.Received.{Received}
+use Rattle.branch_metrics.specs.declared.soft_decision.ReceivedSymbol.{ReceivedSymbol}
 use Rattle.reader.specs.Cost.{differing, totalCost, runCost, hardCost, softCost}
 use Rattle.reader.specs.Read.{symbolsPerPattern, runBits, runLength, sound, readNumber, softNumber, BestRead, AnswersRun, refused, read, ReadsHard, ReadsSoft}
 use Rattle.reader.proofs.Patterns.{sent-whole}
@@ -157,7 +157,7 @@ module _ {rate : ℕ} {bits received came unread : List ℕ} (n : NoisyStream di
 
 -- ---- soft decisions
 
-module _ {rate m : ℕ} {bits : List ℕ} {received : List Received} (n : NoisyRun softDoubt (softLimits rate) rate m bits received) where
+module _ {rate m : ℕ} {bits : List ℕ} {received : List ReceivedSymbol} (n : NoisyRun softDoubt (softLimits rate) rate m bits received) where
   abbrev soft : Fits rate 7 (softLimits rate .tolerated) (softLimits rate)
   soft = soft-fits rate (n .known)
 
@@ -201,7 +201,7 @@ noisy-soft-read {rate} {m} {bits} is qs lost lists n most output fits r =
     call-reads (softLimits rate .unsure) bits z l
     (λ o. soft-front n (subst (λ (j : ℕ). Best (softCost (receivedOf is qs lost) rate m) (runBits rate j) (o .bits)) (sym k ∙ n .as-long) (o .decoded .best))) r
 
-module _ {rate : ℕ} {bits : List ℕ} {received : List Received} {came unread : List ℕ} (n : NoisyStream softDoubt (softLimits rate) rate bits received came unread)
+module _ {rate : ℕ} {bits : List ℕ} {received : List ReceivedSymbol} {came unread : List ℕ} (n : NoisyStream softDoubt (softLimits rate) rate bits received came unread)
     {out : List ℕ} {rest : ℕ} (r : ReadToEnd softly rate received out rest) where
   abbrev soft-fit : Fits rate 7 (softLimits rate .tolerated) (softLimits rate)
   soft-fit = soft-fits rate (r .known)

@@ -8,7 +8,7 @@ use Prim.{tt}
 use lib.Dec.{T, leb, leb→le, ltb, ltb→lt, eqb, eqb→eq}
 use lib.ListN.{getD}
 use Rattle.common.proofs.Computed.{both, both-left, both-right, below-at}
-use Rattle.puncturing.specs.Mode.{modeOf}
+use Rattle.puncturing.specs.Mode.{modeOf, qpskCount}
 use Rattle.puncturing.specs.Step.{patternLength}
 use Rattle.reader.specs.Read.{symbolsPerPattern, runBits}
 use Rattle.reader_stream.specs.Runs.{keptPatterns, runPatterns, fullSymbols, keptBits}
@@ -99,12 +99,12 @@ module _ (r u doubt : ℕ) (l : Limits) where
   }
 
 -- a wrong bit is doubted twice
-pub hard-fits : (rate : ℕ) → rate < 5 → Fits rate 1 (2 * hardLimits rate .tolerated) (hardLimits rate)
+pub hard-fits : (rate : ℕ) → rate < qpskCount → Fits rate 1 (2 * hardLimits rate .tolerated) (hardLimits rate)
 unfolding fit table atRate free slope rise lead lag modeOf keptBits keptPatterns fullSymbols runPatterns symbolsPerPattern
 hard-fits rate h =
-    fitting rate 1 (2 * hardLimits rate .tolerated) (hardLimits rate) (below-at (λ r. fit r 1 (2 * hardLimits r .tolerated) (hardLimits r)) 5 tt rate h)
+    fitting rate 1 (2 * hardLimits rate .tolerated) (hardLimits rate) (below-at (λ r. fit r 1 (2 * hardLimits r .tolerated) (hardLimits r)) qpskCount tt rate h)
 
 -- the levels of a coded bit are 7 apart
-pub soft-fits : (rate : ℕ) → rate < 5 → Fits rate 7 (softLimits rate .tolerated) (softLimits rate)
+pub soft-fits : (rate : ℕ) → rate < qpskCount → Fits rate 7 (softLimits rate .tolerated) (softLimits rate)
 unfolding fit table atRate free slope rise lead lag modeOf keptBits keptPatterns fullSymbols runPatterns symbolsPerPattern
-soft-fits rate h = fitting rate 7 (softLimits rate .tolerated) (softLimits rate) (below-at (λ r. fit r 7 (softLimits r .tolerated) (softLimits r)) 5 tt rate h)
+soft-fits rate h = fitting rate 7 (softLimits rate .tolerated) (softLimits rate) (below-at (λ r. fit r 7 (softLimits r .tolerated) (softLimits r)) qpskCount tt rate h)

@@ -13,13 +13,14 @@ use Rattle.common.specs.Choice.{pick, unequal}
 use Rattle.common.proofs.Lists.{getD-map-in}
 use Rattle.convolutional_code.specs.Bits.{Bits}
 use Rattle.viterbi_decoder.specs.Best.{Best}
+use Rattle.puncturing.specs.Mode.{qpskCount}
 use Rattle.puncturing.specs.Step.{patternLength}
 use Rattle.inner_code.specs.Step.{symbolsOf}
 use Rattle.inner_code.specs.Encode.{coderAt}
 use Rattle.branch_metrics.specs.Steps.{puncturedCosts}
 use Rattle.branch_metrics.specs.Cost.{BitCosts, symbolCosts, decidedAs, softly}
-use Rattle.branch_metrics.specs.declared.soft_decision.Received.{Received}
-use Rattle.branch_metrics.specs.declared.soft_decision.Received.the-variants.{Lost}
+use Rattle.branch_metrics.specs.declared.soft_decision.ReceivedSymbol.{ReceivedSymbol}
+use Rattle.branch_metrics.specs.declared.soft_decision.ReceivedSymbol.the-variants.{Lost}
 use Rattle.reader.specs.Cost.{differing, runCost}
 use Rattle.reader.specs.Read.{symbolsPerPattern, runBits, runLength}
 use Rattle.reader.proofs.Costs.{Splits}
@@ -60,7 +61,7 @@ spread-splits {R} cost part some h rs = record {
 
 -- ---- a run
 
-module _ {R : Type 0} {cost doubt : R → ℕ → ℕ} {u : ℕ} (kind : Kind cost doubt u) (rate : ℕ) (hr : rate < 5) {window most depth : ℕ} (t : Tolerable rate window most depth)
+module _ {R : Type 0} {cost doubt : R → ℕ → ℕ} {u : ℕ} (kind : Kind cost doubt u) (rate : ℕ) (hr : rate < qpskCount) {window most depth : ℕ} (t : Tolerable rate window most depth)
     (patterns : ℕ) (covers : window + patternLength rate ≤ patternLength rate * patterns + 1) (m : ℕ) (hm : m < 64) (rs : List R) (bits : List ℕ) (w : Bits bits)
     (whole : length bits % patternLength rate ≡ 0) (ss : List ℕ) (es : ss ≡ symbolsOf (coderAt rate m) bits) (size : length rs ≡ length ss)
     (sparse : SparseSymbols (symbolsPerPattern rate * patterns) (u * most) (map doubt rs) ss) where
@@ -157,7 +158,7 @@ hard-kind = record {
 
 -- ---- soft decisions
 
-unfoldable pub soft-part : Received → ℕ → BitCosts
+unfoldable pub soft-part : ReceivedSymbol → ℕ → BitCosts
 soft-part r zero = symbolCosts r .i
 soft-part r (suc b) = symbolCosts r .q
 
@@ -170,7 +171,7 @@ bit-tells c (suc (suc v)) o h l = absurd (omega arith)
 bit-tells c zero (suc (suc o)) h l = absurd (omega arith)
 bit-tells c (suc zero) (suc (suc o)) h l = absurd (omega arith)
 
-pub soft-cheap : (r : Received) (b v : ℕ) → decidedAs (soft-part r b) v ≤ 7
+pub soft-cheap : (r : ReceivedSymbol) (b v : ℕ) → decidedAs (soft-part r b) v ≤ 7
 unfolding soft-part
 soft-cheap r zero v = decided-small r 0 (eqb v 0)
 soft-cheap r (suc b) v = decided-small r 1 (eqb v 0)

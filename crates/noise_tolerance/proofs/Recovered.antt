@@ -12,18 +12,19 @@ use Rattle.common.specs.Choice.{pick}
 use Rattle.common.proofs.Lists.{getD-map-in}
 use Rattle.convolutional_code.specs.Bits.{Bits}
 use Rattle.viterbi_decoder.specs.Best.{Best}
+use Rattle.puncturing.specs.Mode.{qpskCount}
 use Rattle.puncturing.specs.Step.{patternLength}
 use Rattle.inner_code.specs.Step.{symbolsOf}
 use Rattle.inner_code.specs.Encode.{coderAt}
 use Rattle.branch_metrics.specs.Cost.{softly}
-use Rattle.branch_metrics.specs.declared.soft_decision.Received.{Received}
+use Rattle.branch_metrics.specs.declared.soft_decision.ReceivedSymbol.{ReceivedSymbol}
 use Rattle.reader.specs.Cost.{differing, runCost, softCost}
 use Rattle.reader.specs.Read.{symbolsPerPattern, runBits}
 use Rattle.reader.proofs.Patterns.{some-symbols}
 use Rattle.reader_stream.specs.Runs.{runPatterns, ReadToEnd}
 use Rattle.noise_tolerance.specs.Noise.{SparseSymbols, softDoubt}
 use Rattle.noise_tolerance.specs.Table.{hardLimits, softLimits}
-use Rattle.noise_tolerance.specs.Harm.{Came, fine, struck, isStruck, costOf, doubtOf, isLost, doubtUnlost, HarmedAt, Gathered, Spoils, harmAt, harmWindow, harmDistance, BesideHarm, NearHarm, HarmedRun, RunRecovered, HarmedStream, Recovered}
+use Rattle.noise_tolerance.specs.Harm.{SymbolCame, fine, struck, isStruck, costOf, doubtOf, isLost, doubtUnlost, HarmedAt, Gathered, Spoils, harmAt, harmWindow, harmDistance, BesideHarm, NearHarm, HarmedRun, RunRecovered, HarmedStream, Recovered}
 use Rattle.noise_tolerance.proofs.Received.{hardDoubt}
 use Rattle.noise_tolerance.proofs.Noise.{twice-sparse, hard-twice}
 use Rattle.noise_tolerance.proofs.HarmedRuns.{Harmable, clean-within, hit-within, run-astray}
@@ -53,7 +54,7 @@ module _ {R : Type 0} {cost doubt : R → ℕ → ℕ} {harmed : R → Bool} {u 
 
 -- ---- a run
 
-module _ {R : Type 0} {cost doubt : R → ℕ → ℕ} {harmed : R → Bool} {u charged : ℕ} (kind : Harmable cost doubt harmed u charged) (rate m : ℕ) (hr : rate < 5) (hm : m < 64) {t depth : ℕ} {l : Spoils}
+module _ {R : Type 0} {cost doubt : R → ℕ → ℕ} {harmed : R → Bool} {u charged : ℕ} (kind : Harmable cost doubt harmed u charged) (rate m : ℕ) (hr : rate < qpskCount) (hm : m < 64) {t depth : ℕ} {l : Spoils}
     (f : HarmFits rate u charged t depth l) (bits : List ℕ) (points : List R) (w : Bits bits) (whole : length bits % patternLength rate ≡ 0)
     (size : length points ≡ length (symbolsOf (coderAt rate m) bits)) (doubted : SparseSymbols harmWindow t (map doubt points) (symbolsOf (coderAt rate m) bits))
     (gathered : Gathered harmed (length points) (l .longest) points)
@@ -105,7 +106,7 @@ module _ {R : Type 0} {cost doubt : R → ℕ → ℕ} {harmed : R → Bool} {u 
 
 -- ---- a stream
 
-module _ {R : Type 0} {cost doubt : R → ℕ → ℕ} {harmed : R → Bool} {u charged : ℕ} (kind : Harmable cost doubt harmed u charged) (rate : ℕ) (hr : rate < 5) {t depth : ℕ} {l : Spoils}
+module _ {R : Type 0} {cost doubt : R → ℕ → ℕ} {harmed : R → Bool} {u charged : ℕ} (kind : Harmable cost doubt harmed u charged) (rate : ℕ) (hr : rate < qpskCount) {t depth : ℕ} {l : Spoils}
     (f : HarmFits rate u charged t depth l) (bits : List ℕ) (points : List R) (came unread : List ℕ) (w : Bits bits) (coded : came ++ unread ≡ symbolsOf (coderAt rate 0) bits)
     (size : length points ≡ length came) (doubted : SparseSymbols harmWindow t (map doubt points) came) (gathered : Gathered harmed (harmDistance rate) (l .longest) points) where
   rain : (i j : ℕ) → i ≤ j → j ≤ i + harmDistance rate → j < length points → harmed (getD points i (kind .some)) ≡ true → harmed (getD points j (kind .some)) ≡ true → j < i + l .longest
@@ -159,25 +160,25 @@ module _ {R : Type 0} {cost doubt : R → ℕ → ℕ} {harmed : R → Bool} {u 
 
 -- ---- struck, by hard decisions
 
-twice-struck : (r : Came ℕ) (s : ℕ) → doubtOf hardDoubt r s ≡ 2 * doubtOf differing r s
+twice-struck : (r : SymbolCame ℕ) (s : ℕ) → doubtOf hardDoubt r s ≡ 2 * doubtOf differing r s
 twice-struck (fine r) s = hard-twice r s
 twice-struck (struck r) s = refl
 
 -- Runs, by what they are read as: the same of each kind of harm.
-pub hard-run-recovered : {rate m : ℕ} {bits : List ℕ} {points : List (Came ℕ)} → HarmedRun (doubtOf differing) isStruck (harmAt rate .hard-struck) rate m bits points
+pub hard-run-recovered : {rate m : ℕ} {bits : List ℕ} {points : List (SymbolCame ℕ)} → HarmedRun (doubtOf differing) isStruck (harmAt rate .hard-struck) rate m bits points
     → {best : List ℕ} → Best (runCost (map (costOf differing) points) rate m) (runBits rate (length points)) best
     → RunRecovered isStruck (harmAt rate .hard-struck) rate (hardLimits rate .unsure) bits points best
 hard-run-recovered {rate} {m} {bits} {points} h b =
     run-recovered hard-struck-kind rate m (h .known) (h .in-range) (hard-struck-fits rate (h .known)) bits points (h .binary) (h .whole) (h .as-long)
     (twice-sparse (doubtOf hardDoubt) (doubtOf differing) twice-struck harmWindow (harmAt rate .hard-struck .elsewhere) points (symbolsOf (coderAt rate m) bits) (h .sparse)) (h .gathered) b
 
-pub soft-run-recovered : {rate m : ℕ} {bits : List ℕ} {points : List (Came Received)} → HarmedRun (doubtOf softDoubt) isStruck (harmAt rate .soft-struck) rate m bits points
+pub soft-run-recovered : {rate m : ℕ} {bits : List ℕ} {points : List (SymbolCame ReceivedSymbol)} → HarmedRun (doubtOf softDoubt) isStruck (harmAt rate .soft-struck) rate m bits points
     → {best : List ℕ} → Best (runCost (map (costOf softly) points) rate m) (runBits rate (length points)) best
     → RunRecovered isStruck (harmAt rate .soft-struck) rate (softLimits rate .unsure) bits points best
 soft-run-recovered {rate} {m} {bits} {points} h b =
     run-recovered soft-struck-kind rate m (h .known) (h .in-range) (soft-struck-fits rate (h .known)) bits points (h .binary) (h .whole) (h .as-long) (h .sparse) (h .gathered) b
 
-pub lost-run-recovered : {rate m : ℕ} {bits : List ℕ} {points : List Received} → HarmedRun doubtUnlost isLost (harmAt rate .soft-lost) rate m bits points
+pub lost-run-recovered : {rate m : ℕ} {bits : List ℕ} {points : List ReceivedSymbol} → HarmedRun doubtUnlost isLost (harmAt rate .soft-lost) rate m bits points
     → {best : List ℕ} → Best (softCost points rate m) (runBits rate (length points)) best
     → RunRecovered isLost (harmAt rate .soft-lost) rate (softLimits rate .unsure) bits points best
 lost-run-recovered {rate} {m} {bits} {points} h b =
@@ -185,7 +186,7 @@ lost-run-recovered {rate} {m} {bits} {points} h b =
 
 -- Symbols struck in a stream, by hard decisions: where what is not struck has at most 4, 2, 2, 1 or 1 wrong I and Q bits in any 900 symbols, and those struck lie
 -- within 31, 12, 7, 3 or 1 symbols wherever they are not far apart, every wrong bit is near these or one of the last.
-pub hard-recovered : {rate : ℕ} {bits : List ℕ} {points : List (Came ℕ)} {came unread : List ℕ}
+pub hard-recovered : {rate : ℕ} {bits : List ℕ} {points : List (SymbolCame ℕ)} {came unread : List ℕ}
     → HarmedStream (doubtOf differing) isStruck (harmAt rate .hard-struck) rate bits points came unread
     → {out : List ℕ} {rest : ℕ} → ReadToEnd (costOf differing) rate points out rest
     → Recovered isStruck (harmAt rate .hard-struck) rate (hardLimits rate .unsure) bits points out rest
@@ -194,7 +195,7 @@ hard-recovered {rate} {bits} {points} {came} {unread} h r =
     (twice-sparse (doubtOf hardDoubt) (doubtOf differing) twice-struck harmWindow (harmAt rate .hard-struck .elsewhere) points came (h .sparse)) (h .gathered) r
 
 -- The same by soft decisions, with a doubt of at most 63, 35, 28, 21 or 14 elsewhere, and harm within 30, 12, 7, 2 or 1 symbols.
-pub soft-recovered : {rate : ℕ} {bits : List ℕ} {points : List (Came Received)} {came unread : List ℕ}
+pub soft-recovered : {rate : ℕ} {bits : List ℕ} {points : List (SymbolCame ReceivedSymbol)} {came unread : List ℕ}
     → HarmedStream (doubtOf softDoubt) isStruck (harmAt rate .soft-struck) rate bits points came unread
     → {out : List ℕ} {rest : ℕ} → ReadToEnd (costOf softly) rate points out rest
     → Recovered isStruck (harmAt rate .soft-struck) rate (softLimits rate .unsure) bits points out rest
@@ -202,7 +203,7 @@ soft-recovered {rate} {bits} {points} {came} {unread} h r =
     recovered soft-struck-kind rate (r .known) (soft-struck-fits rate (r .known)) bits points came unread (h .binary) (h .coded) (h .as-long) (h .sparse) (h .gathered) r
 
 -- Symbols lost, by soft decisions: with a doubt of at most 63, 35, 28, 21 or 14 elsewhere, an outage of up to 625, 424, 339, 223 or 185 symbols.
-pub lost-recovered : {rate : ℕ} {bits : List ℕ} {points : List Received} {came unread : List ℕ}
+pub lost-recovered : {rate : ℕ} {bits : List ℕ} {points : List ReceivedSymbol} {came unread : List ℕ}
     → HarmedStream doubtUnlost isLost (harmAt rate .soft-lost) rate bits points came unread
     → {out : List ℕ} {rest : ℕ} → ReadToEnd softly rate points out rest
     → Recovered isLost (harmAt rate .soft-lost) rate (softLimits rate .unsure) bits points out rest

@@ -13,7 +13,7 @@ use Rattle.common.proofs.Computed.{both, both-left, both-right, below-at, agree
 use Rattle.convolutional_code.specs.Bits.{Bits, none, more}
 use Rattle.convolutional_code.proofs.Bits.{bits-append, zero-bits}
 use Rattle.viterbi_decoder.specs.Best.{Best, ZeroAtLast}
-use Rattle.puncturing.specs.Mode.{modes, modeOf}
+use Rattle.puncturing.specs.Mode.{modes, modeOf, qpskCount}
 use Rattle.puncturing.specs.Step.{patternLength, puncturedBy, heldBy}
 use Rattle.inner_code.specs.Step.{symbolsOf, symbolsBy}
 use Rattle.inner_code.specs.Encode.{coderAt}
@@ -75,42 +75,42 @@ lastOne (suc (suc (suc (suc r)))) = 5
 
 -- ---- what is computed of them
 
-pub whole-is : (r : ℕ) → r < 5 → length (sentBits r) % patternLength r ≡ 0
+pub whole-is : (r : ℕ) → r < qpskCount → length (sentBits r) % patternLength r ≡ 0
 unfolding front zeros modeOf modes
-whole-is = agree-at (λ r. length (sentBits r) % patternLength r) (λ r. 0) 5 tt
+whole-is = agree-at (λ r. length (sentBits r) % patternLength r) (λ r. 0) qpskCount tt
 
-size-is : (r : ℕ) → r < 5 → length (harmed r) ≡ length (symbolsOf (coderAt r 0) (sentBits r))
+size-is : (r : ℕ) → r < qpskCount → length (harmed r) ≡ length (symbolsOf (coderAt r 0) (sentBits r))
 unfolding front zeros harmedFront harmedZeros modeOf modes symbolsBy puncturedBy heldBy
-size-is = agree-at (λ r. length (harmed r)) (λ r. length (symbolsOf (coderAt r 0) (sentBits r))) 5 tt
+size-is = agree-at (λ r. length (harmed r)) (λ r. length (symbolsOf (coderAt r 0) (sentBits r))) qpskCount tt
 
-run-is : (r : ℕ) → r < 5 → length (sentBits r) ≡ runLength r (harmed r)
+run-is : (r : ℕ) → r < qpskCount → length (sentBits r) ≡ runLength r (harmed r)
 unfolding front zeros harmedFront harmedZeros modeOf modes symbolsPerPattern
-run-is = agree-at (λ r. length (sentBits r)) (λ r. runLength r (harmed r)) 5 tt
+run-is = agree-at (λ r. length (sentBits r)) (λ r. runLength r (harmed r)) qpskCount tt
 
-wrong-is : (r : ℕ) → r < 5 → hardCost (harmed r) r 0 (sentBits r) ≡ suc (hardLimits r .tolerated)
+wrong-is : (r : ℕ) → r < qpskCount → hardCost (harmed r) r 0 (sentBits r) ≡ suc (hardLimits r .tolerated)
 unfolding front zeros harmedFront harmedZeros modeOf modes symbolsBy puncturedBy heldBy totalCost table atRate
-wrong-is = agree-at (λ r. hardCost (harmed r) r 0 (sentBits r)) (λ r. suc (hardLimits r .tolerated)) 5 tt
+wrong-is = agree-at (λ r. hardCost (harmed r) r 0 (sentBits r)) (λ r. suc (hardLimits r .tolerated)) qpskCount tt
 
-near-is : (r : ℕ) → r < 5 → hardCost (harmed r) r 0 (silence r) ≤ suc (hardLimits r .tolerated)
+near-is : (r : ℕ) → r < qpskCount → hardCost (harmed r) r 0 (silence r) ≤ suc (hardLimits r .tolerated)
 unfolding front zeros harmedFront harmedZeros modeOf modes symbolsBy puncturedBy heldBy totalCost table atRate
-near-is r h = leb→le _ _ (below-at (λ r. leb (hardCost (harmed r) r 0 (silence r)) (suc (hardLimits r .tolerated))) 5 tt r h)
+near-is r h = leb→le _ _ (below-at (λ r. leb (hardCost (harmed r) r 0 (silence r)) (suc (hardLimits r .tolerated))) qpskCount tt r h)
 
 abbrev endCost : ℕ → ℕ
 endCost r =
     totalCost (drop (length (symbolsOf (coderAt r 0) (sentBits r)) - hardLimits r .quiet) (map differing (harmed r)))
     (drop (length (symbolsOf (coderAt r 0) (sentBits r)) - hardLimits r .quiet) (symbolsOf (coderAt r 0) (sentBits r)))
 
-quiet-is : (r : ℕ) → r < 5 → QuietEnd (hardLimits r .quiet) (map differing (harmed r)) (symbolsOf (coderAt r 0) (sentBits r))
+quiet-is : (r : ℕ) → r < qpskCount → QuietEnd (hardLimits r .quiet) (map differing (harmed r)) (symbolsOf (coderAt r 0) (sentBits r))
 unfolding QuietEnd front zeros harmedFront harmedZeros modeOf modes symbolsBy puncturedBy heldBy totalCost table atRate
-quiet-is = agree-at endCost (λ r. 0) 5 tt
+quiet-is = agree-at endCost (λ r. 0) qpskCount tt
 
-last-is : (r : ℕ) → r < 5 → length (front r) ≡ suc (lastOne r)
+last-is : (r : ℕ) → r < qpskCount → length (front r) ≡ suc (lastOne r)
 unfolding front lastOne
-last-is = agree-at (λ r. length (front r)) (λ r. suc (lastOne r)) 5 tt
+last-is = agree-at (λ r. length (front r)) (λ r. suc (lastOne r)) qpskCount tt
 
-pub one-is : (r : ℕ) → r < 5 → getD (sentBits r) (lastOne r) 0 ≡ 1
+pub one-is : (r : ℕ) → r < qpskCount → getD (sentBits r) (lastOne r) 0 ≡ 1
 unfolding front zeros lastOne
-one-is = agree-at (λ r. getD (sentBits r) (lastOne r) 0) (λ r. 1) 5 tt
+one-is = agree-at (λ r. getD (sentBits r) (lastOne r) 0) (λ r. 1) qpskCount tt
 
 abbrev allBits : List ℕ → Bool
 allBits [] = true
@@ -120,9 +120,9 @@ bits-if : (l : List ℕ) → T (allBits l) → Bits l
 bits-if [] t = none
 bits-if (b ∷ l) t = more (ltb→lt b 2 (both-left (ltb b 2) (allBits l) t)) (bits-if l (both-right (ltb b 2) (allBits l) t))
 
-front-bits : (r : ℕ) → r < 5 → Bits (front r)
+front-bits : (r : ℕ) → r < qpskCount → Bits (front r)
 unfolding front
-front-bits r h = bits-if (front r) (below-at (λ r. allBits (front r)) 5 tt r h)
+front-bits r h = bits-if (front r) (below-at (λ r. allBits (front r)) qpskCount tt r h)
 
 -- ---- not given back
 
@@ -130,7 +130,7 @@ drop-zeros : (a b : ℕ) → drop a (replicate {A = ℕ} (a + b) 0) ≡ replicat
 drop-zeros zero b = let e : 0 + b ≡ b = omega arith in rw e refl
 drop-zeros (suc a) b = let e : suc a + b ≡ suc (a + b) = omega arith in rw e (drop-zeros a b)
 
-module _ (r : ℕ) (hr : r < 5) where
+module _ (r : ℕ) (hr : r < qpskCount) where
   pub binary : Bits (sentBits r)
   binary = bits-append (front-bits r hr) (zero-bits (zeros r))
 
@@ -168,7 +168,7 @@ pub record OneMore (rate : ℕ) : Type 0 where
   pub lost : {output : List ℕ} {after total count : ℕ} {left : List ℕ} → (o : BestRead (hardCost received rate 0) (runLength rate received) 0 output after total count left)
       → o .bits ≡ bits → ⊥
 
-pub one-more : (rate : ℕ) → rate < 5 → OneMore rate
+pub one-more : (rate : ℕ) → rate < qpskCount → OneMore rate
 one-more r hr = record {
   bits = sentBits r;
   binary-bits = binary r hr;

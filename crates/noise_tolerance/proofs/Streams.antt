@@ -13,6 +13,7 @@ use Rattle.puncturing.specs.Step.{patternLength}
 use Rattle.inner_code.specs.Step.{symbolsOf}
 use Rattle.inner_code.specs.Encode.{coderAt}
 use Rattle.viterbi_decoder.specs.Best.{Best}
+use Rattle.puncturing.specs.Mode.{qpskCount}
 use Rattle.reader.specs.Cost.{totalCost, runCost}
 use Rattle.reader.specs.Read.{symbolsPerPattern, runBits, runLength}
 use Rattle.reader.proofs.Patterns.{memory-in-range, run-whole}
@@ -92,7 +93,7 @@ pub record Kept {R : Type 0} (doubt : R → ℕ → ℕ) (n t : ℕ) (rate m : �
   pub left-is : left ≡ drop (symbolsPerPattern rate * patterns) rs
   pub behind-is : behind ≡ drop (symbolsPerPattern rate * patterns) ss
 
-module _ {R : Type 0} {cost doubt : R → ℕ → ℕ} {u : ℕ} (kind : Kind cost doubt u) (rate : ℕ) (hr : rate < 5) {window most depth : ℕ} (t : Tolerable rate window most depth)
+module _ {R : Type 0} {cost doubt : R → ℕ → ℕ} {u : ℕ} (kind : Kind cost doubt u) (rate : ℕ) (hr : rate < qpskCount) {window most depth : ℕ} (t : Tolerable rate window most depth)
     (ps : ℕ) (covers : window + patternLength rate ≤ patternLength rate * ps + 1) (overlap : keptBits rate + depth ≤ runBits rate (fullSymbols rate)) where
   abbrev span : ℕ
   span = symbolsPerPattern rate * ps

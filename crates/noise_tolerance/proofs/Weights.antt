@@ -11,7 +11,7 @@ use lib.Dec.{T, leb, leb→le, ltb, ltb→lt, eqb, eqb→eq}
 use lib.ListN.{getD}
 use Rattle.common.proofs.Computed.{both, both-left, both-right, below, below-at}
 use Rattle.convolutional_code.specs.Code.{nextMemory}
-use Rattle.puncturing.specs.Mode.{modeOf}
+use Rattle.puncturing.specs.Mode.{modeOf, qpskCount}
 use Rattle.puncturing.specs.Step.{patternLength, nextPlace}
 use Rattle.puncturing.proofs.Places.{tested-at}
 use Rattle.puncturing.proofs.Steps.{some-bits}
@@ -54,7 +54,7 @@ start-test r p = both (zero-test r p) (both (leave-test r p) (both (rise-test r 
 unfoldable test : ℕ → ℕ → Bool
 test r p = both (start-test r p) (below (λ d. below (step-test r p (suc d)) 2) 63)
 
-tested : (r p : ℕ) → r < 5 → p < patternLength r → T (test r p)
+tested : (r p : ℕ) → r < qpskCount → p < patternLength r → T (test r p)
 unfolding test start-test step-test home-test growth-test zero-test leave-test rise-test seen-test look homes growths free slope rise lead lag weightAt kind modeOf flatten
 tested = tested-at test tt
 
@@ -65,7 +65,7 @@ home rate k d = look (homes rate) (k % patternLength rate) d
 unfoldable pub growth : ℕ → ℕ → ℕ → ℕ
 growth rate k d = look (growths rate) (k % patternLength rate) d
 
-module _ (r : ℕ) (hr : r < 5) (k : ℕ) where
+module _ (r : ℕ) (hr : r < qpskCount) (k : ℕ) where
   abbrev place : ℕ
   place = k % patternLength r
 
@@ -142,11 +142,11 @@ most-at n (x ∷ l) h (suc i) = most-at n l (both-right (leb x n) (allMost n l) 
 unfoldable top-test : ℕ → ℕ → Bool
 top-test r p = allMost (top r) (getD (growths r) p [])
 
-top-tested : (r p : ℕ) → r < 5 → p < patternLength r → T (top-test r p)
+top-tested : (r p : ℕ) → r < qpskCount → p < patternLength r → T (top-test r p)
 unfolding top-test allMost top growths modeOf
 top-tested = tested-at top-test tt
 
-pub growth-most : (r k d : ℕ) → r < 5 → growth r k d ≤ top r
+pub growth-most : (r k d : ℕ) → r < qpskCount → growth r k d ≤ top r
 unfolding growth look top-test
 growth-most r k d hr = most-at (top r) (getD (growths r) (k % patternLength r) []) (top-tested r (k % patternLength r) hr (mod-lt k (some-bits r hr))) d
 
@@ -164,7 +164,7 @@ homing-test r p d = both (either (toward r p d 0) (toward r p d 1)) (leb (slope 
 unfoldable homing-tests : ℕ → ℕ → Bool
 homing-tests r p = both (leb (slope r * look (homes r) p 0 + look (growths r) p 0) (homing r)) (below (λ d. homing-test r p (suc d)) 63)
 
-homing-tested : (r p : ℕ) → r < 5 → p < patternLength r → T (homing-tests r p)
+homing-tested : (r p : ℕ) → r < qpskCount → p < patternLength r → T (homing-tests r p)
 unfolding homing-tests homing-test toward look homes growths slope homing weightAt kind modeOf flatten
 homing-tested = tested-at homing-tests tt
 
@@ -172,7 +172,7 @@ toward-home : (r k d z : ℕ) → T (toward r (k % patternLength r) d z) → wei
 unfolding toward home
 toward-home r k d z h = rw (← (next-mod r k)) (leb→le _ _ h)
 
-module _ (r : ℕ) (hr : r < 5) (k : ℕ) where
+module _ (r : ℕ) (hr : r < qpskCount) (k : ℕ) where
   abbrev spot : ℕ
   spot = k % patternLength r
 
@@ -207,7 +207,7 @@ module _ (r : ℕ) (hr : r < 5) (k : ℕ) where
       by false e h = made 1 (omega arith) (toward-home r k (suc d) 1 h)
 
 -- each coded bit counts u
-pub potentials : (u r : ℕ) → r < 5
+pub potentials : (u r : ℕ) → r < qpskCount
     → Potentials (λ k d z. u * weight r k d z) (λ k d. u * home r k d) (λ k d. u * growth r k d) (u * free r) (slope r) (λ k. u * rise r) (u * lead r) (u * lag r)
 potentials u r hr = record {
   at-home = λ k. let e = ap (λ (n : ℕ). u * n) (home-zero r hr k) in omega arith;

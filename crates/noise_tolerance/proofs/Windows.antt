@@ -11,6 +11,7 @@ use lib.Seq.{getD-take, take-all, take-add, drop-drop, length-take-le}
 use Rattle.convolutional_code.specs.Bits.{Bits}
 use Rattle.convolutional_code.specs.Code.{nextMemory, memoryAfter}
 use Rattle.convolutional_code.specs.Costs.{Costs, costFrom}
+use Rattle.puncturing.specs.Mode.{qpskCount}
 use Rattle.puncturing.specs.Step.{patternLength}
 use Rattle.puncturing.proofs.Steps.{some-bits}
 use Rattle.inner_code.specs.Step.{symbolsOf}
@@ -112,7 +113,7 @@ splits-take n {costs} h = record {
       ap (λ (f : ℕ → ℕ). f s) (getD-take n costs i (λ s. 0) (omega arith)) ∙ h .at i s (omega arith) four;
 }
 
-module _ (costs : List (ℕ → ℕ)) (c : ℕ → ℕ → ℕ) (splits : Splits costs c 0) (rate : ℕ) (hr : rate < 5) (m : ℕ) (hm : m < 64) (bits : List ℕ) (w : Bits bits)
+module _ (costs : List (ℕ → ℕ)) (c : ℕ → ℕ → ℕ) (splits : Splits costs c 0) (rate : ℕ) (hr : rate < qpskCount) (m : ℕ) (hm : m < 64) (bits : List ℕ) (w : Bits bits)
     (whole : length bits % patternLength rate ≡ 0) (ss : List ℕ) (es : ss ≡ symbolsOf (coderAt rate m) bits) (size : length ss ≡ length costs) where
   abbrev P : ℕ
   P = patternLength rate

@@ -9,39 +9,40 @@ use lib.Dec.{eqb}
 use lib.ListN.{length, getD}
 use Rattle.common.specs.Choice.{pick}
 use Rattle.convolutional_code.specs.Bits.{Bits}
+use Rattle.puncturing.specs.Mode.{qpskCount}
 use Rattle.puncturing.specs.Step.{patternLength}
 use Rattle.inner_code.specs.Step.{symbolsOf}
 use Rattle.inner_code.specs.Encode.{coderAt}
 use Rattle.branch_metrics.specs.Cost.{symbolCosts}
-use Rattle.branch_metrics.specs.declared.soft_decision.Received.{Received}
+use Rattle.branch_metrics.specs.declared.soft_decision.ReceivedSymbol.{ReceivedSymbol}
 use Rattle.reader.specs.Read.{symbolsPerPattern, runBits}
 use Rattle.noise_tolerance.specs.Noise.{SparseSymbols, softDoubt}
 
 -- ---- which symbols are harmed
 
 -- A symbol that came, and whether it counts as harmed. Nothing is assumed of one that is struck.
-pub data Came (R : Type 0) : Type 0 where
-  fine : R → Came R
-  struck : R → Came R
+pub data SymbolCame (R : Type 0) : Type 0 where
+  fine : R → SymbolCame R
+  struck : R → SymbolCame R
 
-abbrev pub isStruck : {R : Type 0} → Came R → Bool
+abbrev pub isStruck : {R : Type 0} → SymbolCame R → Bool
 isStruck (fine r) = false
 isStruck (struck r) = true
 
-abbrev pub costOf : {R : Type 0} → (R → ℕ → ℕ) → Came R → ℕ → ℕ
+abbrev pub costOf : {R : Type 0} → (R → ℕ → ℕ) → SymbolCame R → ℕ → ℕ
 costOf cost (fine r) = cost r
 costOf cost (struck r) = cost r
 
 -- what is not struck is doubted as ever
-abbrev pub doubtOf : {R : Type 0} → (R → ℕ → ℕ) → Came R → ℕ → ℕ
+abbrev pub doubtOf : {R : Type 0} → (R → ℕ → ℕ) → SymbolCame R → ℕ → ℕ
 doubtOf doubt (fine r) = doubt r
 doubtOf doubt (struck r) = λ sent. 0
 
 -- a symbol that is lost, as in an outage, or of which both numbers are NaN: no decision on it costs anything; the others are doubted as ever
-unfoldable pub isLost : Received → Bool
+unfoldable pub isLost : ReceivedSymbol → Bool
 isLost r = eqb (symbolCosts r .i .zero + symbolCosts r .i .one + (symbolCosts r .q .zero + symbolCosts r .q .one)) 0
 
-abbrev pub doubtUnlost : Received → ℕ → ℕ
+abbrev pub doubtUnlost : ReceivedSymbol → ℕ → ℕ
 doubtUnlost r sent = pick (isLost r) 0 (softDoubt r sent)
 
 -- symbol i is harmed
@@ -116,7 +117,7 @@ pub record NearHarm {R : Type 0} (harmed : R → Bool) (rate : ℕ) (l : Spoils)
 
 -- a run: bits that were coded from a memory on, in whole patterns, and as many symbols that came, of which those harmed lie close together
 pub record HarmedRun {R : Type 0} (doubt : R → ℕ → ℕ) (harmed : R → Bool) (l : Spoils) (rate m : ℕ) (bits : List ℕ) (points : List R) : Type 0 where
-  pub known : rate < 5
+  pub known : rate < qpskCount
   pub in-range : m < 64
   pub binary : Bits bits
   pub whole : length bits % patternLength rate ≡ 0

@@ -5,11 +5,12 @@ use mathlib.Core.List.{List, _++_, map}
 use Prim.Native.Nat.{ℕ, _+_, _-_, _*_, _/_, _%_, _≤_, _<_}
 use lib.ListN.{length, take, drop}
 use Rattle.convolutional_code.specs.Bits.{Bits}
+use Rattle.puncturing.specs.Mode.{qpskCount}
 use Rattle.puncturing.specs.Step.{patternLength}
 use Rattle.inner_code.specs.Step.{symbolsOf}
 use Rattle.inner_code.specs.Encode.{coderAt}
 use Rattle.branch_metrics.specs.Cost.{BitCosts, symbolCosts, decidedAs}
-use Rattle.branch_metrics.specs.declared.soft_decision.Received.{Received}
+use Rattle.branch_metrics.specs.declared.soft_decision.ReceivedSymbol.{ReceivedSymbol}
 use Rattle.reader.specs.Cost.{totalCost}
 use Rattle.reader.specs.Read.{symbolsPerPattern, runBits}
 use Rattle.noise_tolerance.specs.Table.{Limits}
@@ -30,14 +31,14 @@ QuietEnd n doubts sent = totalCost (drop (length sent - n) doubts) (drop (length
 abbrev pub bitDoubt : BitCosts → ℕ → ℕ
 bitDoubt c b = 2 * decidedAs c b + (7 - (c .zero + c .one))
 
-abbrev pub softDoubt : Received → ℕ → ℕ
+abbrev pub softDoubt : ReceivedSymbol → ℕ → ℕ
 softDoubt r sent = bitDoubt (symbolCosts r .i) (sent / 2) + bitDoubt (symbolCosts r .q) (sent % 2)
 
 -- ---- what came of what was sent
 
 -- a run: bits that were coded from a memory on, in whole patterns, and as many symbols that came, sparsely doubted
 pub record NoisyRun {R : Type 0} (doubt : R → ℕ → ℕ) (l : Limits) (rate m : ℕ) (bits : List ℕ) (received : List R) : Type 0 where
-  pub known : rate < 5
+  pub known : rate < qpskCount
   pub in-range : m < 64
   pub binary : Bits bits
   pub whole : length bits % patternLength rate ≡ 0

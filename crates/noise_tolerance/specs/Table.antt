@@ -20,16 +20,16 @@ abbrev pub limits : ℕ → ℕ → ℕ → ℕ → ℕ → Limits
 limits t v d q s = record { tolerated = t; window = v; unsure = d; quiet = q; quiet-stream = s }
 
 -- a rate: the free distance of its code, the fewest coded bits in which two sequences differ that part and lead to one memory; hard and soft decisions
-pub record Row : Type 0 where
+pub record LimitRow : Type 0 where
   pub distance : ℕ
   pub hard : Limits
   pub soft : Limits
 
-abbrev pub row : ℕ → Limits → Limits → Row
+abbrev pub row : ℕ → Limits → Limits → LimitRow
 row d h s = record { distance = d; hard = h; soft = s }
 
 -- rates 1/2, 2/3, 3/4, 5/6 and 7/8
-unfoldable pub table : List Row
+unfoldable pub table : List LimitRow
 table =
     row 10 (limits 4 48 21 21 22) (limits 63 55 25 25 26)
     ∷ row 6 (limits 2 42 23 18 21) (limits 35 54 30 24 27)
@@ -39,10 +39,10 @@ table =
     ∷ []
 
 -- at another rate nothing is promised
-abbrev pub none : Row
+abbrev pub none : LimitRow
 none = row 0 (limits 0 0 0 0 0) (limits 0 0 0 0 0)
 
-unfoldable pub atRate : ℕ → Row
+unfoldable pub atRate : ℕ → LimitRow
 unfolding table
 atRate rate = getD table rate none
 

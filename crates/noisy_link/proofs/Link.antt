@@ -15,7 +15,7 @@ use Rattle.common.proofs.Computed.{below-at}
 use Rattle.answer.specs.Number.{numberOf}
 use Rattle.convolutional_code.specs.Bits.{bitsOf}
 use Rattle.convolutional_code.proofs.Bits.{bits-bits}
-use Rattle.puncturing.specs.Mode.{modeOf}
+use Rattle.puncturing.specs.Mode.{modeOf, qpskCount}
 use Rattle.branch_metrics.specs.Cost.{softly}
 use Rattle.reader.specs.Cost.{differing}
 use Rattle.reader.specs.Read.{runBits}
@@ -73,14 +73,14 @@ front-blocks n bits h =
 
 -- ---- the theorem
 
-module _ (inputs : List (List ℕ)) (g : All Input inputs) (bs : All Bytes inputs) (limit : length inputs ≤ 4294967295) (rate : ℕ) (hr : rate < 5) (sent : modeOf rate .sent ≡ true) where
+module _ (inputs : List (List ℕ)) (g : All Input inputs) (bs : All Bytes inputs) (limit : length inputs ≤ 4294967295) (rate : ℕ) (hr : rate < qpskCount) (sent : modeOf rate .sent ≡ true) where
   abbrev packets : List (List ℕ)
   packets = packetsFor inputs
 
   abbrev all : List ℕ
   all = bitsOf (sentBytes packets)
 
-  module _ {R : Type 0} {cost : R → ℕ → ℕ} {Came : List R → List ℕ → Type 0} (k : StreamLink cost Came rate inputs) where
+  module _ {R : Type 0} {cost : R → ℕ → ℕ} {SymbolCame : List R → List ℕ → Type 0} (k : StreamLink cost SymbolCame rate inputs) where
     abbrev pub read-of : SymbolsEnded cost rate (k .points) (bytesRead k) (k .finished .rest) (k .finished .bits)
     read-of = read-ended inputs g bs limit rate hr sent k
 
@@ -143,11 +143,11 @@ module _ (inputs : List (List ℕ)) (g : All Input inputs) (bs : All Bytes input
 
   pub hard-few : hardLimits rate .unsure ≤ 1632
   unfolding table atRate
-  hard-few = leb→le _ _ (below-at (λ r. leb (hardLimits r .unsure) 1632) 5 tt rate hr)
+  hard-few = leb→le _ _ (below-at (λ r. leb (hardLimits r .unsure) 1632) qpskCount tt rate hr)
 
   pub soft-few : softLimits rate .unsure ≤ 1632
   unfolding table atRate
-  soft-few = leb→le _ _ (below-at (λ r. leb (softLimits r .unsure) 1632) 5 tt rate hr)
+  soft-few = leb→le _ _ (below-at (λ r. leb (softLimits r .unsure) 1632) qpskCount tt rate hr)
 
   pub noisy-front : (k : StreamLink differing (Sparsely differing (hardLimits rate)) rate inputs) → FrontArrived (hardLimits rate .unsure) k
   noisy-front k = front-arrived k (hardLimits rate .unsure) hard-few (noisy-stream (stream differing (hardLimits rate) k) (read-of k .read))

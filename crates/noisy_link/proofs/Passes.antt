@@ -5,7 +5,7 @@ use mathlib.Core.List.{List, map}
 use Prim.Native.Nat.{ℕ, _%_}
 use lib.ListN.{length, take}
 use Rattle.branch_metrics.specs.Cost.{softly}
-use Rattle.branch_metrics.specs.declared.soft_decision.Received.{Received}
+use Rattle.branch_metrics.specs.declared.soft_decision.ReceivedSymbol.{ReceivedSymbol}
 use Rattle.reader.specs.Cost.{differing}
 use Rattle.reader.specs.Read.{symbolsPerPattern, runBits}
 use Rattle.bit_packing.specs.Packing.{packedBytes}
@@ -27,7 +27,7 @@ module _ {rate : ℕ} {received bytes : List ℕ} {rest left-bits : ℕ} (s : Sy
   noisy-back-front = noisy-stream n (s .read)
 
 -- By soft decisions.
-module _ {rate : ℕ} {received : List Received} {bytes : List ℕ} {rest left-bits : ℕ} (s : SymbolsEnded softly rate received bytes rest left-bits)
+module _ {rate : ℕ} {received : List ReceivedSymbol} {bytes : List ℕ} {rest left-bits : ℕ} (s : SymbolsEnded softly rate received bytes rest left-bits)
     {sent came unread : List ℕ} where
   pub noisy-soft-back : NoisyStream softDoubt (softLimits rate) rate sent received came unread → QuietEnd (softLimits rate .quiet-stream) (map softDoubt received) came
       → (bytes ≡ packedBytes (take (runBits rate (length received)) sent)) × (rest ≡ length received % symbolsPerPattern rate)

@@ -19,7 +19,7 @@ use Rattle.convolutional_code.specs.Bits.{bitsOf}
 use Rattle.convolutional_code.proofs.Bits.{bits-bits}
 use Rattle.bit_packing.specs.Packing.{packedBytes}
 use Rattle.bit_packing.proofs.Bytes.{length-bytes}
-use Rattle.puncturing.specs.Mode.{modeOf}
+use Rattle.puncturing.specs.Mode.{modeOf, qpskCount}
 use Rattle.puncturing.specs.Step.{patternLength}
 use Rattle.branch_metrics.specs.Cost.{softly}
 use Rattle.reader.specs.Cost.{differing}
@@ -76,21 +76,21 @@ module _ (r : ℕ) (l : Spoils) where
 if-sent : (rate : ℕ) (l : Spoils) → modeOf rate .sent ≡ true → T (pick (modeOf rate .sent) (near rate l) true) → Close rate l
 if-sent rate l e h = nearly rate l (subst (λ (t : Bool). T (pick t (near rate l) true)) e h)
 
-hard-close : (rate : ℕ) → rate < 5 → modeOf rate .sent ≡ true → Close rate (harmAt rate .hard-struck)
+hard-close : (rate : ℕ) → rate < qpskCount → modeOf rate .sent ≡ true → Close rate (harmAt rate .hard-struck)
 unfolding near harmTable harmAt modeOf symbolsPerPattern
-hard-close rate h e = if-sent rate (harmAt rate .hard-struck) e (below-at (λ r. pick (modeOf r .sent) (near r (harmAt r .hard-struck)) true) 5 tt rate h)
+hard-close rate h e = if-sent rate (harmAt rate .hard-struck) e (below-at (λ r. pick (modeOf r .sent) (near r (harmAt r .hard-struck)) true) qpskCount tt rate h)
 
-soft-close : (rate : ℕ) → rate < 5 → modeOf rate .sent ≡ true → Close rate (harmAt rate .soft-struck)
+soft-close : (rate : ℕ) → rate < qpskCount → modeOf rate .sent ≡ true → Close rate (harmAt rate .soft-struck)
 unfolding near harmTable harmAt modeOf symbolsPerPattern
-soft-close rate h e = if-sent rate (harmAt rate .soft-struck) e (below-at (λ r. pick (modeOf r .sent) (near r (harmAt r .soft-struck)) true) 5 tt rate h)
+soft-close rate h e = if-sent rate (harmAt rate .soft-struck) e (below-at (λ r. pick (modeOf r .sent) (near r (harmAt r .soft-struck)) true) qpskCount tt rate h)
 
-lost-close : (rate : ℕ) → rate < 5 → modeOf rate .sent ≡ true → Close rate (harmAt rate .soft-lost)
+lost-close : (rate : ℕ) → rate < qpskCount → modeOf rate .sent ≡ true → Close rate (harmAt rate .soft-lost)
 unfolding near harmTable harmAt modeOf symbolsPerPattern
-lost-close rate h e = if-sent rate (harmAt rate .soft-lost) e (below-at (λ r. pick (modeOf r .sent) (near r (harmAt r .soft-lost)) true) 5 tt rate h)
+lost-close rate h e = if-sent rate (harmAt rate .soft-lost) e (below-at (λ r. pick (modeOf r .sent) (near r (harmAt r .soft-lost)) true) qpskCount tt rate h)
 
 -- ---- the theorem
 
-module _ (inputs : List (List ℕ)) (g : All Input inputs) (bs : All Bytes inputs) (limit : length inputs ≤ 4294967295) (rate : ℕ) (hr : rate < 5) (sent : modeOf rate .sent ≡ true) where
+module _ (inputs : List (List ℕ)) (g : All Input inputs) (bs : All Bytes inputs) (limit : length inputs ≤ 4294967295) (rate : ℕ) (hr : rate < qpskCount) (sent : modeOf rate .sent ≡ true) where
   abbrev packets : List (List ℕ)
   packets = packetsFor inputs
 

@@ -24,7 +24,7 @@ pub record Rained {R : Type 0} (doubt : R → ℕ → ℕ) (harmed : R → Bool)
 
 -- What it gives whatever its end, of the blocks that are whole before the last bits, which are unsure: these are all that were received, or all but the last.
 -- They are answered as unharmed ones, and the packets of all but the last eleven of them are given, in order.
-pub record FrontGiven {R : Type 0} {cost : R → ℕ → ℕ} {Came : List R → List ℕ → Type 0} {rate : ℕ} {inputs : List (List ℕ)} (unsure : ℕ) (k : StreamLink cost Came rate inputs) : Type 0 where
+pub record FrontGiven {R : Type 0} {cost : R → ℕ → ℕ} {SymbolCame : List R → List ℕ → Type 0} {rate : ℕ} {inputs : List (List ℕ)} (unsure : ℕ) (k : StreamLink cost SymbolCame rate inputs) : Type 0 where
   pub surely : ℕ
   pub surely-is : surely ≡ blocksInBits (bitCount k - unsure)
   pub all-but-one : length (chunksOf 204 (bytesRead k)) ≤ surely + 1
@@ -32,6 +32,6 @@ pub record FrontGiven {R : Type 0} {cost : R → ℕ → ℕ} {Came : List R →
   pub packets : take (surely - 11) (k .given) ≡ take (surely - 11) (packetsFor inputs)
 
 -- where these blocks are also those that were sent
-pub record FrontArrived {R : Type 0} {cost : R → ℕ → ℕ} {Came : List R → List ℕ → Type 0} {rate : ℕ} {inputs : List (List ℕ)} (unsure : ℕ) (k : StreamLink cost Came rate inputs) : Type 0 where
+pub record FrontArrived {R : Type 0} {cost : R → ℕ → ℕ} {SymbolCame : List R → List ℕ → Type 0} {rate : ℕ} {inputs : List (List ℕ)} (unsure : ℕ) (k : StreamLink cost SymbolCame rate inputs) : Type 0 where
   pub front : FrontGiven unsure k
   pub blocks-sent : take (front .surely) (chunksOf 204 (bytesRead k)) ≡ take (front .surely) (interleavedBlocks (packetsFor inputs))

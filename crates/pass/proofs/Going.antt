@@ -27,14 +27,14 @@ use Rattle.receiver_stream.specs.History.{Reception}
 use Rattle.receiver_stream.specs.declared.ReceiverStream.{ReceiverStream}
 use Rattle.receiver_stream.proofs.Laws.{reception-none, reception-held, reception-taken, reception-capacity}
 use Rattle.receiver_stream.proofs.Histories.{reception-number, reception-feeds}
-use Rattle.pass.specs.Pass.{firstAbove, MarksRead, HandsOn, written, kept, endingOf, Came, BadMark, Ends, whole, input-failed}
+use Rattle.pass.specs.Pass.{firstAbove, MarksRead, HandsOn, written, kept, endingOf, PassCame, BadMark, Ends, whole, input-failed}
 use Rattle.pass.specs.declared.Ending.{Ending}
 use Rattle.pass.proofs.Marks.{above-after, none-above, padded-on, padded-ended, padded-entries, padded-length, padded-full}
 
 -- ---- before the first read
 
 pub came-none : (wanted : Bool) {input marks : Input} {output : Output} {stream : ReceiverStream} → inputTrace input ≡ noBytes → inputTrace marks ≡ noBytes
-    → outputTrace output ≡ noBytes → outputFailed output ≡ false → stream ≡ freshReceiverStream → Came wanted marks input marks output stream
+    → outputTrace output ≡ noBytes → outputFailed output ≡ false → stream ≡ freshReceiverStream → PassCame wanted marks input marks output stream
 came-none wanted {stream = stream} i m o u s = record {
   bytes = [];
   came = [];
@@ -63,7 +63,7 @@ ended-over i e = by (inputFailed i) refl
     by true f = absurd (true≢false (sym e ∙ ap (λ (t : Bool). pick t false (inputOver i)) f))
     by false f = (sym (ap (λ (t : Bool). pick t false (inputOver i)) f) ∙ e, f)
 
-module _ {wanted : Bool} {start input marks : Input} {output : Output} {stream : ReceiverStream} (g : Came wanted start input marks output stream) where
+module _ {wanted : Bool} {start input marks : Input} {output : Output} {stream : ReceiverStream} (g : PassCame wanted start input marks output stream) where
   pub came-taken : (stream .held < 204) × (stream .receiver .counts .taken ≤ 4294967295)
   came-taken = (omega (arith, reception-held (g .reception)), omega (arith, reception-taken (g .reception), g .reception .few))
 
@@ -78,7 +78,7 @@ module _ {wanted : Bool} {start input marks : Input} {output : Output} {stream :
         → Ends wanted start (record { input = f .input; marks = marks; output = output; stream = stream; ending = ending })
     came-over z {ending} e = by (inputFailed (f .input)) refl
       where
-        same : Came wanted start (f .input) marks output stream
+        same : PassCame wanted start (f .input) marks output stream
         same = record {
           bytes = g .bytes;
           came = g .came;
@@ -224,7 +224,7 @@ module _ {wanted : Bool} {start input marks : Input} {output : Output} {stream :
             less (length (g .bytes)) (length (g .bytes ++ piece)) (f .length) (reception-capacity (g .reception)) (reception-capacity received)
             (length-append (g .bytes) piece ∙ ap (λ (n : ℕ). length (g .bytes) + n) piece-length) some (received .few)
 
-        pub came-more : {o : Output} → HandsOn output wanted (take count exit) o → outputFailed o ≡ false → Came wanted start (f .input) (m .input) o next
+        pub came-more : {o : Output} → HandsOn output wanted (take count exit) o → outputFailed o ≡ false → PassCame wanted start (f .input) (m .input) o next
         came-more {o} w u = record {
           bytes = g .bytes ++ piece;
           came = g .came ++ new;

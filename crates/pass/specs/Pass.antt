@@ -47,7 +47,7 @@ endingOf failed = pick failed Failed Whole
 
 -- All these bytes were read, and these marks: one for each byte, unless their input is over; where none came it is 0, and so it is of every byte where
 -- that input was over from the start. This is what they come to, and the packets were written where they are wanted.
-pub record Came (wanted : Bool) (start input marks : Input) (output : Output) (stream : ReceiverStream) : Type 0 where
+pub record PassCame (wanted : Bool) (start input marks : Input) (output : Output) (stream : ReceiverStream) : Type 0 where
   pub bytes : List ℕ
   pub came : List ℕ
   pub packets : List ℕ
@@ -68,7 +68,7 @@ pub record BadMark (marks : Input) (block : ℕ) : Type 0 where
   pub block-is : block ≡ firstAbove came / 204
 
 pub data Ends (wanted : Bool) (start : Input) (r : Pass) : Type 0 where
-  whole : r .ending ≡ Whole → Came wanted start (r .input) (r .marks) (r .output) (r .stream) → (inputEnded (r .input) ≡ true) ⊎ (capacityOf (r .stream) ≡ 0) → Ends wanted start r
+  whole : r .ending ≡ Whole → PassCame wanted start (r .input) (r .marks) (r .output) (r .stream) → (inputEnded (r .input) ≡ true) ⊎ (capacityOf (r .stream) ≡ 0) → Ends wanted start r
   input-failed : r .ending ≡ Failed → inputFailed (r .input) ≡ true → Ends wanted start r
   marks-failed : r .ending ≡ Failed → inputFailed (r .marks) ≡ true → (inputEnded start ≡ true → ⊥) → Ends wanted start r
   output-failed : r .ending ≡ Failed → outputFailed (r .output) ≡ true → wanted ≡ true → Ends wanted start r

@@ -15,14 +15,14 @@ use Rattle.program_io.specs.declared.input.Input.{Input}
 use Rattle.program_io.specs.declared.output.Output.{Output}
 use Rattle.receiver_stream.specs.Feed.{capacityOf}
 use Rattle.receiver_stream.specs.History.{Reception, ReceiverCame}
-use Rattle.pass.specs.Pass.{Came, Passes, whole, input-failed, marks-failed, output-failed, refused}
+use Rattle.pass.specs.Pass.{PassCame, Passes, whole, input-failed, marks-failed, output-failed, refused}
 use Rattle.pass.specs.Pass as pass
 use Rattle.pass.specs.declared.Ending.{Ending}
 use Rattle.pass.specs.declared.Ending.the-variants.{Whole, Failed, Refused}
 use Rattle.pass.specs.declared.Pass.{Pass}
 use Rattle.pass_report.specs.Ends as own
 use Rattle.pass_report.specs.Ends.{isWhole, Prints, printed, lost, Ends}
-use Rattle.pass_report.specs.declared.Ended.{Ended}
+use Rattle.pass_report.specs.declared.PassEnded.{PassEnded}
 
 ended-over : (i : Input) → inputEnded i ≡ true → inputOver i ≡ true
 ended-over i e = by (inputFailed i) refl
@@ -37,10 +37,10 @@ all-whole Failed h = absurd (true≢false (sym h))
 all-whole (Refused b) h = absurd (true≢false (sym h))
 
 module _ {start input : Input} {output : Output} {p : Pass} (k : Passes input start output false p) (i : StandardInput input) (n : NoInput start) (o : FreshOutput (pos 1) output) where
-  pub whole-came : p .ending ≡ Whole → Came false start (p .input) (p .marks) (p .output) (p .stream) × ((inputEnded (p .input) ≡ true) ⊎ (capacityOf (p .stream) ≡ 0))
+  pub whole-came : p .ending ≡ Whole → PassCame false start (p .input) (p .marks) (p .output) (p .stream) × ((inputEnded (p .input) ≡ true) ⊎ (capacityOf (p .stream) ≡ 0))
   whole-came w = by (k .ends)
     where
-      by : pass.Ends false start p → Came false start (p .input) (p .marks) (p .output) (p .stream) × ((inputEnded (p .input) ≡ true) ⊎ (capacityOf (p .stream) ≡ 0))
+      by : pass.Ends false start p → PassCame false start (p .input) (p .marks) (p .output) (p .stream) × ((inputEnded (p .input) ≡ true) ⊎ (capacityOf (p .stream) ≡ 0))
       by (whole e g x) = (g, x)
       by (input-failed e f) = let z : _≡_ {A = ℕ} 0 1 = cc in absurd (omega arith)
       by (marks-failed e f q) = let z : _≡_ {A = ℕ} 0 1 = cc in absurd (omega arith)
@@ -54,7 +54,7 @@ module _ {start input : Input} {output : Output} {p : Pass} (k : Passes input st
   file = ap originFile (k .input-origin) ∙ i .file
 
   -- all was read
-  pub ends-printed : p .ending ≡ Whole → {r : Ended} → Prints (p .stream) (p .input) r → Ends r
+  pub ends-printed : p .ending ≡ Whole → {r : PassEnded} → Prints (p .stream) (p .input) r → Ends r
   ends-printed w {r} (printed s e f u c t) =
       let g = whole-came w .0 in
       record {

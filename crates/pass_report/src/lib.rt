@@ -18,7 +18,7 @@ use program_io::Word;
 use receiver_stream::ReceiverStream;
 
 // How it ended, with the files as it left them.
-pub struct Ended {
+pub struct PassEnded {
     pub status: i32,
     pub input: Input,
     pub output: Output,
@@ -36,14 +36,14 @@ fn is_whole(ending: Ending) -> bool
 }
 
 // Prints the report, and closes the output.
-fn print(stream: ReceiverStream, input: Input, output: Output) -> Ended
+fn print(stream: ReceiverStream, input: Input, output: Output) -> PassEnded
     requires { ⌜ (ReceiverCame stream) × (FreshOutput (pos 1) output) ⌝ }
     ensures { λ r. ⌜ Prints stream input r ⌝ }
 {
     let output = pass::write_report(stream, output);
     let output = output.close(b"standard output");
     let status = if output.failed() { 1 } else { 0 };
-    Ended {
+    PassEnded {
         status,
         input,
         output,
@@ -51,7 +51,7 @@ fn print(stream: ReceiverStream, input: Input, output: Output) -> Ended
 }
 
 // The pass on standard input. No packet is written.
-fn run() -> Ended
+fn run() -> PassEnded
     ensures { λ r. ⌜ Ends r ⌝ }
 {
     let input = Input::standard();
@@ -75,7 +75,7 @@ fn run() -> Ended
     if is_whole(ending) {
         return print(stream, input, output);
     }
-    Ended {
+    PassEnded {
         status: 1,
         input,
         output,

@@ -4,3 +4,4 @@ mod Texts
 mod Reading
 mod Writing
 mod Giving
+pub mod Answering

@@ -5,11 +5,13 @@ use mathlib.Core.Bool.{true, false}
 use mathlib.Core.List.{List, [], _∷_, _++_}
 use Prim.Native.Nat.{ℕ}
 use lib.Dec.{eqb}
-use lib.IntN.{pos}
+use lib.IntN.{pos, ℤ}
 use Rattle.common.specs.Choice.{pick}
 use Rattle.program_io.specs.Checksum.{noBytes, traced}
 use Rattle.program_io.specs.Files.{outputFile, outputTrace, outputFailed, outputClosed, NoInput, OpenedInput}
-use Rattle.program_io.specs.Words.{sameBytes}
+use Rattle.program_io.specs.Words.{sameBytes, argumentCount, wordArgument, wordBytes}
+use Rattle.program_io.specs.declared.words.Arguments.{Arguments}
+use Rattle.program_io.specs.declared.words.Word.{Word}
 use Rattle.program_io.specs.declared.input.Input.{Input}
 use Rattle.program_io.specs.declared.output.Output.{Output}
 use Rattle.program_io.specs.declared.calls.Asked.{Asked}
@@ -55,6 +57,11 @@ pub data Answers (asked : Asked) (name usage : List ℕ) (r : Answered) : Type 0
   help-given : asked ≡ Help → Gives usage r → Answers asked name usage r
   version-given : asked ≡ Version → Gives (versionText name) r → Answers asked name usage r
   refused : asked ≡ Work → Refuses usage r → Answers asked name usage r
+
+-- The status of a program that answers so, by the number of its arguments and the first of them, where `Wrong` says which calls for its work are wrong.
+pub data AnswersCall (name usage : List ℕ) (Wrong : Arguments → Word → Type 0) (status : ℤ) : Type 0 where
+  told : (a : Arguments) (w : Word) (r : Answered) → wordArgument w ≡ 1 → (askedOf (argumentCount a) (wordBytes w) ≡ Work → Wrong a w)
+      → Answers (askedOf (argumentCount a) (wordBytes w)) name usage r → status ≡ r .status → AnswersCall name usage Wrong status
 
 -- the file that the first argument names, from its start, before it is read; or none, where there is no argument
 pub data NamedInput (count : ℕ) (i : Input) : Type 0 where

@@ -6,12 +6,12 @@ use Rattle.common.specs.Choice.{pick}
 use Rattle.program_io.specs.Words.{sameBytes}
 
 -- a word, in ASCII, and the mode that it names
-pub record Row : Type 0 where
+pub record WordRow : Type 0 where
   pub word : List ℕ
   pub mode : ℕ
 
 -- 0, 1/2; 1, 2/3; 2, 3/4; 3, 5/6; 4, 7/8; 5
-abbrev pub rows : List Row
+abbrev pub rows : List WordRow
 rows =
     record { word = 0x30 ∷ []; mode = 0 }
     ∷ record { word = 0x31 ∷ 0x2F ∷ 0x32 ∷ []; mode = 0 }
@@ -27,7 +27,7 @@ rows =
     ∷ []
 
 -- the mode of the row that has this word, or 6, which is none
-abbrev pub namedIn : List Row → List ℕ → ℕ
+abbrev pub namedIn : List WordRow → List ℕ → ℕ
 namedIn [] word = 6
 namedIn (r ∷ rs) word = pick (sameBytes word (r .word)) (r .mode) (namedIn rs word)
 

@@ -10,7 +10,7 @@ use lib.ListN.{length, take}
 use lib.Dec.{ltb}
 use Rattle.common.specs.Lists.{All, largest}
 use Rattle.branch_metrics.specs.Cost.{softly, receivedOf}
-use Rattle.branch_metrics.specs.declared.soft_decision.Received.{Received}
+use Rattle.branch_metrics.specs.declared.soft_decision.ReceivedSymbol.{ReceivedSymbol}
 use Rattle.branch_metrics.proofs.Runs.{length-received}
 use Rattle.reader.specs.Cost.{differing, runCost, costsOf, Costed}
 use Rattle.reader.specs.Read.{runBits, valid, sound, answerNumber, Readable, BestRead, AnswersRun, ReadsHard, ReadsSoft, read}
@@ -90,7 +90,7 @@ module _ (rate memory : ℕ) (is qs : List Float) (lost output : List ℕ) where
     pub one-length : soft.OneLength is qs lost
     one-length = soft.sound-lists is qs lost (p .lists-pass)
 
-    abbrev rs : List Received
+    abbrev rs : List ReceivedSymbol
     rs = receivedOf is qs lost
 
     size : length rs ≡ length is

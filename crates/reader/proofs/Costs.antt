@@ -22,13 +22,14 @@ use Rattle.inner_code.specs.Encode.{coderAt}
 use Rattle.reader.specs.Cost.{totalCost, runCost, symbolCost, costsOf, Costed}
 use Rattle.viterbi_decoder.proofs.Order.{bits-head}
 use Rattle.convolutional_code.proofs.Bits.{bits-tail}
+use Rattle.puncturing.specs.Mode.{qpskCount}
 use Rattle.puncturing.proofs.Parts.{none-held}
 use Rattle.reader.proofs.Serial.{put, flat, holding, stream, stream-symbols, stream-bits}
 use Rattle.reader.proofs.Patterns.{at-start, coder-whole}
 
 -- ---- the places
 
-none-holding : (r h : ℕ) → r < 5 → holding r 0 h ≡ []
+none-holding : (r h : ℕ) → r < qpskCount → holding r 0 h ≡ []
 unfolding holding
 none-holding r h l = rw (none-held r l)
 
@@ -37,7 +38,7 @@ bits-front [] b w = none
 bits-front (x ∷ a) b (more h w) = more h (bits-front a b w)
 
 -- the I and Q bits of the symbols of whole patterns are the stream
-whole-stream : (rate m : ℕ) {bits : List ℕ} → rate < 5 → m < 64 → Bits bits → length bits % patternLength rate ≡ 0
+whole-stream : (rate m : ℕ) {bits : List ℕ} → rate < qpskCount → m < 64 → Bits bits → length bits % patternLength rate ≡ 0
     → stream rate 0 m bits ≡ flat (symbolsOf (coderAt rate m) bits)
 whole-stream rate m {bits} hr hm w e =
     let c : InnerCoder = coderAt rate m in
@@ -47,14 +48,14 @@ whole-stream rate m {bits} hr hm w e =
     ∙ (stream-symbols c (at-start rate m hr hm) hr w ∙ (ap (λ (l : List ℕ). flat (symbolsOf c bits) ++ l) q ∙ append-nil (flat (symbolsOf c bits))))
 
 -- I and Q of every symbol are bits, also behind the last whole pattern
-pub sent-bits : (rate m : ℕ) {bits : List ℕ} → rate < 5 → m < 64 → Bits bits → Bits (flat (symbolsOf (coderAt rate m) bits))
+pub sent-bits : (rate m : ℕ) {bits : List ℕ} → rate < qpskCount → m < 64 → Bits bits → Bits (flat (symbolsOf (coderAt rate m) bits))
 sent-bits rate m {bits} hr hm w =
     let c : InnerCoder = coderAt rate m in
     bits-front (flat (symbolsOf c bits)) (holding rate (coderAfter c bits .place) (coderAfter c bits .held))
     (subst Bits (sym (ap (λ (l : List ℕ). l ++ stream rate 0 m bits) (none-holding rate 0 hr)) ∙ stream-symbols c (at-start rate m hr hm) hr w) (stream-bits rate 0 m bits))
 
 -- so each symbol is one of four
-pub sent-small : (rate m : ℕ) {bits : List ℕ} → rate < 5 → m < 64 → Bits bits → All (λ s. s < 4) (symbolsOf (coderAt rate m) bits)
+pub sent-small : (rate m : ℕ) {bits : List ℕ} → rate < qpskCount → m < 64 → Bits bits → All (λ s. s < 4) (symbolsOf (coderAt rate m) bits)
 sent-small rate m {bits} hr hm w = small (symbolsOf (coderAt rate m) bits) (sent-bits rate m hr hm w)
   where
     four : (s : ℕ) → s / 2 < 2 → s < 4
@@ -117,7 +118,7 @@ bridge rate c k m (b ∷ bs) =
     ∙ ap (λ (t : ℕ). puncturedCosts rate c k m b + t) (bridge rate c (suc k) (nextMemory m b) bs))
 
 -- what a run costs, by the coder's definition, is the sum of the steps of the trellis
-pub run-is : (costs : List (ℕ → ℕ)) (c : ℕ → ℕ → ℕ) → Splits costs c 0 → (rate m : ℕ) {bits : List ℕ} → rate < 5 → m < 64 → Bits bits
+pub run-is : (costs : List (ℕ → ℕ)) (c : ℕ → ℕ → ℕ) → Splits costs c 0 → (rate m : ℕ) {bits : List ℕ} → rate < qpskCount → m < 64 → Bits bits
     → length bits % patternLength rate ≡ 0 → length (symbolsOf (coderAt rate m) bits) ≡ length costs
     → runCost costs rate m bits ≡ costFrom (puncturedCosts rate c) 0 m bits
 unfolding first
@@ -160,7 +161,7 @@ total-lifted (f ∷ fs) (g ∷ gs) extra (s ∷ ss) a b w h =
     )
 
 -- what the list makes a sequence cost is what the symbols do, and what the list costs more
-pub costs-lifted : {R : Type 0} (cost : R → ℕ → ℕ) (rs : List R) (l : List ℕ) (c : Costed cost rs l) (rate m : ℕ) → rate < 5 → m < 64 → (bits : List ℕ) → Bits bits
+pub costs-lifted : {R : Type 0} (cost : R → ℕ → ℕ) (rs : List R) (l : List ℕ) (c : Costed cost rs l) (rate m : ℕ) → rate < qpskCount → m < 64 → (bits : List ℕ) → Bits bits
     → length (symbolsOf (coderAt rate m) bits) ≡ length rs → runCost (costsOf l) rate m bits ≡ runCost (map cost rs) rate m bits + excess (c .extra) (length rs)
 unfolding costsOf
 costs-lifted cost rs l c rate m hr hm bits w n =

@@ -10,6 +10,7 @@ use Rattle.convolutional_code.specs.Code.{tapsX, tapsY, coded}
 use Rattle.convolutional_code.specs.Costs.{costFrom}
 use Rattle.viterbi_decoder.proofs.Ends.{SomeDecoded, some-decoded}
 use Rattle.viterbi_decoder.proofs.Laws.{decoded-same}
+use Rattle.puncturing.specs.Mode.{qpskCount}
 use Rattle.puncturing.specs.Step.{patternLength}
 use Rattle.branch_metrics.specs.Steps.{kindCost, kindAt, first, puncturedCosts}
 use Rattle.reader.specs.Cost.{runCost}
@@ -18,7 +19,7 @@ use Rattle.reader.proofs.Patterns.{run-whole, run-symbols}
 use Rattle.reader.proofs.Costs.{Splits, run-is}
 
 -- each received symbol costs what its I and its Q do, where `c j v` is what deciding place j as v costs
-module _ (costs : List (ℕ → ℕ)) (c : ℕ → ℕ → ℕ) (splits : Splits costs c 0) (rate m : ℕ) (hr : rate < 5) (hm : m < 64) (k : ℕ) (size : k ≡ length costs)
+module _ (costs : List (ℕ → ℕ)) (c : ℕ → ℕ → ℕ) (splits : Splits costs c 0) (rate m : ℕ) (hr : rate < qpskCount) (hm : m < 64) (k : ℕ) (size : k ≡ length costs)
     (whole : k % symbolsPerPattern rate ≡ 0) where
   pub steps-cost : (ys : List ℕ) → Bits ys → length ys ≡ runBits rate k → costFrom (puncturedCosts rate c) 0 m ys ≡ runCost costs rate m ys
   steps-cost ys v l =

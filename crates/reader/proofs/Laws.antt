@@ -19,6 +19,7 @@ use Rattle.common.proofs.Choice.{unequal-le}
 use Rattle.convolutional_code.specs.Bits.{Bits}
 use Rattle.viterbi_decoder.proofs.Ends.{SomeDecoded}
 use Rattle.viterbi_decoder.proofs.Laws.{decoded-unique}
+use Rattle.puncturing.specs.Mode.{qpskCount}
 use Rattle.puncturing.specs.Step.{patternLength}
 use Rattle.inner_code.specs.Step.{symbolsOf, coderAfter}
 use Rattle.inner_code.proofs.Coder.{coder-memory}
@@ -114,7 +115,7 @@ pub record ReadBack (rate m : ℕ) (bits output : List ℕ) (number after cost c
   pub written : left ≡ bits ++ drop (length bits) output
 
 -- Demand 2, run by run: whole patterns of bits that a coder sends from the given memory, at most 1,632 and with room enough, are given back.
-pub unharmed : (rate m : ℕ) → rate < 5 → m < 64 → (bits : List ℕ) → Bits bits → length bits % patternLength rate ≡ 0 → length bits ≤ 1632
+pub unharmed : (rate m : ℕ) → rate < qpskCount → m < 64 → (bits : List ℕ) → Bits bits → length bits % patternLength rate ≡ 0 → length bits ≤ 1632
     → (symbols : List ℕ) → symbols ≡ symbolsOf (coderAt rate m) bits → (output : List ℕ) → length bits ≤ length output
     → {number after cost count : ℕ} {left : List ℕ} → ReadsHard rate m symbols output number after cost count left
     → ReadBack rate m bits output number after cost count left
@@ -183,7 +184,7 @@ triangle (r ∷ rs) (x ∷ xs) (y ∷ ys) h l =
 
 -- Where the coding of the bits that were sent differs from what came in fewer places than half the distance to the coding of every other sequence of the
 -- run, those bits are read.
-pub half-distance : (rate m : ℕ) → rate < 5 → m < 64 → (symbols : List ℕ) → length symbols % symbolsPerPattern rate ≡ 0
+pub half-distance : (rate m : ℕ) → rate < qpskCount → m < 64 → (symbols : List ℕ) → length symbols % symbolsPerPattern rate ≡ 0
     → {output : List ℕ} {after total count : ℕ} {left : List ℕ} → (o : BestRead (hardCost symbols rate m) (runLength rate symbols) m output after total count left)
     → (sent : List ℕ) → Bits sent → length sent ≡ runLength rate symbols
     → ((other : List ℕ) → Bits other → length other ≡ runLength rate symbols → (other ≡ sent → ⊥)

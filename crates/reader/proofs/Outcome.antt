@@ -16,6 +16,7 @@ use Rattle.common.specs.Lists.{All, largest}
 use Rattle.common.proofs.Choice.{flag-false, flag-true}
 use Rattle.common.proofs.Lists.{All-of}
 use Rattle.common.proofs.Largest.{largest-least}
+use Rattle.puncturing.specs.Mode.{qpskCount}
 use Rattle.reader.specs.Read.{symbolsPerPattern, runBits, answerNumber, Readable, AnswersRun, refused}
 use Rattle.reader.specs.declared.Read.{Read}
 use Rattle.reader.proofs.Patterns.{some-symbols, symbols-few}
@@ -36,7 +37,7 @@ pub not-false : (t : Bool) → not t ≡ false → t ≡ true
 not-false t e = flag-true (λ (b : Bool). t ≡ b) t e refl
 
 -- where both numbers of the rate and the memory are in range, and the lists have passed
-module _ (rate memory n : ℕ) (valid : Bool) (space : ℕ) (hr : rate < 5) (hm : memory < 64) (bits pattern : ℕ) (eb : bits ≡ patternLength rate)
+module _ (rate memory n : ℕ) (valid : Bool) (space : ℕ) (hr : rate < qpskCount) (hm : memory < 64) (bits pattern : ℕ) (eb : bits ≡ patternLength rate)
     (ep : pattern ≡ symbolsPerPattern rate) where
   pub bits-some : 0 < bits
   bits-some = rw eb (some-bits rate hr)
@@ -45,7 +46,7 @@ module _ (rate memory n : ℕ) (valid : Bool) (space : ℕ) (hr : rate < 5) (hm 
   pattern-some = rw ep (some-symbols rate hr)
 
   pub broken : ¬ (n % pattern ≡ 0) → 12 ≡ answerNumber rate memory true n valid space
-  broken h = simp (lt-ltb rate 5 hr, lt-ltb memory 64 hm, ne-eqb (n % symbolsPerPattern rate) 0 (rw ep at h))
+  broken h = simp (lt-ltb rate qpskCount hr, lt-ltb memory 64 hm, ne-eqb (n % symbolsPerPattern rate) 0 (rw ep at h))
 
   module _ (whole : n % pattern ≡ 0) where
     abbrev q : ℕ
@@ -64,7 +65,7 @@ module _ (rate memory n : ℕ) (valid : Bool) (space : ℕ) (hr : rate < 5) (hm 
     long h =
         let l : 1632 < q * bits = div-lt-iff-lt-mul bits-some .0 h in
         let g : 1632 < runBits rate n = rw (sym size) (omega arith) in
-        simp (lt-ltb rate 5 hr, lt-ltb memory 64 hm, whole-test, lt-ltb 1632 (runBits rate n) g)
+        simp (lt-ltb rate qpskCount hr, lt-ltb memory 64 hm, whole-test, lt-ltb 1632 (runBits rate n) g)
 
     module _ (short : q ≤ 1632 / bits) where
       pub count-le : bits * q ≤ 1632
@@ -74,13 +75,13 @@ module _ (rate memory n : ℕ) (valid : Bool) (space : ℕ) (hr : rate < 5) (hm 
       short-test = le-ltb 1632 (runBits rate n) (rw (sym size) count-le)
 
       pub bad-symbol : valid ≡ false → 14 ≡ answerNumber rate memory true n valid space
-      bad-symbol v = simp (lt-ltb rate 5 hr, lt-ltb memory 64 hm, whole-test, short-test, v)
+      bad-symbol v = simp (lt-ltb rate qpskCount hr, lt-ltb memory 64 hm, whole-test, short-test, v)
 
       pub too-short : valid ≡ true → space < bits * q → 4 ≡ answerNumber rate memory true n valid space
-      too-short v h = simp (lt-ltb rate 5 hr, lt-ltb memory 64 hm, whole-test, short-test, v, lt-ltb space (runBits rate n) (rw (sym size) h))
+      too-short v h = simp (lt-ltb rate qpskCount hr, lt-ltb memory 64 hm, whole-test, short-test, v, lt-ltb space (runBits rate n) (rw (sym size) h))
 
       pub space-enough : valid ≡ true → bits * q ≤ space → 0 ≡ answerNumber rate memory true n valid space
-      space-enough v h = simp (lt-ltb rate 5 hr, lt-ltb memory 64 hm, whole-test, short-test, v, le-ltb space (runBits rate n) (rw (sym size) h))
+      space-enough v h = simp (lt-ltb rate qpskCount hr, lt-ltb memory 64 hm, whole-test, short-test, v, le-ltb space (runBits rate n) (rw (sym size) h))
 
 -- ---- what the answer tells
 
@@ -94,7 +95,7 @@ no-then false x k h e = (refl, e)
 
 -- a run that is answered 0 has passed every test
 pub record Passed (rate memory : ℕ) (lists : Bool) (n : ℕ) (valid : Bool) (space : ℕ) : Type 0 where
-  pub known : rate < 5
+  pub known : rate < qpskCount
   pub in-range : memory < 64
   pub lists-pass : lists ≡ true
   pub whole : n % symbolsPerPattern rate ≡ 0
@@ -104,7 +105,7 @@ pub record Passed (rate memory : ℕ) (lists : Bool) (n : ℕ) (valid : Bool) (s
 
 pub passed : (rate memory : ℕ) (lists : Bool) (n : ℕ) (valid : Bool) (space : ℕ) → answerNumber rate memory lists n valid space ≡ 0 → Passed rate memory lists n valid space
 passed rate memory lists n valid space e =
-    let a = no-else (ltb rate 5) _ 6 (omega arith) e in
+    let a = no-else (ltb rate qpskCount) _ 6 (omega arith) e in
     let b = no-else (ltb memory 64) _ 5 (omega arith) (a .1) in
     let l = no-else lists _ 24 (omega arith) (b .1) in
     let c = no-else (eqb (n % symbolsPerPattern rate) 0) _ 12 (omega arith) (l .1) in
@@ -124,7 +125,7 @@ passed rate memory lists n valid space e =
 -- and is so answered
 pub passes : {rate memory : ℕ} {lists : Bool} {n : ℕ} {valid : Bool} {space : ℕ} → Passed rate memory lists n valid space → answerNumber rate memory lists n valid space ≡ 0
 passes {rate} {memory} {lists} {n} {valid} {space} p =
-    simp (lt-ltb rate 5 (p .known), lt-ltb memory 64 (p .in-range), p .lists-pass, eq-eqb _ _ (p .whole), le-ltb 1632 (runBits rate n) (p .most), p .symbols-pass, le-ltb space (runBits rate n) (p .fits))
+    simp (lt-ltb rate qpskCount (p .known), lt-ltb memory 64 (p .in-range), p .lists-pass, eq-eqb _ _ (p .whole), le-ltb 1632 (runBits rate n) (p .most), p .symbols-pass, le-ltb space (runBits rate n) (p .fits))
 
 -- the decisions on such a run can be read
 pub readable : {rate memory : ℕ} {lists : Bool} {n : ℕ} {valid : Bool} {output : List ℕ} → Passed rate memory lists n valid (length output)

@@ -10,7 +10,7 @@ use lib.ListN.{length}
 use Rattle.common.proofs.Computed as computed
 use Rattle.convolutional_code.specs.Bits.{Bits}
 use Rattle.convolutional_code.specs.Code.{memoryAfter}
-use Rattle.puncturing.specs.Mode.{modeOf}
+use Rattle.puncturing.specs.Mode.{modeOf, qpskCount}
 use Rattle.puncturing.specs.Step.{patternLength, heldCount, symbolsIn}
 use Rattle.puncturing.proofs.Steps.{some-bits}
 use Rattle.puncturing.proofs.Parts.{place-after, none-held, whole-count}
@@ -21,17 +21,17 @@ use Rattle.branch_metrics.specs.Steps.{kind, first}
 use Rattle.inner_code.specs.Encode.{coderAt}
 use Rattle.reader.specs.Read.{symbolsPerPattern, runBits, runLength}
 
-pub at-start : (rate m : ℕ) → rate < 5 → m < 64 → CoderInRange (coderAt rate m)
+pub at-start : (rate m : ℕ) → rate < qpskCount → m < 64 → CoderInRange (coderAt rate m)
 at-start rate m hr hm = record { memory = hm; place = some-bits rate hr; held = omega arith }
 
 -- a pattern has symbols, and no more than bits
-pub some-symbols : (rate : ℕ) → rate < 5 → 0 < symbolsPerPattern rate
+pub some-symbols : (rate : ℕ) → rate < qpskCount → 0 < symbolsPerPattern rate
 unfolding symbolsPerPattern modeOf
-some-symbols rate h = ltb→lt _ _ (computed.below-at (λ r. ltb 0 (symbolsPerPattern r)) 5 tt rate h)
+some-symbols rate h = ltb→lt _ _ (computed.below-at (λ r. ltb 0 (symbolsPerPattern r)) qpskCount tt rate h)
 
-symbols-le : (rate : ℕ) → rate < 5 → symbolsPerPattern rate ≤ patternLength rate
+symbols-le : (rate : ℕ) → rate < qpskCount → symbolsPerPattern rate ≤ patternLength rate
 unfolding symbolsPerPattern modeOf
-symbols-le rate h = leb→le _ _ (computed.below-at (λ r. leb (symbolsPerPattern r) (patternLength r)) 5 tt rate h)
+symbols-le rate h = leb→le _ _ (computed.below-at (λ r. leb (symbolsPerPattern r) (patternLength r)) qpskCount tt rate h)
 
 -- the bits of a run, from the numbers of the rate
 pub run-count : (rate n : ℕ) {s b : ℕ} → s ≡ symbolsPerPattern rate → b ≡ patternLength rate → b * (n / s) ≡ runBits rate n
@@ -47,11 +47,11 @@ first-shift rate q (suc j) =
     let e : (p * q + j) % p ≡ j % p = mul-add-mod-self-left p q j in
     rw (add-suc, e) (omega (arith, first-shift rate q j))
 
-first-pattern : (rate : ℕ) → rate < 5 → first rate (patternLength rate) ≡ 2 * symbolsPerPattern rate
+first-pattern : (rate : ℕ) → rate < qpskCount → first rate (patternLength rate) ≡ 2 * symbolsPerPattern rate
 unfolding first kind symbolsPerPattern modeOf flatten
-first-pattern rate h = computed.agree-at (λ r. first r (patternLength r)) (λ r. 2 * symbolsPerPattern r) 5 tt rate h
+first-pattern rate h = computed.agree-at (λ r. first r (patternLength r)) (λ r. 2 * symbolsPerPattern r) qpskCount tt rate h
 
-first-whole : (rate : ℕ) → rate < 5 → (q : ℕ) → first rate (patternLength rate * q) ≡ 2 * (symbolsPerPattern rate * q)
+first-whole : (rate : ℕ) → rate < qpskCount → (q : ℕ) → first rate (patternLength rate * q) ≡ 2 * (symbolsPerPattern rate * q)
 unfolding first
 first-whole rate hr zero = rw (mul-zero (patternLength rate), mul-zero (symbolsPerPattern rate)) refl
 first-whole rate hr (suc q) =
@@ -61,7 +61,7 @@ first-whole rate hr (suc q) =
 -- ---- the coder
 
 -- the coder after whole patterns stands at the start of one, with the memory of the bits
-pub coder-whole : (rate m : ℕ) {bits : List ℕ} → rate < 5 → m < 64 → Bits bits → length bits % patternLength rate ≡ 0
+pub coder-whole : (rate m : ℕ) {bits : List ℕ} → rate < qpskCount → m < 64 → Bits bits → length bits % patternLength rate ≡ 0
     → coderAfter (coderAt rate m) bits ≡ coderAt rate (memoryAfter m bits)
 coder-whole rate m {bits} hr hm w e =
     let c : InnerCoder = coderAt rate m in
@@ -72,11 +72,11 @@ coder-whole rate m {bits} hr hm w e =
     let q : coderAfter c bits .held ≡ 0 = omega arith in
     λ i. record { rate = coder-rate c bits i; memory = coder-memory c bits i; place = p i; held = q i }
 
-pub memory-in-range : (rate m : ℕ) {bits : List ℕ} → rate < 5 → m < 64 → Bits bits → memoryAfter m bits < 64
+pub memory-in-range : (rate m : ℕ) {bits : List ℕ} → rate < qpskCount → m < 64 → Bits bits → memoryAfter m bits < 64
 memory-in-range rate m {bits} hr hm w = rw (← coder-memory (coderAt rate m) bits) (coder-in-range (coderAt rate m) (at-start rate m hr hm) w .memory)
 
 -- so many symbols as k are
-module _ (rate : ℕ) (hr : rate < 5) (k : ℕ) where
+module _ (rate : ℕ) (hr : rate < qpskCount) (k : ℕ) where
   abbrev n : ℕ
   n = runBits rate k
 
@@ -104,7 +104,7 @@ module _ (rate : ℕ) (hr : rate < 5) (k : ℕ) where
     coded-bits = first-whole rate hr (k / symbolsPerPattern rate) ∙ ap (λ (j : ℕ). 2 * j) patterns
 
 -- the symbols of whole patterns of bits are whole patterns, of as many bits
-pub sent-whole : (rate m : ℕ) → rate < 5 → m < 64 → (bits : List ℕ) → Bits bits → length bits % patternLength rate ≡ 0 → (ss : List ℕ) → ss ≡ symbolsOf (coderAt rate m) bits
+pub sent-whole : (rate m : ℕ) → rate < qpskCount → m < 64 → (bits : List ℕ) → Bits bits → length bits % patternLength rate ≡ 0 → (ss : List ℕ) → ss ≡ symbolsOf (coderAt rate m) bits
     → (length ss % symbolsPerPattern rate ≡ 0) × (length bits ≡ runLength rate ss)
 unfolding symbolsPerPattern
 sent-whole rate m hr hm bits w e ss es =

@@ -12,6 +12,7 @@ use Rattle.common.proofs.Lists.{All-at, All-of, length-listOf}
 use Rattle.convolutional_code.specs.Costs.{costFrom, stepCosts, Pairs}
 use Rattle.viterbi_decoder.specs.Best.{Decoded}
 use Rattle.viterbi_decoder.proofs.Laws.{decoded-lifted}
+use Rattle.puncturing.specs.Mode.{qpskCount}
 use Rattle.branch_metrics.specs.Steps.{first, runStep}
 use Rattle.branch_metrics.proofs.Facts.{steps-small}
 use Rattle.reader.specs.Cost.{runCost, symbolCost, costsOf, Costed}
@@ -74,7 +75,7 @@ module _ {rate m : ℕ} {l output : List ℕ} (g : Readable rate m l output) (n 
 -- ---- what the decisions are those on
 
 -- what is decoded of the decisions on symbols is decoded of the symbols, at a cost that is less by what the decisions cost more; and so is what is read
-module _ {R : Type 0} (cost : R → ℕ → ℕ) (rs : List R) (l : List ℕ) (c : Costed cost rs l) (rate m : ℕ) (hr : rate < 5) (hm : m < 64)
+module _ {R : Type 0} (cost : R → ℕ → ℕ) (rs : List R) (l : List ℕ) (c : Costed cost rs l) (rate m : ℕ) (hr : rate < qpskCount) (hm : m < 64)
     (whole : length rs % symbolsPerPattern rate ≡ 0) where
   abbrev k : ℕ
   k = length rs

@@ -9,7 +9,7 @@ use Rattle.common.specs.Choice.{pick}
 use Rattle.convolutional_code.specs.Bits.{Bits, none, more}
 use Rattle.convolutional_code.specs.Code.{tapsX, tapsY, nextMemory, coded}
 use Rattle.convolutional_code.proofs.Bits.{bits-append, coded-lt}
-use Rattle.puncturing.specs.Mode.{modeOf}
+use Rattle.puncturing.specs.Mode.{modeOf, qpskCount}
 use Rattle.puncturing.specs.Step.{nextPlace, heldCount, symbolList, punctured, heldAfter, puncturedBy, heldBy, heldCountBy}
 use Rattle.branch_metrics.specs.Steps.{kind}
 use Rattle.puncturing.proofs.Places.{end, _&_, Everywhere, everywhere}
@@ -68,7 +68,7 @@ put-bits (suc (suc zero)) h l = more h none
 put-bits (suc (suc (suc q))) h l = more h (more l none)
 
 -- at a QPSK rate what is held, and the coded bits, are I and Q of the symbols, and what is held then
-pub stream-symbols : (c : InnerCoder) {bits : List ℕ} → CoderInRange c → c .rate < 5 → Bits bits
+pub stream-symbols : (c : InnerCoder) {bits : List ℕ} → CoderInRange c → c .rate < qpskCount → Bits bits
     → holding (c .rate) (c .place) (c .held) ++ stream (c .rate) (c .place) (c .memory) bits
     ≡ flat (symbolsOf c bits) ++ holding (c .rate) (coderAfter c bits .place) (coderAfter c bits .held)
 unfolding stream symbolsBy coderBy

@@ -17,10 +17,11 @@ use Rattle.common.proofs.Choice.{both-true}
 use Rattle.common.proofs.Lists.{getD-map-in}
 use Rattle.convolutional_code.specs.Costs.{pairCost}
 use Rattle.viterbi_decoder.proofs.Ends.{SomeDecoded}
+use Rattle.puncturing.specs.Mode.{qpskCount}
 use Rattle.branch_metrics.specs.Cost.{BitCosts, SymbolCosts, symbolCosts, decidedAs, softly, receivedOf}
 use Rattle.branch_metrics.specs.SoftPairs.{symbolPair, symbolAt}
-use Rattle.branch_metrics.specs.declared.soft_decision.Received.{Received}
-use Rattle.branch_metrics.specs.declared.soft_decision.Received.the-variants.{At, Lost}
+use Rattle.branch_metrics.specs.declared.soft_decision.ReceivedSymbol.{ReceivedSymbol}
+use Rattle.branch_metrics.specs.declared.soft_decision.ReceivedSymbol.the-variants.{At, Lost}
 use Rattle.branch_metrics.proofs.Numbers.{number-small, symbol-is}
 use Rattle.branch_metrics.proofs.Runs.{length-received, received-at, along-small}
 use Rattle.reader.specs.Cost.{softCost, Costed}
@@ -48,10 +49,10 @@ half zero c = c .i
 half (suc n) c = c .q
 
 -- what deciding place j as v costs: the places of symbol k are 2 k, its I, and 2 k + 1, its Q
-abbrev pub soft : List Received → ℕ → ℕ → ℕ
+abbrev pub soft : List ReceivedSymbol → ℕ → ℕ → ℕ
 soft rs j v = decidedAs (half (j % 2) (symbolCosts (getD rs (j / 2) Lost))) v
 
-soft-splits : (rs : List Received) → Splits (map softly rs) (soft rs) 0
+soft-splits : (rs : List ReceivedSymbol) → Splits (map softly rs) (soft rs) 0
 soft-splits rs = record {
   at = λ i s h four.
       let a : (0 + 2 * i) / 2 ≡ i = omega arith in
@@ -61,7 +62,7 @@ soft-splits rs = record {
       rw (a, b, c, d) (ap (λ (f : ℕ → ℕ). f s) (getD-map-in softly rs Lost (λ s. 0) i (rw length-map at h)));
 }
 
-pub decided-small : (r : Received) (n : ℕ) (t : Bool) → pick t (half n (symbolCosts r) .zero) (half n (symbolCosts r) .one) ≤ 7
+pub decided-small : (r : ReceivedSymbol) (n : ℕ) (t : Bool) → pick t (half n (symbolCosts r) .zero) (half n (symbolCosts r) .one) ≤ 7
 unfolding symbolCosts
 decided-small (At p) zero true = number-small (p .i) .zero-le
 decided-small (At p) zero false = number-small (p .i) .one-le
@@ -72,11 +73,11 @@ decided-small Lost zero false = omega arith
 decided-small Lost (suc n) true = omega arith
 decided-small Lost (suc n) false = omega arith
 
-soft-small : (rs : List Received) (j v : ℕ) → soft rs j v ≤ 7
+soft-small : (rs : List ReceivedSymbol) (j v : ℕ) → soft rs j v ≤ 7
 soft-small rs j v = decided-small (getD rs (j / 2) Lost) (j % 2) (eqb v 0)
 
 -- there is a best sequence
-pub soft-decoded : (rate m : ℕ) → rate < 5 → m < 64 → (is qs : List Float) (lost : List ℕ) → OneLength is qs lost → length is % symbolsPerPattern rate ≡ 0
+pub soft-decoded : (rate m : ℕ) → rate < qpskCount → m < 64 → (is qs : List Float) (lost : List ℕ) → OneLength is qs lost → length is % symbolsPerPattern rate ≡ 0
     → SomeDecoded (softCost (receivedOf is qs lost) rate m) (runBits rate (length is)) m
 soft-decoded rate m hr hm is qs lost o whole =
     let rs = receivedOf is qs lost in
@@ -85,7 +86,7 @@ soft-decoded rate m hr hm is qs lost o whole =
 -- ---- what is written
 
 -- symbols that are given by their places, and the decisions on them
-unfoldable pub along-costed : (f : ℕ → Received) (rs : List Received) (n : ℕ) → length rs ≡ n → ((i : ℕ) → i < n → getD rs i Lost ≡ f i)
+unfoldable pub along-costed : (f : ℕ → ReceivedSymbol) (rs : List ReceivedSymbol) (n : ℕ) → length rs ≡ n → ((i : ℕ) → i < n → getD rs i Lost ≡ f i)
     → (l : List ℕ) → n ≤ length l → ((t : ℕ) → t < n → getD l t 0 ≡ symbolPair (f t)) → Costed softly rs (take n l)
 along-costed f rs n size is l long w = record {
   size = length-take-le n l long ∙ sym size;
@@ -94,7 +95,7 @@ along-costed f rs n size is l long w = record {
       let b : i < n = omega (arith, size) in
       add-zero _
       ∙ ap (λ (g : ℕ → ℕ). g s) (getD-map-in softly rs Lost (λ s. 0) i h)
-      ∙ ap (λ (r : Received). softly r s) (is i b)
+      ∙ ap (λ (r : ReceivedSymbol). softly r s) (is i b)
       ∙ sym (symbol-is (f i) s)
       ∙ ap (λ (p : ℕ). pairCost p (s / 2) (s % 2)) (sym (getD-take n l i 0 b ∙ w i b));
 }

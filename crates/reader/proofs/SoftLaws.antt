@@ -19,12 +19,13 @@ use Rattle.convolutional_code.proofs.Bits.{bits-tail, zero-bits}
 use Rattle.viterbi_decoder.specs.Best.{ZeroAtLast, Best, Decoded}
 use Rattle.viterbi_decoder.proofs.Order.{bits-head}
 use Rattle.viterbi_decoder.proofs.Laws.{scale, unique, decoded-unique}
+use Rattle.puncturing.specs.Mode.{qpskCount}
 use Rattle.inner_code.specs.Step.{symbolsOf}
 use Rattle.inner_code.specs.Encode.{coderAt}
 use Rattle.branch_metrics.specs.Cost.{byLevel, numberCosts, symbolCosts, decidedAs, softly, receivedOf}
 use Rattle.branch_metrics.specs.declared.soft_decision.Point.{Point}
-use Rattle.branch_metrics.specs.declared.soft_decision.Received.{Received}
-use Rattle.branch_metrics.specs.declared.soft_decision.Received.the-variants.{At, Lost}
+use Rattle.branch_metrics.specs.declared.soft_decision.ReceivedSymbol.{ReceivedSymbol}
+use Rattle.branch_metrics.specs.declared.soft_decision.ReceivedSymbol.the-variants.{At, Lost}
 use Rattle.branch_metrics.proofs.Numbers.{costs-nan, costs-one, costs-minus-one}
 use Rattle.reader.specs.Clear as clear
 use Rattle.reader.specs.Clear.{Clear, AllClear}
@@ -40,7 +41,7 @@ use Rattle.reader.proofs.Laws.{all-valid, total-le}
 -- ---- what a run can cost
 
 -- at most 14 for each symbol
-pub soft-most : (rate m : ℕ) (rs : List Received) {n : ℕ} {output : List ℕ} {after total count : ℕ} {left : List ℕ}
+pub soft-most : (rate m : ℕ) (rs : List ReceivedSymbol) {n : ℕ} {output : List ℕ} {after total count : ℕ} {left : List ℕ}
     → BestRead (softCost rs rate m) n m output after total count left → total ≤ 14 * length rs
 soft-most rate m rs o =
     omega (
@@ -61,7 +62,7 @@ unfolding symbolCosts
 lost-free sent = ap₂ (λ (x y : ℕ). x + y) (nothing (eqb (sent / 2) 0)) (nothing (eqb (sent % 2) 0))
 
 -- at either of its places, as a place does that was punctured
-pub lost-places : (rs : List Received) (i : ℕ) → getD rs i Lost ≡ Lost → (v : ℕ) → (soft rs (2 * i) v ≡ 0) × (soft rs (2 * i + 1) v ≡ 0)
+pub lost-places : (rs : List ReceivedSymbol) (i : ℕ) → getD rs i Lost ≡ Lost → (v : ℕ) → (soft rs (2 * i) v ≡ 0) × (soft rs (2 * i + 1) v ≡ 0)
 unfolding symbolCosts
 lost-places rs i e v =
     let a : 2 * i / 2 ≡ i = omega arith in
@@ -71,7 +72,7 @@ lost-places rs i e v =
     (rw (a, b, e) (nothing (eqb v 0)), rw (c, d, e) (nothing (eqb v 0)))
 
 -- so every sequence costs what it would if that symbol had not been sent
-pub lost-unsent : (before after : List Received) (xs ys : List ℕ) (sent : ℕ) → length before ≡ length xs
+pub lost-unsent : (before after : List ReceivedSymbol) (xs ys : List ℕ) (sent : ℕ) → length before ≡ length xs
     → totalCost (map softly (before ++ Lost ∷ after)) (xs ++ sent ∷ ys) ≡ totalCost (map softly (before ++ after)) (xs ++ ys)
 unfolding totalCost
 lost-unsent [] after [] ys sent e = omega (arith, lost-free sent)
@@ -226,7 +227,7 @@ module _ (rate m : ℕ) (rs output : List ℕ) (h : All (λ r. r < 4) rs) where
   same-number = rw (lists-pass, all-valid rs h, size) refl
 
   -- every sequence costs seven times as much
-  seven-times : m < 64 → rate < 5 → (ys : List ℕ) → Bits ys → length ys ≡ runLength rate rs
+  seven-times : m < 64 → rate < qpskCount → (ys : List ℕ) → Bits ys → length ys ≡ runLength rate rs
       → softCost (receivedOf (signalsI rs) (signalsQ rs) (noneLost rs)) rate m ys ≡ 7 * hardCost rs rate m ys
   seven-times hm hr ys w l =
       seven-total rs (symbolsOf (coderAt rate m) ys) h (sent-bits rate m hr hm w)

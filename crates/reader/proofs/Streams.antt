@@ -11,6 +11,7 @@ use lib.Seq.{take-at, drop-at, take-add, length-take-le}
 use Rattle.common.specs.Lists.{All}
 use Rattle.convolutional_code.specs.Bits.{Bits, none, more}
 use Rattle.convolutional_code.specs.Code.{memoryAfter}
+use Rattle.puncturing.specs.Mode.{qpskCount}
 use Rattle.puncturing.specs.Step.{patternLength, symbolsIn}
 use Rattle.puncturing.proofs.Steps.{some-bits}
 use Rattle.puncturing.proofs.Parts.{symbols-in-append, place-after, whole-count, part-count}
@@ -43,7 +44,7 @@ memory-append m (x ∷ a) b = memory-append _ a b
 
 -- ---- how many symbols bits give
 
-module _ (rate : ℕ) (hr : rate < 5) where
+module _ (rate : ℕ) (hr : rate < qpskCount) where
   abbrev p : ℕ
   p = patternLength rate
 

@@ -20,7 +20,7 @@ use Rattle.convolutional_code.proofs.Bits.{bits-tail}
 use Rattle.viterbi_decoder.proofs.Ends.{SomeDecoded}
 use Rattle.viterbi_decoder.proofs.Laws.{Apart, free, best-same}
 use Rattle.viterbi_decoder.proofs.Order.{bits-head}
-use Rattle.puncturing.specs.Mode.{modeOf}
+use Rattle.puncturing.specs.Mode.{modeOf, qpskCount}
 use Rattle.puncturing.specs.Step.{patternLength}
 use Rattle.puncturing.proofs.Places.{tested-at}
 use Rattle.puncturing.proofs.Steps.{some-bits}
@@ -37,7 +37,7 @@ use Rattle.reader.proofs.Existence.{steps-cost, some-best}
 
 -- ---- hard costs
 
-abbrev hard : List ℕ → ℕ → ℕ → ℕ
+abbrev pub hard : List ℕ → ℕ → ℕ → ℕ
 hard ss j v = unequal (getD (flat ss) j 0) v
 
 flat-i : (ss : List ℕ) (i : ℕ) → getD (flat ss) (2 * i) 0 ≡ getD ss i 0 / 2
@@ -54,7 +54,7 @@ flat-q (s ∷ ss) (suc i) = let e : 2 * suc i + 1 ≡ suc (suc (2 * i + 1)) = om
 pub differing-at : (ss : List ℕ) (i s : ℕ) → i < length (map differing ss) → getD (map differing ss) i (λ s. 0) s ≡ differing (getD ss i 0) s
 differing-at ss i s h = ap (λ (f : ℕ → ℕ). f s) (getD-map-in differing ss 0 (λ s. 0) i (rw length-map at h))
 
-hard-splits : (ss : List ℕ) → Splits (map differing ss) (hard ss) 0
+pub hard-splits : (ss : List ℕ) → Splits (map differing ss) (hard ss) 0
 hard-splits ss = record {
   at = λ i s h four.
       let a : 0 + 2 * i ≡ 2 * i = omega arith in
@@ -63,7 +63,7 @@ hard-splits ss = record {
 
 -- ---- each step tells its two bits apart
 
-differ-zero : (a b : ℕ) → unequal a b ≡ 0 → a ≡ b
+pub differ-zero : (a b : ℕ) → unequal a b ≡ 0 → a ≡ b
 differ-zero a b h = go (eqb a b) refl h
   where
     go : (t : Bool) → eqb a b ≡ t → pick {A = ℕ} t 0 1 ≡ 0 → a ≡ b
@@ -93,11 +93,11 @@ kind-apart ss (suc (suc (suc t))) j m b c h hb hc p q =
     let v : hard ss j (coded tapsX m c) ≡ 0 = omega arith in
     x-apart m b c (getD (flat ss) j 0) hb hc u v
 
-sends : (rate k : ℕ) → rate < 5 → 0 < kindAt rate k
+sends : (rate k : ℕ) → rate < qpskCount → 0 < kindAt rate k
 unfolding kind modeOf flatten
 sends rate k h = ltb→lt 0 (kindAt rate k) (tested-at (λ r p. ltb 0 (kind r p)) tt rate (k % patternLength rate) h (mod-lt k (some-bits rate h)))
 
-apart : (ss : List ℕ) (rate : ℕ) → rate < 5 → Apart (puncturedCosts rate (hard ss))
+apart : (ss : List ℕ) (rate : ℕ) → rate < qpskCount → Apart (puncturedCosts rate (hard ss))
 unfolding puncturedCosts
 apart ss rate h k s b c hb hc p q = kind-apart ss (kindAt rate k) (first rate k) s b c (sends rate k h) hb hc p q
 
@@ -106,7 +106,7 @@ apart ss rate h k s b c hb hc p q = kind-apart ss (kindAt rate k) (first rate k)
 differ-le : (a b : ℕ) → unequal a b ≤ 7
 differ-le a b = omega (arith, unequal-le a b)
 
-module _ (rate m : ℕ) (hr : rate < 5) (hm : m < 64) (ss : List ℕ) (whole : length ss % symbolsPerPattern rate ≡ 0) where
+module _ (rate m : ℕ) (hr : rate < qpskCount) (hm : m < 64) (ss : List ℕ) (whole : length ss % symbolsPerPattern rate ≡ 0) where
   abbrev n : ℕ
   n = runLength rate ss
 
@@ -135,7 +135,7 @@ same-free [] = refl
 same-free (s ∷ ss) = omega (arith, differ-same (s / 2), differ-same (s % 2), same-free ss)
 
 -- so a sequence is the best one of its own coding
-pub own-best : (rate m : ℕ) → rate < 5 → m < 64 → {bits : List ℕ} → Bits bits → length bits % patternLength rate ≡ 0 → (ss : List ℕ) → ss ≡ symbolsOf (coderAt rate m) bits
+pub own-best : (rate m : ℕ) → rate < qpskCount → m < 64 → {bits : List ℕ} → Bits bits → length bits % patternLength rate ≡ 0 → (ss : List ℕ) → ss ≡ symbolsOf (coderAt rate m) bits
     → {best : List ℕ} {total after : ℕ} → Decoded (hardCost ss rate m) (runLength rate ss) m best total after
     → (best ≡ bits) × (total ≡ 0) × (after ≡ memoryAfter m bits)
 own-best rate m hr hm {bits} w e ss es {best} d =
@@ -175,12 +175,12 @@ hard-clear [] = none
 hard-clear (s ∷ ss) = more (differing-clear s) (hard-clear ss)
 
 -- the symbols sent cost nothing, and only they
-clear-free : {R : Type 0} {cost : R → ℕ → ℕ} {rs : List R} {ss : List ℕ} → AllClear cost rs ss → totalCost (map cost rs) ss ≡ 0
+pub clear-free : {R : Type 0} {cost : R → ℕ → ℕ} {rs : List R} {ss : List ℕ} → AllClear cost rs ss → totalCost (map cost rs) ss ≡ 0
 unfolding totalCost
 clear-free none = refl
 clear-free (more c g) = omega (arith, c .free-sent, clear-free g)
 
-clear-only : {R : Type 0} {cost : R → ℕ → ℕ} {rs : List R} {ss : List ℕ} → AllClear cost rs ss → (xs : List ℕ) → length xs ≡ length ss → Bits (flat xs)
+pub clear-only : {R : Type 0} {cost : R → ℕ → ℕ} {rs : List R} {ss : List ℕ} → AllClear cost rs ss → (xs : List ℕ) → length xs ≡ length ss → Bits (flat xs)
     → totalCost (map cost rs) xs ≡ 0 → xs ≡ ss
 unfolding totalCost
 clear-only none [] l w z = refl
@@ -193,7 +193,7 @@ clear-only (more {s = s} {ss = ss} c g) (x ∷ xs) l w z =
     cc
 
 -- so a sequence is the best one where its coding was received clearly
-pub clear-best : {R : Type 0} (cost : R → ℕ → ℕ) (rate m : ℕ) → rate < 5 → m < 64 → {bits : List ℕ} → Bits bits → length bits % patternLength rate ≡ 0
+pub clear-best : {R : Type 0} (cost : R → ℕ → ℕ) (rate m : ℕ) → rate < qpskCount → m < 64 → {bits : List ℕ} → Bits bits → length bits % patternLength rate ≡ 0
     → (rs : List R) (ss : List ℕ) → ss ≡ symbolsOf (coderAt rate m) bits → AllClear cost rs ss
     → {best : List ℕ} {total after : ℕ} → Decoded (runCost (map cost rs) rate m) (runLength rate ss) m best total after
     → (best ≡ bits) × (total ≡ 0) × (after ≡ memoryAfter m bits)

@@ -9,6 +9,7 @@ use Rattle.convolutional_code.specs.Bits.{Bits}
 use Rattle.convolutional_code.specs.Costs.{costFrom, stepCosts, Pairs}
 use Rattle.viterbi_decoder.specs.Best.{Decoded}
 use Rattle.viterbi_decoder.proofs.Laws.{decoded-same}
+use Rattle.puncturing.specs.Mode.{qpskCount}
 use Rattle.puncturing.specs.Step.{patternLength}
 use Rattle.branch_metrics.specs.Steps.{puncturedCosts, codedCost, runStep}
 use Rattle.branch_metrics.proofs.Facts.{steps-are, cost-same}
@@ -17,7 +18,7 @@ use Rattle.inner_code.specs.Encode.{coderAt}
 use Rattle.reader.specs.Cost.{runCost}
 use Rattle.reader.proofs.Costs.{Splits, run-is}
 
-pub read : (costs : List (ℕ → ℕ)) (l steps : List ℕ) (rate m n : ℕ) → Splits costs (codedCost l) 0 → Pairs l → rate < 5 → m < 64 → n % patternLength rate ≡ 0
+pub read : (costs : List (ℕ → ℕ)) (l steps : List ℕ) (rate m n : ℕ) → Splits costs (codedCost l) 0 → Pairs l → rate < qpskCount → m < 64 → n % patternLength rate ≡ 0
     → ((ys : List ℕ) → Bits ys → length ys ≡ n → length (symbolsOf (coderAt rate m) ys) ≡ length costs)
     → ((t : ℕ) → t < n → getD steps t 0 ≡ runStep l rate t)
     → {bits : List ℕ} {total after : ℕ} → Decoded (costFrom (stepCosts steps) 0 m) n m bits total after → Decoded (runCost costs rate m) n m bits total after

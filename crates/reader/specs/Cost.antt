@@ -11,7 +11,7 @@ use Rattle.convolutional_code.specs.Costs.{pairCost}
 use Rattle.inner_code.specs.Encode.{coderAt}
 use Rattle.inner_code.specs.Step.{symbolsOf}
 use Rattle.branch_metrics.specs.Cost.{softly}
-use Rattle.branch_metrics.specs.declared.soft_decision.Received.{Received}
+use Rattle.branch_metrics.specs.declared.soft_decision.ReceivedSymbol.{ReceivedSymbol}
 
 -- in how many of I and Q a received symbol differs from one that is sent
 abbrev pub differing : ℕ → ℕ → ℕ
@@ -32,7 +32,7 @@ abbrev pub hardCost : List ℕ → ℕ → ℕ → List ℕ → ℕ
 hardCost received = runCost (map differing received)
 
 -- soft decisions: the sum of what the decisions on I and Q cost
-abbrev pub softCost : List Received → ℕ → ℕ → List ℕ → ℕ
+abbrev pub softCost : List ReceivedSymbol → ℕ → ℕ → List ℕ → ℕ
 softCost received = runCost (map softly received)
 
 -- what each symbol costs by a list that has the decisions on its I and Q as one number

@@ -13,7 +13,7 @@ use Rattle.common.specs.Choice.{pick}
 use Rattle.common.specs.Refusal.{unless, when, firstDue}
 use Rattle.common.specs.Lists.{All, largest}
 use Rattle.viterbi_decoder.specs.Best.{Decoded}
-use Rattle.puncturing.specs.Mode.{modeOf}
+use Rattle.puncturing.specs.Mode.{modeOf, qpskCount}
 use Rattle.puncturing.specs.Step.{patternLength}
 use Rattle.branch_metrics.specs.Cost.{receivedOf}
 use Rattle.reader.specs.Cost.{hardCost, softCost}
@@ -44,7 +44,7 @@ sound is qs lost = pick (eqb (length qs) (length is)) (pick (eqb (length lost) (
 abbrev pub answerNumber : ℕ → ℕ → Bool → ℕ → Bool → ℕ → ℕ
 answerNumber rate memory lists n symbols space =
     firstDue (
-    unless (ltb rate 5) 6
+    unless (ltb rate qpskCount) 6
     ∷ unless (ltb memory 64) 5
     ∷ unless lists 24
     ∷ unless (eqb (n % symbolsPerPattern rate) 0) 12
@@ -89,7 +89,7 @@ ReadsSoft rate memory is qs lost output =
 
 -- decisions, a pair as one number for each symbol, that can be read: whole patterns, no more than a run has, and room for their bits
 pub record Readable (rate memory : ℕ) (pairs output : List ℕ) : Type 0 where
-  pub known : rate < 5
+  pub known : rate < qpskCount
   pub in-range : memory < 64
   pub whole : length pairs % symbolsPerPattern rate ≡ 0
   pub most : runBits rate (length pairs) ≤ 1632

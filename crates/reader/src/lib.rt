@@ -4,24 +4,26 @@ ghost use Prim.Native.Nat.{ℕ, _<_, _≤_};
 ghost use lib.ListN.{length, getD};
 ghost use Rattle.answer.specs.Number.{numberOf};
 ghost use Rattle.common.specs.Lists.{All};
+ghost use Rattle.puncturing.specs.Mode.{qpskCount};
 ghost use Rattle.reader.specs.Cost.{runCost, costsOf};
 ghost use Rattle.reader.specs.Read.{symbolsPerPattern, runBits, sound, answerNumber, Readable, BestRead, ReadsHard, ReadsSoft};
 ghost use Rattle.reader.specs.Decisions.{hardPair};
 use answer::Answer;
 use branch_metrics::depuncturing::spread_pairs;
 use branch_metrics::soft_decision::soft_pairs;
+use code_tables::QPSK_MODES;
 use puncturing::pattern_length;
-use viterbi_decoder::Run;
+use viterbi_decoder::DecodedRun;
 use viterbi_decoder::decode;
 
 // The bits of the longest run.
 const LONGEST: usize = 1632;
 
 // The symbols of each rate's pattern.
-const SYMBOL_COUNTS: [u8; 5] = [1, 3, 2, 3, 4];
+const SYMBOL_COUNTS: [u8; QPSK_MODES] = [1, 3, 2, 3, 4];
 
 // What a call hands back: the answer, the coder's memory after the bits, what they cost, and how many bits were written. Where the answer is not 0,
-// the memory is the one given and both pairs are 0.
+// the memory is the one given and the cost and the count are 0.
 pub struct Read {
     pub answer: Answer,
     pub memory: u8,
@@ -30,7 +32,7 @@ pub struct Read {
 }
 
 pub fn symbol_count(rate: u8) -> u8
-    requires { ⌜ rate < 5 ⌝ }
+    requires { ⌜ rate < qpskCount ⌝ }
     ensures { λ r. ⌜ r ≡ symbolsPerPattern rate ⌝ }
 {
     SYMBOL_COUNTS[rate as usize]
@@ -61,7 +63,7 @@ fn answer_due(
 ) -> Answer
     ensures { λ r. ⌜ numberOf r ≡ answerNumber rate memory lists symbols valid space ⌝ }
 {
-    if rate >= 5 {
+    if rate as usize >= QPSK_MODES {
         return Answer::UnknownRate;
     }
     if memory >= 64 {
@@ -114,7 +116,7 @@ pub fn hard_pairs(symbols: &[u8], output: &mut [u8])
 }
 
 // Decodes a run from the decisions on its symbols, where count is how many bits it has.
-fn decode_pairs(rate: u8, memory: u8, pairs: &[u8], count: usize, output: &mut [u8]) -> Run
+fn decode_pairs(rate: u8, memory: u8, pairs: &[u8], count: usize, output: &mut [u8]) -> DecodedRun
     requires { ⌜ (Readable rate memory (now pairs) (now output)) × (count ≡ runBits rate (length (now pairs))) ⌝ }
     ensures { λ r. ⌜
         (BestRead (runCost (costsOf (now (pairs .entry))) rate memory) (runBits rate (length (now (pairs .entry)))) memory (now (output .entry)) (r .memory) (r .cost) count (now (output .exit)))

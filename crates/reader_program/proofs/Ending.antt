@@ -17,8 +17,8 @@ use Rattle.program_io.specs.declared.trace.Trace.{Trace}
 use Rattle.program_io.proofs.Traces.{traced-on}
 use Rattle.received_symbols.specs.Received.{costOf, symbolsIn}
 use Rattle.reader_program.specs.Lines.{refusalLine, closingLines, tooLong}
-use Rattle.reader_program.specs.Ends.{Untold, Going, Whole, Refused, Failed, errors-failed, refused, too-long}
-use Rattle.received_symbols.specs.declared.Pass.{Pass}
+use Rattle.reader_program.specs.Ends.{Untold, Going, Whole, SymbolRefused, Failed, errors-failed, refused, too-long}
+use Rattle.received_symbols.specs.declared.SymbolPass.{SymbolPass}
 use Rattle.program_io.specs.declared.calls.Ended.{Ended}
 
 -- a text that was told
@@ -26,14 +26,14 @@ pub told : {errors o : Output} (text : List ℕ) → Untold errors → Writes er
 told text n w u = w .whole u ∙ ap (λ (t : Trace). traced t text) (n .trace)
 
 module _ {soft : Bool} {rate : ℕ} {r : Ended} {errors : Output} (n : Untold errors) where
-  pub refusal-told : (place : ℕ) → Refused soft rate (r .input) (r .output) place → {text : List ℕ} → text ≡ refusalLine place → Writes errors text (r .errors) → Failed soft rate r
+  pub refusal-told : (place : ℕ) → SymbolRefused soft rate (r .input) (r .output) place → {text : List ℕ} → text ≡ refusalLine place → Writes errors text (r .errors) → Failed soft rate r
   refusal-told place f {text} e w = by (outputFailed (r .errors)) refl
     where
       by : (b : Bool) → outputFailed (r .errors) ≡ b → Failed soft rate r
       by true h = errors-failed h
       by false h = refused place f (told text n w h ∙ ap (traced noBytes) e)
 
-  pub stop-told : (p : Pass) (came : ℕ) → Going soft rate (r .input) (r .output) p came → 9223372036854775808 ≤ came → Writes errors tooLong (r .errors) → Failed soft rate r
+  pub stop-told : (p : SymbolPass) (came : ℕ) → Going soft rate (r .input) (r .output) p came → 9223372036854775808 ≤ came → Writes errors tooLong (r .errors) → Failed soft rate r
   stop-told p came g l w = by (outputFailed (r .errors)) refl
     where
       by : (b : Bool) → outputFailed (r .errors) ≡ b → Failed soft rate r
@@ -44,7 +44,7 @@ ended : (i : Input) → inputFailed i ≡ false → inputOver i ≡ true → inp
 ended i e h = ap (λ (t : Bool). pick t false (inputOver i)) e ∙ h
 
 -- the end of the input, with all that was left written, and told
-pub whole-run : {soft : Bool} {rate : ℕ} {input : Input} {output errors : Output} {p : Pass} {came : ℕ} → Going soft rate input output p came → Untold errors → inputOver input ≡ true
+pub whole-run : {soft : Bool} {rate : ℕ} {input : Input} {output errors : Output} {p : SymbolPass} {came : ℕ} → Going soft rate input output p came → Untold errors → inputOver input ≡ true
     → inputFailed input ≡ false → {lent exit : List ℕ} {f : Finished} → FinishesReader (p .stream) lent f exit → {w o e : Output} → Writes output (take (f .count) exit) w → Closes w o
     → outputFailed o ≡ false → {text : List ℕ} → text ≡ closingLines soft (f .rest) (f .bits) (p .held) → Writes errors text e → outputFailed e ≡ false
     → {r : Ended} → r .input ≡ input → r .output ≡ o → r .errors ≡ e → Whole soft rate r

@@ -15,8 +15,8 @@ use Rattle.program_io.specs.declared.input.Input.{Input}
 use Rattle.program_io.specs.declared.output.Output.{Output}
 use Rattle.program_io.proofs.Traces.{traced-on}
 use Rattle.received_symbols.specs.Pass.{TakesAll, BytesTaken}
-use Rattle.reader_program.specs.Ends.{Turns, Files, Untold, Going, Refused}
-use Rattle.received_symbols.specs.declared.Pass.{Pass}
+use Rattle.reader_program.specs.Ends.{Turns, Files, Untold, Going, SymbolRefused}
+use Rattle.received_symbols.specs.declared.SymbolPass.{SymbolPass}
 use Rattle.reader_program.specs.declared.Turn.{Turn}
 use Rattle.received_symbols.proofs.Pieces.{taken-none, taken-on, none-left}
 
@@ -46,7 +46,7 @@ module _ {input : Input} {output errors : Output} (f : Files input output errors
 
 -- ---- the first turn
 
-pub going-none : (soft : Bool) {rate : ℕ} {input : Input} {output : Output} {p : Pass} → StandardInput input → FreshOutput (pos 1) output → FreshReader rate (p .stream)
+pub going-none : (soft : Bool) {rate : ℕ} {input : Input} {output : Output} {p : SymbolPass} → StandardInput input → FreshOutput (pos 1) output → FreshReader rate (p .stream)
     → length (p .tail) ≡ 8 → p .held ≡ 0 → Going soft rate input output p 0
 going-none soft {p = p} i o f size e = record {
   bytes = [];
@@ -60,7 +60,7 @@ going-none soft {p = p} i o f size e = record {
 
 -- ---- one turn more
 
-module _ {soft : Bool} {rate : ℕ} {input : Input} {output : Output} {p : Pass} {came : ℕ} (g : Going soft rate input output p came) {lent exit : List ℕ} {t : Turn}
+module _ {soft : Bool} {rate : ℕ} {input : Input} {output : Output} {p : SymbolPass} {came : ℕ} (g : Going soft rate input output p came) {lent exit : List ℕ} {t : Turn}
     (u : Turns soft input p lent t exit) where
   read-more : inputTrace (t .input) ≡ traced noBytes (g .bytes ++ u .piece)
   read-more = traced-on (g .bytes) (u .piece) (g .read) (u .trace)
@@ -107,7 +107,7 @@ module _ {soft : Bool} {rate : ℕ} {input : Input} {output : Output} {p : Pass}
         }
 
     -- a byte is no symbol
-    pub going-refused : t .taken .stopped ≡ true → Refused soft rate (t .input) o (came + t .taken .taken)
+    pub going-refused : t .taken .stopped ≡ true → SymbolRefused soft rate (t .input) o (came + t .taken .taken)
     going-refused s =
         let k = u .takes .stops s in
         let n = t .taken .taken in

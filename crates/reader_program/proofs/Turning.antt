@@ -28,7 +28,7 @@ pub most-some : (soft : Bool) → 0 < mostOf soft
 most-some true = omega arith
 most-some false = omega arith
 
--- the costs of a piece, behind the bytes that are held, and the bytes that its bits fill
+-- the pairs of a piece, behind the bytes that are held, and the bytes that its bits fill
 pub room : (soft : Bool) (size held came : ℕ) {most : ℕ} → size ≡ held + came → held < width soft → came ≤ most → most ≡ mostOf soft
     → (size / width soft ≤ 32768) × (size / width soft + 1632 ≤ 34400)
 room true size held came e f c m = (omega arith, omega arith)

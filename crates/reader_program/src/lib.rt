@@ -6,9 +6,11 @@ ghost use mathlib.Core.Bool.{true};
 ghost use Prim.Native.Nat.{_+_, _≤_, _<_};
 ghost use lib.IntN.{pos};
 ghost use lib.ListN.{length};
+ghost use Rattle.puncturing.specs.Mode.{qpskCount};
 ghost use Rattle.program_io.specs.Files.{inputOver, StandardInput, FreshOutput};
 ghost use Rattle.program_io.specs.Words.{argumentCount, wordBytes};
-ghost use Rattle.reader_program.specs.Ends.{mostOf, ReadsBehind, Buffers, Turns, Files, Untold, Going, Refused, Ends, rateAsked, Exits};
+ghost use Rattle.reader_program.specs.Ends.{mostOf, ReadsBehind, Buffers, Turns, Files, Untold, Going, SymbolRefused, Ends, rateAsked, Exits};
+use code_tables::QPSK_MODES;
 use common::put;
 use program_io::Arguments;
 use program_io::Asked;
@@ -18,8 +20,8 @@ use program_io::Input;
 use program_io::Output;
 use program_io::Word;
 use reader_stream::ReaderStream;
-use received_symbols::Pass;
-use received_symbols::Taken;
+use received_symbols::SymbolPass;
+use received_symbols::SymbolsTaken;
 use received_symbols::take_bytes;
 
 mod lines;
@@ -28,7 +30,7 @@ mod lines;
 struct Turn {
     input: Input,
     length: usize,
-    taken: Taken,
+    taken: SymbolsTaken,
 }
 
 // The most bytes that can be counted.
@@ -58,13 +60,13 @@ fn read_behind(input: Input, held: &[u8], most: usize, buffer: &mut [u8]) -> Fil
 fn next_turn(
     soft: bool,
     input: Input,
-    pass: Pass,
+    pass: SymbolPass,
     buffer: &mut [u8],
-    costs: &mut [u8],
+    pairs: &mut [u8],
     bits: &mut [u8],
     output: &mut [u8],
 ) -> Turn
-    requires { ⌜ Buffers soft pass (now buffer) (now costs) (now bits) (now output) ⌝ }
+    requires { ⌜ Buffers soft pass (now buffer) (now pairs) (now bits) (now output) ⌝ }
     ensures { λ r. ⌜ Turns soft input pass (now (output .entry)) r (now (output .exit)) ⌝ }
 {
     let stream = pass.stream;
@@ -75,7 +77,7 @@ fn next_turn(
     let next = filled.input;
     let from = 8 - held;
     let end = 8 + length;
-    let taken = take_bytes(soft, stream, &buffer[from..end], costs, bits, output);
+    let taken = take_bytes(soft, stream, &buffer[from..end], pairs, bits, output);
     Turn {
         input: next,
         length,
@@ -91,7 +93,7 @@ fn finish(
     input: Input,
     output: Output,
     errors: Output,
-    pass: Pass,
+    pass: SymbolPass,
     came: u64,
     bits: &mut [u8],
     bytes: &mut [u8],
@@ -136,7 +138,7 @@ fn finish(
 
 // Tells the place of a byte that is no symbol. Nothing after it is read.
 fn refuse(soft: bool, rate: u8, input: Input, output: Output, errors: Output, place: u64) -> Ended
-    requires { ⌜ (Files input output errors) × (Refused soft rate input output place) × (Untold errors) ⌝ }
+    requires { ⌜ (Files input output errors) × (SymbolRefused soft rate input output place) × (Untold errors) ⌝ }
     ensures { λ r. ⌜ Ends soft rate r ⌝ }
 {
     let mut text = [0u8; 96];
@@ -157,7 +159,7 @@ fn stop(
     input: Input,
     output: Output,
     errors: Output,
-    pass: Pass,
+    pass: SymbolPass,
     came: u64,
 ) -> Ended
     requires { ⌜ (Files input output errors) × (Going soft rate input output pass came) × (Untold errors) × (9223372036854775808 ≤ came) ⌝ }
@@ -178,18 +180,18 @@ fn stop(
 // Turn after turn, until the input ends, a read or a write fails, a byte is no symbol, or more bytes came than can be counted. What a read brought is decided
 // and written before the next read.
 fn read_all(soft: bool, rate: u8, input: Input, output: Output, errors: Output) -> Ended
-    requires { ⌜ (rate < 5) × (StandardInput input) × (FreshOutput (pos 1) output) × (FreshOutput (pos 2) errors) ⌝ }
+    requires { ⌜ (rate < qpskCount) × (StandardInput input) × (FreshOutput (pos 1) output) × (FreshOutput (pos 2) errors) ⌝ }
     ensures { λ r. ⌜ Ends soft rate r ⌝ }
 {
     let mut buffer = [0u8; 262152];
-    let mut costs = [0u8; 32768];
+    let mut pairs = [0u8; 32768];
     let mut bits = [0u8; 1632];
     let mut bytes = [0u8; 8600];
     let mut input = input;
     let mut output = output;
     let stream = ReaderStream::new(rate);
     let tail = [0u8; 8];
-    let mut pass = Pass {
+    let mut pass = SymbolPass {
         stream,
         tail,
         held: 0,
@@ -201,7 +203,7 @@ fn read_all(soft: bool, rate: u8, input: Input, output: Output, errors: Output) 
             input,
             pass,
             &mut buffer,
-            &mut costs,
+            &mut pairs,
             &mut bits,
             &mut bytes,
         );
@@ -244,7 +246,7 @@ fn read_all(soft: bool, rate: u8, input: Input, output: Output, errors: Output) 
 
 // Reads standard input at a rate.
 fn run(soft: bool, rate: u8) -> Ended
-    requires { ⌜ rate < 5 ⌝ }
+    requires { ⌜ rate < qpskCount ⌝ }
     ensures { λ r. ⌜ Ends soft rate r ⌝ }
 {
     let input = Input::standard();
@@ -281,7 +283,7 @@ pub fn exit_status(soft: bool, name: &[u8], usage: &[u8]) -> i32
         }
         Asked::Work => {
             let rate = rate_asked(arguments, word);
-            if rate >= 5 {
+            if rate as usize >= QPSK_MODES {
                 let answered = program_io::wrong(usage);
                 return answered.status;
             }

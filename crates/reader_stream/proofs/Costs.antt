@@ -1,4 +1,4 @@
--- Lists that have the costs of symbols: parts of them, and one behind the other.
+-- Pairs that cost as symbols do: parts of them, and one behind the other.
 -- Assumes nothing.
 use mathlib.Core.Path.{_≡_, refl, sym, _∙_, ap}
 use mathlib.Core.Bool.{Bool}

@@ -1,4 +1,4 @@
--- Whatever pieces the costs of symbols came in, what is read of them is what is read of all of them at once; and the end.
+-- Whatever pieces the pairs of symbols came in, what is read of them is what is read of all of them at once; and the end.
 -- Assumes nothing.
 use mathlib.Core.Path.{_≡_, refl, sym, _∙_, ap, ap₂, subst}
 use mathlib.Core.List.{List, [], _++_, map, append-assoc}
@@ -12,6 +12,7 @@ use Rattle.common.proofs.Chunks.{length-rest, rest-few}
 use Rattle.convolutional_code.specs.Code.{memoryAfter}
 use Rattle.viterbi_decoder.specs.Best.{Decoded}
 use Rattle.viterbi_decoder.proofs.Laws.{decoded-unique}
+use Rattle.puncturing.specs.Mode.{qpskCount}
 use Rattle.reader.specs.Cost.{runCost, costsOf, Costed}
 use Rattle.reader.specs.Read.{symbolsPerPattern, runBits, BestRead}
 use Rattle.reader.proofs.Patterns.{memory-in-range}
@@ -19,9 +20,9 @@ use Rattle.reader.proofs.Costs.{excess}
 use Rattle.reader.proofs.Reading.{decoded-as, read-as}
 use Rattle.reader.proofs.Streams.{take-bits}
 use Rattle.bit_packing.specs.Packing.{packedBytes, carriedBits}
-use Rattle.reader_stream.specs.Runs.{fullSymbols, keptSymbols, keptBits, Decided, few, run, DecidedCosts, few-costs, run-costs, Ended, heldOf, Closes}
-use Rattle.reader_stream.specs.Stream.{heldCosts, heldBits, FinishesReader}
-use Rattle.reader_stream.specs.History.{ReaderFeedings, none, feeding, CostsRead, SymbolsRead, SymbolsEnded}
+use Rattle.reader_stream.specs.Runs.{fullSymbols, keptSymbols, keptBits, Decided, few, run, DecidedPairs, few-pairs, run-pairs, EndDecided, heldOf, ClosesRuns}
+use Rattle.reader_stream.specs.Stream.{heldPairs, heldBits, FinishesReader}
+use Rattle.reader_stream.specs.History.{ReaderFeedings, none, feeding, PairsRead, SymbolsRead, SymbolsEnded}
 use Rattle.reader_stream.specs.declared.ReaderStream.{ReaderStream}
 use Rattle.reader_stream.specs.declared.Finished.{Finished}
 use Rattle.bit_packing.proofs.Bytes.{packed-few}
@@ -29,61 +30,61 @@ use Rattle.bit_packing.proofs.Packing.{carried-length, packs-on}
 use Rattle.reader_stream.proofs.Costs.{costed-take, costed-drop}
 use Rattle.reader_stream.proofs.Runs.{numbers, held-length}
 
--- ---- costs
+-- ---- pairs
 
--- what is decided of some costs, and then of those left with more of them, is what is decided of all
-pub joined : {rate : ℕ} → rate < 5 → {m k last : ℕ} {a h h′ out out′ : List ℕ} → DecidedCosts rate m a out k h → (b : List ℕ)
-    → DecidedCosts rate k (h ++ b) out′ last h′ → DecidedCosts rate m (a ++ b) (out ++ out′) last h′
-joined hr (few-costs l) b d = d
-joined {rate} hr {m} {k} {last} {h′ = h′} {out′ = out′} (run-costs {costs = costs} {out = out} bits total after full e r) b d =
+-- what is decided of some pairs, and then of those left with more of them, is what is decided of all
+pub joined : {rate : ℕ} → rate < qpskCount → {m k last : ℕ} {a h h′ out out′ : List ℕ} → DecidedPairs rate m a out k h → (b : List ℕ)
+    → DecidedPairs rate k (h ++ b) out′ last h′ → DecidedPairs rate m (a ++ b) (out ++ out′) last h′
+joined hr (few-pairs l) b d = d
+joined {rate} hr {m} {k} {last} {h′ = h′} {out′ = out′} (run-pairs {pairs = pairs} {out = out} bits total after full e r) b d =
     let n = numbers rate hr in
-    let f : fullSymbols rate ≤ length (costs ++ b) = omega (arith, length-append costs b) in
-    subst (λ (l : List ℕ). DecidedCosts rate m (costs ++ b) l last h′) (sym (append-assoc (take (keptBits rate) bits) out out′))
-    (run-costs bits total after f (rw (take-append-le (fullSymbols rate) costs b full) e)
-    (rw (drop-append-le (keptSymbols rate) costs b (omega (arith, n .kept-fewer))) (joined hr r b d)))
+    let f : fullSymbols rate ≤ length (pairs ++ b) = omega (arith, length-append pairs b) in
+    subst (λ (l : List ℕ). DecidedPairs rate m (pairs ++ b) l last h′) (sym (append-assoc (take (keptBits rate) bits) out out′))
+    (run-pairs bits total after f (rw (take-append-le (fullSymbols rate) pairs b full) e)
+    (rw (drop-append-le (keptSymbols rate) pairs b (omega (arith, n .kept-fewer))) (joined hr r b d)))
 
 -- one result
-decided-unique : {rate m last last′ : ℕ} {costs left left′ out out′ : List ℕ} → DecidedCosts rate m costs out last left → DecidedCosts rate m costs out′ last′ left′
+decided-unique : {rate m last last′ : ℕ} {pairs left left′ out out′ : List ℕ} → DecidedPairs rate m pairs out last left → DecidedPairs rate m pairs out′ last′ left′
     → (out ≡ out′) × (last ≡ last′) × (left ≡ left′)
-decided-unique (few-costs l) (few-costs l′) = (refl, refl, refl)
-decided-unique (few-costs l) (run-costs bits total after full d r) = absurd (omega arith)
-decided-unique (run-costs bits total after full d r) (few-costs l) = absurd (omega arith)
-decided-unique {rate} {m} {last′ = last′} {costs} {left′ = left′} (run-costs bits total after full d r) (run-costs {out = rest} bits′ total′ after′ full′ d′ r′) =
-    let s = decoded-unique (runCost (costsOf (take (fullSymbols rate) costs)) rate m) (runBits rate (fullSymbols rate)) m d d′ in
+decided-unique (few-pairs l) (few-pairs l′) = (refl, refl, refl)
+decided-unique (few-pairs l) (run-pairs bits total after full d r) = absurd (omega arith)
+decided-unique (run-pairs bits total after full d r) (few-pairs l) = absurd (omega arith)
+decided-unique {rate} {m} {last′ = last′} {pairs} {left′ = left′} (run-pairs bits total after full d r) (run-pairs {out = rest} bits′ total′ after′ full′ d′ r′) =
+    let s = decoded-unique (runCost (costsOf (take (fullSymbols rate) pairs)) rate m) (runBits rate (fullSymbols rate)) m d d′ in
     let e : take (keptBits rate) bits′ ≡ take (keptBits rate) bits = ap (take (keptBits rate)) (sym (s .bits)) in
-    let i = decided-unique r (subst (λ (l : List ℕ). DecidedCosts rate (memoryAfter m l) (drop (keptSymbols rate) costs) rest last′ left′) e r′) in
+    let i = decided-unique r (subst (λ (l : List ℕ). DecidedPairs rate (memoryAfter m l) (drop (keptSymbols rate) pairs) rest last′ left′) e r′) in
     (ap₂ (λ (x y : List ℕ). x ++ y) (sym e) (i .0), i .1, i .2)
 
--- ---- the symbols that the costs are of
+-- ---- the symbols that the pairs are of
 
-record SymbolsDecided {R : Type 0} (cost : R → ℕ → ℕ) (rate m : ℕ) (rs : List R) (out : List ℕ) (last : ℕ) (costs : List ℕ) : Type 0 where
+record SymbolsDecided {R : Type 0} (cost : R → ℕ → ℕ) (rate m : ℕ) (rs : List R) (out : List ℕ) (last : ℕ) (pairs : List ℕ) : Type 0 where
   pub left : List R
   pub decided : Decided cost rate m rs out last left
-  pub held : Costed cost left costs
+  pub held : Costed cost left pairs
 
-symbols-decided : {R : Type 0} (cost : R → ℕ → ℕ) {rate m : ℕ} → rate < 5 → m < 64 → {costs out left : List ℕ} {last : ℕ} → DecidedCosts rate m costs out last left
-    → (rs : List R) → Costed cost rs costs → SymbolsDecided cost rate m rs out last left
-symbols-decided cost {rate} hr hm (few-costs l) rs c = record { left = rs; decided = few {rs = rs} (omega (arith, c .size)); held = c }
-symbols-decided {R} cost {rate} {m} hr hm {left = left} {last} (run-costs {costs = costs} {out = out} bits total after full d r) rs c =
+symbols-decided : {R : Type 0} (cost : R → ℕ → ℕ) {rate m : ℕ} → rate < qpskCount → m < 64 → {pairs out left : List ℕ} {last : ℕ} → DecidedPairs rate m pairs out last left
+    → (rs : List R) → Costed cost rs pairs → SymbolsDecided cost rate m rs out last left
+symbols-decided cost {rate} hr hm (few-pairs l) rs c = record { left = rs; decided = few {rs = rs} (omega (arith, c .size)); held = c }
+symbols-decided {R} cost {rate} {m} hr hm {left = left} {last} (run-pairs {pairs = pairs} {out = out} bits total after full d r) rs c =
     let n = numbers rate hr in
     let F = fullSymbols rate in
     let long : F ≤ length rs = omega (arith, c .size) in
-    let front : Costed cost (take F rs) (take F costs) = costed-take cost F c in
+    let front : Costed cost (take F rs) (take F pairs) = costed-take cost F c in
     let lr : length (take F rs) ≡ F = length-take-le F rs long in
-    let q : length (take F costs) ≡ F = front .size ∙ lr in
+    let q : length (take F pairs) ≡ F = front .size ∙ lr in
     let less : ℕ = total - excess (front .extra) (length (take F rs)) in
     let e : Decoded (runCost (map cost (take F rs)) rate m) (runBits rate F) m bits less after =
     subst (λ (k : ℕ). Decoded (runCost (map cost (take F rs)) rate m) (runBits rate k) m bits less after) lr
-    (decoded-as cost (take F rs) (take F costs) front rate m hr hm (ap (λ (k : ℕ). k % symbolsPerPattern rate) lr ∙ n .full-whole)
-    (subst (λ (k : ℕ). Decoded (runCost (costsOf (take F costs)) rate m) (runBits rate k) m bits total after) (sym q) d)) in
+    (decoded-as cost (take F rs) (take F pairs) front rate m hr hm (ap (λ (k : ℕ). k % symbolsPerPattern rate) lr ∙ n .full-whole)
+    (subst (λ (k : ℕ). Decoded (runCost (costsOf (take F pairs)) rate m) (runBits rate k) m bits total after) (sym q) d)) in
     let i = symbols-decided cost hr (memory-in-range rate m hr hm (take-bits (keptBits rate) (d .best .binary))) r (drop (keptSymbols rate) rs)
     (costed-drop cost (keptSymbols rate) c) in
     record { left = i .left; decided = run {rs = rs} bits less after long e (i .decided); held = i .held }
 
 -- ---- every history
 
--- Whatever pieces the costs came in, the bytes so far are those of the bits that overlapping runs decide of all of them.
-pub every-history : {rate : ℕ} {costs bytes : List ℕ} {s : ReaderStream} → ReaderFeedings rate costs bytes s → CostsRead rate costs bytes s
+-- Whatever pieces the pairs came in, the bytes so far are those of the bits that overlapping runs decide of all of them.
+pub every-history : {rate : ℕ} {pairs bytes : List ℕ} {s : ReaderStream} → ReaderFeedings rate pairs bytes s → PairsRead rate pairs bytes s
 unfolding carriedBits
 every-history {rate} {s = s} (none f) =
     let g = f .ready .runs-ready in
@@ -92,42 +93,42 @@ every-history {rate} {s = s} (none f) =
       ready = f .ready;
       rate-is = f .empty .rate-is;
       bits = [];
-      decided = rw (f .empty .memory-is, f .empty .held-is) (few-costs {costs = []} (rw (sym (f .empty .rate-is)) (omega (arith, n .kept-some, n .kept-fewer))));
+      decided = rw (f .empty .memory-is, f .empty .held-is) (few-pairs {pairs = []} (rw (sym (f .empty .rate-is)) (omega (arith, n .kept-some, n .kept-fewer))));
       bytes-are = sym (packed-few [] (omega arith));
       bits-left = ap (λ (k : ℕ). carriedBits (s .carry) k) (f .none-held) ∙ sym (rest-few 8 (omega arith) [] (omega arith));
     }
-every-history {rate} {s = next} (feeding {costs} {s = s} piece output exit count before f) =
+every-history {rate} {s = next} (feeding {pairs} {s = s} piece output exit count before f) =
     let b = every-history before in
     let p = packs-on (b .bits) (s .carry) (s .held) (b .bytes-are) (b .bits-left) (f .bits) (f .packed) in
-    let hr : rate < 5 = rw (sym (b .rate-is)) (b .ready .runs-ready .known) in
+    let hr : rate < qpskCount = rw (sym (b .rate-is)) (b .ready .runs-ready .known) in
     record {
       ready = f .ready;
       rate-is = f .rate-is ∙ b .rate-is;
       bits = b .bits ++ f .bits;
       decided =
           joined hr (b .decided) piece
-          (subst (λ (r : ℕ). DecidedCosts r (s .runs .memory) (heldCosts s ++ piece) (f .bits) (next .runs .memory) (heldCosts next)) (b .rate-is) (f .decided));
+          (subst (λ (r : ℕ). DecidedPairs r (s .runs .memory) (heldPairs s ++ piece) (f .bits) (next .runs .memory) (heldPairs next)) (b .rate-is) (f .decided));
       bytes-are = p .0;
       bits-left = p .1;
     }
 
 -- so any two ways of cutting them give the same bytes, and hold the same
-pub any-pieces : {rate : ℕ} {costs bytes bytes′ : List ℕ} {s s′ : ReaderStream} → ReaderFeedings rate costs bytes s → ReaderFeedings rate costs bytes′ s′
-    → (bytes ≡ bytes′) × (heldCosts s ≡ heldCosts s′) × (heldBits s ≡ heldBits s′)
+pub any-pieces : {rate : ℕ} {pairs bytes bytes′ : List ℕ} {s s′ : ReaderStream} → ReaderFeedings rate pairs bytes s → ReaderFeedings rate pairs bytes′ s′
+    → (bytes ≡ bytes′) × (heldPairs s ≡ heldPairs s′) × (heldBits s ≡ heldBits s′)
 any-pieces f f′ =
     let a = every-history f in
     let b = every-history f′ in
     let u = decided-unique (a .decided) (b .decided) in
     (a .bytes-are ∙ ap packedBytes (u .0) ∙ sym (b .bytes-are), u .2, a .bits-left ∙ ap (restOf 8) (u .0) ∙ sym (b .bits-left))
 
-module _ {R : Type 0} (cost : R → ℕ → ℕ) {rate : ℕ} {costs bytes : List ℕ} {s : ReaderStream} (feedings : ReaderFeedings rate costs bytes s) (rs : List R) (c : Costed cost rs costs) where
-  came : CostsRead rate costs bytes s
+module _ {R : Type 0} (cost : R → ℕ → ℕ) {rate : ℕ} {pairs bytes : List ℕ} {s : ReaderStream} (feedings : ReaderFeedings rate pairs bytes s) (rs : List R) (c : Costed cost rs pairs) where
+  came : PairsRead rate pairs bytes s
   came = every-history feedings
 
-  known : rate < 5
+  known : rate < qpskCount
   known = rw (sym (came .rate-is)) (came .ready .runs-ready .known)
 
-  -- the same of the symbols, of whatever kind, that the costs are of
+  -- the same of the symbols, of whatever kind, that the pairs are of
   pub every-symbol : SymbolsRead cost rate rs bytes s
   every-symbol =
       let d = symbols-decided cost known (omega arith) (came .decided) rs c in
@@ -143,8 +144,8 @@ module _ {R : Type 0} (cost : R → ℕ → ℕ) {rate : ℕ} {costs bytes : Lis
   -- ---- the end
 
   -- what is left of the symbols is read as far as it makes whole patterns
-  closed-end : (left : List R) → Costed cost left (heldCosts s) → {output exit : List ℕ} {count rest : ℕ} → Closes (s .runs) output count rest exit
-      → Ended cost (s .runs .rate) (s .runs .memory) left output count rest exit
+  closed-end : (left : List R) → Costed cost left (heldPairs s) → {output exit : List ℕ} {count rest : ℕ} → ClosesRuns (s .runs) output count rest exit
+      → EndDecided cost (s .runs .rate) (s .runs .memory) left output count rest exit
   closed-end left c {output} {exit} {count} {rest} e =
       let r = s .runs in
       let g = came .ready .runs-ready in
@@ -183,7 +184,7 @@ module _ {R : Type 0} (cost : R → ℕ → ℕ) {rate : ℕ} {costs bytes : Lis
               output = e .lent;
               exit = e .buffer;
               count = e .decided;
-              end = subst (λ (k : ℕ). Ended cost k (s .runs .memory) (h .left) (e .lent) (e .decided) (f .rest) (e .buffer)) (came .rate-is) (closed-end (h .left) (h .held) (e .closed));
+              end = subst (λ (k : ℕ). EndDecided cost k (s .runs .memory) (h .left) (e .lent) (e .decided) (f .rest) (e .buffer)) (came .rate-is) (closed-end (h .left) (h .held) (e .closed));
               bits-are = refl;
             };
         bytes-are = p .0;

@@ -1,5 +1,5 @@
 pub mod Costs
 pub mod Runs
-mod Feeding
+pub mod Feeding
 pub mod Histories
 pub mod Unharmed

@@ -17,11 +17,11 @@ use Rattle.common.proofs.Lists.{All-append}
 use Rattle.convolutional_code.proofs.Bits.{memory-snoc}
 use Rattle.convolutional_code.specs.Bits.{Bits}
 use Rattle.convolutional_code.specs.Code.{nextMemory, memoryAfter}
-use Rattle.puncturing.specs.Mode.{modeOf}
+use Rattle.puncturing.specs.Mode.{modeOf, qpskCount}
 use Rattle.puncturing.specs.Step.{patternLength}
 use Rattle.reader.specs.Cost.{runCost, costsOf}
 use Rattle.reader.specs.Read.{symbolsPerPattern, runBits, Readable, BestRead}
-use Rattle.reader_stream.specs.Runs.{runPatterns, keptPatterns, fullSymbols, keptSymbols, keptBits, heldOf, FullRead, RunsReady, FeedsSymbols, gathered, read, Closes}
+use Rattle.reader_stream.specs.Runs.{runPatterns, keptPatterns, fullSymbols, keptSymbols, keptBits, heldOf, FullRead, RunsReady, FeedsSymbols, gathered, read, ClosesRuns}
 
 -- ---- the memory after bits, one after the other
 
@@ -107,18 +107,18 @@ pub record Numbers (rate : ℕ) : Type 0 where
   pub full-most : fullSymbols rate ≤ 1632
   pub full-whole : fullSymbols rate % symbolsPerPattern rate ≡ 0
 
-pub numbers : (rate : ℕ) → rate < 5 → Numbers rate
+pub numbers : (rate : ℕ) → rate < qpskCount → Numbers rate
 unfolding fullSymbols keptSymbols keptBits runPatterns keptPatterns symbolsPerPattern modeOf
 numbers rate h = record {
-  kept-fewer = leb→le _ _ (computed.below-at (λ r. leb (keptSymbols r) (fullSymbols r)) 5 tt rate h);
-  kept-some = leb→le _ _ (computed.below-at (λ r. leb 1 (keptSymbols r)) 5 tt rate h);
-  bits-fewer = leb→le _ _ (computed.below-at (λ r. leb (keptBits r) 1632) 5 tt rate h);
-  bits-double = leb→le _ _ (computed.below-at (λ r. leb (keptBits r) (2 * keptSymbols r)) 5 tt rate h);
-  full-most = leb→le _ _ (computed.below-at (λ r. leb (fullSymbols r) 1632) 5 tt rate h);
-  full-whole = computed.agree-at (λ r. fullSymbols r % symbolsPerPattern r) (λ r. 0) 5 tt rate h;
+  kept-fewer = leb→le _ _ (computed.below-at (λ r. leb (keptSymbols r) (fullSymbols r)) qpskCount tt rate h);
+  kept-some = leb→le _ _ (computed.below-at (λ r. leb 1 (keptSymbols r)) qpskCount tt rate h);
+  bits-fewer = leb→le _ _ (computed.below-at (λ r. leb (keptBits r) 1632) qpskCount tt rate h);
+  bits-double = leb→le _ _ (computed.below-at (λ r. leb (keptBits r) (2 * keptSymbols r)) qpskCount tt rate h);
+  full-most = leb→le _ _ (computed.below-at (λ r. leb (fullSymbols r) 1632) qpskCount tt rate h);
+  full-whole = computed.agree-at (λ r. fullSymbols r % symbolsPerPattern r) (λ r. 0) qpskCount tt rate h;
 }
 
--- ---- lists of costs
+-- ---- lists of pairs
 
 pub all-take : (n : ℕ) (xs : List ℕ) → All (λ x. x < 81) xs → All (λ x. x < 81) (take n xs)
 all-take zero xs h = tt
@@ -130,7 +130,7 @@ all-drop zero xs h = h
 all-drop (suc n) [] h = tt
 all-drop (suc n) (x ∷ xs) h = all-drop n xs (h .1)
 
-drop-take : (n k : ℕ) (l : List ℕ) → drop n (take (n + k) l) ≡ take k (drop n l)
+pub drop-take : (n k : ℕ) (l : List ℕ) → drop n (take (n + k) l) ≡ take k (drop n l)
 drop-take zero k l = ap (λ (j : ℕ). take j l) (zero-add k)
 drop-take (suc n) k [] = ap (drop (suc n)) (take-nil (suc n + k)) ∙ sym (take-nil k)
 drop-take (suc n) k (x ∷ l) = ap (λ (j : ℕ). drop (suc n) (take j (x ∷ l))) (suc-add n k) ∙ drop-take n k l
@@ -144,15 +144,15 @@ short-run rate n most =
     let d : n / symbolsPerPattern rate ≤ 1632 / patternLength rate = div-le-of-le-mul (symbolsPerPattern rate) most in
     omega (arith, mul-le-mul-left (patternLength rate) d, mul-div-le 1632 (patternLength rate))
 
--- the costs of k symbols that make whole patterns, no more than a longest run, can be read
-short-readable : (rate m : ℕ) → rate < 5 → m < 64 → (l : List ℕ) (k : ℕ) → length l ≡ k → k % symbolsPerPattern rate ≡ 0 → k ≤ fullSymbols rate
+-- the pairs of k symbols that make whole patterns, no more than a longest run, can be read
+short-readable : (rate m : ℕ) → rate < qpskCount → m < 64 → (l : List ℕ) (k : ℕ) → length l ≡ k → k % symbolsPerPattern rate ≡ 0 → k ≤ fullSymbols rate
     → All (λ x. x < 81) l → (output : List ℕ) → 1632 ≤ length output → Readable rate m l output
 short-readable rate m hr hm l k size whole most small output long =
     let b : runBits rate (length l) ≤ 1632 = rw size (short-run rate k most) in
     record { known = hr; in-range = hm; whole = rw size whole; most = b; small = small; fits = omega (arith, b) }
 
 -- the bits of a longest run
-pub kept-le : (rate : ℕ) → rate < 5 → keptBits rate ≤ runBits rate (fullSymbols rate)
+pub kept-le : (rate : ℕ) → rate < qpskCount → keptBits rate ≤ runBits rate (fullSymbols rate)
 unfolding keptBits keptPatterns fullSymbols runPatterns
 kept-le rate hr = rw (mul-div-right (1632 / patternLength rate) (some-symbols rate hr)) (mul-le-mul-left (patternLength rate) less)
   where
@@ -160,7 +160,7 @@ kept-le rate hr = rw (mul-div-right (1632 / patternLength rate) (some-symbols ra
     less = omega arith
 
 -- a longest run: the bits that are kept stand at the front of the output
-module _ (rate m : ℕ) (hr : rate < 5) (hm : m < 64) (l output : List ℕ) (size : length l ≡ fullSymbols rate) where
+module _ (rate m : ℕ) (hr : rate < qpskCount) (hm : m < 64) (l output : List ℕ) (size : length l ≡ fullSymbols rate) where
   pub full-readable : All (λ x. x < 81) l → 1632 ≤ length output → Readable rate m l output
   full-readable small long =
       let n = numbers rate hr in
@@ -345,7 +345,7 @@ module _ (s : SymbolRuns) (g : RunsReady s) (k : ℕ) (e : k ≡ symbolsPerPatte
 
   pub closes : (output : List ℕ) {after total count : ℕ} {exit : List ℕ}
       → BestRead (runCost (costsOf (take end (s .held))) (s .rate) (s .memory)) (runBits (s .rate) (length (take end (s .held)))) (s .memory) output after total count exit
-      → Closes s output count (n % k) exit
+      → ClosesRuns s output count (n % k) exit
   closes output {after} {total} {count} {exit} o =
       let p = symbolsPerPattern (s .rate) in
       record {

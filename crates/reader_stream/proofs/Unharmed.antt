@@ -16,8 +16,9 @@ use Rattle.inner_code.specs.Step.{symbolsOf}
 use Rattle.inner_code.proofs.Coder.{length-symbols}
 use Rattle.inner_code.specs.Encode.{coderAt}
 use Rattle.viterbi_decoder.specs.Best.{Decoded}
+use Rattle.puncturing.specs.Mode.{qpskCount}
 use Rattle.branch_metrics.specs.Cost.{softly, receivedOf}
-use Rattle.branch_metrics.specs.declared.soft_decision.Received.{Received}
+use Rattle.branch_metrics.specs.declared.soft_decision.ReceivedSymbol.{ReceivedSymbol}
 use Rattle.reader.specs.Clear.{AllClear}
 use Rattle.reader.specs.Cost.{differing, runCost, Costed}
 use Rattle.reader.specs.Read.{symbolsPerPattern, runBits, runLength}
@@ -27,7 +28,7 @@ use Rattle.reader.proofs.Unharmed.{clear-length, clear-take, clear-drop, hard-c
 use Rattle.reader.proofs.SoftLaws.{signalsI, signalsQ, noneLost, signals-clear}
 use Rattle.reader.proofs.Streams.{take-bits, drop-bits, symbols-divided, rest-few, fits, front-is, back-is, memory-append}
 use Rattle.bit_packing.specs.Packing.{packedBytes}
-use Rattle.reader_stream.specs.Runs.{keptPatterns, fullSymbols, keptSymbols, keptBits, Decided, few, run, Ended, ReadToEnd}
+use Rattle.reader_stream.specs.Runs.{keptPatterns, fullSymbols, keptSymbols, keptBits, Decided, few, run, EndDecided, ReadToEnd}
 use Rattle.reader_stream.specs.Stream.{FinishesReader}
 use Rattle.reader_stream.specs.History.{ReaderFeedings}
 use Rattle.reader_stream.specs.declared.ReaderStream.{ReaderStream}
@@ -40,7 +41,7 @@ pub kept-mod : (rate : ℕ) → keptSymbols rate % symbolsPerPattern rate ≡ 0
 unfolding keptSymbols
 kept-mod rate = mul-mod-right (symbolsPerPattern rate) (keptPatterns rate)
 
-pub kept-length : (rate : ℕ) → rate < 5 → (l : List ℕ) → length l ≡ keptSymbols rate → runLength rate l ≡ keptBits rate
+pub kept-length : (rate : ℕ) → rate < qpskCount → (l : List ℕ) → length l ≡ keptSymbols rate → runLength rate l ≡ keptBits rate
 unfolding keptSymbols keptBits
 kept-length rate hr l e =
     ap (λ (k : ℕ). patternLength rate * k) (ap (λ (k : ℕ). k / symbolsPerPattern rate) e ∙ mul-div-right (keptPatterns rate) (some-symbols rate hr))
@@ -68,7 +69,7 @@ pub record GivenBack {R : Type 0} (cost : R → ℕ → ℕ) (rate m : ℕ) (bit
   pub out-length : length out ≡ patternLength rate * patterns
   pub came : length rs ≡ symbolsPerPattern rate * patterns + length left
 
-pub stream-given-back : {R : Type 0} (cost : R → ℕ → ℕ) (rate : ℕ) → rate < 5 → (m : ℕ) → m < 64 → (bits : List ℕ) → Bits bits
+pub stream-given-back : {R : Type 0} (cost : R → ℕ → ℕ) (rate : ℕ) → rate < qpskCount → (m : ℕ) → m < 64 → (bits : List ℕ) → Bits bits
     → {rs left : List R} {ss out : List ℕ} {last : ℕ} (rest : List ℕ) → AllClear cost rs ss → ss ++ rest ≡ symbolsOf (coderAt rate m) bits
     → Decided cost rate m rs out last left → GivenBack cost rate m bits rest rs out last left
 unfolding memoryAfter
@@ -141,15 +142,15 @@ pub record WholeStream (rate : ℕ) (bits : List ℕ) (came : ℕ) (out : List �
   pub within : runBits rate came ≤ length bits
   pub behind : rest ≡ came % symbolsPerPattern rate
 
--- of what was decided, and what the end of the stream gives
-decided-whole : {R : Type 0} (cost : R → ℕ → ℕ) (rate : ℕ) → rate < 5 → (bits : List ℕ) → Bits bits → (rs left : List R) (ss unread : List ℕ) → AllClear cost rs ss
-    → ss ++ unread ≡ symbolsOf (coderAt rate 0) bits → {out : List ℕ} {last : ℕ} → Decided cost rate 0 rs out last left
-    → {output exit : List ℕ} {count rest : ℕ} → Ended cost rate last left output count rest exit → WholeStream rate bits (length rs) (out ++ take count exit) rest
-decided-whole cost rate hr bits w rs left ss unread g e {out} {last} d {output} {exit} {count} {rest} end =
+-- of what was decided from a memory on, and what the end of the stream gives
+pub decided-whole : {R : Type 0} (cost : R → ℕ → ℕ) (rate : ℕ) → rate < qpskCount → (m : ℕ) → m < 64 → (bits : List ℕ) → Bits bits → (rs left : List R) (ss unread : List ℕ) → AllClear cost rs ss
+    → ss ++ unread ≡ symbolsOf (coderAt rate m) bits → {out : List ℕ} {last : ℕ} → Decided cost rate m rs out last left
+    → {output exit : List ℕ} {count rest : ℕ} → EndDecided cost rate last left output count rest exit → WholeStream rate bits (length rs) (out ++ take count exit) rest
+decided-whole cost rate hr m hm bits w rs left ss unread g e {out} {last} d {output} {exit} {count} {rest} end =
     let p = patternLength rate in
     let s = symbolsPerPattern rate in
-    let b = stream-given-back cost rate hr 0 (omega arith) bits w unread g e d in
-    let hl : last < 64 = rw (b .memory) (memory-in-range rate 0 hr (omega arith) (take-bits (length out) w)) in
+    let b = stream-given-back cost rate hr m hm bits w unread g e d in
+    let hl : last < 64 = rw (b .memory) (memory-in-range rate m hr hm (take-bits (length out) w)) in
     let others : List ℕ = drop (length out) bits in
     -- the whole patterns that are left
     let k : ℕ = s * end .whole in
@@ -186,7 +187,7 @@ decided-whole cost rate hr bits w rs left ss unread g e {out} {last} d {output} 
 pub read-whole : {R : Type 0} (cost : R → ℕ → ℕ) (rate : ℕ) (bits : List ℕ) → Bits bits → (rs : List R) (ss unread : List ℕ) → AllClear cost rs ss
     → ss ++ unread ≡ symbolsOf (coderAt rate 0) bits → {out : List ℕ} {rest : ℕ} → ReadToEnd cost rate rs out rest → WholeStream rate bits (length rs) out rest
 read-whole cost rate bits w rs ss unread g e {rest = rest} r =
-    subst (λ (l : List ℕ). WholeStream rate bits (length rs) l rest) (sym (r .bits-are)) (decided-whole cost rate (r .known) bits w rs (r .left) ss unread g e (r .runs) (r .end))
+    subst (λ (l : List ℕ). WholeStream rate bits (length rs) l rest) (sym (r .bits-are)) (decided-whole cost rate (r .known) 0 (omega arith) bits w rs (r .left) ss unread g e (r .runs) (r .end))
 
 -- What it gives as bytes: those of the bits that were sent up to the last whole pattern that came.
 pub record WholeBytes (rate : ℕ) (bits : List ℕ) (came : ℕ) (bytes : List ℕ) (rest left-bits : ℕ) : Type 0 where
@@ -195,10 +196,10 @@ pub record WholeBytes (rate : ℕ) (bits : List ℕ) (came : ℕ) (bytes : List 
   pub behind : rest ≡ came % symbolsPerPattern rate
   pub bits-left : left-bits ≡ runBits rate came % 8
 
--- Whatever pieces their costs came in, symbols that were received clearly give the bits that were sent, up to the last whole pattern; those behind it
+-- Whatever pieces their pairs came in, symbols that were received clearly give the bits that were sent, up to the last whole pattern; those behind it
 -- are told as the rest.
 pub stream-whole : {R : Type 0} (cost : R → ℕ → ℕ) (rate : ℕ) (bits : List ℕ) → Bits bits → (rs : List R) (ss unread : List ℕ) → AllClear cost rs ss
-    → ss ++ unread ≡ symbolsOf (coderAt rate 0) bits → {costs bytes : List ℕ} {s : ReaderStream} → ReaderFeedings rate costs bytes s → Costed cost rs costs
+    → ss ++ unread ≡ symbolsOf (coderAt rate 0) bits → {pairs bytes : List ℕ} {s : ReaderStream} → ReaderFeedings rate pairs bytes s → Costed cost rs pairs
     → {output exit : List ℕ} {f : Finished} → FinishesReader s output f exit → WholeBytes rate bits (length rs) (bytes ++ take (f .count) exit) (f .rest) (f .bits)
 stream-whole cost rate bits w rs ss unread g e feedings c finished =
     let k = every-end cost feedings rs c finished in
@@ -212,29 +213,29 @@ stream-whole cost rate bits w rs ss unread g e feedings c finished =
 
 -- by hard decisions
 pub hard-whole : (rate : ℕ) (bits : List ℕ) → Bits bits → (ss unread : List ℕ) → ss ++ unread ≡ symbolsOf (coderAt rate 0) bits
-    → {costs bytes : List ℕ} {s : ReaderStream} → ReaderFeedings rate costs bytes s → Costed differing ss costs
+    → {pairs bytes : List ℕ} {s : ReaderStream} → ReaderFeedings rate pairs bytes s → Costed differing ss pairs
     → {output exit : List ℕ} {f : Finished} → FinishesReader s output f exit → WholeBytes rate bits (length ss) (bytes ++ take (f .count) exit) (f .rest) (f .bits)
 hard-whole rate bits w ss unread e feedings c finished = stream-whole differing rate bits w ss ss unread (hard-clear ss) e feedings c finished
 
 -- by soft decisions on the points of the symbols, 1.0 for 0 and -1.0 for 1
-abbrev pub signalPoints : List ℕ → List Received
+abbrev pub signalPoints : List ℕ → List ReceivedSymbol
 signalPoints ss = receivedOf (signalsI ss) (signalsQ ss) (noneLost ss)
 
-all-front : (a b : List ℕ) → All (λ s. s < 4) (a ++ b) → All (λ s. s < 4) a
+pub all-front : (a b : List ℕ) → All (λ s. s < 4) (a ++ b) → All (λ s. s < 4) a
 all-front [] b h = tt
 all-front (x ∷ a) b h = (h .0, all-front a b (h .1))
 
 pub soft-whole : (rate : ℕ) (bits : List ℕ) → Bits bits → (ss unread : List ℕ) → ss ++ unread ≡ symbolsOf (coderAt rate 0) bits
-    → {costs bytes : List ℕ} {s : ReaderStream} → ReaderFeedings rate costs bytes s → Costed softly (signalPoints ss) costs
+    → {pairs bytes : List ℕ} {s : ReaderStream} → ReaderFeedings rate pairs bytes s → Costed softly (signalPoints ss) pairs
     → {output exit : List ℕ} {f : Finished} → FinishesReader s output f exit → WholeBytes rate bits (length ss) (bytes ++ take (f .count) exit) (f .rest) (f .bits)
 soft-whole rate bits w ss unread e {bytes = bytes} feedings c {exit = exit} {f} finished =
-    let hr : rate < 5 = every-end softly feedings (signalPoints ss) c finished .read .known in
+    let hr : rate < qpskCount = every-end softly feedings (signalPoints ss) c finished .read .known in
     let g = signals-clear ss (all-front ss unread (subst (All (λ s. s < 4)) (sym e) (sent-small rate 0 hr (omega arith) w))) in
     subst (λ (n : ℕ). WholeBytes rate bits n (bytes ++ take (f .count) exit) (f .rest) (f .bits)) (clear-length g)
     (stream-whole softly rate bits w (signalPoints ss) ss unread g e feedings c finished)
 
 -- Where all the symbols of the bits came, that is as far as the last whole pattern of the bits.
-pub last-pattern : (rate : ℕ) → rate < 5 → (bits : List ℕ) → Bits bits → runBits rate (length (symbolsOf (coderAt rate 0) bits)) ≡ patternLength rate * (length bits / patternLength rate)
+pub last-pattern : (rate : ℕ) → rate < qpskCount → (bits : List ℕ) → Bits bits → runBits rate (length (symbolsOf (coderAt rate 0) bits)) ≡ patternLength rate * (length bits / patternLength rate)
 last-pattern rate hr bits w =
     let s = symbolsPerPattern rate in
     let p = patternLength rate in

@@ -8,24 +8,24 @@ use lib.ListN.{length, take}
 use Rattle.common.specs.Lists.{restOf}
 use Rattle.reader.specs.Cost.{Costed}
 use Rattle.bit_packing.specs.Packing.{packedBytes}
-use Rattle.reader_stream.specs.Runs.{Decided, ReadToEnd, DecidedCosts}
-use Rattle.reader_stream.specs.Stream.{heldCosts, heldBits, ReaderReady, FreshReader, FeedsReader}
+use Rattle.reader_stream.specs.Runs.{Decided, ReadToEnd, DecidedPairs}
+use Rattle.reader_stream.specs.Stream.{heldPairs, heldBits, ReaderReady, FreshReader, FeedsReader}
 use Rattle.reader_stream.specs.declared.ReaderStream.{ReaderStream}
 
--- A history of calls from a fresh stream on, each with the stream that the one before it left: the costs of the pieces, and the
+-- A history of calls from a fresh stream on, each with the stream that the one before it left: the pairs of the pieces, and the
 -- bytes that the calls gave, one after the other.
 pub data ReaderFeedings (rate : ℕ) : List ℕ → List ℕ → ReaderStream → Type 0 where
   none : {s : ReaderStream} → FreshReader rate s → ReaderFeedings rate [] [] s
-  feeding : {costs bytes : List ℕ} {s next : ReaderStream} (piece output exit : List ℕ) (count : ℕ) → ReaderFeedings rate costs bytes s
-      → FeedsReader s piece output next count exit → ReaderFeedings rate (costs ++ piece) (bytes ++ take count exit) next
+  feeding : {pairs bytes : List ℕ} {s next : ReaderStream} (piece output exit : List ℕ) (count : ℕ) → ReaderFeedings rate pairs bytes s
+      → FeedsReader s piece output next count exit → ReaderFeedings rate (pairs ++ piece) (bytes ++ take count exit) next
 
--- What costs come to, from a fresh stream: the bits that overlapping runs decide of all of them, packed. The costs behind these bits are held, and the bits
+-- What pairs come to, from a fresh stream: the bits that overlapping runs decide of all of them, packed. The pairs behind these bits are held, and the bits
 -- that fill no byte.
-pub record CostsRead (rate : ℕ) (costs bytes : List ℕ) (s : ReaderStream) : Type 0 where
+pub record PairsRead (rate : ℕ) (pairs bytes : List ℕ) (s : ReaderStream) : Type 0 where
   pub ready : ReaderReady s
   pub rate-is : s .runs .rate ≡ rate
   pub bits : List ℕ
-  pub decided : DecidedCosts rate 0 costs bits (s .runs .memory) (heldCosts s)
+  pub decided : DecidedPairs rate 0 pairs bits (s .runs .memory) (heldPairs s)
   pub bytes-are : bytes ≡ packedBytes bits
   pub bits-left : heldBits s ≡ restOf 8 bits
 
@@ -34,7 +34,7 @@ pub record SymbolsRead {R : Type 0} (cost : R → ℕ → ℕ) (rate : ℕ) (rs 
   pub bits : List ℕ
   pub left : List R
   pub decided : Decided cost rate 0 rs bits (s .runs .memory) left
-  pub held : Costed cost left (heldCosts s)
+  pub held : Costed cost left (heldPairs s)
   pub bytes-are : bytes ≡ packedBytes bits
   pub bits-left : heldBits s ≡ restOf 8 bits
 

@@ -9,6 +9,7 @@ use lib.ListN.{length, take, drop}
 use Rattle.common.specs.Lists.{All}
 use Rattle.convolutional_code.specs.Code.{memoryAfter}
 use Rattle.viterbi_decoder.specs.Best.{Decoded}
+use Rattle.puncturing.specs.Mode.{qpskCount}
 use Rattle.puncturing.specs.Step.{patternLength}
 use Rattle.reader.specs.Cost.{runCost, costsOf}
 use Rattle.reader.specs.Read.{symbolsPerPattern, runBits, BestRead}
@@ -40,7 +41,7 @@ pub data Decided {R : Type 0} (cost : R → ℕ → ℕ) (rate : ℕ) : ℕ → 
       → Decided cost rate m rs (take (keptBits rate) bits ++ out) last left
 
 -- What the end of a stream gives of the symbols that are left: the best sequence for their whole patterns, and how many symbols are behind these.
-pub record Ended {R : Type 0} (cost : R → ℕ → ℕ) (rate memory : ℕ) (left : List R) (output : List ℕ) (count rest : ℕ) (exit : List ℕ) : Type 0 where
+pub record EndDecided {R : Type 0} (cost : R → ℕ → ℕ) (rate memory : ℕ) (left : List R) (output : List ℕ) (count rest : ℕ) (exit : List ℕ) : Type 0 where
   pub whole : ℕ
   pub split : rest + symbolsPerPattern rate * whole ≡ length left
   pub few : rest < symbolsPerPattern rate
@@ -52,7 +53,7 @@ pub record Ended {R : Type 0} (cost : R → ℕ → ℕ) (rate memory : ℕ) (le
 -- What a stream comes to that is read to its end, from the memory of a fresh coder: the bits that overlapping runs decide of all the symbols, and behind
 -- these the bits of the end. So many symbols are in no bit.
 pub record ReadToEnd {R : Type 0} (cost : R → ℕ → ℕ) (rate : ℕ) (rs : List R) (bits : List ℕ) (rest : ℕ) : Type 0 where
-  pub known : rate < 5
+  pub known : rate < qpskCount
   pub decided : List ℕ
   pub memory : ℕ
   pub left : List R
@@ -60,25 +61,25 @@ pub record ReadToEnd {R : Type 0} (cost : R → ℕ → ℕ) (rate : ℕ) (rs : 
   pub output : List ℕ
   pub exit : List ℕ
   pub count : ℕ
-  pub end : Ended cost rate memory left output count rest exit
+  pub end : EndDecided cost rate memory left output count rest exit
   pub bits-are : bits ≡ decided ++ take count exit
 
--- ---- in costs: one number for each symbol, which stands for the decisions on its I and Q
+-- ---- in pairs: one number for each symbol, the decisions on its I and Q
 
--- What the costs of all the symbols come to: the bits that are decided, the memory after them, and the costs of the symbols behind them.
-pub data DecidedCosts (rate : ℕ) : ℕ → List ℕ → List ℕ → ℕ → List ℕ → Type 0 where
-  few-costs : {m : ℕ} {costs : List ℕ} → length costs < fullSymbols rate → DecidedCosts rate m costs [] m costs
-  run-costs : {m last : ℕ} {costs left out : List ℕ} (bits : List ℕ) (total after : ℕ) → fullSymbols rate ≤ length costs
-      → Decoded (runCost (costsOf (take (fullSymbols rate) costs)) rate m) (runBits rate (fullSymbols rate)) m bits total after
-      → DecidedCosts rate (memoryAfter m (take (keptBits rate) bits)) (drop (keptSymbols rate) costs) out last left
-      → DecidedCosts rate m costs (take (keptBits rate) bits ++ out) last left
+-- What the pairs of all the symbols come to: the bits that are decided, the memory after them, and the pairs behind them.
+pub data DecidedPairs (rate : ℕ) : ℕ → List ℕ → List ℕ → ℕ → List ℕ → Type 0 where
+  few-pairs : {m : ℕ} {pairs : List ℕ} → length pairs < fullSymbols rate → DecidedPairs rate m pairs [] m pairs
+  run-pairs : {m last : ℕ} {pairs left out : List ℕ} (bits : List ℕ) (total after : ℕ) → fullSymbols rate ≤ length pairs
+      → Decoded (runCost (costsOf (take (fullSymbols rate) pairs)) rate m) (runBits rate (fullSymbols rate)) m bits total after
+      → DecidedPairs rate (memoryAfter m (take (keptBits rate) bits)) (drop (keptSymbols rate) pairs) out last left
+      → DecidedPairs rate m pairs (take (keptBits rate) bits ++ out) last left
 
 -- a longest run that is read, and the memory after the bits of it that are kept
-pub record FullRead (rate memory : ℕ) (costs output : List ℕ) (after : ℕ) (exit : List ℕ) : Type 0 where
+pub record FullRead (rate memory : ℕ) (pairs output : List ℕ) (after : ℕ) (exit : List ℕ) : Type 0 where
   pub total : ℕ
   pub last : ℕ
   pub count : ℕ
-  pub out : BestRead (runCost (costsOf costs) rate memory) (runBits rate (length costs)) memory output last total count exit
+  pub out : BestRead (runCost (costsOf pairs) rate memory) (runBits rate (length pairs)) memory output last total count exit
   pub leaves : after ≡ memoryAfter memory (take (keptBits rate) (out .bits))
 
 -- runs in progress, and what they hold
@@ -86,28 +87,28 @@ abbrev pub heldOf : SymbolRuns → List ℕ
 heldOf s = take (s .count) (s .held)
 
 pub record RunsReady (s : SymbolRuns) : Type 0 where
-  pub known : s .rate < 5
+  pub known : s .rate < qpskCount
   pub in-range : s .memory < 64
   pub size : length (s .held) ≡ 1632
   pub below : s .count < fullSymbols (s .rate)
   pub small : All (λ c. c < 81) (heldOf s)
 
-pub record RunsHold (s : SymbolRuns) (rate memory : ℕ) (costs : List ℕ) : Type 0 where
+pub record RunsHold (s : SymbolRuns) (rate memory : ℕ) (pairs : List ℕ) : Type 0 where
   pub rate-is : s .rate ≡ rate
   pub memory-is : s .memory ≡ memory
-  pub held-is : heldOf s ≡ costs
+  pub held-is : heldOf s ≡ pairs
 
 -- What feeding a piece does: where there are not enough symbols for a run, they are held. Else so many are taken as make one, and it is read; the output
 -- has its bits, of which those that count says are decided.
 pub data FeedsSymbols (s : SymbolRuns) (piece output : List ℕ) (next : SymbolRuns) (taken count : ℕ) (exit : List ℕ) : Type 0 where
   gathered : length (heldOf s ++ piece) < fullSymbols (s .rate) → taken ≡ length piece → count ≡ 0 → exit ≡ output
       → RunsHold next (s .rate) (s .memory) (heldOf s ++ piece) → FeedsSymbols s piece output next taken count exit
-  read : (costs : List ℕ) → costs ≡ heldOf s ++ take taken piece → taken ≤ length piece → length costs ≡ fullSymbols (s .rate) → count ≡ keptBits (s .rate)
-      → (after : ℕ) → FullRead (s .rate) (s .memory) costs output after exit → RunsHold next (s .rate) after (drop (keptSymbols (s .rate)) costs)
+  read : (pairs : List ℕ) → pairs ≡ heldOf s ++ take taken piece → taken ≤ length piece → length pairs ≡ fullSymbols (s .rate) → count ≡ keptBits (s .rate)
+      → (after : ℕ) → FullRead (s .rate) (s .memory) pairs output after exit → RunsHold next (s .rate) after (drop (keptSymbols (s .rate)) pairs)
       → FeedsSymbols s piece output next taken count exit
 
 -- What closing the runs gives: the bits of the whole patterns that are held, and how many symbols are behind them.
-pub record Closes (s : SymbolRuns) (output : List ℕ) (count rest : ℕ) (exit : List ℕ) : Type 0 where
+pub record ClosesRuns (s : SymbolRuns) (output : List ℕ) (count rest : ℕ) (exit : List ℕ) : Type 0 where
   pub whole : ℕ
   pub split : rest + symbolsPerPattern (s .rate) * whole ≡ s .count
   pub few : rest < symbolsPerPattern (s .rate)

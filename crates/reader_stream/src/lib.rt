@@ -1,11 +1,12 @@
-// Reading in progress: the costs of received symbols from pieces of any length, decided in runs that overlap, and the bits packed into bytes. The costs of
-// symbols that are not decided yet are held, and the bits that fill no byte yet.
-// The costs of a symbol come as one number, which stands for the decisions on its I and Q, whether they are hard or soft ones.
+// Reading in progress: received symbols from pieces of any length, read in runs that overlap, and the bits packed into bytes. Symbols whose bits are not
+// decided yet are held, and the bits that fill no byte yet.
+// A symbol comes as one number, the pair of the decisions on its I and Q, whether they are hard or soft ones.
 // Inner: its functions may require what the crates above have tested. docs/ARCHITECTURE.md names the public surface.
 
 ghost use Prim.Native.Nat.{_+_, _*_, _<_, _≤_};
 ghost use lib.ListN.{length};
 ghost use Rattle.common.specs.Lists.{All};
+ghost use Rattle.puncturing.specs.Mode.{qpskCount};
 ghost use Rattle.reader_stream.specs.Stream.{ReaderReady, FreshReader, FeedsReader, FinishesReader};
 use crate::symbol_runs::SymbolRuns;
 use bit_packing::pack;
@@ -20,7 +21,7 @@ pub struct ReaderStream {
 }
 
 // The stream after a piece, and how many bytes its bits filled.
-pub struct Fed {
+pub struct ReaderFed {
     pub stream: ReaderStream,
     pub count: usize,
 }
@@ -34,7 +35,7 @@ pub struct Finished {
 
 impl ReaderStream {
     pub fn new(rate: u8) -> ReaderStream
-        requires { ⌜ rate < 5 ⌝ }
+        requires { ⌜ rate < qpskCount ⌝ }
         ensures { λ r. ⌜ FreshReader rate r ⌝ }
     {
         let runs = crate::symbol_runs::open(rate);
@@ -45,18 +46,18 @@ impl ReaderStream {
         }
     }
 
-    // Takes the costs of symbols. The bytes that the bits fill stand at the front of the output. A run is read into `bits`.
-    pub fn feed(self, costs: &[u8], bits: &mut [u8], output: &mut [u8]) -> Fed
-        requires { ⌜ (ReaderReady self) × (All (λ p. p < 81) (now costs)) × (1632 ≤ length (now bits)) × (length (now costs) + 1632 ≤ 4 * length (now output)) ⌝ }
-        ensures { λ r. ⌜ FeedsReader self (now (costs .entry)) (now (output .entry)) (r .stream) (r .count) (now (output .exit)) ⌝ }
+    // Takes the pairs of symbols. The bytes that the bits fill stand at the front of the output. A run is read into `bits`.
+    pub fn feed(self, pairs: &[u8], bits: &mut [u8], output: &mut [u8]) -> ReaderFed
+        requires { ⌜ (ReaderReady self) × (All (λ p. p < 81) (now pairs)) × (1632 ≤ length (now bits)) × (length (now pairs) + 1632 ≤ 4 * length (now output)) ⌝ }
+        ensures { λ r. ⌜ FeedsReader self (now (pairs .entry)) (now (output .entry)) (r .stream) (r .count) (now (output .exit)) ⌝ }
     {
         let mut runs = self.runs;
         let mut carry = self.carry;
         let mut held = self.held;
         let mut count: usize = 0;
         let mut at: usize = 0;
-        while at < costs.len() {
-            let taken = crate::symbol_runs::feed(runs, &costs[at..], bits);
+        while at < pairs.len() {
+            let taken = crate::symbol_runs::feed(runs, &pairs[at..], bits);
             let next = taken.runs;
             let decided = taken.count;
             let length = taken.taken;
@@ -67,7 +68,7 @@ impl ReaderStream {
             count += packed.count;
             at += length;
         }
-        Fed {
+        ReaderFed {
             stream: ReaderStream { runs, carry, held },
             count,
         }

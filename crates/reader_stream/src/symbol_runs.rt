@@ -6,7 +6,9 @@ ghost use lib.ListN.{length};
 ghost use Rattle.common.specs.Lists.{All};
 ghost use Rattle.convolutional_code.specs.Code.{memoryAfter};
 ghost use Rattle.convolutional_code.specs.Bits.{Bits};
-ghost use Rattle.reader_stream.specs.Runs.{fullSymbols, keptSymbols, keptBits, FullRead, RunsReady, RunsHold, FeedsSymbols, Closes};
+ghost use Rattle.puncturing.specs.Mode.{qpskCount};
+ghost use Rattle.reader_stream.specs.Runs.{fullSymbols, keptSymbols, keptBits, FullRead, RunsReady, RunsHold, FeedsSymbols, ClosesRuns};
+use code_tables::QPSK_MODES;
 use common::put;
 use convolutional_code::next_memory;
 use reader::read_pairs;
@@ -22,7 +24,7 @@ pub struct SymbolRuns {
 }
 
 // The runs after a piece, how many symbols of the piece were taken, and how many bits are decided.
-pub struct Taken {
+pub struct RunsFed {
     pub runs: SymbolRuns,
     pub taken: usize,
     pub count: usize,
@@ -35,29 +37,29 @@ pub struct Closed {
 }
 
 // The symbols of each rate's longest run.
-const FULL_SYMBOLS: [usize; 5] = [1632, 1224, 1088, 978, 932];
+const FULL_SYMBOLS: [usize; QPSK_MODES] = [1632, 1224, 1088, 978, 932];
 
 // The symbols of such a run whose bits are kept, and the bits.
-const KEPT_SYMBOLS: [usize; 5] = [1531, 1146, 1020, 915, 872];
+const KEPT_SYMBOLS: [usize; QPSK_MODES] = [1531, 1146, 1020, 915, 872];
 
-const KEPT_BITS: [usize; 5] = [1531, 1528, 1530, 1525, 1526];
+const KEPT_BITS: [usize; QPSK_MODES] = [1531, 1528, 1530, 1525, 1526];
 
 fn full_symbols(rate: u8) -> usize
-    requires { ⌜ rate < 5 ⌝ }
+    requires { ⌜ rate < qpskCount ⌝ }
     ensures { λ r. ⌜ r ≡ fullSymbols rate ⌝ }
 {
     FULL_SYMBOLS[rate as usize]
 }
 
 fn kept_symbols(rate: u8) -> usize
-    requires { ⌜ rate < 5 ⌝ }
+    requires { ⌜ rate < qpskCount ⌝ }
     ensures { λ r. ⌜ r ≡ keptSymbols rate ⌝ }
 {
     KEPT_SYMBOLS[rate as usize]
 }
 
 fn kept_bits(rate: u8) -> usize
-    requires { ⌜ rate < 5 ⌝ }
+    requires { ⌜ rate < qpskCount ⌝ }
     ensures { λ r. ⌜ r ≡ keptBits rate ⌝ }
 {
     KEPT_BITS[rate as usize]
@@ -91,7 +93,7 @@ fn memory_after(memory: u8, bits: &[u8]) -> u8
 
 // Reads a longest run into the output: the memory after the bits of it that are kept.
 fn read_full(rate: u8, memory: u8, pairs: &[u8], output: &mut [u8]) -> u8
-    requires { ⌜ (rate < 5) × (memory < 64) × (length (now pairs) ≡ fullSymbols rate) × (All (λ p. p < 81) (now pairs)) × (1632 ≤ length (now output)) ⌝ }
+    requires { ⌜ (rate < qpskCount) × (memory < 64) × (length (now pairs) ≡ fullSymbols rate) × (All (λ p. p < 81) (now pairs)) × (1632 ≤ length (now output)) ⌝ }
     ensures { λ r. ⌜ FullRead rate memory (now (pairs .entry)) (now (output .entry)) r (now (output .exit)) ⌝ }
 {
     read_pairs(rate, memory, pairs, output);
@@ -101,7 +103,7 @@ fn read_full(rate: u8, memory: u8, pairs: &[u8], output: &mut [u8]) -> u8
 
 // Runs of which nothing has come.
 pub fn open(rate: u8) -> SymbolRuns
-    requires { ⌜ rate < 5 ⌝ }
+    requires { ⌜ rate < qpskCount ⌝ }
     ensures { λ r. ⌜ (RunsReady r) × (RunsHold r rate 0 []) ⌝ }
 {
     SymbolRuns {
@@ -114,7 +116,7 @@ pub fn open(rate: u8) -> SymbolRuns
 
 // Takes the symbols of a piece, the decisions on each as one number: as many as make a longest run with those that are held, or all. Where they make one, it is read into the
 // output, and the bits that are decided stand at its front.
-pub fn feed(runs: SymbolRuns, piece: &[u8], output: &mut [u8]) -> Taken
+pub fn feed(runs: SymbolRuns, piece: &[u8], output: &mut [u8]) -> RunsFed
     requires { ⌜ (RunsReady runs) × (All (λ p. p < 81) (now piece)) × (1632 ≤ length (now output)) ⌝ }
     ensures { λ r. ⌜ (FeedsSymbols runs (now (piece .entry)) (now (output .entry)) (r .runs) (r .taken) (r .count) (now (output .exit))) × (RunsReady (r .runs)) ⌝ }
 {
@@ -126,7 +128,7 @@ pub fn feed(runs: SymbolRuns, piece: &[u8], output: &mut [u8]) -> Taken
     let space = full - count;
     if piece.len() < space {
         put(piece, count, &mut held);
-        return Taken {
+        return RunsFed {
             runs: SymbolRuns {
                 rate,
                 memory,
@@ -142,7 +144,7 @@ pub fn feed(runs: SymbolRuns, piece: &[u8], output: &mut [u8]) -> Taken
     let from = kept_symbols(rate);
     let mut next = [0u8; 1632];
     put(&held[from..full], 0, &mut next);
-    Taken {
+    RunsFed {
         runs: SymbolRuns {
             rate,
             memory: after,
@@ -157,7 +159,7 @@ pub fn feed(runs: SymbolRuns, piece: &[u8], output: &mut [u8]) -> Taken
 // The end: reads the whole patterns that are held into the output.
 pub fn close(runs: SymbolRuns, output: &mut [u8]) -> Closed
     requires { ⌜ (RunsReady runs) × (1632 ≤ length (now output)) ⌝ }
-    ensures { λ r. ⌜ Closes runs (now (output .entry)) (r .count) (r .rest) (now (output .exit)) ⌝ }
+    ensures { λ r. ⌜ ClosesRuns runs (now (output .entry)) (r .count) (r .rest) (now (output .exit)) ⌝ }
 {
     let rate = runs.rate;
     let memory = runs.memory;

@@ -1,4 +1,4 @@
--- The symbols at the front of some bytes, and their costs.
+-- The symbols at the front of some bytes, and their pairs.
 -- Assumes nothing.
 use mathlib.Core.Path.{_≡_, refl, sym, ap, subst, _∙_}
 use mathlib.Core.List.{List, [], _∷_, _++_}
@@ -16,7 +16,7 @@ use Rattle.reader.proofs.Decisions.{Written, written-costed, written-small}
 use Rattle.reader_stream.specs.Stream.{FeedsReader}
 use Rattle.reader_stream.specs.declared.ReaderStream.{ReaderStream}
 use Rattle.received_symbols.specs.Pass.{Held, SymbolsAtFront, TakesBytes}
-use Rattle.received_symbols.specs.declared.Pass.{Pass}
+use Rattle.received_symbols.specs.declared.SymbolPass.{SymbolPass}
 
 -- ---- up to the first byte that is none
 
@@ -45,17 +45,17 @@ front-ends f l = record { most = f .most; symbols = f .symbols; ends = λ h. l }
 pub front-all : {input : List ℕ} {i : ℕ} → Front input i → length input ≤ i → SymbolsAtFront input i
 front-all f l = record { most = f .most; symbols = f .symbols; ends = λ h. absurd (omega arith) }
 
--- ---- their costs
+-- ---- their pairs
 
-module _ (symbols costs : List ℕ) (valid : All (λ s. s < 4) symbols) (w : Written symbols costs) (n : ℕ) (size : length symbols ≡ n) (long : n ≤ length costs) where
-  pub costs-length : length (take n costs) ≡ n
-  costs-length = length-take-le n costs long
+module _ (symbols pairs : List ℕ) (valid : All (λ s. s < 4) symbols) (w : Written symbols pairs) (n : ℕ) (size : length symbols ≡ n) (long : n ≤ length pairs) where
+  pub pairs-length : length (take n pairs) ≡ n
+  pairs-length = length-take-le n pairs long
 
-  pub costs-small : All (λ p. p < 81) (take n costs)
-  costs-small = written-small symbols costs valid w (rw size long) n (sym size)
+  pub pairs-small : All (λ p. p < 81) (take n pairs)
+  pairs-small = written-small symbols pairs valid w (rw size long) n (sym size)
 
-  pub costs-costed : Costed differing symbols (take n costs)
-  costs-costed = written-costed symbols costs valid w (rw size long) n (sym size)
+  pub pairs-costed : Costed differing symbols (take n pairs)
+  pairs-costed = written-costed symbols pairs valid w (rw size long) n (sym size)
 
 -- ---- no byte is left
 
@@ -69,7 +69,7 @@ nothing (x ∷ l) e = absurd (omega arith)
 pub no-rest : (bytes : List ℕ) → restOf 1 bytes ≡ []
 no-rest bytes = nothing (restOf 1 bytes) (length-rest 1 bytes ∙ mod-one (length bytes))
 
-none-held : (bytes : List ℕ) {p : Pass} → length (p .tail) ≡ 8 → p .held ≡ 0 → Held false p bytes
+none-held : (bytes : List ℕ) {p : SymbolPass} → length (p .tail) ≡ 8 → p .held ≡ 0 → Held false p bytes
 none-held bytes {p} size e = record {
   size = size;
   count = e ∙ sym (mod-one (length bytes));
@@ -78,12 +78,12 @@ none-held bytes {p} size e = record {
 
 -- ---- what is taken
 
-pub symbols-taken : (s : ReaderStream) (bytes output : List ℕ) (next : Pass) (taken count : ℕ) {costs exit : List ℕ} → SymbolsAtFront bytes taken
-    → Costed differing (take taken bytes) costs → FeedsReader s costs output (next .stream) count exit → length (next .tail) ≡ 8 → next .held ≡ 0
+pub symbols-taken : (s : ReaderStream) (bytes output : List ℕ) (next : SymbolPass) (taken count : ℕ) {pairs exit : List ℕ} → SymbolsAtFront bytes taken
+    → Costed differing (take taken bytes) pairs → FeedsReader s pairs output (next .stream) count exit → length (next .tail) ≡ 8 → next .held ≡ 0
     → TakesBytes false s bytes output (record { pass = next; taken = taken; stopped = ltb taken (length bytes); count = count }) exit
-symbols-taken s bytes output next taken count {costs} g c f size e = record {
+symbols-taken s bytes output next taken count {pairs} g c f size e = record {
   most = g .most;
-  takes = record { valid = g .symbols; costs = costs; costed = c; fed = f; holds = none-held (take taken bytes) size e };
+  takes = record { valid = g .symbols; pairs = pairs; costed = c; fed = f; holds = none-held (take taken bytes) size e };
   all = λ h. omega (arith, ltb-false taken (length bytes) h, g .most);
   stops = λ h. (refl, ltb-true taken (length bytes) h, g .ends (ltb-true taken (length bytes) h));
 }

@@ -17,10 +17,10 @@ use Rattle.reader_stream.proofs.Costs.{costed-append}
 use Rattle.reader_stream.proofs.Histories.{every-history}
 use Rattle.received_symbols.specs.Received.{pointOf, Symbol, costOf, width, symbolsIn, Valid}
 use Rattle.received_symbols.specs.Pass.{TakesAll, BytesTaken}
-use Rattle.received_symbols.specs.declared.Pass.{Pass}
+use Rattle.received_symbols.specs.declared.SymbolPass.{SymbolPass}
 use Rattle.received_symbols.proofs.HardInput.{no-rest}
 
--- ---- the room that costs and bytes take
+-- ---- the room that pairs and bytes take
 
 module _ {soft : Bool} where
   pub as-soft : soft ≡ true → (n : ℕ) (l : List ℕ) (a b : ℕ) → n / width soft + a ≤ b * length l → n / 8 + a ≤ b * length l
@@ -44,7 +44,7 @@ valid-pieces true a b v w = tt
 valid-pieces false a b v w = All-append (λ x. x < 4) a b v (subst (λ (l : List ℕ). All (λ x. x < 4) (l ++ b)) (no-rest a) w)
 
 -- bytes that were taken, and then more of them
-pub taken-on : {soft : Bool} {rate : ℕ} {bytes written : List ℕ} {p next : Pass} → BytesTaken soft rate bytes written p → (more : List ℕ) {output exit : List ℕ} {count : ℕ}
+pub taken-on : {soft : Bool} {rate : ℕ} {bytes written : List ℕ} {p next : SymbolPass} → BytesTaken soft rate bytes written p → (more : List ℕ) {output exit : List ℕ} {count : ℕ}
     → TakesAll soft (p .stream) (take (p .held) (p .tail) ++ more) output next count exit → BytesTaken soft rate (bytes ++ more) (written ++ take count exit) next
 taken-on {soft} {rate} {bytes} {written} {p} {next} b more {output} {exit} {count} t =
     let n = width soft in
@@ -53,11 +53,11 @@ taken-on {soft} {rate} {bytes} {written} {p} {next} b more {output} {exit} {coun
     let q : restOf n (bytes ++ more) ≡ restOf n (restOf n bytes ++ more) = cut n (some-width soft) bytes more .rest-is in
     record {
       valid = valid-pieces soft bytes more (b .valid) (k .valid);
-      costs = b .costs ++ k .costs;
+      pairs = b .pairs ++ k .pairs;
       costed =
-          subst (λ (l : List (Symbol soft)). Costed (costOf soft) l (b .costs ++ k .costs)) (sym (symbols-pieces soft bytes more))
+          subst (λ (l : List (Symbol soft)). Costed (costOf soft) l (b .pairs ++ k .pairs)) (sym (symbols-pieces soft bytes more))
           (costed-append (costOf soft) (b .costed) (k .costed));
-      fed = feeding (k .costs) output exit count (b .fed) (k .fed);
+      fed = feeding (k .pairs) output exit count (b .fed) (k .fed);
       holds = record {
         size = k .holds .size;
         count = k .holds .count ∙ (sym (length-rest n (restOf n bytes ++ more)) ∙ (ap length (sym q) ∙ length-rest n (bytes ++ more)));
@@ -78,10 +78,10 @@ none-mod : (soft : Bool) → 0 % width soft ≡ 0
 none-mod true = refl
 none-mod false = refl
 
-pub taken-none : (soft : Bool) {rate : ℕ} {p : Pass} → FreshReader rate (p .stream) → length (p .tail) ≡ 8 → p .held ≡ 0 → BytesTaken soft rate [] [] p
+pub taken-none : (soft : Bool) {rate : ℕ} {p : SymbolPass} → FreshReader rate (p .stream) → length (p .tail) ≡ 8 → p .held ≡ 0 → BytesTaken soft rate [] [] p
 taken-none soft {p = p} f size e = record {
   valid = none-valid soft;
-  costs = [];
+  pairs = [];
   costed = none-costed soft;
   fed = none f;
   holds = record {
@@ -93,14 +93,14 @@ taken-none soft {p = p} f size e = record {
 
 -- ---- a reader that goes on
 
-pub taken-ready : {soft : Bool} {rate : ℕ} {bytes written : List ℕ} {p : Pass} → BytesTaken soft rate bytes written p → ReaderReady (p .stream)
+pub taken-ready : {soft : Bool} {rate : ℕ} {bytes written : List ℕ} {p : SymbolPass} → BytesTaken soft rate bytes written p → ReaderReady (p .stream)
 taken-ready b = every-history (b .fed) .ready
 
 few-left : (soft : Bool) (n : ℕ) → n % width soft < width soft
 few-left true n = omega arith
 few-left false n = omega arith
 
-pub taken-few : (soft : Bool) {rate : ℕ} {bytes written : List ℕ} {p : Pass} → BytesTaken soft rate bytes written p → p .held < width soft
+pub taken-few : (soft : Bool) {rate : ℕ} {bytes written : List ℕ} {p : SymbolPass} → BytesTaken soft rate bytes written p → p .held < width soft
 taken-few soft {bytes = bytes} b = rw (b .holds .count) (few-left soft (length bytes))
 
 -- where each byte is a symbol, none is held

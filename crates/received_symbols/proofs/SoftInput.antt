@@ -1,4 +1,4 @@
--- The f32 of a pattern, and the points of some bytes with their costs.
+-- The f32 of a pattern, and the points of some bytes with their pairs.
 -- Assumes nothing.
 use mathlib.Core.Bool.{Bool, true, false, not, _&&_, true≢false}
 use mathlib.Core.Path.{_≡_, refl, sym, _∙_, ap, subst}
@@ -17,14 +17,14 @@ use Rattle.common.proofs.Chunks.{length-chunks, chunks-append}
 use Rattle.reader.proofs.Outcome.{not-true}
 use Rattle.reader.proofs.SoftDecisions.{along-costed}
 use Rattle.branch_metrics.specs.SoftPairs.{symbolPair}
-use Rattle.branch_metrics.specs.declared.soft_decision.Received.the-variants.{Lost}
+use Rattle.branch_metrics.specs.declared.soft_decision.ReceivedSymbol.the-variants.{Lost}
 use Rattle.branch_metrics.proofs.Runs.{along-small}
 use Rattle.branch_metrics.specs.Cost.{softly}
 use Rattle.reader.specs.Cost.{Costed}
 use Rattle.reader_stream.specs.Stream.{FeedsReader}
 use Rattle.reader_stream.specs.declared.ReaderStream.{ReaderStream}
 use Rattle.received_symbols.specs.Pass.{Held, TakesAll, TakesBytes}
-use Rattle.received_symbols.specs.declared.Pass.{Pass}
+use Rattle.received_symbols.specs.declared.SymbolPass.{SymbolPass}
 use Rattle.received_symbols.specs.Received.{pointOf, pointAt, pointsOf, pairsOf}
 
 -- ---- the patterns of NaNs
@@ -102,25 +102,25 @@ pairs-append a b e =
 pub pairs-length : (bytes : List ℕ) → length (pairsOf bytes) ≡ length bytes / 8
 pairs-length bytes = length-map (pointsOf bytes) symbolPair ∙ points-length bytes
 
--- ---- their costs
+-- ---- their pairs
 
-module _ (bytes costs : List ℕ) (w : (t : ℕ) → t < length bytes / 8 → getD costs t 0 ≡ symbolPair (pointAt bytes t)) (long : length bytes / 8 ≤ length costs) where
+module _ (bytes pairs : List ℕ) (w : (t : ℕ) → t < length bytes / 8 → getD pairs t 0 ≡ symbolPair (pointAt bytes t)) (long : length bytes / 8 ≤ length pairs) where
   abbrev n : ℕ
   n = length bytes / 8
 
-  pub points-small : All (λ p. p < 81) (take n costs)
-  points-small = along-small (pointAt bytes) n costs long w
+  pub points-small : All (λ p. p < 81) (take n pairs)
+  points-small = along-small (pointAt bytes) n pairs long w
 
-  pub pairs-are : take n costs ≡ pairsOf bytes
+  pub pairs-are : take n pairs ≡ pairsOf bytes
   pairs-are =
-      let k : length (take n costs) ≡ n = length-take-le n costs long in
-      ext-getD 0 (take n costs) (pairsOf bytes) (k ∙ sym (pairs-length bytes))
+      let k : length (take n pairs) ≡ n = length-take-le n pairs long in
+      ext-getD 0 (take n pairs) (pairsOf bytes) (k ∙ sym (pairs-length bytes))
       (λ i h.
-      getD-take n costs i 0 (omega (arith, k)) ∙ w i (omega (arith, k))
+      getD-take n pairs i 0 (omega (arith, k)) ∙ w i (omega (arith, k))
       ∙ sym (getD-map-in symbolPair (pointsOf bytes) Lost 0 i (omega (arith, k, points-length bytes)) ∙ ap symbolPair (points-at bytes i (omega (arith, k)))))
 
-  pub points-costed : Costed softly (pointsOf bytes) (take n costs)
-  points-costed = along-costed (pointAt bytes) (pointsOf bytes) n (points-length bytes) (points-at bytes) costs long w
+  pub points-costed : Costed softly (pointsOf bytes) (take n pairs)
+  points-costed = along-costed (pointAt bytes) (pointsOf bytes) n (points-length bytes) (points-at bytes) pairs long w
 
 -- ---- the bytes that make no whole point
 
@@ -150,14 +150,14 @@ module _ (bytes tail next : List ℕ) (size : length tail ≡ 8) where
 -- ---- what is taken
 
 -- all of the bytes
-pub points-taken : (s : ReaderStream) (bytes output : List ℕ) (next : Pass) (count : ℕ) {costs exit : List ℕ} → Costed softly (pointsOf bytes) costs
-    → FeedsReader s costs output (next .stream) count exit → Held true next bytes
+pub points-taken : (s : ReaderStream) (bytes output : List ℕ) (next : SymbolPass) (count : ℕ) {pairs exit : List ℕ} → Costed softly (pointsOf bytes) pairs
+    → FeedsReader s pairs output (next .stream) count exit → Held true next bytes
     → TakesBytes true s bytes output (record { pass = next; taken = length bytes; stopped = false; count = count }) exit
-points-taken s bytes output next count {costs} {exit} c f h = record {
+points-taken s bytes output next count {pairs} {exit} c f h = record {
   most = omega arith;
   takes =
       subst (λ (l : List ℕ). TakesAll true s l output next count exit) (sym (take-length bytes))
-      (record { valid = tt; costs = costs; costed = c; fed = f; holds = h });
+      (record { valid = tt; pairs = pairs; costed = c; fed = f; holds = h });
   all = λ e. refl;
   stops = λ e. absurd (true≢false (sym e));
 }

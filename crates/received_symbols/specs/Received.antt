@@ -10,8 +10,8 @@ use Rattle.common.specs.Choice.{pick}
 use Rattle.common.specs.Lists.{All, chunksOf}
 use Rattle.branch_metrics.specs.Cost.{softly}
 use Rattle.branch_metrics.specs.SoftPairs.{symbolPair}
-use Rattle.branch_metrics.specs.declared.soft_decision.Received.{Received}
-use Rattle.branch_metrics.specs.declared.soft_decision.Received.the-variants.{At, Lost}
+use Rattle.branch_metrics.specs.declared.soft_decision.ReceivedSymbol.{ReceivedSymbol}
+use Rattle.branch_metrics.specs.declared.soft_decision.ReceivedSymbol.the-variants.{At, Lost}
 use Rattle.reader.specs.Cost.{differing}
 
 -- ---- points
@@ -25,14 +25,14 @@ abbrev pub number : List ℕ → ℕ → Float
 number bytes at = ofBits binary32 (wordAt bytes at)
 
 -- the symbol that two numbers stand for: a lost one where both are NaN
-abbrev pub point : Float → Float → Received
+abbrev pub point : Float → Float → ReceivedSymbol
 point i q = pick (isNan i) (pick (isNan q) Lost (At (record { i = i; q = q }))) (At (record { i = i; q = q }))
 
 -- that of eight bytes, and those of the whole points of some bytes
-abbrev pub pointOf : List ℕ → Received
+abbrev pub pointOf : List ℕ → ReceivedSymbol
 pointOf bytes = point (number bytes 0) (number bytes 4)
 
-abbrev pub pointsOf : List ℕ → List Received
+abbrev pub pointsOf : List ℕ → List ReceivedSymbol
 pointsOf bytes = map pointOf (chunksOf 8 bytes)
 
 -- the decisions on them, one number for each
@@ -40,7 +40,7 @@ abbrev pub pairsOf : List ℕ → List ℕ
 pairsOf bytes = map symbolPair (pointsOf bytes)
 
 -- a point by its place
-abbrev pub pointAt : List ℕ → ℕ → Received
+abbrev pub pointAt : List ℕ → ℕ → ReceivedSymbol
 pointAt bytes k = point (number bytes (8 * k)) (number bytes (8 * k + 4))
 
 -- ---- hard or soft decisions
@@ -48,7 +48,7 @@ pointAt bytes k = point (number bytes (8 * k)) (number bytes (8 * k + 4))
 -- what is received, and what it makes each sent symbol cost
 abbrev pub Symbol : Bool → Type 0
 Symbol false = ℕ
-Symbol true = Received
+Symbol true = ReceivedSymbol
 
 abbrev pub costOf : (soft : Bool) → Symbol soft → ℕ → ℕ
 costOf false = differing

@@ -14,15 +14,15 @@ mod symbols;
 pub use points::point_pairs;
 
 // A reader, and the bytes of a point that is not whole yet: so many of the tail.
-pub struct Pass {
+pub struct SymbolPass {
     pub stream: ReaderStream,
     pub tail: [u8; 8],
     pub held: usize,
 }
 
 // What was taken of some bytes: the pass after it, how many bytes, whether the byte behind them is no symbol, and how many bytes stand in the output.
-pub struct Taken {
-    pub pass: Pass,
+pub struct SymbolsTaken {
+    pub pass: SymbolPass,
     pub taken: usize,
     pub stopped: bool,
     pub count: usize,
@@ -33,15 +33,15 @@ pub fn take_bytes(
     soft: bool,
     stream: ReaderStream,
     bytes: &[u8],
-    costs: &mut [u8],
+    pairs: &mut [u8],
     bits: &mut [u8],
     output: &mut [u8],
-) -> Taken
-    requires { ⌜ (ReaderReady stream) × (length (now bytes) / width soft ≤ length (now costs)) × (1632 ≤ length (now bits)) × (length (now bytes) / width soft + 1632 ≤ 4 * length (now output)) ⌝ }
+) -> SymbolsTaken
+    requires { ⌜ (ReaderReady stream) × (length (now bytes) / width soft ≤ length (now pairs)) × (1632 ≤ length (now bits)) × (length (now bytes) / width soft + 1632 ≤ 4 * length (now output)) ⌝ }
     ensures { λ r. ⌜ TakesBytes soft stream (now (bytes .entry)) (now (output .entry)) r (now (output .exit)) ⌝ }
 {
     if soft {
-        return crate::points::take_points(stream, bytes, costs, bits, output);
+        return crate::points::take_points(stream, bytes, pairs, bits, output);
     }
-    crate::symbols::take_symbols(stream, bytes, costs, bits, output)
+    crate::symbols::take_symbols(stream, bytes, pairs, bits, output)
 }

@@ -9,10 +9,10 @@ ghost use Rattle.branch_metrics.specs.SoftPairs.{symbolPair};
 ghost use Rattle.reader_stream.specs.Stream.{ReaderReady};
 ghost use Rattle.received_symbols.specs.Received.{wordAt, number, point, pointAt};
 ghost use Rattle.received_symbols.specs.Pass.{TakesBytes};
-use crate::Pass;
-use crate::Taken;
+use crate::SymbolPass;
+use crate::SymbolsTaken;
 use branch_metrics::soft_decision::Point;
-use branch_metrics::soft_decision::Received;
+use branch_metrics::soft_decision::ReceivedSymbol;
 use branch_metrics::soft_decision::symbol_pair;
 use common::put;
 use reader_stream::ReaderStream;
@@ -60,20 +60,20 @@ fn is_nan(x: f32) -> bool
 }
 
 // The symbol that two numbers stand for.
-fn point_of(i: f32, q: f32) -> Received
+fn point_of(i: f32, q: f32) -> ReceivedSymbol
     ensures { λ r. ⌜ r ≡ point i q ⌝ }
 {
     if !is_nan(i) {
-        return Received::At(Point { i, q });
+        return ReceivedSymbol::At(Point { i, q });
     }
     if !is_nan(q) {
-        return Received::At(Point { i, q });
+        return ReceivedSymbol::At(Point { i, q });
     }
-    Received::Lost
+    ReceivedSymbol::Lost
 }
 
 // The symbol whose point is at a place.
-fn point_at(bytes: &[u8], at: usize) -> Received
+fn point_at(bytes: &[u8], at: usize) -> ReceivedSymbol
     requires { ⌜ at + 8 ≤ length (now bytes) ⌝ }
     ensures { λ r. ⌜ r ≡ point (number (now (bytes .entry)) at) (number (now (bytes .entry)) (at + 4)) ⌝ }
 {
@@ -98,23 +98,23 @@ pub fn point_pairs(bytes: &[u8], count: usize, output: &mut [u8])
 pub fn take_points(
     stream: ReaderStream,
     bytes: &[u8],
-    costs: &mut [u8],
+    pairs: &mut [u8],
     bits: &mut [u8],
     output: &mut [u8],
-) -> Taken
-    requires { ⌜ (ReaderReady stream) × (length (now bytes) / 8 ≤ length (now costs)) × (1632 ≤ length (now bits)) × (length (now bytes) / 8 + 1632 ≤ 4 * length (now output)) ⌝ }
+) -> SymbolsTaken
+    requires { ⌜ (ReaderReady stream) × (length (now bytes) / 8 ≤ length (now pairs)) × (1632 ≤ length (now bits)) × (length (now bytes) / 8 + 1632 ≤ 4 * length (now output)) ⌝ }
     ensures { λ r. ⌜ TakesBytes true stream (now (bytes .entry)) (now (output .entry)) r (now (output .exit)) ⌝ }
 {
     let points = bytes.len() / 8;
-    point_pairs(bytes, points, costs);
-    let fed = stream.feed(&costs[..points], bits, output);
+    point_pairs(bytes, points, pairs);
+    let fed = stream.feed(&pairs[..points], bits, output);
     let next = fed.stream;
     let count = fed.count;
     let whole = 8 * points;
     let mut tail = [0u8; 8];
     put(&bytes[whole..], 0, &mut tail);
-    Taken {
-        pass: Pass {
+    SymbolsTaken {
+        pass: SymbolPass {
             stream: next,
             tail,
             held: bytes.len() % 8,

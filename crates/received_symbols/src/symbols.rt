@@ -4,8 +4,8 @@ ghost use mathlib.Core.Bool.{false};
 ghost use lib.ListN.{length};
 ghost use Rattle.reader_stream.specs.Stream.{ReaderReady};
 ghost use Rattle.received_symbols.specs.Pass.{SymbolsAtFront, TakesBytes};
-use crate::Pass;
-use crate::Taken;
+use crate::SymbolPass;
+use crate::SymbolsTaken;
 use reader::hard_pairs;
 use reader_stream::ReaderStream;
 
@@ -27,21 +27,21 @@ fn symbols_in(bytes: &[u8]) -> usize
 pub fn take_symbols(
     stream: ReaderStream,
     bytes: &[u8],
-    costs: &mut [u8],
+    pairs: &mut [u8],
     bits: &mut [u8],
     output: &mut [u8],
-) -> Taken
-    requires { ⌜ (ReaderReady stream) × (length (now bytes) ≤ length (now costs)) × (1632 ≤ length (now bits)) × (length (now bytes) + 1632 ≤ 4 * length (now output)) ⌝ }
+) -> SymbolsTaken
+    requires { ⌜ (ReaderReady stream) × (length (now bytes) ≤ length (now pairs)) × (1632 ≤ length (now bits)) × (length (now bytes) + 1632 ≤ 4 * length (now output)) ⌝ }
     ensures { λ r. ⌜ TakesBytes false stream (now (bytes .entry)) (now (output .entry)) r (now (output .exit)) ⌝ }
 {
     let taken = symbols_in(bytes);
-    hard_pairs(&bytes[..taken], costs);
-    let fed = stream.feed(&costs[..taken], bits, output);
+    hard_pairs(&bytes[..taken], pairs);
+    let fed = stream.feed(&pairs[..taken], bits, output);
     let next = fed.stream;
     let count = fed.count;
     let tail = [0u8; 8];
-    Taken {
-        pass: Pass {
+    SymbolsTaken {
+        pass: SymbolPass {
             stream: next,
             tail,
             held: 0,

@@ -2,7 +2,7 @@
 -- Assumes nothing.
 use mathlib.Core.Path.{_≡_, refl, sym, ap, ap₂, _∙_}
 use mathlib.Core.Bool.{Bool, true, false}
-use mathlib.Core.List.{List, _++_, append-nil}
+use mathlib.Core.List.{List, [], _++_, append-nil}
 use Prim.Native.Nat.{ℕ, suc, _≤_, _<_}
 use native.Mathlib.Omega.{arith}
 use borrow.Author.Tests.{eq-eqb, ne-eqb, lt-ltb, le-ltb, ltb-true}
@@ -21,7 +21,7 @@ use Rattle.reed_solomon.specs.declared.Changed.{Changed}
 use Rattle.reed_solomon.specs.declared.Decoded.{Decoded}
 use Rattle.reed_solomon.specs.declared.Decoded.the-variants.{Corrected, Uncorrectable, BlockLength, MarkValue}
 use Rattle.reed_solomon.proofs.Codewords.{codeword-length}
-use Rattle.reed_solomon.proofs.Laws.{FewChanges, total}
+use Rattle.reed_solomon.proofs.Laws.{FewChanges}
 use Rattle.interleaver.specs.Branch as branch
 use Rattle.interleaver.specs.Block.{branchesAfter}
 use Rattle.interleaver.specs.declared.branches.Branches.{Branches}
@@ -89,22 +89,40 @@ module _ (s : Receiver) (block marks output : List ℕ) (y : Ready s block marks
     pub ready-output : receiveOutput s block marks output left decoded ≡ outputAfter (stepOf s left decoded .outcome) left output
     ready-output = simp (y .range, eq-eqb _ _ (y .size), y .marked, le-ltb _ _ (y .enough), lt-ltb _ _ (y .more))
 
-  -- the call while filling, whatever the block decodes to
+  pub ready-refusal : receiveRefusal s block marks output ≡ 0
+  ready-refusal = simp (y .range, eq-eqb _ _ (y .size), y .marked, le-ltb _ _ (y .enough), lt-ltb _ _ (y .more))
+
+  -- while filling, the same for all that decoding could leave and answer
+  module _ (h : s .counts .taken < 11) (left : List ℕ) (decoded : Decoded) where
+    pub filling-number : receiveNumber s block marks output left decoded ≡ 9
+    filling-number = ready-number left decoded ∙ simp (lt-ltb _ _ h)
+
+    pub filling-state : receiveState s block marks output left decoded
+        ≡ record {
+          deinterleaver = record { branches = branchesAfter Receiving (s .deinterleaver .branches) block };
+          marks = branchesAfter Receiving (marksIn s) marks .cells;
+          sync = s .sync;
+          counts = counted (s .counts) 9 0 0;
+        }
+    unfolding stateAfter
+    filling-state = ready-state left decoded ∙ simp (lt-ltb _ _ h)
+
+    pub filling-output : receiveOutput s block marks output left decoded ≡ output
+    filling-output = ready-output left decoded ∙ simp (lt-ltb _ _ h)
+
+  -- the call while filling
   pub filling-call : s .counts .taken < 11 → (a : Answer) (d : Deinterleaver) (k : List ℕ) (n : Counts) (exit : List ℕ)
       → numberOf a ≡ 9 → d .branches ≡ branchesAfter Receiving (s .deinterleaver .branches) block → k ≡ branchesAfter Receiving (marksIn s) marks .cells
       → n ≡ counted (s .counts) 9 0 0 → exit ≡ output
       → ReceivesMarked s block marks output (record { answer = a; receiver = record { deinterleaver = d; marks = k; sync = s .sync; counts = n } }) exit
-  unfolding stateAfter
-  filling-call h a d k n exit p q j e w =
-      let t = total (delayedMarks s marks) (delayedBlock s block) in
-      record {
-        left = t .left;
-        decoded = t .answer;
-        decodes = t .decodes;
-        number = p ∙ sym (ready-number (t .left) (t .answer) ∙ simp (lt-ltb _ _ h));
-        state = states (s .sync) q j e ∙ sym (ready-state (t .left) (t .answer) ∙ simp (lt-ltb _ _ h));
-        written = w ∙ sym (ready-output (t .left) (t .answer) ∙ simp (lt-ltb _ _ h));
-      }
+  filling-call h a d k n exit p q j e w = record {
+    left = [];
+    decoded = Uncorrectable;
+    decodes = λ r l. absurd (omega arith);
+    number = p ∙ sym (filling-number h [] Uncorrectable);
+    state = states (s .sync) q j e ∙ sym (filling-state h [] Uncorrectable);
+    written = w ∙ sym (filling-output h [] Uncorrectable);
+  }
 
   -- of each number of changes that decoding tells, the sum over the accepted blocks takes what differs
   pub changed-is : (f : Changed → ℕ) → f noChange ≡ 0 → (left : List ℕ) (decoded : Decoded) → DecodesMarked (delayedMarks s marks) (delayedBlock s block) left decoded
@@ -131,7 +149,7 @@ module _ (s : Receiver) (block marks output : List ℕ) (y : Ready s block marks
       record {
         left = left;
         decoded = decoded;
-        decodes = c;
+        decodes = λ r l. c;
         number = p ∙ sym (ready-number left decoded ∙ ap (λ (x : GroupStep). outcomeNumber (x .outcome)) o);
         state = states (g .sync) q j (e ∙ changed) ∙ sym (ready-state left decoded ∙ ap whole o);
         written = w ∙ sym (ready-output left decoded ∙ ap (λ (x : GroupStep). outputAfter (x .outcome) left output) o);
@@ -180,9 +198,8 @@ module _ (s : Receiver) (block marks output : List ℕ) where
   refused-call : (a : Answer) (n : ℕ) → numberOf a ≡ suc n → receiveRefusal s block marks output ≡ suc n
       → ReceivesMarked s block marks output (record { answer = a; receiver = s }) output
   refused-call a n m e =
-      let t = total (delayedMarks s marks) (delayedBlock s block) in
       let z = ne-eqb (suc n) 0 (λ h. omega arith) in
-      record { left = t .left; decoded = t .answer; decodes = t .decodes; number = m ∙ simp (e, z); state = simp (e, z); written = simp (e, z) }
+      record { left = []; decoded = Uncorrectable; decodes = λ r l. absurd (omega (arith, e)); number = m ∙ simp (e, z); state = simp (e, z); written = simp (e, z) }
 
   pub refused-range : receiverInRange s ≡ false → ReceivesMarked s block marks output (record { answer = answer.StateRange; receiver = s }) output
   refused-range r = refused-call answer.StateRange 4 refl (simp r)

@@ -8,29 +8,29 @@ use native.Mathlib.Nat.{add-zero, zero-add, add-assoc, zero-mul}
 use native.Mathlib.Omega.{arith}
 use borrow.Author.Tests.{ne-eqb, lt-ltb, le-ltb}
 use lib.Dec.{eqb}
-use Rattle.common.specs.Choice.{pick}
 use Rattle.common.specs.Lists.{total}
+use Rattle.common.specs.Choice.{indicator}
 use Rattle.reed_solomon.specs.Code.{differ, differBits, changes}
 use Rattle.reed_solomon.specs.declared.Changed.{Changed}
 use Rattle.group_sync.specs.declared.Outcome.{Outcome}
 use Rattle.group_sync.specs.declared.Outcome.the-variants.{Filling, Delivered, Lost, Waiting, OutOfStep}
-use Rattle.reception_counts.specs.Counts.{one, outcomeNumber, counted}
+use Rattle.reception_counts.specs.Counts.{outcomeNumber, counted}
 use Rattle.reception_counts.specs.declared.Counts.{Counts}
 use Rattle.receiver.specs.Receive.{freshReceiver, delayedBlock, ofAccepted, stepOf, stateAfter, receiveRefusal, Ready}
 use Rattle.receiver.specs.Run.{Call, answerOf, afterCall, afterCalls, Event, history, answered, takenBy, acceptedBy, overAccepted, countsOf}
 use Rattle.receiver.specs.declared.Receiver.{Receiver}
 use Rattle.receiver.proofs.Calls.{ready-number, ready-state}
-use Rattle.receiver.proofs.Reached.{Refused, ready-or-refused, refused-state}
+use Rattle.receiver.proofs.Reached.{Refused, ready-or-refused, refused-number, refused-state}
 
 -- the counts with an event more
 abbrev pub with-event : Counts → Event → Counts
 with-event n e = record {
   taken = n .taken + takenBy (e .number);
-  filling = n .filling + one 9 (e .number);
-  delivered = n .delivered + one 0 (e .number);
-  lost = n .lost + one 8 (e .number);
-  waiting = n .waiting + one 10 (e .number);
-  outofstep = n .outofstep + one 11 (e .number);
+  filling = n .filling + indicator (eqb (e .number) 9);
+  delivered = n .delivered + indicator (eqb (e .number) 0);
+  lost = n .lost + indicator (eqb (e .number) 8);
+  waiting = n .waiting + indicator (eqb (e .number) 10);
+  outofstep = n .outofstep + indicator (eqb (e .number) 11);
   changed = n .changed + acceptedBy (e .number) * e .changed .bytes;
   bits = n .bits + acceptedBy (e .number) * e .changed .bits;
 }
@@ -57,7 +57,7 @@ accepted-outcome OutOfStep n = omega arith
 
 -- a block taken is in exactly one of the middle five
 pub exactly-one : (o : Outcome)
-    → one 9 (outcomeNumber o) + one 0 (outcomeNumber o) + one 8 (outcomeNumber o) + one 10 (outcomeNumber o) + one 11 (outcomeNumber o) ≡ 1
+    → indicator (eqb (outcomeNumber o) 9) + indicator (eqb (outcomeNumber o) 0) + indicator (eqb (outcomeNumber o) 8) + indicator (eqb (outcomeNumber o) 10) + indicator (eqb (outcomeNumber o) 11) ≡ 1
 exactly-one Filling = refl
 exactly-one (Delivered p) = refl
 exactly-one Lost = refl
@@ -97,11 +97,11 @@ taken-event n o came left =
     ap₂ (counted n (outcomeNumber o)) (accepted-outcome o (differ came left)) (accepted-outcome o (differBits came left))
     ∙ ap (λ (t : ℕ). record {
       taken = n .taken + t;
-      filling = n .filling + one 9 (outcomeNumber o);
-      delivered = n .delivered + one 0 (outcomeNumber o);
-      lost = n .lost + one 8 (outcomeNumber o);
-      waiting = n .waiting + one 10 (outcomeNumber o);
-      outofstep = n .outofstep + one 11 (outcomeNumber o);
+      filling = n .filling + indicator (eqb (outcomeNumber o) 9);
+      delivered = n .delivered + indicator (eqb (outcomeNumber o) 0);
+      lost = n .lost + indicator (eqb (outcomeNumber o) 8);
+      waiting = n .waiting + indicator (eqb (outcomeNumber o) 10);
+      outofstep = n .outofstep + indicator (eqb (outcomeNumber o) 11);
       changed = n .changed + acceptedBy (outcomeNumber o) * differ came left;
       bits = n .bits + acceptedBy (outcomeNumber o) * differBits came left;
     }) (sym (taken-outcome o))
@@ -110,9 +110,6 @@ call-counts : (s : Receiver) (c : Call) → afterCall s c .counts ≡ with-event
 unfolding stateAfter
 call-counts s c = by (ready-or-refused s (c .block) (c .marks) (c .output))
   where
-    unpicked : (k : ℕ) → 0 < k → (o : ℕ) → pick (eqb k 0) o k ≡ k
-    unpicked k h o = simp (ne-eqb k 0 (λ e. omega arith))
-
     by : Ready s (c .block) (c .marks) (c .output) ⊎ Refused s (c .block) (c .marks) (c .output) → afterCall s c .counts ≡ with-event (s .counts) (eventOf s c)
     by (inl y) =
         ap (λ (r : Receiver). r .counts) (ready-state s (c .block) (c .marks) (c .output) y (c .left) (c .decoded))
@@ -123,7 +120,7 @@ call-counts s c = by (ready-or-refused s (c .block) (c .marks) (c .output))
         ap (λ (r : Receiver). r .counts) (refused-state s (c .block) (c .marks) (c .output) (c .left) (c .decoded) f)
         ∙ sym
         (ap (λ (k : ℕ). with-event (s .counts) (record { number = k; changed = changes (delayedBlock s (c .block)) (c .left) }))
-        (unpicked (receiveRefusal s (c .block) (c .marks) (c .output)) (f .some) (outcomeNumber (stepOf s (c .left) (c .decoded) .outcome)))
+        (refused-number s (c .block) (c .marks) (c .output) (c .left) (c .decoded) f)
         ∙ refused-event (s .counts) (receiveRefusal s (c .block) (c .marks) (c .output)) (changes (delayedBlock s (c .block)) (c .left)) (f .some) (f .apart))
 
 -- ---- a list of calls

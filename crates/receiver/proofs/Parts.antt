@@ -17,7 +17,7 @@ use Rattle.receiver.specs.declared.Receiver.{Receiver}
 use Rattle.receiver.specs.declared.Received.{Received}
 use Rattle.receiver.proofs.Calls.{state-range, ready-state}
 use Rattle.receiver.proofs.MarkDelays.{none-stays}
-use Rattle.receiver.proofs.Reached.{Sound, sound-range, sound-call, Refused, ready-or-refused, refused-state}
+use Rattle.receiver.proofs.Reached.{Sound, sound-range, sound-call, Refused, ready-or-refused, refused-state, CallDecoded, call-decoded}
 
 -- the lengths of a receiver's lists
 pub record Sized (s : Receiver) : Type 0 where
@@ -30,7 +30,10 @@ pub record Kept (s after : Receiver) : Type 0 where
   pub sized : Sized after
   pub range : receiverInRange s ≡ receiverInRange after
 
-module _ (s : Receiver) (block marks output : List ℕ) (r : Received) (exit : List ℕ) (z : Sized s) (m : ReceivesMarked s block marks output r exit) where
+module _ (s : Receiver) (block marks output : List ℕ) (r : Received) (exit : List ℕ) (z : Sized s) (v : ReceivesMarked s block marks output r exit) where
+  abbrev m : CallDecoded s block marks output r exit
+  m = call-decoded v
+
   sound : receiverInRange s ≡ true → Sound s
   sound e =
       let g = state-range s e in

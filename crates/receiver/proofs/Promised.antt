@@ -15,6 +15,7 @@ use Rattle.receiver.specs.Receive.{freshReceiver}
 use Rattle.receiver.specs.Run.{Call, afterCalls, DecodedCalls, packetsGiven, lentBlocks, answers, Plain, OutputFits}
 use Rattle.receiver.specs.Kept.{Kept, none, call}
 use Rattle.receiver.specs.declared.Receiver.{Receiver}
+use Rattle.receiver.proofs.Reached.{call-decoded}
 use Rattle.receiver.proofs.Reception.{stream-received}
 
 -- calls of a history with these blocks, answers, packets and this state after them
@@ -31,7 +32,8 @@ pub record CallsOf (s : Receiver) (blocks : List (List ℕ)) (numbers : List ℕ
 pub kept-calls : {s last : Receiver} {blocks : List (List ℕ)} {numbers : List ℕ} {packets : List (List ℕ)} → Kept s blocks numbers packets last
     → CallsOf s blocks numbers packets last
 kept-calls none = record { calls = []; lent = refl; plain = tt; output-fits = tt; decodes = tt; answered = refl; given = refl; state = refl }
-kept-calls {s} (call block output exit r h p k) =
+kept-calls {s} (call block output exit r h v k) =
+    let p = call-decoded v in
     let c : Call = record { block = block; marks = noMarks; output = output; left = p .left; decoded = p .decoded } in
     let m = kept-calls k in
     let t = m .calls in

@@ -13,7 +13,7 @@ use Rattle.answer.specs.Number.{numberOf}
 use Rattle.reed_solomon.specs.Code.{differ, differBits}
 use Rattle.reed_solomon.specs.Marks.{areMarks, noMarks, DecodesMarked}
 use Rattle.reed_solomon.specs.declared.Decoded.{Decoded}
-use Rattle.reed_solomon.specs.declared.Decoded.the-variants.{Corrected, Uncorrectable, BlockLength, MarkValue}
+use Rattle.reed_solomon.specs.Decode.{decodedNumber}
 use Rattle.randomizer.specs.Packet.{derandomized}
 use Rattle.interleaver.specs.Block.{fresh, blockOut, branchesAfter}
 use Rattle.interleaver.specs.Branch as branch
@@ -79,10 +79,7 @@ delayedMarks s marks = blockOut Receiving (marksIn s) marks
 
 -- what the outer decoder made of a block: a codeword, by its first byte, or none
 abbrev pub decodingOf : Decoded → ℕ → BlockDecoding
-decodingOf (Corrected changed) first = decoding.Accepted first
-decodingOf Uncorrectable first = decoding.Lost
-decodingOf BlockLength first = decoding.Lost
-decodingOf MarkValue first = decoding.Lost
+decodingOf decoded first = pick (eqb (decodedNumber decoded) 0) (decoding.Accepted first) decoding.Lost
 
 -- What a block comes to, and the place after it. While filling, nothing is corrected and the place is untouched.
 -- Decoding the delayed block left these bytes and this answer.
@@ -151,12 +148,13 @@ receiveState s block marks output left decoded = pick (eqb (receiveRefusal s blo
 abbrev pub receiveOutput : Receiver → List ℕ → List ℕ → List ℕ → List ℕ → Decoded → List ℕ
 receiveOutput s block marks output left decoded = pick (eqb (receiveRefusal s block marks output) 0) (outputAfter (stepOf s left decoded .outcome) left output) output
 
--- The block that the branches give decodes, with the marks that they give, to an outcome, and the call is this function of it.
+-- What a call does. Where no test refuses it and the delays are full, the block that the branches give is decoded, with the marks that they give, and the
+-- call is this function of what that leaves and answers. Elsewhere nothing is decoded, and the function is the same for all that could be left and answered.
 -- Decoding is total and unique, so the call is decided.
 pub record ReceivesMarked (s : Receiver) (block marks output : List ℕ) (r : Received) (exit : List ℕ) : Type 0 where
   pub left : List ℕ
   pub decoded : Decoded
-  pub decodes : DecodesMarked (delayedMarks s marks) (delayedBlock s block) left decoded
+  pub decodes : receiveRefusal s block marks output ≡ 0 → 11 ≤ s .counts .taken → DecodesMarked (delayedMarks s marks) (delayedBlock s block) left decoded
   pub number : numberOf (r .answer) ≡ receiveNumber s block marks output left decoded
   pub state : r .receiver ≡ receiveState s block marks output left decoded
   pub written : exit ≡ receiveOutput s block marks output left decoded

@@ -7,13 +7,12 @@ use Prim.Native.Nat.{ℕ, _+_, _*_, _≤_}
 use Prim.{Unit}
 use lib.Dec.{ltb, eqb}
 use lib.ListN.{length, take}
-use Rattle.common.specs.Choice.{pick}
+use Rattle.common.specs.Choice.{pick, indicator}
 use Rattle.common.specs.Lists.{total}
 use Rattle.reed_solomon.specs.Code.{changes}
 use Rattle.reed_solomon.specs.Marks.{noMarks, DecodesMarked}
 use Rattle.reed_solomon.specs.declared.Changed.{Changed}
 use Rattle.reed_solomon.specs.declared.Decoded.{Decoded}
-use Rattle.reception_counts.specs.Counts.{one}
 use Rattle.reception_counts.specs.declared.Counts.{Counts}
 use Rattle.receiver.specs.Receive.{delayedBlock, delayedMarks, receiveNumber, receiveState, receiveOutput}
 use Rattle.receiver.specs.declared.Receiver.{Receiver}
@@ -68,11 +67,11 @@ takenBy number = pick (eqb number 0) 1 (pick (ltb number 8) 0 (pick (ltb number 
 
 -- how many calls were answered with the number k
 abbrev pub answered : ℕ → List Event → ℕ
-answered k = total (λ e. one k (e .number))
+answered k = total (λ e. indicator (eqb (e .number) k))
 
 -- 1 for an accepted block: answers 0, 10 and 11
 abbrev pub acceptedBy : ℕ → ℕ
-acceptedBy number = one 0 number + one 10 number + one 11 number
+acceptedBy number = indicator (eqb number 0) + indicator (eqb number 10) + indicator (eqb number 11)
 
 -- the sum over all accepted blocks of a number of their changes
 abbrev pub overAccepted : (Changed → ℕ) → List Event → ℕ

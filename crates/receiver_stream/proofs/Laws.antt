@@ -15,11 +15,10 @@ use Rattle.interleaver.proofs.BlockLists.{flatten-join}
 use Rattle.receiver.specs.Receive.{freshReceiver}
 use Rattle.receiver.specs.declared.Receiver.{Receiver}
 use Rattle.receiver.proofs.Reached.{Sound, sound-range, sound-fresh}
-use Rattle.recording.specs.Recording.{Recording, TakesRecording}
+use Rattle.recording.specs.Recording.{Recording, TakesRecording, over}
 use Rattle.recording.proofs.Joins.{recording-join}
 use Rattle.recording.proofs.Decided.{recording-taken}
-use Rattle.recording.proofs.Recordings.{recording-few}
-use Rattle.receiver_stream.specs.Feed.{holding, heldBytes, heldMarks, freshReceiverStream, receiverStreamInRange, capacityOf, TakesPiece}
+use Rattle.receiver_stream.specs.Feed.{holding, heldBytes, heldMarks, freshReceiverStream, receiverStreamInRange, capacityOf, ReceivesPiece}
 use Rattle.receiver_stream.specs.History.{Reception}
 use Rattle.receiver_stream.specs.declared.ReceiverStream.{ReceiverStream}
 
@@ -71,7 +70,7 @@ pub reception-none : Reception [] [] [] freshReceiverStream
 unfolding freshReceiverStream flatten restOf
 reception-none = record {
   packets = [];
-  recording = recording-few freshReceiver [] [] (omega arith);
+  recording = over {bytes = []} (omega arith);
   given = refl;
   kept = refl;
   each = refl;
@@ -85,7 +84,7 @@ takes-out : {s last : Receiver} {bytes marks output exit : List ℕ} {count : �
 takes-out {s} {last} {bytes} {marks} {output} {exit} {count} t = ap (take count) (t .written) ∙ take-at (flatten (t .packets)) (drop count output) count (sym (t .counted))
 
 module _ {bytes marks written : List ℕ} {i : ReceiverStream} (r : Reception bytes marks written i) {piece own output exit : List ℕ} {count : ℕ} {next : ReceiverStream} where
-  pub reception-taken-piece : TakesPiece i piece own output count next exit → length own ≡ length piece → Entries (λ m. m < 2) own
+  pub reception-taken-piece : ReceivesPiece i piece own output count next exit → length own ≡ length piece → Entries (λ m. m < 2) own
       → length bytes + length piece ≤ 204 * 4294967295 → Reception (bytes ++ piece) (marks ++ own) (written ++ take count exit) next
   reception-taken-piece t e m h =
       let k = t .takes in

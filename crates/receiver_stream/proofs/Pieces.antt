@@ -20,7 +20,7 @@ use Rattle.receiver.specs.Receive.{receiverInRange}
 use Rattle.recording.specs.Recording.{TakesRecording}
 use Rattle.recording.proofs.Joins.{takes-join, takes-few, takes-count, takes-length}
 use Rattle.receiver.specs.declared.Receiver.{Receiver}
-use Rattle.receiver_stream.specs.Feed.{holding, heldBytes, heldMarks, receiverStreamInRange, TakesPiece}
+use Rattle.receiver_stream.specs.Feed.{holding, heldBytes, heldMarks, receiverStreamInRange, ReceivesPiece}
 use Rattle.receiver_stream.specs.declared.ReceiverStream.{ReceiverStream}
 
 -- ---- the ranges
@@ -131,7 +131,7 @@ module _ (i : ReceiverStream) (size : length (i .pending) ≡ 204) (sizes : leng
   -- no block is whole yet
   pub keep-piece : (piece own output array marks : List ℕ) → i .held + length piece < 204 → length own ≡ length piece → array ≡ padded 204 (heldBytes i ++ piece)
       → marks ≡ padded 204 (heldMarks i ++ own)
-      → TakesPiece i piece own output 0 (record { receiver = i .receiver; pending = array; marks = marks; held = i .held + length piece }) output
+      → ReceivesPiece i piece own output 0 (record { receiver = i .receiver; pending = array; marks = marks; held = i .held + length piece }) output
   keep-piece piece own output array marks h w p q =
       let came = heldBytes i ++ piece in
       let cames = heldMarks i ++ own in
@@ -201,7 +201,7 @@ module _ (i : ReceiverStream) (size : length (i .pending) ≡ 204) (sizes : leng
         pub take-pieces : (array marks : List ℕ) (rest end : ℕ) → rest ≡ (length piece - start) % 204 → end ≡ length piece - rest
             → array ≡ padded 204 (take 0 (i .pending) ++ take (length piece - end) (drop end piece))
             → marks ≡ padded 204 (take 0 (i .marks) ++ take (length own - end) (drop end own))
-            → TakesPiece i piece own output (m + n) (record { receiver = last; pending = array; marks = marks; held = rest }) (putMid m (length exit - m) exit exit′)
+            → ReceivesPiece i piece own output (m + n) (record { receiver = last; pending = array; marks = marks; held = rest }) (putMid m (length exit - m) exit exit′)
         unfolding first firsts
         take-pieces array marks rest end p q a v =
             let h = i .held in

@@ -11,7 +11,7 @@ use Rattle.reception_counts.proofs.Ranges.{CountsRange, counts-range}
 use Rattle.receiver.proofs.Calls.{state-range}
 use Rattle.receiver.specs.declared.Receiver.{Receiver}
 use Rattle.recording.proofs.Decided.{recording-unique}
-use Rattle.report.specs.Text.{row, fits, sums, reportText, textNumber, Writes}
+use Rattle.report.specs.Text.{row, fits, sums, reportText, textNumber, WritesText}
 use Rattle.report.proofs.Counting.{told-fits}
 use Rattle.receiver_stream.specs.Feed.{receiverStreamInRange}
 use Rattle.receiver_stream.specs.History.{Reception}
@@ -61,10 +61,10 @@ report-total bytes marks written i r = record {
 }
 
 pub reports : (i : ReceiverStream) (output : List ℕ) (number count : ℕ) (exit : List ℕ)
-    → Writes (streamReportNumber i output) (reportText (streamReport i)) output number count exit → Reports i output number count exit
+    → WritesText (streamReportNumber i output) (reportText (streamReport i)) output number count exit → Reports i output number count exit
 reports i output number count exit w = record {
   writes = w;
   whole = λ bytes marks written text r p.
-      subst (λ (x : List ℕ). Writes (textNumber x output) x output number count exit) (report-text r p)
-      (subst (λ (k : ℕ). Writes k (reportText (streamReport i)) output number count exit) (answer-left i output (reception-range r)) w);
+      subst (λ (x : List ℕ). WritesText (textNumber x output) x output number count exit) (report-text r p)
+      (subst (λ (k : ℕ). WritesText k (reportText (streamReport i)) output number count exit) (answer-left i output (reception-range r)) w);
 }

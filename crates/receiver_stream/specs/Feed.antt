@@ -39,7 +39,7 @@ capacityOf i = 204 * (4294967295 - i .receiver .counts .taken) - i .held
 
 -- What a piece comes to, after the bytes held: a recording of both, with their marks, and with the packets in the output. The bytes after its last
 -- whole block are held, with their marks.
-pub record TakesPiece (i : ReceiverStream) (piece marks output : List ℕ) (count : ℕ) (next : ReceiverStream) (exit : List ℕ) : Type 0 where
+pub record ReceivesPiece (i : ReceiverStream) (piece marks output : List ℕ) (count : ℕ) (next : ReceiverStream) (exit : List ℕ) : Type 0 where
   pub takes : TakesRecording (i .receiver) (heldBytes i ++ piece) (heldMarks i ++ marks) output count (next .receiver) exit
   pub kept : next ≡ holding (next .receiver) (restOf 204 (heldBytes i ++ piece)) (restOf 204 (heldMarks i ++ marks))
 
@@ -58,4 +58,4 @@ receiverFeedNumber i piece marks output =
 -- what feeding promises: all as before, or the whole piece taken
 pub data FeedsReceiver (i : ReceiverStream) (piece marks output : List ℕ) (number count : ℕ) (next : ReceiverStream) (exit : List ℕ) : Type 0 where
   refused : number ≡ receiverFeedNumber i piece marks output → 0 < number → count ≡ 0 → next ≡ i → exit ≡ output → FeedsReceiver i piece marks output number count next exit
-  fed : receiverFeedNumber i piece marks output ≡ 0 → number ≡ 0 → TakesPiece i piece marks output count next exit → FeedsReceiver i piece marks output number count next exit
+  fed : receiverFeedNumber i piece marks output ≡ 0 → number ≡ 0 → ReceivesPiece i piece marks output count next exit → FeedsReceiver i piece marks output number count next exit

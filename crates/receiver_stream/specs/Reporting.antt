@@ -12,7 +12,7 @@ use Rattle.receiver.specs.declared.Receiver.{Receiver}
 use Rattle.recording.specs.Recording.{Recording}
 use Rattle.report.specs.declared.Bits.the-variants.{Number}
 use Rattle.report.specs.declared.Report.{Report}
-use Rattle.report.specs.Text.{reportText, textNumber, writeTests, Writes}
+use Rattle.report.specs.Text.{reportText, textNumber, writeTests, WritesText}
 use Rattle.receiver_stream.specs.Feed.{receiverStreamInRange}
 use Rattle.receiver_stream.specs.History.{Reception}
 use Rattle.receiver_stream.specs.declared.ReceiverStream.{ReceiverStream}
@@ -48,5 +48,5 @@ pub record PassReport (bytes marks text : List ℕ) : Type 0 where
 -- What writing the report promises: of every stream receiver what the definitions give of its counts and the bytes held, and of one that bytes
 -- came to the report on those bytes, with their marks, as one recording.
 pub record Reports (i : ReceiverStream) (output : List ℕ) (number count : ℕ) (exit : List ℕ) : Type 0 where
-  pub writes : Writes (streamReportNumber i output) (reportText (streamReport i)) output number count exit
-  pub whole : (bytes marks written text : List ℕ) → Reception bytes marks written i → PassReport bytes marks text → Writes (textNumber text output) text output number count exit
+  pub writes : WritesText (streamReportNumber i output) (reportText (streamReport i)) output number count exit
+  pub whole : (bytes marks written text : List ℕ) → Reception bytes marks written i → PassReport bytes marks text → WritesText (textNumber text output) text output number count exit

@@ -8,7 +8,7 @@ ghost use Rattle.answer.specs.Number.{numberOf};
 ghost use Rattle.common.specs.Choice.{pick};
 ghost use Rattle.common.specs.Lists.{padded};
 ghost use Rattle.recording.specs.Recording.{TakesRecording};
-ghost use Rattle.receiver_stream.specs.Feed.{freshReceiverStream, receiverStreamInRange, capacityOf, heldBytes, heldMarks, TakesPiece, FeedsReceiver};
+ghost use Rattle.receiver_stream.specs.Feed.{freshReceiverStream, receiverStreamInRange, capacityOf, heldBytes, heldMarks, ReceivesPiece, FeedsReceiver};
 ghost use Rattle.receiver_stream.specs.Reporting.{reportOf, Reports};
 use answer::Answer;
 use receiver::Receiver;
@@ -27,14 +27,14 @@ pub struct ReceiverStream {
 }
 
 // An answer, how many bytes of packets were written, and the stream receiver after it.
-pub struct Fed {
+pub struct ReceiverFed {
     pub answer: Answer,
     pub count: usize,
     pub stream: ReceiverStream,
 }
 
 // How many bytes of packets were written, and the stream receiver after it.
-struct Taken {
+struct ReceiverTaken {
     count: usize,
     stream: ReceiverStream,
 }
@@ -94,13 +94,18 @@ fn finish_block(stream: ReceiverStream, filler: &[u8], marks: &[u8], output: &mu
 }
 
 // Takes a piece that completes at least one block. Only a block that two pieces share is copied; the others are taken where they stand.
-fn take_blocks(stream: ReceiverStream, piece: &[u8], marks: &[u8], output: &mut [u8]) -> Taken
+fn take_blocks(
+    stream: ReceiverStream,
+    piece: &[u8],
+    marks: &[u8],
+    output: &mut [u8],
+) -> ReceiverTaken
     requires { ⌜
         (stream .held < 204)
         × (204 ≤ stream .held + length (now piece))
         × (length (now marks) ≡ length (now piece))
         × (188 * ((stream .held + length (now piece)) / 204) ≤ length (now output)) ⌝ }
-    ensures { λ r. ⌜ TakesPiece stream (now (piece .entry)) (now (marks .entry)) (now (output .entry)) (r .count) (r .stream) (now (output .exit)) ⌝ }
+    ensures { λ r. ⌜ ReceivesPiece stream (now (piece .entry)) (now (marks .entry)) (now (output .entry)) (r .count) (r .stream) (now (output .exit)) ⌝ }
 {
     let pending = stream.pending;
     let pending_marks = stream.marks;
@@ -121,7 +126,7 @@ fn take_blocks(stream: ReceiverStream, piece: &[u8], marks: &[u8], output: &mut 
     let end = piece.len() - rest;
     let pending = joined(pending, 0, &piece[end..]);
     let marks = joined(pending_marks, 0, &marks[end..]);
-    Taken {
+    ReceiverTaken {
         count,
         stream: ReceiverStream {
             receiver,
@@ -133,12 +138,17 @@ fn take_blocks(stream: ReceiverStream, piece: &[u8], marks: &[u8], output: &mut 
 }
 
 // Takes a piece.
-fn take_piece(stream: ReceiverStream, piece: &[u8], marks: &[u8], output: &mut [u8]) -> Taken
+fn take_piece(
+    stream: ReceiverStream,
+    piece: &[u8],
+    marks: &[u8],
+    output: &mut [u8],
+) -> ReceiverTaken
     requires { ⌜
         (stream .held < 204)
         × (length (now marks) ≡ length (now piece))
         × (188 * ((stream .held + length (now piece)) / 204) ≤ length (now output)) ⌝ }
-    ensures { λ r. ⌜ TakesPiece stream (now (piece .entry)) (now (marks .entry)) (now (output .entry)) (r .count) (r .stream) (now (output .exit)) ⌝ }
+    ensures { λ r. ⌜ ReceivesPiece stream (now (piece .entry)) (now (marks .entry)) (now (output .entry)) (r .count) (r .stream) (now (output .exit)) ⌝ }
 {
     let receiver = stream.receiver;
     let pending = stream.pending;
@@ -147,7 +157,7 @@ fn take_piece(stream: ReceiverStream, piece: &[u8], marks: &[u8], output: &mut [
     if piece.len() < Receiver::BLOCK_LENGTH - held {
         let pending = joined(pending, held, piece);
         let marks = joined(pending_marks, held, marks);
-        return Taken {
+        return ReceiverTaken {
             count: 0,
             stream: ReceiverStream {
                 receiver,
@@ -231,34 +241,34 @@ impl ReceiverStream {
     }
 
     // Takes a piece of the received bytes, of any length, with a mark for each, and writes the packets of the blocks that are whole then.
-    pub fn feed(self, piece: &[u8], marks: &[u8], output: &mut [u8]) -> Fed
+    pub fn feed(self, piece: &[u8], marks: &[u8], output: &mut [u8]) -> ReceiverFed
         ensures { λ r. ⌜
             FeedsReceiver self (now (piece .entry)) (now (marks .entry)) (now (output .entry)) (numberOf (r .answer)) (r .count) (r .stream) (now (output .exit)) ⌝ }
     {
         let held = self.held;
         if !self.in_range() {
-            return Fed {
+            return ReceiverFed {
                 answer: Answer::StateRange,
                 count: 0,
                 stream: self,
             };
         }
         if !recording::are_marks_for(piece, marks) {
-            return Fed {
+            return ReceiverFed {
                 answer: Answer::MarkValue,
                 count: 0,
                 stream: self,
             };
         }
         if output.len() < Receiver::PACKET_LENGTH * whole_blocks(held, piece.len()) {
-            return Fed {
+            return ReceiverFed {
                 answer: Answer::OutputLength,
                 count: 0,
                 stream: self,
             };
         }
         if self.capacity() < piece.len() as u64 {
-            return Fed {
+            return ReceiverFed {
                 answer: Answer::CountsFull,
                 count: 0,
                 stream: self,
@@ -267,7 +277,7 @@ impl ReceiverStream {
         let taken = take_piece(self, piece, marks, output);
         let count = taken.count;
         let stream = taken.stream;
-        Fed {
+        ReceiverFed {
             answer: Answer::Done,
             count,
             stream,

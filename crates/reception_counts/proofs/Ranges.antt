@@ -5,8 +5,10 @@ use mathlib.Core.Bool.{true, false}
 use Prim.Native.Nat.{ℕ, _+_, _*_, _≤_, _<_, min}
 use native.Mathlib.Omega.{arith}
 use borrow.Author.Tests.{leb-true, eqb-true, le-leb, eq-eqb, ne-eqb}
+use lib.Dec.{eqb}
 use Rattle.common.proofs.Choice.{both-true}
-use Rattle.reception_counts.specs.Counts.{middleFive, acceptedBlocks, countsInRange, one, counted, CountsFit}
+use Rattle.common.specs.Choice.{indicator}
+use Rattle.reception_counts.specs.Counts.{middleFive, acceptedBlocks, countsInRange, counted, CountsFit}
 use Rattle.reception_counts.specs.declared.Counts.{Counts}
 
 -- the ranges, each by itself
@@ -99,7 +101,7 @@ lost-range n r h l =
 -- a block that was accepted: in one of these counts, with at most sixteen bytes more and from one to eight bits in each of them
 pub accepted-range : (n : Counts) (number changed bits : ℕ) → CountsRange n → 11 ≤ n .taken → n .taken < 4294967295
     → changed ≤ 16 → changed ≤ bits → bits ≤ 8 * changed
-    → one 9 number ≡ 0 → one 8 number ≡ 0 → one 0 number + one 10 number + one 11 number ≡ 1 → CountsRange (counted n number changed bits)
+    → indicator (eqb number 9) ≡ 0 → indicator (eqb number 8) ≡ 0 → indicator (eqb number 0) + indicator (eqb number 10) + indicator (eqb number 11) ≡ 1 → CountsRange (counted n number changed bits)
 accepted-range n number changed bits r h l w u v x y z =
     let m = r .middle in
     let f = r .filled in

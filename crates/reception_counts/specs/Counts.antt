@@ -7,7 +7,7 @@ use mathlib.Core.Bool.{Bool, false}
 use mathlib.Core.Path.{_≡_}
 use Prim.Native.Nat.{ℕ, _+_, _*_, _≤_, _<_, min}
 use lib.Dec.{leb, eqb}
-use Rattle.common.specs.Choice.{pick}
+use Rattle.common.specs.Choice.{pick, indicator}
 use Rattle.group_sync.specs.declared.Outcome.{Outcome}
 use Rattle.group_sync.specs.declared.Outcome.the-variants.{Filling, Delivered, Lost, Waiting, OutOfStep}
 use Rattle.reception_counts.specs.declared.Counts.{Counts}
@@ -45,19 +45,15 @@ outcomeNumber Filling = 9
 outcomeNumber Waiting = 10
 outcomeNumber OutOfStep = 11
 
--- 1 for a block answered with the number k, else 0
-abbrev pub one : ℕ → ℕ → ℕ
-one k number = pick (eqb number k) 1 0
-
 -- the counts after a block taken, with its answer's number and the bytes and bits changed in it
 abbrev pub counted : Counts → ℕ → ℕ → ℕ → Counts
 counted n number changed bits = record {
   taken = n .taken + 1;
-  filling = n .filling + one 9 number;
-  delivered = n .delivered + one 0 number;
-  lost = n .lost + one 8 number;
-  waiting = n .waiting + one 10 number;
-  outofstep = n .outofstep + one 11 number;
+  filling = n .filling + indicator (eqb number 9);
+  delivered = n .delivered + indicator (eqb number 0);
+  lost = n .lost + indicator (eqb number 8);
+  waiting = n .waiting + indicator (eqb number 10);
+  outofstep = n .outofstep + indicator (eqb number 11);
   changed = n .changed + changed;
   bits = n .bits + bits;
 }

@@ -1,6 +1,6 @@
 -- Block p of a recording is the very block that a fresh receiver corrects at its call p + 12, the first being call 1.
 -- Assumes nothing.
-use mathlib.Core.Path.{_≡_, refl, sym, ap, ap₂, _∙_}
+use mathlib.Core.Path.{_≡_, refl, sym, ap, ap₂, subst, _∙_}
 use mathlib.Core.Bool.{false}
 use mathlib.Core.List.{List, [], _∷_, _++_, append-assoc, append-nil, flatten}
 use Prim.Native.Nat.{ℕ, _+_, _≤_}
@@ -13,7 +13,7 @@ use Rattle.common.specs.Lists.{All, Length}
 use Rattle.answer.specs.Number.{numberOf}
 use Rattle.reed_solomon.specs.Code.{changes, noChange}
 use Rattle.reed_solomon.specs.Decode.{Decodes, decodedNumber, changedBy}
-use Rattle.reed_solomon.specs.Marks.{noMarks}
+use Rattle.reed_solomon.specs.Marks.{noMarks, DecodesMarked}
 use Rattle.reed_solomon.specs.declared.Changed.{Changed}
 use Rattle.reed_solomon.specs.declared.Decoded.{Decoded}
 use Rattle.reed_solomon.specs.declared.Decoded.the-variants.{Corrected, Uncorrectable, BlockLength, MarkValue}
@@ -32,11 +32,11 @@ use Rattle.group_sync.specs.Group.{groupStep}
 use Rattle.group_sync.specs.declared.Outcome.{Outcome}
 use Rattle.group_sync.proofs.Synchronization.{accepted-outcome}
 use Rattle.reception_counts.specs.Counts.{outcomeNumber}
-use Rattle.receiver.specs.Receive.{freshReceiver, NoMarks, delayedBlock, decodingOf, ofAccepted, stepOf, stateAfter, Ready, Receives}
+use Rattle.receiver.specs.Receive.{freshReceiver, NoMarks, delayedBlock, delayedMarks, decodingOf, ofAccepted, stepOf, stateAfter, Ready, Receives}
 use Rattle.receiver.specs.Run.{Call, afterCall, afterCalls, lentBlocks, Plain}
 use Rattle.receiver.specs.declared.Receiver.{Receiver}
 use Rattle.receiver.specs.declared.Received.{Received}
-use Rattle.receiver.proofs.Calls.{state-range, ready-number, ready-state, changed-is}
+use Rattle.receiver.proofs.Calls.{state-range, ready-number, ready-state, ready-refusal, changed-is}
 use Rattle.receiver.proofs.Outcomes.{Unrefused, next-unrefused, branches-after, taken-after, unmarked-after}
 use Rattle.receiver.proofs.MarkDelays.{none-decodes}
 use Rattle.receiver.proofs.Reception.{blocks-count}
@@ -104,35 +104,39 @@ module _ (p : ℕ) (before : List Call) (u : Unrefused freshReceiver before) (pl
       ∙ sym (gathered-front (flatten whole) rest p (omega (arith, length-flatten 204 whole sizes, count)))
       ∙ ap (λ (x : List ℕ). gathered x p) front
 
-  -- no mark is in the delays, so that it is decoded as without marks
-  plain : (lent exit′ : List ℕ) (received : Received) (v : Receives (afterCalls freshReceiver before) came lent received exit′)
-      → Decodes (delayedBlock (afterCalls freshReceiver before) came) (v .left) (v .decoded)
-  unfolding freshReceiver
-  plain lent exit′ received v =
-      none-decodes (afterCalls freshReceiver before) (delayedBlock (afterCalls freshReceiver before) came) (v .left) (v .decoded) (unmarked-calls before freshReceiver u refl pl) (v .decodes)
-
-  -- so the block, the counts and the answer are those of that call's decoding
-  pub as-receiver : (lent exit′ : List ℕ) (received : Received) (v : Receives (afterCalls freshReceiver before) came lent received exit′)
-      → (blocks : ℕ) (output : List ℕ) (r : DecodedBlock) (exit : List ℕ) → blockRefusal recorded blocks p output ≡ 0 → GivesBlock recorded blocks p output r exit
-      → (numberOf (r .answer) ≡ decodedNumber (v .decoded)) × (r .changed ≡ changedBy (v .decoded)) × (exit ≡ outputWith (v .decoded) (v .left) output)
-  as-receiver lent exit′ received v blocks output r exit e (blockRefused h n c w) = absurd (omega arith)
-  as-receiver lent exit′ received v blocks output r exit e (blockDecoded left decoded f d n c w) =
-      let q = unique (gathered recorded p) left (v .left) decoded (v .decoded) d (rw call-gathered at (plain lent exit′ received v)) in (
-        n ∙ ap decodedNumber (q .answer),
-        c ∙ ap changedBy (q .answer),
-        w ∙ ap₂ (λ (x : Decoded) (y : List ℕ). outputWith x y output) (q .answer) (q .block),
-      )
-
-  -- What the call shows of it: it is answered 8 where the block is, and its sums of changed bytes and bits grow by the block's.
+  -- The call, where no test refuses it.
   module _ (lent exit′ : List ℕ) (received : Received) (v : Receives (afterCalls freshReceiver before) came lent received exit′)
-      (y : Ready (afterCalls freshReceiver before) came noMarks lent) (blocks : ℕ) (output : List ℕ) (r : DecodedBlock) (exit : List ℕ)
-      (e : blockRefusal recorded blocks p output ≡ 0) (g : GivesBlock recorded blocks p output r exit) where
+      (y : Ready (afterCalls freshReceiver before) came noMarks lent) where
     past : Receiver
     past = afterCalls freshReceiver before
 
     full : 11 ≤ past .counts .taken
     unfolding past freshReceiver
     full = omega (arith, taken-calls before freshReceiver u, n)
+
+    decodes : DecodesMarked (delayedMarks past noMarks) (delayedBlock past came) (v .left) (v .decoded)
+    unfolding past
+    decodes = v .decodes (ready-refusal past came noMarks lent y) full
+
+    -- no mark is in the delays, so that it is decoded as without marks
+    plain : Decodes (delayedBlock past came) (v .left) (v .decoded)
+    unfolding past freshReceiver
+    plain = none-decodes past (delayedBlock past came) (v .left) (v .decoded) (unmarked-calls before freshReceiver u refl pl) decodes
+
+    gathers : delayedBlock past came ≡ gathered recorded p
+    unfolding past
+    gathers = call-gathered
+
+    -- so the block, the counts and the answer are those of that call's decoding
+    pub as-receiver : (blocks : ℕ) (output : List ℕ) (r : DecodedBlock) (exit : List ℕ) → blockRefusal recorded blocks p output ≡ 0 → GivesBlock recorded blocks p output r exit
+        → (numberOf (r .answer) ≡ decodedNumber (v .decoded)) × (r .changed ≡ changedBy (v .decoded)) × (exit ≡ outputWith (v .decoded) (v .left) output)
+    as-receiver blocks output r exit e (blockRefused h n c w) = absurd (omega arith)
+    as-receiver blocks output r exit e (blockDecoded left decoded f d n c w) =
+        let q = unique (gathered recorded p) left (v .left) decoded (v .decoded) d (subst (λ (x : List ℕ). Decodes x (v .left) (v .decoded)) gathers plain) in (
+          n ∙ ap decodedNumber (q .answer),
+          c ∙ ap changedBy (q .answer),
+          w ∙ ap₂ (λ (x : Decoded) (y : List ℕ). outputWith x y output) (q .answer) (q .block),
+        )
 
     outcome : Decoded → Outcome
     unfolding past
@@ -156,26 +160,28 @@ module _ (p : ℕ) (before : List Call) (u : Unrefused freshReceiver before) (pl
     lost-or-not BlockLength d = absurd (d .0 (length-out Receiving (past .deinterleaver .branches) came))
     lost-or-not MarkValue d = absurd d
 
-    pub lost-as-received : eqb (numberOf (r .answer)) 8 ≡ eqb (numberOf (received .answer)) 8
-    unfolding past
-    lost-as-received =
-        ap (λ (k : ℕ). eqb k 8) (as-receiver lent exit′ received v blocks output r exit e g .0)
-        ∙ sym (ap (λ (k : ℕ). eqb k 8) answered ∙ lost-or-not (v .decoded) (plain lent exit′ received v))
+    -- What the call shows of it: it is answered 8 where the block is, and its sums of changed bytes and bits grow by the block's.
+    module _ (blocks : ℕ) (output : List ℕ) (r : DecodedBlock) (exit : List ℕ) (e : blockRefusal recorded blocks p output ≡ 0) (g : GivesBlock recorded blocks p output r exit) where
+      pub lost-as-received : eqb (numberOf (r .answer)) 8 ≡ eqb (numberOf (received .answer)) 8
+      unfolding past
+      lost-as-received =
+          ap (λ (k : ℕ). eqb k 8) (as-receiver blocks output r exit e g .0)
+          ∙ sym (ap (λ (k : ℕ). eqb k 8) answered ∙ lost-or-not (v .decoded) plain)
 
-    -- of each number of changes, what the call adds to its sum is the block's
-    added : (f : Changed → ℕ) → f noChange ≡ 0
-        → ofAccepted (stepOf past (v .left) (v .decoded) .outcome) (f (changes (delayedBlock past came) (v .left))) ≡ f (r .changed)
-    unfolding past outcome
-    added f z =
-        ap (λ (o : Outcome). ofAccepted o (f (changes (delayedBlock past came) (v .left)))) stepped
-        ∙ sym (changed-is past came noMarks lent y f z (v .left) (v .decoded) (v .decodes))
-        ∙ sym (ap f (as-receiver lent exit′ received v blocks output r exit e g .1))
+      -- of each number of changes, what the call adds to its sum is the block's
+      added : (f : Changed → ℕ) → f noChange ≡ 0
+          → ofAccepted (stepOf past (v .left) (v .decoded) .outcome) (f (changes (delayedBlock past came) (v .left))) ≡ f (r .changed)
+      unfolding past outcome
+      added f z =
+          ap (λ (o : Outcome). ofAccepted o (f (changes (delayedBlock past came) (v .left)))) stepped
+          ∙ sym (changed-is past came noMarks lent y f z (v .left) (v .decoded) decodes)
+          ∙ sym (ap f (as-receiver blocks output r exit e g .1))
 
-    pub changed-as-received : (received .receiver .counts .changed ≡ afterCalls freshReceiver before .counts .changed + r .changed .bytes)
-        × (received .receiver .counts .bits ≡ afterCalls freshReceiver before .counts .bits + r .changed .bits)
-    unfolding past stateAfter
-    changed-as-received =
-        let s = v .state ∙ ready-state past came noMarks lent y (v .left) (v .decoded) in (
-          ap (λ (x : Receiver). x .counts .changed) s ∙ ap (λ (k : ℕ). past .counts .changed + k) (added (λ x. x .bytes) refl),
-          ap (λ (x : Receiver). x .counts .bits) s ∙ ap (λ (k : ℕ). past .counts .bits + k) (added (λ x. x .bits) refl),
-        )
+      pub changed-as-received : (received .receiver .counts .changed ≡ afterCalls freshReceiver before .counts .changed + r .changed .bytes)
+          × (received .receiver .counts .bits ≡ afterCalls freshReceiver before .counts .bits + r .changed .bits)
+      unfolding past stateAfter
+      changed-as-received =
+          let s = v .state ∙ ready-state past came noMarks lent y (v .left) (v .decoded) in (
+            ap (λ (x : Receiver). x .counts .changed) s ∙ ap (λ (k : ℕ). past .counts .changed + k) (added (λ x. x .bytes) refl),
+            ap (λ (x : Receiver). x .counts .bits) s ∙ ap (λ (k : ℕ). past .counts .bits + k) (added (λ x. x .bits) refl),
+          )

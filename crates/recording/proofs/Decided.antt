@@ -16,9 +16,10 @@ use Rattle.common.proofs.Chunks.{chunks-whole}
 use Rattle.common.proofs.Entries.{entries-take, entries-drop, entries-append}
 use Rattle.common.proofs.Largest.{largest-most}
 use Rattle.common.proofs.Lists.{zeros-at}
+use Rattle.answer.specs.Number.{numberOf}
 use Rattle.reed_solomon.specs.Marks.{areMarks, noMarks, DecodesMarked}
 use Rattle.reed_solomon.specs.declared.Decoded.{Decoded}
-use Rattle.reed_solomon.proofs.Laws.{unique-marked, total}
+use Rattle.reed_solomon.proofs.Laws.{unique-marked}
 use Rattle.randomizer.specs.Packet.{derandomized}
 use Rattle.interleaver.specs.declared.branches.Side.the-variants.{Receiving}
 use Rattle.interleaver.proofs.Blocks.{length-out}
@@ -31,9 +32,9 @@ use Rattle.receiver.specs.Run.{Call, DecodedCalls, answerOf, afterCall, outputO
 use Rattle.receiver.specs.declared.Receiver.{Receiver}
 use Rattle.receiver.proofs.Calls.{ready-number, ready-state, ready-output, left-length}
 use Rattle.receiver.proofs.Outcomes.{packet-length}
-use Rattle.receiver.proofs.Reached.{Sound, sound-range, sound-call, Refused, ready-or-refused}
-use Rattle.recording.specs.Recording.{blockMarks, MarkedBy, Recording}
-use Rattle.recording.proofs.Recordings.{givenBy, step-place, recorded-more, recording-few}
+use Rattle.receiver.proofs.Reached.{Sound, sound-range, sound-call, Refused, ready-or-refused, call-exists}
+use Rattle.recording.specs.Recording.{blockMarks, Recording, over, call}
+use Rattle.recording.proofs.Recordings.{givenBy, step-place, MarkedBy, RecordedCalls, recorded-calls}
 use Rattle.recording.proofs.Joins.{calls-count}
 
 -- ---- a call on the same block, with room for a packet
@@ -132,7 +133,7 @@ calls-same s marks (c ∷ xs) (d ∷ ys) b p q =
       state = f .state ∙ ap (λ (m : Receiver). afterCalls m ys) (e .state);
     }
 
-asked-of : {s : Receiver} {bytes marks : List ℕ} {packets : List (List ℕ)} {last : Receiver} (r : Recording s bytes marks packets last) → Asked s marks (r .calls)
+asked-of : {s : Receiver} {bytes marks : List ℕ} {packets : List (List ℕ)} {last : Receiver} (r : RecordedCalls s bytes marks packets last) → Asked s marks (r .calls)
 asked-of r = record { marked = r .marked; decodes = r .decodes; output-fits = r .output-fits }
 
 pub record SameRecording (packets packets′ : List (List ℕ)) (last last′ : Receiver) : Type 0 where
@@ -140,7 +141,9 @@ pub record SameRecording (packets packets′ : List (List ℕ)) (last last′ : 
   pub state : last ≡ last′
 
 pub recording-unique : {s : Receiver} {bytes marks : List ℕ} {p q : List (List ℕ)} {m n : Receiver} → Recording s bytes marks p m → Recording s bytes marks q n → SameRecording p q m n
-recording-unique {s} {bytes} {marks} a b =
+recording-unique {s} {bytes} {marks} x y =
+    let a = recorded-calls x in
+    let b = recorded-calls y in
     let e = calls-same s marks (a .calls) (b .calls) (a .blocks ∙ sym (b .blocks)) (asked-of a) (asked-of b) in
     record { given = a .given ∙ e .given ∙ sym (b .given); state = a .state ∙ e .state ∙ sym (b .state) }
 
@@ -175,7 +178,8 @@ calls-marks marks (c ∷ cs) e m =
 
 pub recording-taken : {s : Receiver} {bytes marks : List ℕ} {packets : List (List ℕ)} {last : Receiver} → Sound s → Entries (λ m. m < 2) marks
     → Recording s bytes marks packets last → s .counts .taken + length bytes / 204 ≤ 4294967295 → Sound last × (last .counts .taken ≡ s .counts .taken + length bytes / 204)
-recording-taken {s} {bytes} {marks} {packets} {last} g e r h =
+recording-taken {s} {bytes} {marks} {packets} {last} g e t h =
+    let r = recorded-calls t in
     let l = calls-count r in
     let sizes : All (Length 204) (lentBlocks (r .calls)) = subst (All (Length 204)) (sym (r .blocks)) (chunks-whole 204 bytes) in
     let t = taken-calls s (r .calls) g (r .decodes) sizes (calls-marks marks (r .calls) e (r .marked)) (r .output-fits) (omega arith) in
@@ -188,28 +192,22 @@ pub record RecordingOf (s : Receiver) (bytes marks : List ℕ) : Type 0 where
   pub last : Receiver
   pub recording : Recording s bytes marks packets last
 
--- a call on the first block
-call-total : (s : Receiver) (bytes marks output left : List ℕ) (decoded : Decoded) → DecodesMarked (delayedMarks s (blockMarks marks)) (delayedBlock s (take 204 bytes)) left decoded → 188 ≤ length output
-    → 204 ≤ length bytes → ((t : Receiver) → RecordingOf t (drop 204 bytes) (drop 204 marks)) → RecordingOf s bytes marks
-call-total s bytes marks output left decoded d o h f =
-    let c : Call = record { block = take 204 bytes; marks = blockMarks marks; output = output; left = left; decoded = decoded } in
-    let r = f (afterCall s c) in
-    record {
-      packets = givenBy (answerOf s c) (outputOf s c) ++ r .packets;
-      last = r .last;
-      recording = recorded-more s c d bytes marks (r .packets) (r .last) refl refl h o (r .recording);
-    }
-
 packet-fits : 188 ≤ length (replicate 188 zero)
 packet-fits = omega (arith, length-replicate 188 zero)
 
+-- a call on the first block
 more-total : (s : Receiver) (bytes marks : List ℕ) → 204 ≤ length bytes → ((t : Receiver) → RecordingOf t (drop 204 bytes) (drop 204 marks)) → RecordingOf s bytes marks
 more-total s bytes marks h f =
-    let t = total (delayedMarks s (blockMarks marks)) (delayedBlock s (take 204 bytes)) in
-    call-total s bytes marks (replicate 188 zero) (t .left) (t .answer) (t .decodes) packet-fits h f
+    let c = call-exists s (take 204 bytes) (blockMarks marks) (replicate 188 zero) in
+    let r = f (c .received .receiver) in
+    record {
+      packets = givenBy (numberOf (c .received .answer)) (c .exit) ++ r .packets;
+      last = r .last;
+      recording = call (replicate 188 zero) (c .exit) (c .received) h packet-fits (c .receives) (r .recording);
+    }
 
 blocks-total : (n : ℕ) (s : Receiver) (bytes marks : List ℕ) → length bytes / 204 ≡ n → RecordingOf s bytes marks
-blocks-total zero s bytes marks e = record { packets = []; last = s; recording = recording-few s bytes marks (omega arith) }
+blocks-total zero s bytes marks e = record { packets = []; last = s; recording = over {bytes = bytes} (omega arith) }
 blocks-total (suc n) s bytes marks e =
     let l = length-drop 204 bytes in
     more-total s bytes marks (omega arith) (λ t. blocks-total n t (drop 204 bytes) (drop 204 marks) (omega arith))

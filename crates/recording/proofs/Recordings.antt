@@ -5,7 +5,7 @@ use mathlib.Core.Bool.{Bool, true, false}
 use mathlib.Core.List.{List, [], _∷_, _++_, append-assoc, append-nil, flatten}
 use mathlib.Core.Logic.{_⊎_, inl, inr}
 use Prim.Native.Nat.{ℕ, _+_, _-_, _*_, _/_, _≤_, _<_}
-use Prim.{tt}
+use Prim.{tt, Unit}
 use native.Mathlib.Decide.{decLt}
 use native.Mathlib.Omega.{arith}
 use borrow.Author.Tests.{ne-eqb, lt-ltb, le-ltb}
@@ -14,7 +14,7 @@ use lib.Dec.{eqb}
 use lib.ListN.{length, getD, take, drop, length-append, length-drop, drop-of-length-le}
 use lib.Seq.{take-all, take-at, take-append-le, drop-at, drop-drop, drop-nil}
 use Rattle.common.specs.Choice.{pick}
-use Rattle.common.specs.Lists.{All}
+use Rattle.common.specs.Lists.{All, chunksOf}
 use Rattle.common.proofs.Chunks.{chunks-few, chunks-more}
 use Rattle.answer.specs.Number.{numberOf}
 use Rattle.reed_solomon.specs.Marks.{noMarks, DecodesMarked}
@@ -28,16 +28,21 @@ use Rattle.group_sync.specs.declared.Outcome.the-variants.{Filling, Delivered, 
 use Rattle.group_sync.proofs.Synchronization.{outcome-place}
 use Rattle.reception_counts.specs.Counts.{outcomeNumber}
 use Rattle.receiver.specs.Receive.{NoMarks, receiverInRange, delayedBlock, delayedMarks, decodingOf, stepOf, outputAfter, receiveRefusal, Ready, ReceivesMarked}
-use Rattle.receiver.specs.Run.{Call, answerOf, afterCall, outputOf, Plain, OutputFits}
+use Rattle.receiver.specs.Run.{Call, answerOf, outputOf, DecodedCalls, afterCalls, packetsGiven, lentBlocks, Plain, OutputFits}
 use Rattle.receiver.specs.declared.Receiver.{Receiver}
 use Rattle.receiver.specs.declared.Received.{Received}
 use Rattle.receiver.proofs.Calls.{state-range, ready-number, ready-output, left-length}
-use Rattle.receiver.proofs.Reached.{Refused, ready-or-refused}
+use Rattle.receiver.proofs.Reached.{Refused, ready-or-refused, call-decoded}
 use Rattle.receiver.proofs.Parts.{Sized, kept-by, still-none}
 use Rattle.receiver.proofs.Outcomes.{packet-length}
-use Rattle.recording.specs.Recording.{blockMarks, MarkedBy, Recording, TakesRecording, givenBytes}
+use Rattle.recording.specs.Recording.{blockMarks, Recording, over, call, TakesRecording, givenBytes}
 
 -- ---- the marks of a block
+
+-- each call has the marks of its block
+abbrev pub MarkedBy : List ℕ → List Call → Type 0
+MarkedBy marks [] = Unit {0}
+MarkedBy marks (c ∷ cs) = (c .marks ≡ blockMarks marks) × MarkedBy (drop 204 marks) cs
 
 -- where none come, no call has a mark
 pub none-marked : (cs : List Call) → MarkedBy [] cs → All Plain cs
@@ -55,11 +60,48 @@ one-block l at = let e : at + 204 - at ≡ 204 = omega arith in ap (λ (k : ℕ)
 pub marks-front : (marks : List ℕ) → 204 ≤ length marks → blockMarks marks ≡ take 204 marks
 marks-front marks h = take-append-le 204 marks noMarks h
 
--- ---- the output after a call
+-- ---- a recording as a list of calls
 
 -- the packet that a call gives, or none
 abbrev pub givenBy : ℕ → List ℕ → List (List ℕ)
 givenBy number exit = pick (eqb number 0) (take 188 exit ∷ []) []
+
+pub record RecordedCalls (s : Receiver) (bytes marks : List ℕ) (packets : List (List ℕ)) (last : Receiver) : Type 0 where
+  pub calls : List Call
+  pub blocks : lentBlocks calls ≡ chunksOf 204 bytes
+  pub marked : MarkedBy marks calls
+  pub decodes : DecodedCalls s calls
+  pub output-fits : All OutputFits calls
+  pub given : packets ≡ packetsGiven s calls
+  pub state : last ≡ afterCalls s calls
+
+pub recorded-calls : {s last : Receiver} {bytes marks : List ℕ} {packets : List (List ℕ)} → Recording s bytes marks packets last → RecordedCalls s bytes marks packets last
+recorded-calls {bytes = bytes} (over h) = record {
+  calls = [];
+  blocks = sym (chunks-few 204 (omega arith) bytes h);
+  marked = tt;
+  decodes = tt;
+  output-fits = tt;
+  given = refl;
+  state = refl;
+}
+recorded-calls {s} {bytes = bytes} {marks = marks} (call output exit r h o v k) =
+    let d = call-decoded v in
+    let c : Call = record { block = take 204 bytes; marks = blockMarks marks; output = output; left = d .left; decoded = d .decoded } in
+    let t = recorded-calls k in
+    record {
+      calls = c ∷ t .calls;
+      blocks = ap (λ (l : List (List ℕ)). take 204 bytes ∷ l) (t .blocks) ∙ sym (chunks-more 204 (omega arith) bytes h);
+      marked = (refl, t .marked);
+      decodes = (d .decodes, subst (λ (x : Receiver). DecodedCalls x (t .calls)) (d .state) (t .decodes));
+      output-fits = (o, t .output-fits);
+      given =
+          ap₂ (λ (x y : List (List ℕ)). x ++ y) (ap₂ givenBy (d .number) (d .written))
+          (t .given ∙ ap (λ (x : Receiver). packetsGiven x (t .calls)) (d .state));
+      state = t .state ∙ ap (λ (x : Receiver). afterCalls x (t .calls)) (d .state);
+    }
+
+-- ---- the output after a call
 
 record Filled (number : ℕ) (output exit : List ℕ) : Type 0 where
   pub size : length (flatten (givenBy number exit)) ≡ givenBytes number
@@ -105,32 +147,6 @@ module _ (s : Receiver) (c : Call) (d : DecodesMarked (delayedMarks s (c .marks)
           refused-filled (receiveRefusal s (c .block) (c .marks) (c .output)) (outcomeNumber (stepOf s (c .left) (c .decoded) .outcome)) (c .output)
           (outputAfter (stepOf s (c .left) (c .decoded) .outcome) (c .left) (c .output)) (f .some)
 
-  -- a call on the first block, before those on the blocks after it
-  pub recorded-more : (bytes marks : List ℕ) (packets : List (List ℕ)) (last : Receiver) → c .block ≡ take 204 bytes → c .marks ≡ blockMarks marks → 204 ≤ length bytes → OutputFits c
-      → Recording (afterCall s c) (drop 204 bytes) (drop 204 marks) packets last → Recording s bytes marks (givenBy (answerOf s c) (outputOf s c) ++ packets) last
-  unfolding flatten
-  recorded-more bytes marks packets last e m h o r = record {
-    calls = c ∷ r .calls;
-    blocks = ap₂ (λ (a : List ℕ) (l : List (List ℕ)). a ∷ l) e (r .blocks) ∙ sym (chunks-more 204 (omega arith) bytes h);
-    marked = (m, r .marked);
-    decodes = (d, r .decodes);
-    output-fits = (o, r .output-fits);
-    given = ap (λ (x : List (List ℕ)). givenBy (answerOf s c) (outputOf s c) ++ x) (r .given);
-    state = r .state;
-  }
-
--- fewer bytes than a block
-pub recording-few : (s : Receiver) (bytes marks : List ℕ) → length bytes < 204 → Recording s bytes marks [] s
-recording-few s bytes marks h = record {
-  calls = [];
-  blocks = sym (chunks-few 204 (omega arith) bytes h);
-  marked = tt;
-  decodes = tt;
-  output-fits = tt;
-  given = refl;
-  state = refl;
-}
-
 few-given : (number : ℕ) → givenBytes number ≤ 188
 few-given number = by (eqb number 0) refl
   where
@@ -165,10 +181,9 @@ module _ {first : Receiver} {bytes marks output₀ output : List ℕ} {s : Recei
   unfolding flatten
   progress-end h =
       let d = length-drop at bytes in
-      let r = recording-few s (drop at bytes) (drop at marks) (omega arith) in
       record {
         packets = p .front;
-        recording = subst (λ (x : List (List ℕ)). Recording first bytes marks x s) (append-nil (p .front)) (p .further [] s r);
+        recording = subst (λ (x : List (List ℕ)). Recording first bytes marks x s) (append-nil (p .front)) (p .further [] s (over (omega arith)));
         counted = sym (p .counted);
         written = p .written;
       }
@@ -198,15 +213,13 @@ module _ {first : Receiver} {bytes marks output₀ output : List ℕ} {s : Recei
           subst (λ (b : List ℕ). ReceivesMarked s (take 204 (drop at bytes)) (blockMarks (drop at marks)) b r exit)
           (take-all (length output - count) (drop count output) (omega (arith, length-drop count output))) m
 
-      call : Call
-      call = record { block = take 204 (drop at bytes); marks = blockMarks (drop at marks); output = drop count output; left = kept .left; decoded = kept .decoded }
-
       filled : Filled (numberOf (r .answer)) (drop count output) exit
-      unfolding call
-      filled = subst₂ (λ (n : ℕ) (x : List ℕ). Filled n (drop count output) x) (sym (kept .number)) (sym (kept .written)) (call-filled s call (kept .decodes))
+      filled =
+          let d = call-decoded kept in
+          let c : Call = record { block = take 204 (drop at bytes); marks = blockMarks (drop at marks); output = drop count output; left = d .left; decoded = d .decoded } in
+          subst₂ (λ (n : ℕ) (x : List ℕ). Filled n (drop count output) x) (sym (d .number)) (sym (d .written)) (call-filled s c (d .decodes))
 
       more : Progress first bytes marks output₀ (putMid count (length output - count) output exit) (r .receiver) (at + 204) (count + givenBytes (numberOf (r .answer)))
-      unfolding call
       more =
           let n = givenBytes (numberOf (r .answer)) in
           let g = givenBy (numberOf (r .answer)) exit in
@@ -224,15 +237,11 @@ module _ {first : Receiver} {bytes marks output₀ output : List ℕ} {s : Recei
                 ∙ sym (append-assoc (flatten (p .front)) (flatten g) (drop (count + n) output₀))
                 ∙ ap (λ (l : List ℕ). l ++ drop (count + n) output₀) (sym (flatten-join (p .front) g));
             further = λ packets last t.
-                let u : Recording (afterCall s call) (drop 204 (drop at bytes)) (drop 204 (drop at marks)) packets last =
-                subst₂ (λ (a : Receiver) (b : List ℕ). Recording a b (drop 204 (drop at marks)) packets last) (kept .state) (sym (drop-drop 204 at bytes))
-                (subst (λ (m : List ℕ). Recording (r .receiver) (drop (at + 204) bytes) m packets last) (sym (drop-drop 204 at marks)) t) in
-                let v : Recording s (drop at bytes) (drop at marks) (givenBy (answerOf s call) (outputOf s call) ++ packets) last =
-                recorded-more s call (kept .decodes) (drop at bytes) (drop at marks) packets last refl refl (omega (arith, length-drop at bytes))
-                (omega (arith, ap length back-output, length-drop count output₀, p .enough, h)) u in
-                subst (λ (x : List (List ℕ)). Recording first bytes marks x last)
-                (ap₂ (λ (k : ℕ) (x : List ℕ). p .front ++ (givenBy k x ++ packets)) (sym (kept .number)) (sym (kept .written)) ∙ sym (append-assoc (p .front) g packets))
-                (p .further (givenBy (answerOf s call) (outputOf s call) ++ packets) last v);
+                let u : Recording (r .receiver) (drop 204 (drop at bytes)) (drop 204 (drop at marks)) packets last =
+                subst₂ (λ (b m : List ℕ). Recording (r .receiver) b m packets last) (sym (drop-drop 204 at bytes)) (sym (drop-drop 204 at marks)) t in
+                let v : Recording s (drop at bytes) (drop at marks) (g ++ packets) last =
+                call {bytes = drop at bytes} (drop count output) exit r (omega (arith, length-drop at bytes)) (omega (arith, ap length back-output, length-drop count output₀, p .enough, h)) kept u in
+                subst (λ (x : List (List ℕ)). Recording first bytes marks x last) (sym (append-assoc (p .front) g packets)) (p .further (g ++ packets) last v);
           }
 
       pub progress-more : {n : ℕ} → n ≡ givenBytes (numberOf (r .answer))

@@ -19,13 +19,13 @@ use Rattle.receiver.proofs.Reached.{sound-range, sound-fresh}
 use Rattle.receiver.proofs.Reception.{stream-received}
 use Rattle.sent_blocks.specs.Blocks.{interleavedBlocks, sentBytes}
 use Rattle.sent_blocks.proofs.Lengths.{interleaved-whole, sent-count}
-use Rattle.recording.specs.Recording.{Recording, recordingNumber, ReceivesRecording, refused, taken}
+use Rattle.recording.specs.Recording.{recordingNumber, ReceivesRecording, refused, taken}
 use Rattle.recording.specs.Returned.{Returns}
 use Rattle.recording.proofs.Decided.{recording-total}
-use Rattle.recording.proofs.Recordings.{none-marked}
+use Rattle.recording.proofs.Recordings.{RecordedCalls, recorded-calls, none-marked}
 
 module _ (packets : List (List ℕ)) (ws : All Packet packets) where
-  recorded-blocks : {s last : Receiver} {given : List (List ℕ)} (r : Recording s (sentBytes packets) [] given last)
+  recorded-blocks : {s last : Receiver} {given : List (List ℕ)} (r : RecordedCalls s (sentBytes packets) [] given last)
       → lentBlocks (r .calls) ≡ interleavedBlocks packets
   recorded-blocks r = r .blocks ∙ chunks-joined 204 (omega arith) (interleavedBlocks packets) (interleaved-whole packets)
 
@@ -49,7 +49,7 @@ module _ (packets : List (List ℕ)) (ws : All Packet packets) where
         → (number ≡ 0) × (count ≡ 188 * (length packets - 11)) × (exit ≡ flatten (take (length packets - 11) packets) ++ drop count output)
     given-back (refused e h c l x) = absurd (omega (arith, e, none-refuses))
     given-back {count = count} (taken h e t) =
-        let r = t .recording in
+        let r = recorded-calls (t .recording) in
         let g = r .given ∙ stream-received packets ws few (r .calls) (recorded-blocks r) (none-marked (r .calls) (r .marked)) (r .output-fits) (r .decodes) .1 in (
           e,
           t .counted ∙ ap (λ (l : List (List ℕ)). length (flatten l)) g ∙ arrived-length,
@@ -75,5 +75,5 @@ pub record History (packets : List (List ℕ)) : Type 0 where
 
 pub history-exists : (packets : List (List ℕ)) → All Packet packets → History packets
 history-exists packets ws =
-    let r = recording-total freshReceiver (sentBytes packets) [] .recording in
+    let r = recorded-calls (recording-total freshReceiver (sentBytes packets) [] .recording) in
     record { calls = r .calls; lent = recorded-blocks packets ws r; plain = none-marked (r .calls) (r .marked); output-fits = r .output-fits; decodes = r .decodes }

@@ -6,11 +6,11 @@ use Prim.Native.Nat.{ℕ, _+_, _*_, _/_, _<_, min}
 use lib.Dec.{ltb, eqb}
 use lib.ListN.{length, getD, take, drop}
 use Rattle.common.specs.Refusal.{unless, when, firstDue}
+use Rattle.common.specs.Choice.{pick}
 use Rattle.answer.specs.Number.{numberOf}
 use Rattle.reed_solomon.specs.Code.{noChange}
 use Rattle.reed_solomon.specs.Decode.{Decodes, decodedNumber, changedBy}
 use Rattle.reed_solomon.specs.declared.Decoded.{Decoded}
-use Rattle.reed_solomon.specs.declared.Decoded.the-variants.{Corrected, Uncorrectable, BlockLength, MarkValue}
 use Rattle.interleaver.specs.Gathered.{placeIn, gathered}
 use Rattle.recording.specs.declared.block.DecodedBlock.{DecodedBlock}
 
@@ -30,10 +30,7 @@ blockRefusal bytes blocks p output =
 
 -- the output after the work: a codeword is written to its front
 abbrev pub outputWith : Decoded → List ℕ → List ℕ → List ℕ
-outputWith (Corrected changed) left output = left ++ drop 204 output
-outputWith Uncorrectable left output = output
-outputWith BlockLength left output = output
-outputWith MarkValue left output = output
+outputWith decoded left output = pick (eqb (decodedNumber decoded) 0) (left ++ drop 204 output) output
 
 -- The first test that fails is the answer, and all is as it was; or the 204 bytes gathered decode to this. Decoding is unique, so the call is decided.
 pub data GivesBlock (bytes : List ℕ) (blocks p : ℕ) (output : List ℕ) (r : DecodedBlock) (exit : List ℕ) : Type 0 where

@@ -4,37 +4,30 @@
 use mathlib.Core.Path.{_≡_}
 use mathlib.Core.Bool.{Bool, false}
 use mathlib.Core.List.{List, [], _∷_, _++_, flatten}
-use Prim.Native.Nat.{ℕ, _-_, _*_, _/_, _<_}
-use Prim.{Unit}
+use Prim.Native.Nat.{ℕ, _-_, _*_, _/_, _<_, _≤_}
 use lib.Dec.{ltb, eqb}
 use lib.ListN.{length, take, drop}
 use Rattle.common.specs.Choice.{pick}
 use Rattle.common.specs.Refusal.{Test, unless, when, firstDue}
-use Rattle.common.specs.Lists.{All, largest, chunksOf}
+use Rattle.common.specs.Lists.{largest}
+use Rattle.answer.specs.Number.{numberOf}
 use Rattle.reed_solomon.specs.Marks.{noMarks}
-use Rattle.receiver.specs.Receive.{receiverInRange}
-use Rattle.receiver.specs.Run.{Call, DecodedCalls, OutputFits, lentBlocks, packetsGiven, afterCalls}
+use Rattle.receiver.specs.Receive.{receiverInRange, ReceivesMarked}
 use Rattle.receiver.specs.declared.Receiver.{Receiver}
+use Rattle.receiver.specs.declared.Received.{Received}
 
 -- the marks of the first block: 0 where none come
 abbrev pub blockMarks : List ℕ → List ℕ
 blockMarks marks = take 204 (marks ++ noMarks)
 
--- each call has the marks of its block
-abbrev pub MarkedBy : List ℕ → List Call → Type 0
-MarkedBy marks [] = Unit {0}
-MarkedBy marks (c ∷ cs) = (c .marks ≡ blockMarks marks) × MarkedBy (drop 204 marks) cs
-
--- The recording is cut into blocks of 204 bytes, and the fewer than 204 bytes after the last of them are in none.
--- There is one call for each block, in their order, with its marks and with room for a packet. These are the packets given and the state after the calls.
-pub record Recording (s : Receiver) (bytes marks : List ℕ) (packets : List (List ℕ)) (last : Receiver) : Type 0 where
-  pub calls : List Call
-  pub blocks : lentBlocks calls ≡ chunksOf 204 bytes
-  pub marked : MarkedBy marks calls
-  pub decodes : DecodedCalls s calls
-  pub output-fits : All OutputFits calls
-  pub given : packets ≡ packetsGiven s calls
-  pub state : last ≡ afterCalls s calls
+-- There is one call for each block of 204 bytes, in their order, with its marks and with room for a packet, on the receiver that the call before handed
+-- back. The fewer than 204 bytes after the last block are in none. These are the packets that calls answered 0 left at the front of their output, and
+-- the receiver after the calls.
+pub data Recording : Receiver → List ℕ → List ℕ → List (List ℕ) → Receiver → Type 0 where
+  over : {s : Receiver} {bytes marks : List ℕ} → length bytes < 204 → Recording s bytes marks [] s
+  call : {s last : Receiver} {bytes marks : List ℕ} {packets : List (List ℕ)} (output exit : List ℕ) (r : Received) → 204 ≤ length bytes → 188 ≤ length output
+      → ReceivesMarked s (take 204 bytes) (blockMarks marks) output r exit → Recording (r .receiver) (drop 204 bytes) (drop 204 marks) packets last
+      → Recording s bytes marks (pick (eqb (numberOf (r .answer)) 0) (take 188 exit ∷ []) [] ++ packets) last
 
 -- the packets stand in the output, one after the other, and count is how many bytes they are
 pub record TakesRecording (s : Receiver) (bytes marks output : List ℕ) (count : ℕ) (last : Receiver) (exit : List ℕ) : Type 0 where

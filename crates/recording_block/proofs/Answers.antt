@@ -26,7 +26,7 @@ use Rattle.program_io.specs.declared.input.Filled.{Filled}
 use Rattle.program_io.specs.declared.calls.Asked.{Asked}
 use Rattle.program_io.specs.declared.calls.Asked.the-variants.{Help, Version, Work}
 use Rattle.reed_solomon.specs.declared.Changed.{Changed}
-use Rattle.recording_block.specs.declared.Request.the-variants.{Block, Other}
+use Rattle.recording_block.specs.declared.BlockRequest.the-variants.{Block, Other}
 use Rattle.recording.specs.Block.{blockCount, GivesBlock}
 use Rattle.recording.specs.declared.block.DecodedBlock.{DecodedBlock}
 use Rattle.recording_block.specs.Ends.{BlockAnswered, asBlock, blockIn, requestOf}

@@ -13,7 +13,7 @@ use Rattle.common.specs.Choice.{pick}
 use Rattle.answer.specs.Number.{numberOf}
 use Rattle.answer_lines.specs.Lines.{blockText}
 use Rattle.program_io.specs.Checksum.{noBytes, traced}
-use Rattle.program_io.specs.Calls.{askedOf, Answers}
+use Rattle.program_io.specs.Calls.{askedOf, AnswersCall}
 use Rattle.program_io.specs.Files.{inputOrigin, originArgument, originStart, inputTrace, inputEnded, inputFailed, outputFile, outputTrace, outputFailed, outputClosed}
 use Rattle.program_io.specs.Words.{argumentCount, wordArgument, wordBytes, wordIsOption, parsed}
 use Rattle.program_io.specs.declared.calls.Answered.{Answered}
@@ -29,8 +29,8 @@ use Rattle.reed_solomon.specs.declared.Changed.{Changed}
 use Rattle.recording.specs.Block.{blockCount, GivesBlock}
 use Rattle.recording.specs.declared.block.DecodedBlock.{DecodedBlock}
 use Rattle.program_io.specs.declared.calls.Ended.{Ended}
-use Rattle.recording_block.specs.declared.Request.{Request}
-use Rattle.recording_block.specs.declared.Request.the-variants.{Block, Past, Other}
+use Rattle.recording_block.specs.declared.BlockRequest.{BlockRequest}
+use Rattle.recording_block.specs.declared.BlockRequest.the-variants.{Block, Past, Other}
 
 -- recording_block
 abbrev pub programName : List ℕ
@@ -46,16 +46,16 @@ usageText =
     ∷ 0x2C ∷ 0x20 ∷ 0x74 ∷ 0x68 ∷ 0x65 ∷ 0x20 ∷ 0x66 ∷ 0x69 ∷ 0x72 ∷ 0x73 ∷ 0x74 ∷ 0x20 ∷ 0x62 ∷ 0x65 ∷ 0x69 ∷ 0x6E ∷ 0x67 ∷ 0x20 ∷ 0x30 ∷ 0x0A ∷ []
 
 -- what a word asks for: block p is corrected at call p + 12 of a receiver, which takes no more than 4,294,967,295
-abbrev pub asBlock : Parsed → Request
+abbrev pub asBlock : Parsed → BlockRequest
 asBlock (Number p) = Block p
 asBlock Large = Past
 asBlock Malformed = Other
 
-abbrev pub blockIn : List ℕ → Request
+abbrev pub blockIn : List ℕ → BlockRequest
 blockIn word = asBlock (parsed word 4294967283)
 
 -- what a call asks for: two arguments, of which the first names a file and the second a block; anything else is for what every program answers
-abbrev pub requestOf : Asked → ℕ → Bool → List ℕ → Request
+abbrev pub requestOf : Asked → ℕ → Bool → List ℕ → BlockRequest
 requestOf Help count option word = Other
 requestOf Version count option word = Other
 requestOf Work count option word = pick (eqb count 2) (pick option Other (blockIn word)) Other
@@ -107,9 +107,7 @@ pub record Beyond (r : Answered) : Type 0 where
 
 -- The status of the program, by what the call asks for.
 pub data Exits (status : ℤ) : Type 0 where
-  answered : (a : Arguments) (w v : Word) (r : Answered) → wordArgument w ≡ 1 → wordArgument v ≡ 2
-      → requestOf (askedOf (argumentCount a) (wordBytes w)) (argumentCount a) (wordIsOption w) (wordBytes v) ≡ Other
-      → Answers (askedOf (argumentCount a) (wordBytes w)) programName usageText r → status ≡ r .status → Exits status
+  answered : AnswersCall programName usageText (λ a w. (v : Word) × (wordArgument v ≡ 2) × (requestOf (askedOf (argumentCount a) (wordBytes w)) (argumentCount a) (wordIsOption w) (wordBytes v) ≡ Other)) status → Exits status
   beyond : (a : Arguments) (w v : Word) (r : Answered) → wordArgument w ≡ 1 → wordArgument v ≡ 2
       → requestOf (askedOf (argumentCount a) (wordBytes w)) (argumentCount a) (wordIsOption w) (wordBytes v) ≡ Past → Beyond r → status ≡ r .status → Exits status
   ran : (a : Arguments) (w v : Word) (p : ℕ) (r : Ended) → wordArgument w ≡ 1 → wordArgument v ≡ 2

@@ -22,7 +22,7 @@ use program_io::Word;
 use reed_solomon::Changed;
 
 // What a call asks for: a block, one past every recording, or what every program answers.
-enum Request {
+enum BlockRequest {
     Block(u64),
     Past,
     Other,
@@ -135,30 +135,30 @@ fn answer(asked: Asked) -> Answered
 }
 
 // The block that a word names. A receiver takes no more than 4,294,967,295 blocks, and block p is corrected at its call p + 12.
-fn block_in(word: Word) -> Request
+fn block_in(word: Word) -> BlockRequest
     ensures { λ r. ⌜ r ≡ blockIn (wordBytes word) ⌝ }
 {
     let parsed = word.parse(4294967283);
     match parsed {
-        Parsed::Number(p) => Request::Block(p),
-        Parsed::Large => Request::Past,
-        Parsed::Malformed => Request::Other,
+        Parsed::Number(p) => BlockRequest::Block(p),
+        Parsed::Large => BlockRequest::Past,
+        Parsed::Malformed => BlockRequest::Other,
     }
 }
 
 // What a call asks for.
-fn request_for(asked: Asked, arguments: Arguments, first: Word, second: Word) -> Request
+fn request_for(asked: Asked, arguments: Arguments, first: Word, second: Word) -> BlockRequest
     ensures { λ r. ⌜ r ≡ requestOf asked (argumentCount arguments) (wordIsOption first) (wordBytes second) ⌝ }
 {
     match asked {
-        Asked::Help => Request::Other,
-        Asked::Version => Request::Other,
+        Asked::Help => BlockRequest::Other,
+        Asked::Version => BlockRequest::Other,
         Asked::Work => {
             if arguments.count() != 2 {
-                return Request::Other;
+                return BlockRequest::Other;
             }
             if first.is_option() {
-                return Request::Other;
+                return BlockRequest::Other;
             }
             block_in(second)
         }
@@ -175,15 +175,15 @@ pub extern "C" fn recording_block_main() -> i32
     let asked = program_io::asked_for(arguments, first);
     let request = request_for(asked, arguments, first, second);
     match request {
-        Request::Block(p) => {
+        BlockRequest::Block(p) => {
             let ended = give_block(p, Input::open(1, 204 * p));
             ended.status
         }
-        Request::Past => {
+        BlockRequest::Past => {
             let answered = refuse();
             answered.status
         }
-        Request::Other => {
+        BlockRequest::Other => {
             let answered = answer(asked);
             answered.status
         }

@@ -14,7 +14,7 @@ use Rattle.common.specs.Choice.{pick}
 use Rattle.common.specs.Lists.{placed}
 use Rattle.common.proofs.Choice.{false-true}
 use Rattle.report.specs.declared.Report.{Report}
-use Rattle.report.specs.Text.{reportText, fits, sums, writeNumber, Writes}
+use Rattle.report.specs.Text.{reportText, fits, sums, writeNumber, WritesText}
 use Rattle.report.specs.Read.{ReadsWhole, WrittenFor, ReadAsWritten, whole, wholeWrong, wholeNone}
 use Rattle.report.proofs.Fronts.{report-unique}
 
@@ -26,7 +26,7 @@ pub record Gives (r : Report) (t : List ℕ) : Type 0 where
 
 -- ---- what is written, where the answer's number is given
 
-module _ {due : ℕ} {text output : List ℕ} {number size : ℕ} {exit : List ℕ} (w : Writes due text output number size exit) where
+module _ {due : ℕ} {text output : List ℕ} {number size : ℕ} {exit : List ℕ} (w : WritesText due text output number size exit) where
   pub written-size : due ≡ 0 → size ≡ length text
   written-size e = w .size-is ∙ ap (λ (k : ℕ). pick (eqb k 0) (length text) 0) e
 

@@ -14,7 +14,7 @@ use Rattle.common.proofs.Choice.{false-true}
 use Rattle.report.specs.declared.Bits.{Bits}
 use Rattle.report.specs.declared.Bits.the-variants.{Absent, Dash, Number}
 use Rattle.report.specs.declared.Report.{Report}
-use Rattle.report.specs.Text.{reportText, writeNumber, Writes}
+use Rattle.report.specs.Text.{reportText, writeNumber, WritesText}
 use Rattle.report.specs.Read.{ReadsWhole}
 use Rattle.report.specs.Move.{movable, movedBits, moved, moveNumber, Moves, MovedText, otherForm}
 use Rattle.report.proofs.AsWritten.{written-size, written-output, written-within, read-given, given-read, write-passed, write-done}
@@ -52,14 +52,14 @@ module _ (t : List ℕ) (form : ℕ) (output : List ℕ) (n : ℕ) (r : Report) 
   }
 
   pub move-done : n ≡ 0 → movable (r .bits) form ≡ true → (b : Bits) → b ≡ movedBits (r .bits) → (number size : ℕ) (exit : List ℕ)
-      → Writes (writeNumber (withBits r b) output) (reportText (withBits r b)) output number size exit → Moves t form output number size exit
+      → WritesText (writeNumber (withBits r b) output) (reportText (withBits r b)) output number size exit → Moves t form output number size exit
   move-done e m b q number size exit x = record {
     answer = n;
     report = r;
     read = w;
     writes =
-        subst (λ (k : ℕ). Writes k (reportText (moved r)) output number size exit) (sym (simp (eq-eqb n 0 e, m) refl))
-        (subst (λ (c : Bits). Writes (writeNumber (withBits r c) output) (reportText (withBits r c)) output number size exit) q x);
+        subst (λ (k : ℕ). WritesText k (reportText (moved r)) output number size exit) (sym (simp (eq-eqb n 0 e, m) refl))
+        (subst (λ (c : Bits). WritesText (writeNumber (withBits r c) output) (reportText (withBits r c)) output number size exit) q x);
   }
 
 -- ---- there and back

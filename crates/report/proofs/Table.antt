@@ -7,13 +7,13 @@ use Prim.Native.Nat.{ℕ, zero, suc, _+_, _-_, _≤_, _<_}
 use native.Mathlib.Nat.{le-of-suc-le-suc, not-suc-le-zero, eq-or-lt-of-le}
 use lib.Dec.{lit≤, lit<}
 use lib.ListN.{length, getD, take, drop}
-use Rattle.report.specs.Text.{Row, rows, row}
+use Rattle.report.specs.Text.{ReportRow, rows, row}
 
-abbrev keysOf : List Row → List ℕ
+abbrev keysOf : List ReportRow → List ℕ
 keysOf [] = []
 keysOf (r ∷ rs) = r .key ++ keysOf rs
 
-abbrev limitsOf : List Row → List ℕ
+abbrev limitsOf : List ReportRow → List ℕ
 limitsOf [] = []
 limitsOf (r ∷ rs) = r .limit ∷ limitsOf rs
 

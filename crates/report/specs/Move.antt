@@ -9,7 +9,7 @@ use Rattle.common.specs.Refusal.{unless, firstDue}
 use Rattle.report.specs.declared.Bits.{Bits}
 use Rattle.report.specs.declared.Bits.the-variants.{Absent, Dash, Number}
 use Rattle.report.specs.declared.Report.{Report}
-use Rattle.report.specs.Text.{reportText, writeTests, Writes}
+use Rattle.report.specs.Text.{reportText, writeTests, WritesText}
 use Rattle.report.specs.Read.{ReadsWhole}
 
 -- Bits are absent and form 2 is wanted, or a dash and form 1 is. To any other number than 1 and 2 no report can be moved.
@@ -46,7 +46,7 @@ pub record Moves (t : List ℕ) (form : ℕ) (output : List ℕ) (number size : 
   pub answer : ℕ
   pub report : Report
   pub read : ReadsWhole t answer report
-  pub writes : Writes (moveNumber answer report form output) (reportText (moved report)) output number size exit
+  pub writes : WritesText (moveNumber answer report form output) (reportText (moved report)) output number size exit
 
 -- A text is that of a report which may be moved to a form, and this is its text there.
 pub record MovedText (t : List ℕ) (form : ℕ) (text : List ℕ) : Type 0 where

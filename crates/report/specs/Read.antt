@@ -8,7 +8,7 @@ use lib.ListN.{length}
 use Rattle.common.specs.Lists.{placed}
 use Rattle.report.specs.declared.Bits.the-variants.{Absent}
 use Rattle.report.specs.declared.Report.{Report}
-use Rattle.report.specs.Text.{reportText, fits, sums, writeNumber, Writes}
+use Rattle.report.specs.Text.{reportText, fits, sums, writeNumber, WritesText}
 
 -- what stands in an answer that has no report
 abbrev pub blank : Report
@@ -29,7 +29,7 @@ pub data ReadsWhole (t : List ℕ) (number : ℕ) (r : Report) : Type 0 where
 
 -- the writer gives this text for a report: into every output that is long enough it writes the text
 pub record WrittenFor (r : Report) (t : List ℕ) : Type 0 where
-  pub writes : (output : List ℕ) → length t ≤ length output → Writes (writeNumber r output) (reportText r) output 0 (length t) (placed output 0 t)
+  pub writes : (output : List ℕ) → length t ≤ length output → WritesText (writeNumber r output) (reportText r) output 0 (length t) (placed output 0 t)
 
 -- The statement of document 02, P7, for both forms: a text is read as a report exactly when the writer gives it for that report.
 pub record ReadAsWritten (t : List ℕ) (number : ℕ) (r : Report) : Type 0 where

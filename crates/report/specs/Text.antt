@@ -15,12 +15,12 @@ use Rattle.report.specs.declared.Bits.the-variants.{Absent, Dash, Number
 use Rattle.report.specs.declared.Report.{Report}
 
 -- a row of the table: a key with its equals sign, in ASCII, and the largest number that its line may have
-pub record Row : Type 0 where
+pub record ReportRow : Type 0 where
   pub key : List ℕ
   pub limit : ℕ
 
 -- form= taken= filling= delivered= lost= waiting= outofstep= changed= bits= rest=
-abbrev pub rows : List Row
+abbrev pub rows : List ReportRow
 rows =
     record { key = 0x66 ∷ 0x6F ∷ 0x72 ∷ 0x6D ∷ 0x3D ∷ []; limit = 2 }
     ∷ record { key = 0x74 ∷ 0x61 ∷ 0x6B ∷ 0x65 ∷ 0x6E ∷ 0x3D ∷ []; limit = 4294967295 }
@@ -34,7 +34,7 @@ rows =
     ∷ record { key = 0x72 ∷ 0x65 ∷ 0x73 ∷ 0x74 ∷ 0x3D ∷ []; limit = 203 }
     ∷ []
 
-unfoldable pub row : ℕ → Row
+unfoldable pub row : ℕ → ReportRow
 row i = getD rows i (record { key = []; limit = 0 })
 
 -- the lines of the first n rows, with these numbers
@@ -98,7 +98,7 @@ writeNumber r output = firstDue (writeTests r output)
 
 -- What writing a text leaves, where `due` is the number of its answer: how many bytes are written, and the output after it; none, and as before, where
 -- that is not 0.
-pub record Writes (due : ℕ) (text output : List ℕ) (number size : ℕ) (exit : List ℕ) : Type 0 where
+pub record WritesText (due : ℕ) (text output : List ℕ) (number size : ℕ) (exit : List ℕ) : Type 0 where
   pub number-is : number ≡ due
   pub size-is : size ≡ pick (eqb due 0) (length text) 0
   pub output-is : exit ≡ pick (eqb due 0) (placed output 0 text) output

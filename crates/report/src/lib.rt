@@ -7,7 +7,7 @@ ghost use lib.ListN.{length, drop};
 ghost use Rattle.answer.specs.Number.{numberOf};
 ghost use Rattle.report_lines.specs.Line.{lineText, Appended};
 ghost use Rattle.report_lines.specs.Reading.{LineIs};
-ghost use Rattle.report.specs.Text.{row, formOf, fields, linesText, bitsText, bitsWithin, numbersWithin, reportText, fits, sums, writeNumber, Writes};
+ghost use Rattle.report.specs.Text.{row, formOf, fields, linesText, bitsText, bitsWithin, numbersWithin, reportText, fits, sums, writeNumber, WritesText};
 ghost use Rattle.report.specs.Read.{ReadsReport, ReadsWhole};
 ghost use Rattle.report.specs.Move.{movable, movedBits, Moves};
 ghost use Rattle.report.specs.Steps.{RowsRead, BitsIs, Front};
@@ -405,7 +405,7 @@ pub struct Written {
 
 // Writes a report in its form.
 pub fn write_report(report: Report, output: &mut [u8]) -> Written
-    ensures { λ r. ⌜ Writes (writeNumber report (now (output .entry))) (reportText report) (now (output .entry)) (numberOf (r .answer)) (r .length) (now (output .exit)) ⌝ }
+    ensures { λ r. ⌜ WritesText (writeNumber report (now (output .entry))) (reportText report) (now (output .entry)) (numberOf (r .answer)) (r .length) (now (output .exit)) ⌝ }
 {
     if !report_fits(report) {
         return Written {

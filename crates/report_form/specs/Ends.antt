@@ -14,11 +14,10 @@ use Rattle.report.specs.Move.{Moves, MovedText}
 use Rattle.program_io.specs.Checksum.{noBytes, traced}
 use Rattle.program_io.specs.Words.{argumentCount, wordArgument, wordBytes, sameBytes}
 use Rattle.program_io.specs.Files.{inputOrigin, originFile, inputTrace, inputEnded, inputFailed, outputFile, outputTrace, outputFailed, outputClosed}
-use Rattle.program_io.specs.Calls.{askedOf, versionText, Gives, Refuses}
+use Rattle.program_io.specs.Calls.{askedOf, AnswersCall}
 use Rattle.program_io.specs.declared.words.Arguments.{Arguments}
 use Rattle.program_io.specs.declared.words.Word.{Word}
-use Rattle.program_io.specs.declared.calls.Answered.{Answered}
-use Rattle.program_io.specs.declared.calls.Asked.the-variants.{Help, Version, Work}
+use Rattle.program_io.specs.declared.calls.Asked.the-variants.{Work}
 use Rattle.program_io.specs.declared.calls.Ended.{Ended}
 
 -- the output that a report is moved to
@@ -38,7 +37,7 @@ pub record Whole (form : ℕ) (r : Ended) : Type 0 where
 
 -- These bytes were read. With whatever follows them, and nothing does where the input has ended, they are refused with this number. It was told on
 -- standard error, and nothing was written.
-pub record Refused (form number : ℕ) (r : Ended) : Type 0 where
+pub record ReportRefused (form number : ℕ) (r : Ended) : Type 0 where
   pub bytes : List ℕ
   pub read : inputTrace (r .input) ≡ traced noBytes bytes
   pub unfailed : inputFailed (r .input) ≡ false
@@ -54,7 +53,7 @@ pub data Failed (r : Ended) : Type 0 where
 
 pub data Status (form : ℕ) (r : Ended) : Type 0 where
   whole : r .status ≡ pos 0 → Whole form r → Status form r
-  refused : (number : ℕ) → r .status ≡ pos 1 → Refused form number r → Status form r
+  refused : (number : ℕ) → r .status ≡ pos 1 → ReportRefused form number r → Status form r
   part : r .status ≡ pos 1 → Failed r → Status form r
 
 pub record Ends (form : ℕ) (r : Ended) : Type 0 where
@@ -88,10 +87,5 @@ pub record Called (a : Arguments) (first : Word) : Type 0 where
 -- The status of the program: that of giving the usage or the version, where these are asked for; 2 and the usage on standard error where the words ask for
 -- no form; else how the run ended.
 pub data Exits (status : ℤ) : Type 0 where
-  help : (a : Arguments) (first : Word) (r : Answered) → wordArgument first ≡ 1 → askedOf (argumentCount a) (wordBytes first) ≡ Help → Gives usage r
-      → status ≡ r .status → Exits status
-  version : (a : Arguments) (first : Word) (r : Answered) → wordArgument first ≡ 1 → askedOf (argumentCount a) (wordBytes first) ≡ Version
-      → Gives (versionText name) r → status ≡ r .status → Exits status
-  wrong : (a : Arguments) (first : Word) (r : Answered) → Called a first → formOf (argumentCount a) (wordBytes first) ≡ 0 → Refuses usage r
-      → status ≡ r .status → Exits status
+  answered : AnswersCall name usage (λ a first. formOf (argumentCount a) (wordBytes first) ≡ 0) status → Exits status
   ran : (a : Arguments) (first : Word) (r : Ended) → Called a first → Ends (formOf (argumentCount a) (wordBytes first)) r → status ≡ r .status → Exits status

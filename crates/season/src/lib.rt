@@ -12,13 +12,13 @@ use program_io::Word;
 use season_totals::Season;
 
 // What was read, and the season that it came to.
-pub struct Came {
+pub struct SeasonCame {
     pub input: Input,
     pub season: Season,
 }
 
 // How a run ended, with the files as it left them.
-pub struct Ended {
+pub struct SeasonEnded {
     pub status: i32,
     pub input: Input,
     pub output: Output,
@@ -26,7 +26,7 @@ pub struct Ended {
 
 // Reads until the input is over, or the season is refused: what follows a refusal does not matter. The loop ends because a season that is not refused
 // has no more than 4,096 reports.
-fn read_season(input: Input) -> Came
+fn read_season(input: Input) -> SeasonCame
     requires { ⌜ StandardInput input ⌝ }
     ensures { λ r. ⌜ Comes r ⌝ }
 {
@@ -39,25 +39,25 @@ fn read_season(input: Input) -> Came
         let n = read.length;
         input = read.input;
         if n == 0 {
-            return Came { input, season };
+            return SeasonCame { input, season };
         }
         let next = season.feed(&buffer[..n]);
         season = next;
         came += n as u64;
         let answer = season.answer;
         if answer.number() != 0 {
-            return Came { input, season };
+            return SeasonCame { input, season };
         }
     }
 }
 
 // Prints what the season of the input comes to.
-fn write_season(input: Input, season: Season, output: Output) -> Ended
+fn write_season(input: Input, season: Season, output: Output) -> SeasonEnded
     requires { ⌜ (Comes (record { input = input; season = season })) × (FreshOutput (pos 1) output) ⌝ }
     ensures { λ r. ⌜ Ends r ⌝ }
 {
     if input.failed() {
-        return Ended {
+        return SeasonEnded {
             status: 1,
             input,
             output,
@@ -70,20 +70,20 @@ fn write_season(input: Input, season: Season, output: Output) -> Ended
     let output = output.write_text(b"season", &text[..n]);
     let output = output.close(b"standard output");
     if output.failed() {
-        return Ended {
+        return SeasonEnded {
             status: 1,
             input,
             output,
         };
     }
     if answer.number() != 0 {
-        return Ended {
+        return SeasonEnded {
             status: 1,
             input,
             output,
         };
     }
-    Ended {
+    SeasonEnded {
         status: 0,
         input,
         output,

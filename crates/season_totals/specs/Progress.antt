@@ -55,7 +55,7 @@ SeasonFeedings s (p ∷ ps) last = (next : Season) × FeedsSeason s p next × Se
 -- ---- the steps
 
 -- the same for a list of bytes that stands after the reports counted: some bytes came to it; what reading it to its end promises
-pub record BegunAt (totals rest : List ℕ) : Type 0 where
+pub record ReportsBegun (totals rest : List ℕ) : Type 0 where
   pub bytes : List ℕ
   pub is : Unread bytes totals rest
 

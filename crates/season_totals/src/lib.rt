@@ -13,7 +13,7 @@ ghost use Rattle.report_lines.specs.Line.{Appended};
 ghost use Rattle.report.specs.Text.{fits};
 ghost use Rattle.season_totals.specs.Totals.{wide, accepted, beats, countedReport, TotalsFit};
 ghost use Rattle.season_totals.specs.Season.{Seasons, seasonText};
-ghost use Rattle.season_totals.specs.Progress.{freshSeason, SeasonCame, FeedsSeason, Finishes, BegunAt, CountsRest, TakesUnread};
+ghost use Rattle.season_totals.specs.Progress.{freshSeason, SeasonCame, FeedsSeason, Finishes, ReportsBegun, CountsRest, TakesUnread};
 use answer::Answer;
 use report::Report;
 use report_lines::put_line;
@@ -121,7 +121,7 @@ pub struct Season {
 
 // Reads the reports of a text that stands after those counted.
 fn count_rest(counted: [u64; 7], text: &[u8]) -> SeasonRead
-    requires { ⌜ BegunAt counted (now text) ⌝ }
+    requires { ⌜ ReportsBegun counted (now text) ⌝ }
     ensures { λ r. ⌜ CountsRest counted (now (text .entry)) r ⌝ }
 {
     let mut totals = counted;
@@ -175,7 +175,7 @@ fn stopped(answer: Answer) -> Season
 
 // Reads the report at the front of a full buffer. What it is does not depend on what still comes, since no report is longer than the buffer.
 fn take_front(totals: [u64; 7], buffer: [u8; 320]) -> Season
-    requires { ⌜ (BegunAt totals buffer) × (getD totals 0 0 < 4096) ⌝ }
+    requires { ⌜ (ReportsBegun totals buffer) × (getD totals 0 0 < 4096) ⌝ }
     ensures { λ r. ⌜ TakesUnread totals buffer r ⌝ }
 {
     let read = report::read_front(&buffer, 0);

@@ -3,7 +3,7 @@
 -- Assumes nothing.
 use mathlib.Core.Path.{_≡_, refl, ap, sym, _∙_}
 use mathlib.Core.List.{List, [], _∷_}
-use Prim.Native.Nat.{ℕ, zero, suc, _+_, _-_, _*_, _%_, _<_}
+use Prim.Native.Nat.{ℕ, zero, suc, _+_, _*_, _%_, _<_}
 use native.Mathlib.Omega.{arith}
 use lib.Bits.{bitXor}
 use lib.ListN.{length, getD, drop, length-drop, List·getD-append}
@@ -15,7 +15,6 @@ use Rattle.randomizer.specs.Prbs.{masks}
 use Rattle.randomizer.specs.Packet.{randomized}
 use Rattle.randomizer.proofs.Xors.{getD-xors}
 use Rattle.randomizer.proofs.Laws.{length-masks, length-randomized}
-use Rattle.interleaver.specs.Stream.{interleaved}
 use Rattle.interleaver.proofs.BlockLists.{flatten-at}
 use Rattle.convolutional_code.specs.Bits.{bitsOf}
 use Rattle.sent_blocks.specs.Blocks.{codedBlocks, sentBytes, interleavedBlocks}

@@ -24,7 +24,7 @@ pub struct Sender {
 // A fresh sender. The answer stands beside the state, since an enum cannot hold a state with arrays.
 // Where the answer is 6 the sender holds the rate that was wanted, and every call refuses it: with 5 where there is no such mode, with 6 where the
 // mode is not sent.
-pub struct Created {
+pub struct SenderCreated {
     pub answer: Answer,
     pub sender: Sender,
 }
@@ -46,14 +46,14 @@ impl Sender {
     // The packets of a group.
     pub const GROUP_LENGTH: u8 = 8;
 
-    pub fn new(rate: u8) -> Created
+    pub fn new(rate: u8) -> SenderCreated
         ensures { λ r. ⌜ (numberOf (r .answer) ≡ newNumber rate) × (r .sender ≡ freshSender rate) ⌝ }
     {
         let created = InnerCoder::new(rate);
         let answer = created.answer;
         let coder = created.coder;
         let interleaver = Interleaver::new();
-        Created {
+        SenderCreated {
             answer,
             sender: Sender {
                 place: 0,

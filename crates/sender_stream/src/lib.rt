@@ -28,7 +28,7 @@ pub struct Begun {
 }
 
 // An answer, how many symbols were written, how many packets were sent, each with its answer, and the sending after them.
-pub struct Fed {
+pub struct SenderFed {
     pub answer: Answer,
     pub count: usize,
     pub packets: usize,
@@ -66,13 +66,13 @@ impl SenderStream {
     }
 
     // Sends the packets that are whole with a piece: writes their symbols, and a byte with the number of its answer for each, 0 or 15.
-    pub fn feed(self, piece: &[u8], output: &mut [u8], answers: &mut [u8]) -> Fed
+    pub fn feed(self, piece: &[u8], output: &mut [u8], answers: &mut [u8]) -> SenderFed
         ensures { λ r. ⌜
             FeedsSender self (now (piece .entry)) (now (output .entry)) (now (answers .entry))
             (numberOf (r .answer)) (r .count) (r .packets) (r .sending) (now (output .exit)) (now (answers .exit)) ⌝ }
     {
         if !self.in_range() {
-            return Fed {
+            return SenderFed {
                 answer: Answer::StateRange,
                 count: 0,
                 packets: 0,
@@ -83,7 +83,7 @@ impl SenderStream {
         let coder = sender.coder;
         let rate = coder.rate;
         if !puncturing::is_sent(rate) {
-            return Fed {
+            return SenderFed {
                 answer: Answer::UnknownRate,
                 count: 0,
                 packets: 0,
@@ -94,7 +94,7 @@ impl SenderStream {
         let held = self.held;
         let packets = whole_count(held, piece.len());
         if crate::run::is_short(rate, place, packets, output.len()) {
-            return Fed {
+            return SenderFed {
                 answer: Answer::OutputLength,
                 count: 0,
                 packets: 0,
@@ -102,7 +102,7 @@ impl SenderStream {
             };
         }
         if answers.len() < packets {
-            return Fed {
+            return SenderFed {
                 answer: Answer::OutputLength,
                 count: 0,
                 packets: 0,
@@ -153,7 +153,12 @@ fn send_joined(
 }
 
 // Sends the packets that are whole with a piece, and holds the bytes after them, with a sending that is in range and room enough.
-fn send_whole(sending: SenderStream, piece: &[u8], output: &mut [u8], answers: &mut [u8]) -> Fed
+fn send_whole(
+    sending: SenderStream,
+    piece: &[u8],
+    output: &mut [u8],
+    answers: &mut [u8],
+) -> SenderFed
     requires { ⌜ OutputsFit sending (now piece) (now output) (now answers) ⌝ }
     ensures { λ r. ⌜
         FeedsAll sending (now (piece .entry)) (now (output .entry)) (now (answers .entry))
@@ -178,7 +183,7 @@ fn send_whole(sending: SenderStream, piece: &[u8], output: &mut [u8], answers: &
     }
     let pending = joined(pending, held, &piece[at..]);
     let held = held + (piece.len() - at);
-    Fed {
+    SenderFed {
         answer: Answer::Done,
         count,
         packets,

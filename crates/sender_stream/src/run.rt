@@ -18,7 +18,7 @@ use sender::Sender;
 const BLOCK_BITS: u16 = 1632;
 
 // An answer, and how many symbols were written.
-pub struct Run {
+pub struct SentRun {
     pub answer: Answer,
     pub count: usize,
 }
@@ -90,35 +90,35 @@ fn send_packets(rate: u8, packets: &[u8], output: &mut [u8]) -> usize
 
 // Sends a whole list of packets with a fresh sender: writes the symbols that EN 300 421 gives for them, with a null packet
 // in place of each that does not begin with the sync byte. Nothing is written unless all of them can be sent.
-pub fn send_run(rate: u8, packets: &[u8], output: &mut [u8]) -> Run
+pub fn send_run(rate: u8, packets: &[u8], output: &mut [u8]) -> SentRun
     ensures { λ r. ⌜ SendsRun rate (now (packets .entry)) (now (output .entry)) (numberOf (r .answer)) (r .count) (now (output .exit)) ⌝ }
 {
     if !is_sent(rate) {
-        return Run {
+        return SentRun {
             answer: Answer::UnknownRate,
             count: 0,
         };
     }
     if packets.len() % Sender::PACKET_LENGTH != 0 {
-        return Run {
+        return SentRun {
             answer: Answer::PacketLength,
             count: 0,
         };
     }
     if is_short(rate, 0, packets.len() / Sender::PACKET_LENGTH, output.len()) {
-        return Run {
+        return SentRun {
             answer: Answer::OutputLength,
             count: 0,
         };
     }
     let count = send_packets(rate, packets, output);
     if !is_synced(packets) {
-        return Run {
+        return SentRun {
             answer: Answer::NullPacket,
             count,
         };
     }
-    Run {
+    SentRun {
         answer: Answer::Done,
         count,
     }

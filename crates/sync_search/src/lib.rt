@@ -1,7 +1,6 @@
 // Where blocks begin in a list of bits, by their sync bytes.
 // Inner: its functions may require what the crates above have tested. docs/ARCHITECTURE.md names the public surface.
 ghost use mathlib.Core.Path.{_≡_};
-ghost use mathlib.Core.Bool.{true};
 ghost use Prim.Native.Nat.{_+_, _≤_};
 ghost use lib.ListN.{length};
 ghost use Rattle.sync_search.specs.Sync.{byteAt, isAt, countAt, syncAt, FirstSync};

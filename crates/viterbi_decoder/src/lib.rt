@@ -575,13 +575,13 @@ fn trace(rows: &[u8], end: usize, output: &mut [u8])
     write_low(r, rest, 0, output);
 }
 
-pub struct Run {
+pub struct DecodedRun {
     pub memory: usize,
     pub cost: usize,
 }
 
 // The best bits of a run by the costs of the rows, into the output.
-fn decode_rows(costs: &[[u8; 64]; 81], steps: &[u8], memory: usize, output: &mut [u8]) -> Run
+fn decode_rows(costs: &[[u8; 64]; 81], steps: &[u8], memory: usize, output: &mut [u8]) -> DecodedRun
     requires { ⌜ (Bounded (now costs)) × (length (now output) ≤ length (now steps)) × (length (now output) ≤ 1632) × (memory < 64) × Pairs (now steps) ⌝ }
     ensures { λ r. ⌜ Decoded (costFrom (rowCosts (now (costs .entry)) (now (steps .entry))) 0 memory) (length (now (output .entry))) memory (now (output .exit)) (r .cost) (r .memory) ⌝ }
 {
@@ -592,14 +592,14 @@ fn decode_rows(costs: &[[u8; 64]; 81], steps: &[u8], memory: usize, output: &mut
     let metrics = ordered(&lanes);
     let end = first_least(&metrics);
     trace(&rows, lane_of(end), output);
-    Run {
+    DecodedRun {
         memory: end,
         cost: metrics[end] as usize + offset,
     }
 }
 
 // The best bits of a run, into the output. There is one number for each bit, 9 x + y, where x is the decision on its X and y that on its Y.
-pub fn decode(steps: &[u8], memory: usize, output: &mut [u8]) -> Run
+pub fn decode(steps: &[u8], memory: usize, output: &mut [u8]) -> DecodedRun
     requires { ⌜ (length (now output) ≤ length (now steps)) × (length (now output) ≤ 1632) × (memory < 64) × Pairs (now steps) ⌝ }
     ensures { λ r. ⌜ Decoded (costFrom (stepCosts (now (steps .entry))) 0 memory) (length (now (output .entry))) memory (now (output .exit)) (r .cost) (r .memory) ⌝ }
 {

@@ -2,7 +2,6 @@
 -- Assumes nothing.
 use mathlib.Core.Path.{sym, ap}
 use mathlib.Core.Bool.{Bool}
-use Prim.Native.Nat.{_-_}
 use Rattle.block_sync.specs.Decision.{turnedBit}
 use borrow.Author.Needs.{needs}
 use Rattle.block_sync.proofs.turned_bit.Statement.{statement}

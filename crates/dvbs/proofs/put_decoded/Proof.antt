@@ -32,13 +32,13 @@ returns : tie.Need-returns
 returns c = (sym (ap decodedNumber (c .before .decoded .given .1)), sym (ap (λ a. countAfter a (c .before .before .before .args .count .now)) (c .before .decoded .given .1)))
 
 returns-2 : tie.Need-returns-2
-returns-2 c = search needs
+returns-2 c = let e = c .enum-told .given .1 in (sym (ap decodedNumber e), sym (ap (λ a. countAfter a (c .before .before .args .count .now)) e))
 
 returns-3 : tie.Need-returns-3
-returns-3 c = search needs
+returns-3 c = let e = c .enum-told2 .given .1 in (sym (ap decodedNumber e), sym (ap (λ a. countAfter a (c .before .before .args .count .now)) e))
 
 returns-4 : tie.Need-returns-4
-returns-4 c = search needs
+returns-4 c = let e = c .enum-told3 .given .1 in (sym (ap decodedNumber e), sym (ap (λ a. countAfter a (c .before .before .args .count .now)) e))
 
 pub put-decoded-spec : {M : Type 1} → statement M
 put-decoded-spec =

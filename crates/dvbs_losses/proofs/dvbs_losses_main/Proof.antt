@@ -7,8 +7,9 @@ use Rattle.program_io.specs.Checksum.{noBytes}
 use Rattle.program_io.specs.Files.{inputTrace}
 use Rattle.program_io.specs.declared.input.Input.{Input}
 use Rattle.program_io.specs.Calls.{NamedInput, without, named}
-use Rattle.dvbs_losses.specs.Ends.{help, version, wrong, ran}
+use Rattle.dvbs_losses.specs.Ends.{answered, ran}
 use borrow.Author.Needs.{needs}
+use Rattle.program_io.proofs.Answering.{help-answered, version-answered, wrong-answered}
 use Rattle.dvbs_losses.proofs.dvbs_losses_main.Statement.{statement}
 use Rattle.dvbs_losses.proofs.dvbs_losses_main.Tie as tie
 
@@ -72,19 +73,19 @@ returns-2 : tie.Need-returns-2
 returns-2 c =
     let z = c .before .help .result .status in
     let e : toZ w32 (ofZ w32 z) ≡ z = search needs in
-    help (c .before .before .before .before .before .before .before .new .result) (c .before .before .before .before .before .before .new2 .result) (c .before .help .result) (c .before .before .before .before .before .before .new2 .ensures) (sym (c .before .before .before .before .before .asked-for .ensures) ∙ c .before .before .before .enum-told .given .1) (c .before .help .ensures) e
+    answered (help-answered (c .before .before .before .before .before .before .before .new .result) (c .before .before .before .before .before .before .new2 .result) (c .before .help .result) (c .before .before .before .before .before .before .new2 .ensures) (sym (c .before .before .before .before .before .asked-for .ensures) ∙ c .before .before .before .enum-told .given .1) (c .before .help .ensures) e)
 
 returns-3 : tie.Need-returns-3
 returns-3 c =
     let z = c .before .version .result .status in
     let e : toZ w32 (ofZ w32 z) ≡ z = search needs in
-    version (c .before .before .before .before .before .before .before .new .result) (c .before .before .before .before .before .before .new2 .result) (c .before .version .result) (c .before .before .before .before .before .before .new2 .ensures) (sym (c .before .before .before .before .before .asked-for .ensures) ∙ c .before .before .before .enum-told2 .given .1) (c .before .version .ensures) e
+    answered (version-answered (c .before .before .before .before .before .before .before .new .result) (c .before .before .before .before .before .before .new2 .result) (c .before .version .result) (c .before .before .before .before .before .before .new2 .ensures) (sym (c .before .before .before .before .before .asked-for .ensures) ∙ c .before .before .before .enum-told2 .given .1) (c .before .version .ensures) e)
 
 returns-4 : tie.Need-returns-4
 returns-4 c =
     let z = c .before .wrong .result .status in
     let e : toZ w32 (ofZ w32 z) ≡ z = search needs in
-    wrong (c .before .before .before .before .before .before .before .before .before .new .result) (c .before .before .before .before .before .before .before .before .new2 .result) (c .before .wrong .result) (c .before .before .before .before .before .before .before .before .new2 .ensures) (sym (c .before .before .before .before .before .before .before .asked-for .ensures) ∙ c .before .before .before .before .before .enum-told3 .given .1) (sym (c .before .before .before .before .is-right .ensures) ∙ c .before .before .before .if1 .left) (c .before .wrong .ensures) e
+    answered (wrong-answered (c .before .before .before .before .before .before .before .before .before .new .result) (c .before .before .before .before .before .before .before .before .new2 .result) (c .before .wrong .result) (c .before .before .before .before .before .before .before .before .new2 .ensures) (sym (c .before .before .before .before .before .before .before .asked-for .ensures) ∙ c .before .before .before .before .before .enum-told3 .given .1) (sym (c .before .before .before .before .is-right .ensures) ∙ c .before .before .before .if1 .left) (c .before .wrong .ensures) e)
 
 pub dvbs-losses-main-spec : {M : Type 1} → statement M
 dvbs-losses-main-spec =

@@ -7,10 +7,11 @@ use mir.Syntax.{w32}
 use mir.Val.{toZ, ofZ}
 use Rattle.puncturing.specs.Mode.{modeOf}
 use Rattle.program_io.specs.Words.{wordBytes}
-use Rattle.dvbs_send.specs.Ends.{requestOf, requested, Ends, wrong, ran}
-use Rattle.dvbs_send.specs.declared.Request.{Request}
+use Rattle.dvbs_send.specs.Ends.{requestOf, requested, Ends, answered, ran}
+use Rattle.dvbs_send.specs.declared.SendRequest.{SendRequest}
 use Rattle.dvbs_send.proofs.Requests.{not-sent, new-sent}
 use borrow.Author.Needs.{needs}
+use Rattle.program_io.proofs.Answering.{wrong-answered}
 use Rattle.dvbs_send.proofs.work.Statement.{statement}
 use Rattle.dvbs_send.proofs.work.Tie as tie
 
@@ -44,9 +45,10 @@ returns c =
     let r = c .before .wrong in
     let z = r .result .status in
     let e : toZ w32 (ofZ w32 z) ≡ z = search needs in
-    wrong (s .args .arguments) (s .args .first) (s .args .second) (r .result) (s .pre)
-    (subst (λ (x : Request). modeOf (x .mode) .sent ≡ false) (asked (c .before .before .before .before .before)) (not-sent (q .mode) (c .before .before .before .before .is-sent .result) (c .before .before .before .before .is-sent .ensures) (c .before .before .before .if1 .taken)))
-    (r .ensures) e
+    answered
+    (wrong-answered (s .args .arguments) (s .args .first) (r .result) (s .pre .first-is) (s .pre .work)
+    (s .args .second, s .pre, subst (λ (x : SendRequest). modeOf (x .mode) .sent ≡ false) (asked (c .before .before .before .before .before)) (not-sent (q .mode) (c .before .before .before .before .is-sent .result) (c .before .before .before .before .is-sent .ensures) (c .before .before .before .if1 .taken)))
+    (r .ensures) e)
 
 standard-requires : tie.Need-standard-requires
 standard-requires c κs = search needs
@@ -72,7 +74,7 @@ returns-2 c =
     let z = r .result .status in
     let e : toZ w32 (ofZ w32 z) ≡ z = search needs in
     ran (s .args .arguments) (s .args .first) (s .args .second) (r .result) (s .pre)
-    (subst (λ (x : Request). Ends (x .mode) (x .flush) (r .result)) (asked (c .before .before .before .before .before .before .before)) (r .ensures)) e
+    (subst (λ (x : SendRequest). Ends (x .mode) (x .flush) (r .result)) (asked (c .before .before .before .before .before .before .before)) (r .ensures)) e
 
 pub work-spec : {M : Type 1} → statement M
 work-spec =

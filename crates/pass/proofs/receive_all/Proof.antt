@@ -10,7 +10,7 @@ use Rattle.common.specs.Choice.{pick}
 use Rattle.program_io.specs.Files.{inputOrigin, outputFile}
 use Rattle.receiver_stream.specs.Feed.{capacityOf}
 use Rattle.receiver_stream.proofs.Laws.{reception-range}
-use Rattle.pass.specs.Pass.{Came, marks-failed, output-failed, refused}
+use Rattle.pass.specs.Pass.{PassCame, marks-failed, output-failed, refused}
 use Rattle.pass.proofs.Going.{came-none, came-taken, came-over, ended-read, came-bad, came-more, came-less, hands-file, hands-wanted, feeds-within}
 use borrow.Author.Needs.{needs}
 use Rattle.pass.proofs.receive_all.Statement.{statement}
@@ -18,7 +18,7 @@ use Rattle.pass.proofs.receive_all.Tie as tie
 
 abbrev Inv-loop : tie.InvT-loop
 Inv-loop wanted bytes₀ own₀ packets₀ input₀ marks₀ output₀ stream₀ t21 bytes own packets input marks output stream =
-    (Came wanted marks₀ input marks output stream)
+    (PassCame wanted marks₀ input marks output stream)
     × (length bytes ≡ 65536)
     × (length own ≡ 65536)
     × (length packets ≡ 65536)

@@ -5,8 +5,10 @@ use Prim.Native.Nat.{ℕ, _≤_, _<_}
 use native.Mathlib.Omega.{arith}
 use mir.Syntax.{w32}
 use mir.Val.{toZ, ofZ}
-use Rattle.reader_program.specs.Ends.{Ends, help, version, wrong, ran}
+use Rattle.reader_program.specs.Ends.{Ends, answered, ran}
 use borrow.Author.Needs.{needs}
+use Rattle.puncturing.specs.Mode.{qpskCount}
+use Rattle.program_io.proofs.Answering.{help-answered, version-answered, wrong-answered}
 use Rattle.reader_program.proofs.exit_status.Statement.{statement}
 use Rattle.reader_program.proofs.exit_status.Tie as tie
 
@@ -37,6 +39,9 @@ enum-told-3 c = search needs
 rate-asked-requires : tie.Need-rate-asked-requires
 rate-asked-requires c κs = search needs
 
+cast-if1 : tie.Need-cast-if1
+cast-if1 c = search needs
+
 wrong-requires : tie.Need-wrong-requires
 wrong-requires c κs = search needs
 
@@ -47,8 +52,8 @@ returns c =
     let r = c .before .wrong in
     let z = r .result .status in
     let e : toZ w32 (ofZ w32 z) ≡ z = search needs in
-    wrong (a .before .before .new .result) (a .before .new2 .result) (r .result) (a .before .new2 .ensures) (sym (a .asked-for .ensures) ∙ c .before .before .before .before .enum-told3 .given .1)
-    (subst (λ (n : ℕ). 5 ≤ n) k (omega (arith, c .before .before .if1 .taken))) (r .ensures) e
+    answered (wrong-answered (a .before .before .new .result) (a .before .new2 .result) (r .result) (a .before .new2 .ensures) (sym (a .asked-for .ensures) ∙ c .before .before .before .before .enum-told3 .given .1)
+    (subst (λ (n : ℕ). qpskCount ≤ n) k (omega (arith, c .before .before .if1 .taken))) (r .ensures) e)
 
 run-requires : tie.Need-run-requires
 run-requires c κs = search needs
@@ -59,7 +64,7 @@ returns-2 c =
     let r = c .before .help in
     let z = r .result .status in
     let e : toZ w32 (ofZ w32 z) ≡ z = search needs in
-    help (a .before .before .new .result) (a .before .new2 .result) (r .result) (a .before .new2 .ensures) (sym (a .asked-for .ensures) ∙ c .before .before .enum-told .given .1) (r .ensures) e
+    answered (help-answered (a .before .before .new .result) (a .before .new2 .result) (r .result) (a .before .new2 .ensures) (sym (a .asked-for .ensures) ∙ c .before .before .enum-told .given .1) (r .ensures) e)
 
 returns-3 : tie.Need-returns-3
 returns-3 c =
@@ -67,7 +72,7 @@ returns-3 c =
     let r = c .before .version in
     let z = r .result .status in
     let e : toZ w32 (ofZ w32 z) ≡ z = search needs in
-    version (a .before .before .new .result) (a .before .new2 .result) (r .result) (a .before .new2 .ensures) (sym (a .asked-for .ensures) ∙ c .before .before .enum-told2 .given .1) (r .ensures) e
+    answered (version-answered (a .before .before .new .result) (a .before .new2 .result) (r .result) (a .before .new2 .ensures) (sym (a .asked-for .ensures) ∙ c .before .before .enum-told2 .given .1) (r .ensures) e)
 
 returns-4 : tie.Need-returns-4
 returns-4 c =
@@ -78,7 +83,7 @@ returns-4 c =
     let z = r .result .status in
     let e : toZ w32 (ofZ w32 z) ≡ z = search needs in
     ran (a .before .before .new .result) (a .before .new2 .result) (r .result) (a .before .new2 .ensures) (sym (a .asked-for .ensures) ∙ c .before .before .before .before .enum-told3 .given .1)
-    (subst (λ (n : ℕ). n < 5) k (omega (arith, c .before .before .if1 .left))) (subst (λ (n : ℕ). Ends (s .args .soft) n (r .result)) k (r .ensures)) e
+    (subst (λ (n : ℕ). n < qpskCount) k (omega (arith, c .before .before .if1 .left))) (subst (λ (n : ℕ). Ends (s .args .soft) n (r .result)) k (r .ensures)) e
 
 pub exit-status-spec : {M : Type 1} → statement M
 exit-status-spec =
@@ -93,6 +98,7 @@ exit-status-spec =
     version-requires
     enum-told-3
     rate-asked-requires
+    cast-if1
     wrong-requires
     returns
     run-requires

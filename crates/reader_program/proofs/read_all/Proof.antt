@@ -14,12 +14,12 @@ use Rattle.reader_program.proofs.read_all.Statement.{statement}
 use Rattle.reader_program.proofs.read_all.Tie as tie
 
 abbrev Inv-loop : tie.InvT-loop
-Inv-loop soft rate errors buffer₀ costs₀ bits₀ bytes₀ input₀ output₀ pass₀ came₀ t22 buffer costs bits bytes input output pass came =
-    (Going soft rate input output pass came) × (Files input output errors) × (length buffer ≡ 262152) × (length costs ≡ 32768) × (length bits ≡ 1632) × (length bytes ≡ 8600)
+Inv-loop soft rate errors buffer₀ costs₀ bits₀ bytes₀ input₀ output₀ pass₀ came₀ t22 buffer pairs bits bytes input output pass came =
+    (Going soft rate input output pass came) × (Files input output errors) × (length buffer ≡ 262152) × (length pairs ≡ 32768) × (length bits ≡ 1632) × (length bytes ≡ 8600)
     × (came ≤ 9223372036855037951)
 
 abbrev μ-loop : tie.MeasureT-loop
-μ-loop soft rate errors buffer₀ costs₀ bits₀ bytes₀ input₀ output₀ pass₀ came₀ t22 buffer costs bits bytes input output pass came = 9223372036855037952 - came
+μ-loop soft rate errors buffer₀ costs₀ bits₀ bytes₀ input₀ output₀ pass₀ came₀ t22 buffer pairs bits bytes input output pass came = 9223372036855037952 - came
 
 new-requires : tie.Need-new-requires Inv-loop μ-loop
 new-requires c κs = c .pre .0

@@ -15,7 +15,7 @@ take-points-requires c κs =
     let s = c .before .before .before .before .before .before .before .before in
     let e = c .before .before .before .if1 .taken in
     let n = length (s .args .bytes .now) in
-    (s .pre .0, omega (arith, as-soft e n (s .args .costs .now) 0 1 (omega (arith, s .pre .1))), s .pre .2, as-soft e n (s .args .output .now) 1632 4 (s .pre .3))
+    (s .pre .0, omega (arith, as-soft e n (s .args .pairs .now) 0 1 (omega (arith, s .pre .1))), s .pre .2, as-soft e n (s .args .output .now) 1632 4 (s .pre .3))
 
 same-length : tie.Need-same-length
 same-length c = search needs
@@ -37,7 +37,7 @@ take-symbols-requires c κs =
     let s = c .before .before .before .before .before .before .before .before in
     let e = c .before .before .before .if1 .left in
     let n = length (s .args .bytes .now) in
-    (s .pre .0, omega (arith, as-hard e n (s .args .costs .now) 0 1 (omega (arith, s .pre .1))), s .pre .2, as-hard e n (s .args .output .now) 1632 4 (s .pre .3))
+    (s .pre .0, omega (arith, as-hard e n (s .args .pairs .now) 0 1 (omega (arith, s .pre .1))), s .pre .2, as-hard e n (s .args .output .now) 1632 4 (s .pre .3))
 
 same-length-4 : tie.Need-same-length-4
 same-length-4 c = search needs

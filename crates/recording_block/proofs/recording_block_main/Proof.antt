@@ -5,7 +5,7 @@ use Prim.Native.Nat.{_≤_}
 use native.Mathlib.Omega.{arith}
 use mir.Syntax.{w32}
 use mir.Val.{toZ, ofZ}
-use Rattle.program_io.specs.Calls.{Answers}
+use Rattle.program_io.specs.Calls.{Answers, told}
 use Rattle.program_io.specs.Words.{argumentCount, wordBytes, wordIsOption}
 use Rattle.program_io.specs.declared.calls.Asked.{Asked}
 use Rattle.recording_block.specs.Ends.{programName, usageText, requestOf, answered, beyond, ran}
@@ -82,8 +82,9 @@ returns-3 c =
     let v = c .before .before .before .before .before .before .new3 .result in
     let r = c .before .answer in
     let q : toZ w32 (ofZ w32 (r .result .status)) ≡ r .result .status = search needs in
-    answered a w v (r .result) (c .before .before .before .before .before .before .before .new2 .ensures) (c .before .before .before .before .before .before .new3 .ensures) (ap (λ (x : Asked). requestOf x (argumentCount a) (wordIsOption w) (wordBytes v)) (sym (c .before .before .before .before .before .asked-for .ensures)) ∙ sym (c .before .before .before .before .request-for .ensures) ∙ c .before .before .enum-told2 .given .1)
-    (subst (λ (x : Asked). Answers x programName usageText (r .result)) (c .before .before .before .before .before .asked-for .ensures) (r .ensures)) q
+    answered
+    (told a w (r .result) (c .before .before .before .before .before .before .before .new2 .ensures) (λ k. (v, c .before .before .before .before .before .before .new3 .ensures, ap (λ (x : Asked). requestOf x (argumentCount a) (wordIsOption w) (wordBytes v)) (sym (c .before .before .before .before .before .asked-for .ensures)) ∙ sym (c .before .before .before .before .request-for .ensures) ∙ c .before .before .enum-told2 .given .1))
+    (subst (λ (x : Asked). Answers x programName usageText (r .result)) (c .before .before .before .before .before .asked-for .ensures) (r .ensures)) q)
 
 pub recording-block-main-spec : {M : Type 1} → statement M
 recording-block-main-spec =

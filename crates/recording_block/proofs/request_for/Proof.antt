@@ -7,7 +7,7 @@ use Rattle.common.specs.Choice.{pick}
 use Rattle.program_io.specs.Words.{argumentCount, wordBytes, wordIsOption}
 use Rattle.program_io.specs.declared.calls.Asked.{Asked}
 use Rattle.recording_block.specs.Ends.{blockIn, requestOf}
-use Rattle.recording_block.specs.declared.Request.the-variants.{Other}
+use Rattle.recording_block.specs.declared.BlockRequest.the-variants.{Other}
 use borrow.Author.Needs.{needs}
 use Rattle.recording_block.proofs.request_for.Statement.{statement}
 use Rattle.recording_block.proofs.request_for.Tie as tie

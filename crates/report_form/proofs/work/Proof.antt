@@ -5,8 +5,9 @@ use Prim.Native.Nat.{ℕ}
 use mir.Syntax.{w32}
 use mir.Val.{toZ, ofZ}
 use Rattle.program_io.specs.Words.{argumentCount, wordBytes}
-use Rattle.report_form.specs.Ends.{formOf, Ends, wrong, ran}
+use Rattle.report_form.specs.Ends.{formOf, Ends, answered, ran}
 use borrow.Author.Needs.{needs}
+use Rattle.program_io.proofs.Answering.{wrong-answered}
 use Rattle.report_form.proofs.work.Statement.{statement}
 use Rattle.report_form.proofs.work.Tie as tie
 
@@ -34,7 +35,9 @@ returns c =
     let r = c .before .wrong in
     let z = r .result .status in
     let e : toZ w32 (ofZ w32 z) ≡ z = search needs in
-    wrong (s .args .arguments) (s .args .first) (r .result) (s .pre) (sym (asked (c .before .before .before .before)) ∙ c .before .before .before .if1 .taken) (r .ensures) e
+    answered
+    (wrong-answered (s .args .arguments) (s .args .first) (r .result) (s .pre .first-is) (s .pre .work)
+    (sym (asked (c .before .before .before .before)) ∙ c .before .before .before .if1 .taken) (r .ensures) e)
 
 standard-requires : tie.Need-standard-requires
 standard-requires c κs = search needs

@@ -3,8 +3,9 @@
 use mathlib.Core.Path.{_≡_, sym, _∙_}
 use mir.Syntax.{w32}
 use mir.Val.{toZ, ofZ}
-use Rattle.season.specs.Ends.{wrong, ran}
+use Rattle.season.specs.Ends.{answered, ran}
 use borrow.Author.Needs.{needs}
+use Rattle.program_io.proofs.Answering.{wrong-answered}
 use Rattle.season.proofs.work.Statement.{statement}
 use Rattle.season.proofs.work.Tie as tie
 
@@ -23,7 +24,9 @@ returns c =
     let r = c .before .wrong in
     let z = r .result .status in
     let e : toZ w32 (ofZ w32 z) ≡ z = search needs in
-    wrong (s .args .arguments) (s .args .first) (r .result) (s .pre) (λ n. c .before .before .before .if1 .taken (c .before .before .before .before .count .ensures ∙ n)) (r .ensures) e
+    answered
+    (wrong-answered (s .args .arguments) (s .args .first) (r .result) (s .pre .first-is) (s .pre .work)
+    (λ n. c .before .before .before .if1 .taken (c .before .before .before .before .count .ensures ∙ n)) (r .ensures) e)
 
 standard-requires : tie.Need-standard-requires
 standard-requires c κs = search needs

@@ -14,29 +14,29 @@ use Rattle.reader_stream.proofs.ReaderStream.feed.Statement.{statement}
 use Rattle.reader_stream.proofs.ReaderStream.feed.Tie as tie
 
 abbrev Inv-loop : tie.InvT-loop
-Inv-loop costs bits₀ output₀ runs₀ carry₀ held₀ count₀ at₀ bits output runs carry held count at =
-    (Feeding runs₀ carry₀ held₀ costs output₀ output runs carry held count at) × (length bits ≡ length bits₀) × (length output ≡ length output₀)
+Inv-loop pairs bits₀ output₀ runs₀ carry₀ held₀ count₀ at₀ bits output runs carry held count at =
+    (Feeding runs₀ carry₀ held₀ pairs output₀ output runs carry held count at) × (length bits ≡ length bits₀) × (length output ≡ length output₀)
 
 abbrev μ-loop : tie.MeasureT-loop
-μ-loop costs bits₀ output₀ runs₀ carry₀ held₀ count₀ at₀ bits output runs carry held count at = length costs - at
+μ-loop pairs bits₀ output₀ runs₀ carry₀ held₀ count₀ at₀ bits output runs carry held count at = length pairs - at
 
 -- the output has the room that it had
 enough : (c : tie.In-loop Inv-loop μ-loop)
-    → length (c .before .before .before .before .before .before .args .costs .now) + 1632 ≤ 4 * length (c .before .loop .output)
+    → length (c .before .before .before .before .before .before .args .pairs .now) + 1632 ≤ 4 * length (c .before .loop .output)
 enough c = omega (arith, c .before .loop .inv .2, c .before .before .before .before .before .before .pre .3)
 
--- what was fed is some of the costs
+-- what was fed is some of the pairs
 some : (c : tie.After-feed Inv-loop μ-loop)
     → let f = c .feed .result in
     let l = c .before .before .before .before .loop in
-    (0 < f .taken) × (l .at + f .taken ≤ length (c .before .before .before .before .before .before .before .before .before .args .costs .now)) × (f .count ≤ 1632)
+    (0 < f .taken) × (l .at + f .taken ≤ length (c .before .before .before .before .before .before .before .before .before .args .pairs .now)) × (f .count ≤ 1632)
 some c =
     let l = c .before .before .before in
     let s = l .before .before .before .before .before .before in
     fed-some (s .pre .0 .runs-ready) (s .pre .0 .few) (enough l) (l .loop-test .taken) (l .before .loop .inv .0) (c .feed .ensures .0) (c .feed .ensures .1)
 
 loop-holds : tie.Need-loop-holds Inv-loop μ-loop
-loop-holds c = let s = c .before .before .before .before in (feeding-none (s .args .self) (s .pre .0) (s .args .costs .now) (s .args .output .now), refl, refl)
+loop-holds c = let s = c .before .before .before .before in (feeding-none (s .args .self) (s .pre .0) (s .args .pairs .now) (s .args .output .now), refl, refl)
 
 sub-feed : tie.Need-sub-feed Inv-loop μ-loop
 sub-feed c = search needs
@@ -53,7 +53,7 @@ feed-requires c κs =
     let s = l .before .before .before .before .before .before in
     let k = l .before .loop in (
       k .inv .0 .ready,
-      all-take (length (s .args .costs .now) - k .at) (drop (k .at) (s .args .costs .now)) (all-drop (k .at) (s .args .costs .now) (s .pre .1)),
+      all-take (length (s .args .pairs .now) - k .at) (drop (k .at) (s .args .pairs .now)) (all-drop (k .at) (s .args .pairs .now) (s .pre .1)),
       omega (arith, k .inv .1, s .pre .2),
     )
 

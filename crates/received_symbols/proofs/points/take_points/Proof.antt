@@ -6,7 +6,7 @@ use native.Mathlib.Omega.{arith}
 use lib.ListN.{length}
 use lib.Seq.{length-take-le}
 use Rattle.received_symbols.proofs.SoftInput.{points-small, points-costed, points-taken, tail-length, tail-is}
-use Rattle.received_symbols.specs.declared.Pass.{Pass}
+use Rattle.received_symbols.specs.declared.SymbolPass.{SymbolPass}
 use borrow.Author.Needs.{needs}
 use Rattle.received_symbols.proofs.points.take_points.Statement.{statement}
 use Rattle.received_symbols.proofs.points.take_points.Tie as tie
@@ -17,7 +17,7 @@ point-pairs-requires c κs = search needs
 slice-reshare-prefix-feed : tie.Need-slice-reshare-prefix-feed
 slice-reshare-prefix-feed c = search needs
 
--- the costs of all the points were written
+-- the pairs of all the points were written
 long : (c : tie.After-point-pairs) → length (c .before .before .before .before .before .before .args .bytes .now) / 8 ≤ length (c .point-pairs .last .1 .1 .0)
 long c = omega (arith, c .before .before .before .before .before .before .pre .1, c .point-pairs .kept)
 
@@ -29,12 +29,12 @@ feed-requires c κs =
     let d = c .before .before .before .before .before in
     let s = d .before .before .before .before .before .before in
     let bytes = s .args .bytes .now in
-    let costs = d .point-pairs .last .1 .1 .0 in
+    let pairs = d .point-pairs .last .1 .1 .0 in
     let w = d .point-pairs .ensures in (
       s .pre .0,
-      points-small bytes costs w (long d),
+      points-small bytes pairs w (long d),
       s .pre .2,
-      omega (arith, length-take-le (length bytes / 8) costs (long d), s .pre .3),
+      omega (arith, length-take-le (length bytes / 8) pairs (long d), s .pre .3),
     )
 
 mul-whole : tie.Need-mul-whole
@@ -71,7 +71,7 @@ returns c =
     let d = f .before .before .before .before .before .before in
     let a = d .before .before .before .before .before .before .args in
     let bytes = a .bytes .now in
-    let next : Pass = record { stream = f .feed .result .stream; tail = p .last .1 .1 .0; held = length bytes % 8 } in
+    let next : SymbolPass = record { stream = f .feed .result .stream; tail = p .last .1 .1 .0; held = length bytes % 8 } in
     points-taken (a .stream) bytes (a .output .now) next _
     (points-costed bytes (d .point-pairs .last .1 .1 .0) (d .point-pairs .ensures) (long d)) (f .feed .ensures)
     (record {

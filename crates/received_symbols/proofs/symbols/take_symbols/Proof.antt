@@ -5,8 +5,8 @@ use Prim.Native.Nat.{_≤_}
 use native.Mathlib.Omega.{arith}
 use lib.ListN.{length, take, replicate}
 use lib.Seq.{length-take-le}
-use Rattle.received_symbols.specs.declared.Pass.{Pass}
-use Rattle.received_symbols.proofs.HardInput.{costs-length, costs-small, costs-costed, symbols-taken}
+use Rattle.received_symbols.specs.declared.SymbolPass.{SymbolPass}
+use Rattle.received_symbols.proofs.HardInput.{pairs-length, pairs-small, pairs-costed, symbols-taken}
 use borrow.Author.Needs.{needs}
 use Rattle.received_symbols.proofs.symbols.take_symbols.Statement.{statement}
 use Rattle.received_symbols.proofs.symbols.take_symbols.Tie as tie
@@ -29,7 +29,7 @@ hard-pairs-requires c κs =
 slice-reshare-prefix-feed : tie.Need-slice-reshare-prefix-feed
 slice-reshare-prefix-feed c = search needs
 
--- the costs of all of them were written
+-- the pairs of all of them were written
 long : (c : tie.After-hard-pairs) → c .before .before .before .symbols-in .result ≤ length (c .hard-pairs .last .1 .0)
 long c =
     let s = c .before .before .before in
@@ -45,12 +45,12 @@ feed-requires c κs =
     let a = s .before .before .before .before .before in
     let n = s .symbols-in .result in
     let symbols = take n (a .args .bytes .now) in
-    let costs = d .hard-pairs .last .1 .0 in
+    let pairs = d .hard-pairs .last .1 .0 in
     let w = d .hard-pairs .ensures in (
       a .pre .0,
-      costs-small symbols costs (s .symbols-in .ensures .symbols) w n (front-length s) (long d),
+      pairs-small symbols pairs (s .symbols-in .ensures .symbols) w n (front-length s) (long d),
       a .pre .2,
-      omega (arith, costs-length symbols costs (s .symbols-in .ensures .symbols) w n (front-length s) (long d), s .symbols-in .ensures .most, a .pre .3),
+      omega (arith, pairs-length symbols pairs (s .symbols-in .ensures .symbols) w n (front-length s) (long d), s .symbols-in .ensures .most, a .pre .3),
     )
 
 same-length : tie.Need-same-length
@@ -69,9 +69,9 @@ returns c =
     let s = d .before .before .before in
     let a = s .before .before .before .before .before .args in
     let n = s .symbols-in .result in
-    let next : Pass = record { stream = f .feed .result .stream; tail = replicate 8 0; held = 0 } in
+    let next : SymbolPass = record { stream = f .feed .result .stream; tail = replicate 8 0; held = 0 } in
     symbols-taken (a .stream) (a .bytes .now) (a .output .now) next n _ (s .symbols-in .ensures)
-    (costs-costed (take n (a .bytes .now)) (d .hard-pairs .last .1 .0) (s .symbols-in .ensures .symbols) (d .hard-pairs .ensures) n (front-length s) (long d)) (f .feed .ensures) refl refl
+    (pairs-costed (take n (a .bytes .now)) (d .hard-pairs .last .1 .0) (s .symbols-in .ensures .symbols) (d .hard-pairs .ensures) n (front-length s) (long d)) (f .feed .ensures) refl refl
 
 pub take-symbols-spec : {M : Type 1} → statement M
 take-symbols-spec =

@@ -1,0 +1,4 @@
+pub mod Reading
+pub mod Step
+pub mod End
+pub mod Bits

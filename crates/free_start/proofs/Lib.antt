@@ -1,0 +1,3 @@
+mod Pinned
+pub mod FreeStart
+pub mod FreeStream

@@ -1,0 +1,7 @@
+mod Numbers
+mod Tables
+mod Runs
+mod Verdicts
+mod Calls
+pub mod Found
+pub mod Truth

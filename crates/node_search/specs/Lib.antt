@@ -1,0 +1,4 @@
+pub mod Hypotheses
+pub mod Weight
+pub mod Search
+pub mod Sent
