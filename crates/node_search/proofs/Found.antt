@@ -16,7 +16,7 @@ use Rattle.node_search.specs.Search.{kept, Candidates, none, next, verdi
 use Rattle.node_search.specs.declared.Hypothesis.{Hypothesis}
 use Rattle.node_search.specs.declared.Search.{Search}
 use Rattle.node_search.proofs.Verdicts.{within, below-more}
-use Rattle.node_search.proofs.Calls.{passed}
+use Rattle.node_search.proofs.Calls.{passed-tests}
 
 abbrev Known : Hypothesis → Type 0
 Known h = (h .rate < 5) × (h .offset < 4) × (h .turn < 8)
@@ -75,5 +75,5 @@ pub search-done : (rate : ℕ) (window : List ℕ) (number : ℕ) (search : Sear
     → Searches window (searched rate) search
 search-done rate window number search h l a (refused e p z) =
     let m : largest window ≤ 80 = largest-most window 80 (λ i k. omega (arith, All-at (λ p. p < 81) window 0 i a k)) in
-    absurd (omega (arith, e, p, passed rate window h l (omega (arith, m))))
+    absurd (omega (arith, e, p, passed-tests rate window h l (omega (arith, m))))
 search-done rate window number search h l a (done e z s) = s
