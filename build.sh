@@ -8,7 +8,7 @@
 # prove; here their objects become one archive.
 set -euo pipefail
 cd "$(dirname "$0")"
-programs=(dvbs_send dvbs_read dvbs_read_soft dvbs_receive dvbs_losses pass_report report_form season recording_block)
+programs=(dvbs_send dvbs_read dvbs_read_soft dvbs_lock dvbs_receive dvbs_losses pass_report report_form season recording_block)
 
 libdvbs() {
     local parts=target/staticlib/parts crate object

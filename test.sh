@@ -147,6 +147,10 @@ usage dvbs_read 2 2
 usage dvbs_read_soft
 usage dvbs_read_soft 5
 usage dvbs_read_soft 2 2
+usage dvbs_lock
+usage dvbs_lock 5
+usage dvbs_lock all
+usage dvbs_lock 2 2
 usage dvbs_receive 0 0
 usage dvbs_losses 0 0
 usage pass_report 0

@@ -176,6 +176,20 @@ printf '\0\1\2\3\4\0' > bad
 tells 1 "dvbs_read: a byte above 3" "symbol=4 answer=14" "$bin/dvbs_read" 2 < bad
 echo "the readers: their status says what failed, and nothing that failed looks whole"
 
+# ---- dvbs_lock: the same faults, and nothing to lock to
+for source in 2 any bits; do
+    says "dvbs_lock $source: read 1 fails" "standard input: $io_error" failing "read 0 1 -5" "$bin/dvbs_lock" $source < points
+    says "dvbs_lock $source: a directory" "standard input: Is a directory" "$bin/dvbs_lock" $source < .
+    says "dvbs_lock $source: no input" "standard input: Bad file descriptor" bash -c "'$bin/dvbs_lock' $source <&-"
+done
+says "dvbs_lock 2: no points" "nothing symbol=0 skipped=0 bytes=0" "$bin/dvbs_lock" 2 < /dev/null
+says "dvbs_lock bits: no bits" "nothing bit=0 skipped=0" "$bin/dvbs_lock" bits < /dev/null
+head -c 13 points > few
+says "dvbs_lock any: a point and a part" "nothing symbol=1 skipped=1 bytes=5" "$bin/dvbs_lock" any < few
+ends 0 "dvbs_lock --help" "$bin/dvbs_lock" --help < /dev/null
+ends 0 "dvbs_lock --version" "$bin/dvbs_lock" --version < /dev/null
+echo "dvbs_lock: its status says what failed, and a search that finds nothing gives nothing"
+
 # ---- the programs over blocks: the same faults. What is on standard output then is a part, and no report and no list looks whole.
 head -c 40000 blocks > some
 for program in dvbs_receive pass_report dvbs_losses; do

@@ -1,1 +1,2 @@
 mod Bounds
+pub mod Lists

@@ -30,12 +30,14 @@ use Rattle.losses.specs.declared.LossStream.{LossStream}
 use Rattle.losses.proofs.Decisions.{most-seven}
 use Rattle.losses.proofs.Streams.{stream-range}
 use Rattle.losses.proofs.Histories.{largest-both, largest-behind, came-none, came-range, came-capacity, came-feeds, came-listed}
-use Rattle.dvbs_losses.specs.Text.{listText, restText}
+use Rattle.answer_lines.specs.Lines.{listText}
+use Rattle.answer_lines.proofs.Lists.{list-append}
+use Rattle.dvbs_losses.specs.Text.{restText}
 use Rattle.dvbs_losses.specs.Ends.{Going, BadMark, Stops, Turns, AllRead, Whole, Cut, Failed, Status, part, Ends}
 use Rattle.dvbs_losses.specs.Ends as ends
 use Rattle.dvbs_losses.specs.declared.LossesEnded.{LossesEnded}
 use Rattle.dvbs_losses.specs.declared.Turned.{Turned}
-use Rattle.dvbs_losses.proofs.Lists.{list-append, padded-both, padded-length}
+use Rattle.dvbs_losses.proofs.Lists.{padded-both, padded-length}
 
 -- the lines that a feeding wrote
 pub fed-count : {i next : LossStream} {piece marks output exit : List ℕ} {number count : ℕ} → FeedsLosses i piece marks output number count next exit → number ≡ 0 → length exit ≡ length output → count ≤ length output

@@ -5,16 +5,15 @@
 // MARKS is a file with a byte for each received byte, in their order: 1 for a doubtful one, 0 for any other. Bytes past its end are not marked.
 // Status 0: all was read and written. 1: something failed, or a mark was above 1. 2: a wrong call.
 ghost use mathlib.Core.Path.{_≡_};
-ghost use Prim.Native.Nat.{_+_, _*_, _≤_};
-ghost use lib.ListN.{length, take};
+ghost use Prim.Native.Nat.{_≤_};
+ghost use lib.ListN.{length};
 ghost use Rattle.common.specs.Lists.{padded};
-ghost use Rattle.report_lines.specs.Line.{Appended};
 ghost use Rattle.program_io.specs.Checksum.{noBytes};
 ghost use Rattle.program_io.specs.Files.{inputTrace, inputOrigin, outputFile};
 ghost use Rattle.program_io.specs.Words.{argumentCount, wordIsOption};
 ghost use Rattle.losses.specs.Feed.{capacityOf};
-ghost use Rattle.dvbs_losses.specs.Text.{entryText, listText};
 ghost use Rattle.dvbs_losses.specs.Ends.{rightCall, Turns, AllRead, Status, Ends, Exits};
+use answer_lines::put_list;
 use losses::LossStream;
 use program_io::Arguments;
 use program_io::Asked;
@@ -37,33 +36,6 @@ struct Turned {
     marks: Input,
     output: Output,
     stream: LossStream,
-}
-
-// Writes a line as text at a place. Gives the place after it.
-fn put_entry(line: u64, at: usize, text: &mut [u8]) -> usize
-    requires { ⌜ at + 64 ≤ length (now text) ⌝ }
-    ensures { λ r. ⌜ Appended (entryText line) (now (text .entry)) (now (text .exit)) at r (at + 64) ⌝ }
-{
-    let answer = line % 16;
-    let middle = report_lines::put_field(b"block=", line / 16, b' ', at, text);
-    if answer == 0 {
-        return report_lines::put_line(b"doubt=", 1, middle, text);
-    }
-    report_lines::put_line(b"answer=", answer, middle, text)
-}
-
-// Writes so many lines as text. Gives the place after them.
-fn put_list(lines: &[u64], count: usize, text: &mut [u8]) -> usize
-    requires { ⌜ (count ≤ length (now lines)) × (64 * count ≤ length (now text)) ⌝ }
-    ensures { λ r. ⌜ Appended (listText (take count (now (lines .entry)))) (now (text .entry)) (now (text .exit)) 0 r (64 * count) ⌝ }
-{
-    let mut end: usize = 0;
-    let mut i: usize = 0;
-    while i < count {
-        end = put_entry(lines[i], end, text);
-        i += 1;
-    }
-    end
 }
 
 // Marks at the front of an array, and 0 behind them.
@@ -110,7 +82,7 @@ fn turn(marks: Input, output: Output, stream: LossStream, block: [u8; 204]) -> T
             stream,
         };
     }
-    let end = put_list(&lines, count, &mut text);
+    let end = put_list(&lines, count, 0, &mut text);
     let written = output.write(b"standard output", &text[..end]);
     let failed = written.failed();
     Turned {
@@ -156,7 +128,7 @@ fn finish(
     let mut text = [0u8; 640];
     let closed = stream.close(&mut lines);
     let count = closed.count;
-    let end = put_list(&lines, count, &mut text);
+    let end = put_list(&lines, count, 0, &mut text);
     let size = report_lines::put_line(b"rest=", rest as u64, end, &mut text);
     let written = output.write_text(b"standard output", &text[..size]);
     let output = written.close(b"standard output");

@@ -1,3 +1,3 @@
 mod HardInput
-mod SoftInput
+pub mod SoftInput
 pub mod Pieces

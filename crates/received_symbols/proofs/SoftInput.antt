@@ -2,18 +2,18 @@
 -- Assumes nothing.
 use mathlib.Core.Bool.{Bool, true, false, not, _&&_, true≢false}
 use mathlib.Core.Path.{_≡_, refl, sym, _∙_, ap, subst}
-use mathlib.Core.List.{List, [], _++_}
+use mathlib.Core.List.{List, [], _++_, map, map-append}
 use Prim.Native.Nat.{ℕ, zero, suc, _+_, _-_, _*_, _/_, _%_, _≤_, _<_}
 use native.Mathlib.Omega.{arith}
 use borrow.Author.Tests.{eqb-true, eq-eqb}
 use lib.Dec.{T, eqb}
 use lib.Ieee.{nan, ofBits, ofFields, binary32, nanBits}
 use lib.ListN.{length, getD, take, drop, length-append, length-drop, length-map}
-use lib.Seq.{getD-take, getD-drop, length-take-le, take-at, take-length, drop-drop}
+use lib.Seq.{ext-getD, getD-take, getD-drop, length-take-le, take-at, take-length, drop-drop}
 use Rattle.common.specs.Lists.{All, chunks, chunksOf, restOf}
 use Rattle.common.proofs.Choice.{false-true}
 use Rattle.common.proofs.Lists.{getD-map-in}
-use Rattle.common.proofs.Chunks.{length-chunks}
+use Rattle.common.proofs.Chunks.{length-chunks, chunks-append}
 use Rattle.reader.proofs.Outcome.{not-true}
 use Rattle.reader.proofs.SoftDecisions.{along-costed}
 use Rattle.branch_metrics.specs.SoftPairs.{symbolPair}
@@ -25,7 +25,7 @@ use Rattle.reader_stream.specs.Stream.{FeedsReader}
 use Rattle.reader_stream.specs.declared.ReaderStream.{ReaderStream}
 use Rattle.received_symbols.specs.Pass.{Held, TakesAll, TakesBytes}
 use Rattle.received_symbols.specs.declared.SymbolPass.{SymbolPass}
-use Rattle.received_symbols.specs.Received.{pointOf, pointAt, pointsOf}
+use Rattle.received_symbols.specs.Received.{pointOf, pointAt, pointsOf, pairsOf}
 
 -- ---- the patterns of NaNs
 
@@ -93,6 +93,15 @@ points-at bytes i h =
     getD-map-in pointOf (chunksOf 8 bytes) [] Lost i (omega (arith, length-chunks 8 bytes))
     ∙ ap pointOf (chunk-at (length bytes / 8) i bytes h) ∙ chunk-point bytes i
 
+-- the decisions on points behind whole points
+pub pairs-append : (a b : List ℕ) → length a % 8 ≡ 0 → pairsOf (a ++ b) ≡ pairsOf a ++ pairsOf b
+pairs-append a b e =
+    ap (λ (l : List (List ℕ)). map symbolPair (map pointOf l)) (chunks-append 8 (omega arith) a b e)
+    ∙ ap (map symbolPair) (map-append pointOf (chunksOf 8 a) (chunksOf 8 b)) ∙ map-append symbolPair (pointsOf a) (pointsOf b)
+
+pub pairs-length : (bytes : List ℕ) → length (pairsOf bytes) ≡ length bytes / 8
+pairs-length bytes = length-map (pointsOf bytes) symbolPair ∙ points-length bytes
+
 -- ---- their pairs
 
 module _ (bytes pairs : List ℕ) (w : (t : ℕ) → t < length bytes / 8 → getD pairs t 0 ≡ symbolPair (pointAt bytes t)) (long : length bytes / 8 ≤ length pairs) where
@@ -101,6 +110,14 @@ module _ (bytes pairs : List ℕ) (w : (t : ℕ) → t < length bytes / 8 → ge
 
   pub points-small : All (λ p. p < 81) (take n pairs)
   points-small = along-small (pointAt bytes) n pairs long w
+
+  pub pairs-are : take n pairs ≡ pairsOf bytes
+  pairs-are =
+      let k : length (take n pairs) ≡ n = length-take-le n pairs long in
+      ext-getD 0 (take n pairs) (pairsOf bytes) (k ∙ sym (pairs-length bytes))
+      (λ i h.
+      getD-take n pairs i 0 (omega (arith, k)) ∙ w i (omega (arith, k))
+      ∙ sym (getD-map-in symbolPair (pointsOf bytes) Lost 0 i (omega (arith, k, points-length bytes)) ∙ ap symbolPair (points-at bytes i (omega (arith, k)))))
 
   pub points-costed : Costed softly (pointsOf bytes) (take n pairs)
   points-costed = along-costed (pointAt bytes) (pointsOf bytes) n (points-length bytes) (points-at bytes) pairs long w

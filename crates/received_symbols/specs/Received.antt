@@ -9,6 +9,7 @@ use lib.ListN.{getD}
 use Rattle.common.specs.Choice.{pick}
 use Rattle.common.specs.Lists.{All, chunksOf}
 use Rattle.branch_metrics.specs.Cost.{softly}
+use Rattle.branch_metrics.specs.SoftPairs.{symbolPair}
 use Rattle.branch_metrics.specs.declared.soft_decision.ReceivedSymbol.{ReceivedSymbol}
 use Rattle.branch_metrics.specs.declared.soft_decision.ReceivedSymbol.the-variants.{At, Lost}
 use Rattle.reader.specs.Cost.{differing}
@@ -33,6 +34,10 @@ pointOf bytes = point (number bytes 0) (number bytes 4)
 
 abbrev pub pointsOf : List ℕ → List ReceivedSymbol
 pointsOf bytes = map pointOf (chunksOf 8 bytes)
+
+-- the decisions on them, one number for each
+abbrev pub pairsOf : List ℕ → List ℕ
+pairsOf bytes = map symbolPair (pointsOf bytes)
 
 -- a point by its place
 abbrev pub pointAt : List ℕ → ℕ → ReceivedSymbol

@@ -11,6 +11,8 @@ use reader_stream::ReaderStream;
 mod points;
 mod symbols;
 
+pub use points::point_pairs;
+
 // A reader, and the bytes of a point that is not whole yet: so many of the tail.
 pub struct SymbolPass {
     pub stream: ReaderStream,

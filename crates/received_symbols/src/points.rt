@@ -83,7 +83,7 @@ fn point_at(bytes: &[u8], at: usize) -> ReceivedSymbol
 }
 
 // Writes the decisions on so many points, one number for each.
-fn point_pairs(bytes: &[u8], count: usize, output: &mut [u8])
+pub fn point_pairs(bytes: &[u8], count: usize, output: &mut [u8])
     requires { ⌜ (8 * count ≤ length (now bytes)) × (count ≤ length (now output)) ⌝ }
     ensures { λ _. ⌜ ((t : ℕ) → t < count → getD (now (output .exit)) t 0 ≡ symbolPair (pointAt (now (bytes .entry)) t)) ⌝ }
 {

@@ -22,7 +22,7 @@ use Rattle.receiver_stream.proofs.Laws.{reception-held, reception-range
 
 -- ---- the writer does not refuse it
 
-counts-fit : (n : Counts) (rest : ℕ) → CountsRange n → rest < 204 → fits (reportOf n rest) ≡ true
+pub counts-fit : (n : Counts) (rest : ℕ) → CountsRange n → rest < 204 → fits (reportOf n rest) ≡ true
 unfolding row
 counts-fit n rest c h =
     let t = c .most in
@@ -31,7 +31,7 @@ counts-fit n rest c h =
     let e = c .eightfold in
     told-fits (reportOf n rest) (n .bits) refl t (omega arith) (omega arith) (omega arith) (omega arith) (omega arith) (omega arith) (omega arith) (omega arith)
 
-counts-add : (n : Counts) (rest : ℕ) → CountsRange n → sums (reportOf n rest) ≡ true
+pub counts-add : (n : Counts) (rest : ℕ) → CountsRange n → sums (reportOf n rest) ≡ true
 unfolding sums
 counts-add n rest c = simp (eq-eqb _ _ (c .middle), eq-eqb _ _ (c .filled))
 

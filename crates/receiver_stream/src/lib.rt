@@ -171,7 +171,7 @@ fn take_piece(
 }
 
 // The report on these counts, in form 2, with so many bytes after the last whole block.
-fn report_of(counts: Counts, rest: u64) -> Report
+pub fn report_of(counts: Counts, rest: u64) -> Report
     ensures { λ r. ⌜ r ≡ reportOf counts rest ⌝ }
 {
     Report {

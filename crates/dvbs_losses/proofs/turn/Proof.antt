@@ -122,7 +122,7 @@ slice-aggregate-write-2 c =
     let p = c .before .before .before .put-list in
     let l : length (d .last .1 .1 .1 .0) ≡ 8 = search needs in
     let k = fed-count (d .ensures) (sym (c .before .before .before .before .before .before .before .number .ensures) ∙ c .before .before .before .before .before .before .if2 .left) l in
-    sym (length-take-le (p .result) (p .last .1 .1 .0) (omega (arith, p .ensures .bound, p .ensures .same, k)))
+    sym (length-take-le (p .result) (p .last .1 .1 .1 .0) (omega (arith, p .ensures .bound, p .ensures .same, k)))
 
 write-requires : tie.Need-write-requires
 write-requires c κs = search needs

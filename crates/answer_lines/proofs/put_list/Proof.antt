@@ -1,26 +1,26 @@
--- `dvbs_losses::put_list` meets its contract.
+-- `answer_lines::put_list` meets its contract.
 -- Assumes nothing.
 use mathlib.Core.Path.{_≡_, refl, subst}
-use Prim.Native.Nat.{ℕ, _-_, _*_, _≤_}
+use Prim.Native.Nat.{ℕ, _+_, _-_, _*_, _≤_}
 use native.Mathlib.Omega.{arith}
 use lib.ListN.{take}
 use Rattle.report_lines.specs.Line.{Appended}
-use Rattle.dvbs_losses.specs.Text.{listText}
-use Rattle.dvbs_losses.proofs.Lists.{Listing, listing-none, listing-more}
+use Rattle.answer_lines.specs.Lines.{listText}
+use Rattle.answer_lines.proofs.Lists.{Listing, listing-none, listing-more}
 use borrow.Author.Needs.{needs}
-use Rattle.dvbs_losses.proofs.put_list.Statement.{statement}
-use Rattle.dvbs_losses.proofs.put_list.Tie as tie
+use Rattle.answer_lines.proofs.put_list.Statement.{statement}
+use Rattle.answer_lines.proofs.put_list.Tie as tie
 
 abbrev Inv-loop : tie.InvT-loop
-Inv-loop lines count text₀ end₀ i₀ text end i = Listing lines text₀ text i end × (i ≤ count)
+Inv-loop lines count at text₀ end₀ i₀ text end i = Listing lines text₀ text at i end × (i ≤ count)
 
 abbrev μ-loop : tie.MeasureT-loop
-μ-loop lines count text₀ end₀ i₀ text end i = count - i
+μ-loop lines count at text₀ end₀ i₀ text end i = count - i
 
 loop-holds : tie.Need-loop-holds Inv-loop μ-loop
 loop-holds c =
     let a = c .before .before .args in
-    (listing-none (a .lines .now) (a .text .now), omega arith)
+    (listing-none (a .lines .now) (a .text .now) (a .at), omega arith)
 
 mul-put-entry : tie.Need-mul-put-entry Inv-loop μ-loop
 mul-put-entry c = search needs
@@ -52,7 +52,7 @@ returns c =
     let l = c .before .loop in
     let a = c .before .before .before .before .args in
     let e : l .i ≡ a .count = omega (arith, l .inv .1, c .loop-test .left) in
-    subst (λ (k : ℕ). Appended (listText (take k (a .lines .now))) (a .text .now) (l .text) 0 (l .end) (64 * k)) e (l .inv .0 .appended)
+    subst (λ (k : ℕ). Appended (listText (take k (a .lines .now))) (a .text .now) (l .text) (a .at) (l .end) (a .at + 64 * k)) e (l .inv .0 .appended)
 
 pub put-list-spec : {M : Type 1} → statement M
 put-list-spec =

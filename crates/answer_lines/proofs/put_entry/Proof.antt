@@ -1,4 +1,4 @@
--- `dvbs_losses::put_entry` meets its contract.
+-- `answer_lines::put_entry` meets its contract.
 -- Assumes nothing.
 use mathlib.Core.Path.{sym, subst}
 use mathlib.Core.Bool.{Bool}
@@ -8,11 +8,11 @@ use native.Mathlib.Omega.{arith}
 use borrow.Author.Tests.{eq-eqb, ne-eqb}
 use Rattle.common.specs.Choice.{pick}
 use Rattle.report_lines.specs.Line.{fieldText, lineText, Appended}
-use Rattle.dvbs_losses.specs.Text.{blockKey, doubtKey, answerKey}
-use Rattle.dvbs_losses.proofs.Lists.{appended-both}
+use Rattle.answer_lines.specs.Lines.{blockKey, doubtKey, answerKey}
+use Rattle.answer_lines.proofs.Lists.{appended-both}
 use borrow.Author.Needs.{needs}
-use Rattle.dvbs_losses.proofs.put_entry.Statement.{statement}
-use Rattle.dvbs_losses.proofs.put_entry.Tie as tie
+use Rattle.answer_lines.proofs.put_entry.Statement.{statement}
+use Rattle.answer_lines.proofs.put_entry.Tie as tie
 
 slice-aggregate-put-field : tie.Need-slice-aggregate-put-field
 slice-aggregate-put-field c = search needs

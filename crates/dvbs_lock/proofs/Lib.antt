@@ -1,0 +1,5 @@
+mod Bits
+mod Going
+mod NumberLaws
+mod Endings
+mod Reading

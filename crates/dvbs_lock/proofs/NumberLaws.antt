@@ -1,0 +1,47 @@
+-- The numbers of bytes: their range, and those of bytes behind bytes.
+-- Assumes nothing.
+use mathlib.Core.Path.{_≡_, refl, sym, ap, _∙_}
+use mathlib.Core.Bool.{Bool, true, false}
+use mathlib.Core.List.{List, [], _∷_, _++_, map}
+use Prim.Native.Nat.{ℕ, _+_, _*_, _/_, _%_, _≤_, _<_}
+use native.Mathlib.Omega.{arith}
+use lib.ListN.{length}
+use Rattle.common.specs.Lists.{All}
+use Rattle.branch_metrics.specs.SoftPairs.{symbolPair}
+use Rattle.branch_metrics.specs.declared.soft_decision.ReceivedSymbol.{ReceivedSymbol}
+use Rattle.branch_metrics.proofs.Numbers.{symbol-lt}
+use Rattle.convolutional_code.specs.Bits.{bitsOf, Bits, none, more}
+use Rattle.convolutional_code.proofs.Bits.{length-bits, bits-bits, bits-split}
+use Rattle.received_symbols.specs.Received.{pointsOf, pairsOf}
+use Rattle.received_symbols.proofs.SoftInput.{pairs-append, pairs-length}
+use Rattle.dvbs_lock.specs.Numbers.{numbersOf}
+
+pairs-small : (l : List ReceivedSymbol) → All (λ p. p < 81) (map symbolPair l)
+pairs-small [] = tt
+pairs-small (x ∷ l) = (symbol-lt x, pairs-small l)
+
+bits-small : {l : List ℕ} → Bits l → All (λ p. p < 81) l
+bits-small none = tt
+bits-small (more h b) = (omega arith, bits-small b)
+
+pub numbers-small : (bits : Bool) (bytes : List ℕ) → All (λ p. p < 81) (numbersOf bits bytes)
+numbers-small true bytes = bits-small (bits-bits bytes)
+numbers-small false bytes = pairs-small (pointsOf bytes)
+
+pub numbers-append : (bits : Bool) (a c : List ℕ) → length a % 8 ≡ 0 → numbersOf bits (a ++ c) ≡ numbersOf bits a ++ numbersOf bits c
+numbers-append true a c e = bits-split a c
+numbers-append false a c e = pairs-append a c e
+
+pub numbers-none : (bits : Bool) → numbersOf bits [] ≡ []
+unfolding bitsOf
+numbers-none true = refl
+numbers-none false = empty (pairsOf []) (pairs-length [])
+  where
+    empty : (l : List ℕ) → length l ≡ 0 → l ≡ []
+    empty [] z = refl
+    empty (x ∷ l) z = absurd (omega arith)
+
+-- a whole read has some
+pub numbers-some : (bits : Bool) (bytes : List ℕ) → length bytes ≡ 13056 → 0 < length (numbersOf bits bytes)
+numbers-some true bytes e = omega (arith, length-bits bytes)
+numbers-some false bytes e = omega (arith, pairs-length bytes)

@@ -1,0 +1,23 @@
+-- `lock_stream::progress::LockProgress::new` meets its contract.
+-- Assumes nothing.
+use mathlib.Core.Path.{sym, ap, subst}
+use mathlib.Core.Bool.{false}
+use Rattle.lock_receiver.specs.declared.LockReceiver.{LockReceiver}
+use Rattle.lock_stream.specs.Progress.{freshProgress, Reached, reached-fresh}
+use Rattle.lock_stream.specs.declared.progress.LockProgress.{LockProgress}
+use borrow.Author.Needs.{needs}
+use Rattle.lock_stream.proofs.progress.LockProgress.new.Statement.{statement}
+use Rattle.lock_stream.proofs.progress.LockProgress.new.Tie as tie
+
+new-requires : tie.Need-new-requires
+new-requires c κs = search needs
+
+returns : tie.Need-returns
+unfolding freshProgress
+returns c = (
+  ap {B = LockProgress} (λ (v : LockReceiver). record { found = false; locked = false; receiver = v; skipped = 0; end = 0 }) (c .new .ensures),
+  subst Reached (sym (c .new .ensures)) reached-fresh,
+)
+
+pub new-spec : {M : Type 1} → statement M
+new-spec = tie.close (tie.spec new-requires returns)
