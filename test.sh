@@ -83,6 +83,7 @@ quietly ./build.sh $(basename -s .1 man/*.1)
 "$compared/compare_reports" target/bin/report_calls
 "$compared/compare_seasons" target/bin/season target/bin/report_calls
 "$compared/compare_noise" target/bin
+"$compared/compare_lock" target/bin
 bash tests/pieces.sh
 bash tests/reports.sh
 bash tests/marks.sh
