@@ -1,13 +1,13 @@
 -- How a run may end: its files, and what the status says.
 -- Assumes nothing.
-use mathlib.Core.Path.{_≡_, sym, ap, _∙_}
+use mathlib.Core.Path.{_≡_, ap, _∙_}
 use mathlib.Core.Bool.{Bool, true, false}
 use mathlib.Core.List.{List, _++_}
 use Prim.Native.Nat.{ℕ}
 use lib.IntN.{pos}
 use Rattle.common.specs.Choice.{pick}
 use Rattle.program_io.specs.Checksum.{noBytes, traced}
-use Rattle.program_io.specs.Files.{inputOrigin, inputOver, inputEnded, inputFailed, outputFile, outputTrace, outputFailed, StandardInput, FreshOutput, Writes, Closes}
+use Rattle.program_io.specs.Files.{inputOrigin, inputOver, inputEnded, inputFailed, outputFile, outputFailed, StandardInput, FreshOutput, Writes, Closes}
 use Rattle.program_io.specs.declared.input.Input.{Input}
 use Rattle.program_io.specs.declared.output.Output.{Output}
 use Rattle.program_io.specs.declared.calls.Ended.{Ended}

@@ -1,13 +1,13 @@
 -- Step after step: what was taken, written and told so far, and at the end.
 -- Assumes nothing.
-use mathlib.Core.Path.{_≡_, refl, sym, ap, ap₂, subst, _∙_}
-use mathlib.Core.Bool.{Bool, true, false}
+use mathlib.Core.Path.{_≡_, refl, sym, ap, subst, _∙_}
+use mathlib.Core.Bool.{Bool, false}
 use mathlib.Core.List.{List, [], _++_, append-assoc, append-nil}
 use Prim.Native.Nat.{ℕ, _+_, _-_, _≤_, _<_}
 use native.Mathlib.Omega.{arith}
 use lib.ListN.{length, take, drop, length-drop}
 use lib.Seq.{take-take, take-add, length-take-le}
-use Rattle.program_io.specs.Checksum.{noBytes, traced}
+use Rattle.program_io.specs.Checksum.{traced}
 use Rattle.program_io.specs.Files.{outputFile, outputTrace, outputFailed, Writes}
 use Rattle.program_io.specs.declared.output.Output.{Output}
 use Rattle.program_io.specs.declared.trace.Trace.{Trace}
@@ -17,7 +17,6 @@ use Rattle.lock_stream.specs.Stream.{StreamReady, StreamSteps, StepsStream, Str
 use Rattle.lock_stream.specs.declared.LockStream.{LockStream}
 use Rattle.lock_stream.specs.declared.StreamStep.{StreamStep}
 use Rattle.lock_stream.specs.declared.StreamEnd.{StreamEnd}
-use Rattle.lock_stream.specs.declared.source.LockSource.{LockSource}
 use Rattle.dvbs_lock.specs.Ends.{Going, Ending}
 
 -- ---- a step

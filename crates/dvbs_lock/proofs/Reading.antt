@@ -18,7 +18,7 @@ use Rattle.program_io.proofs.Traces.{traced-on}
 use Rattle.lock_stream.specs.Source.{freshSource, cameOf}
 use Rattle.lock_stream.specs.Stream.{freshStream, StreamReady, LockSteps, fresh}
 use Rattle.lock_stream.specs.declared.LockStream.{LockStream}
-use Rattle.dvbs_lock.specs.Numbers.{numbersOf, restBytes, NumbersAt, ReadsNumbers}
+use Rattle.dvbs_lock.specs.Numbers.{numbersOf, restBytes, ReadsNumbers}
 use Rattle.dvbs_lock.specs.Ends.{Going, Takes, Files, AllRead, TooMuch}
 use Rattle.dvbs_lock.specs.declared.NumbersTaken.{NumbersTaken}
 use Rattle.dvbs_lock.specs.declared.numbers.NumbersRead.{NumbersRead}

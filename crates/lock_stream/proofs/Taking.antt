@@ -12,13 +12,12 @@ use lib.Seq.{take-at}
 use Rattle.common.specs.Choice.{pick}
 use Rattle.common.proofs.Chunks.{length-first}
 use Rattle.reception_counts.specs.Counts.{countsInRange}
-use Rattle.receiver.specs.Receive.{freshReceiver, receiverInRange}
+use Rattle.receiver.specs.Receive.{freshReceiver}
 use Rattle.receiver.specs.Run.{answerOf, afterCall, outputOf}
 use Rattle.receiver.specs.declared.Receiver.{Receiver}
 use Rattle.receiver.proofs.Calls.{state-range}
 use Rattle.receiver.proofs.Reached.{Sound, sound-fresh, sound-call, sound-range}
 use Rattle.losses.specs.Watch.{waitingOf, isSure, startDueAt, startedAt, certaintyInRange}
-use Rattle.losses.specs.Block.{Watched}
 use Rattle.losses.specs.Feed.{WritesLines}
 use Rattle.losses.specs.declared.Certainty.{Certainty}
 use Rattle.losses.proofs.Decisions.{most-seven}

@@ -1,7 +1,6 @@
 // Where blocks come from: received symbols, by an acquisition, or decoded bits. Both stand side by side, and a flag tells which is used.
 ghost use mathlib.Core.Path.{_≡_};
-ghost use mathlib.Core.Bool.{Bool};
-ghost use Prim.Native.Nat.{_+_, _<_, _≤_};
+ghost use Prim.Native.Nat.{_+_, _<_};
 ghost use lib.ListN.{length};
 ghost use Rattle.common.specs.Lists.{All};
 ghost use Rattle.lock_stream.specs.Source.{freshSource, cameOf, SourceReady, StepsSource, EndsSource};

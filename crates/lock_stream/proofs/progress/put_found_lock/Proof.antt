@@ -2,7 +2,6 @@
 -- Assumes nothing.
 use mathlib.Core.Path.{sym, ap, subst}
 use Prim.Native.Nat.{ℕ, _+_, _%_, _<_}
-use native.Mathlib.Omega.{arith}
 use Rattle.lock_lines.specs.Lines.{lockText}
 use Rattle.reader.proofs.Patterns.{some-symbols}
 use Rattle.report_lines.proofs.Lines.{restated}
