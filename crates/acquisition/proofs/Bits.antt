@@ -1,6 +1,6 @@
 -- What a call of the aligner counts, and two calls that take all bits of a run.
 -- Assumes nothing.
-use mathlib.Core.Path.{_≡_, refl, sym, _∙_, ap, subst}
+use mathlib.Core.Path.{_≡_, refl, sym, subst}
 use mathlib.Core.Bool.{Bool, true, false}
 use mathlib.Core.List.{List, _++_}
 use Prim.Native.Nat.{ℕ, _+_, _-_, _≤_, _<_}
@@ -9,12 +9,12 @@ use lib.ListN.{length, take, drop, replicate, length-append, length-drop, length
 use Rattle.common.specs.Choice.{pick}
 use Rattle.common.specs.Lists.{padded}
 use Rattle.block_sync.specs.Decision.{Decides, usedBits, follows, begins, searches}
-use Rattle.block_sync.specs.Feed.{holding, heldBits, idleStep, turnedStep, TurnsBuffer, FeedsSync, refused, gathered, turned}
+use Rattle.block_sync.specs.Feed.{heldBits, TurnsBuffer, FeedsSync, refused, gathered, turned}
 use Rattle.block_sync.specs.declared.Lock.{Lock}
 use Rattle.block_sync.specs.declared.Decision.{Decision}
 use Rattle.block_sync.specs.declared.BlockSync.{BlockSync}
 use Rattle.block_sync.specs.declared.SyncStep.{SyncStep}
-use Rattle.block_sync.proofs.Decisions.{first-enough, used-within, skipped-within}
+use Rattle.block_sync.proofs.Decisions.{used-within, skipped-within}
 use Rattle.block_sync.proofs.Buffers.{held-length, full-length}
 use Rattle.acquisition.specs.Reading.{usedBy, TakesBits}
 

@@ -3,24 +3,19 @@
 use mathlib.Core.Path.{_≡_, refl, sym, _∙_, ap, subst}
 use mathlib.Core.Bool.{Bool, true, false}
 use mathlib.Core.List.{List, []}
-use Prim.Native.Nat.{ℕ, _+_, _-_, _*_, _<_, _≤_}
+use Prim.Native.Nat.{ℕ, _+_, _*_, _<_, _≤_}
 use native.Mathlib.Omega.{arith}
-use lib.Dec.{ltb}
 use lib.ListN.{length, take, drop, length-drop, length-take}
-use Rattle.common.specs.Choice.{pick}
 use Rattle.reader_stream.specs.Runs.{RunsReady}
 use Rattle.reader_stream.proofs.Runs.{held-length}
 use Rattle.node_search.specs.declared.Search.{Search}
 use Rattle.acquisition.specs.Reading.{ReadsSymbols, ReadingReady}
-use Rattle.acquisition.specs.Step.{pendingOf, searchingOn, readingOn, waiting, windowOf, ReadingOf, SearchReady, ReadReady, AcquisitionReady, AfterSearch, found, nothing, several, endsReading, mirroredNext, lostReading, afterReading, SearchesOn, gathers, fills, ReadsPending, ReadsPiece, StepCounts}
+use Rattle.acquisition.specs.Step.{pendingOf, readingOn, ReadingOf, SearchReady, ReadReady, AcquisitionReady, AfterSearch, found, nothing, several, endsReading, mirroredNext, lostReading, afterReading, SearchesOn, gathers, fills, ReadsPending, ReadsPiece, StepCounts}
 use Rattle.acquisition.specs.End.{ClosesReading, ClosesBlocks}
 use Rattle.acquisition.specs.declared.Reading.{Reading}
-use Rattle.acquisition.specs.declared.Phase.{Phase}
-use Rattle.acquisition.specs.declared.Phase.the-variants.{Searches, Reads}
 use Rattle.acquisition.specs.declared.Acquisition.{Acquisition}
 use Rattle.acquisition.specs.declared.ReadStep.{ReadStep}
 use Rattle.acquisition.specs.declared.Step.{Step}
-use Rattle.acquisition.specs.declared.EndStep.{EndStep}
 use Rattle.acquisition.specs.declared.Event.{Event}
 use Rattle.acquisition.specs.declared.Event.the-variants.{Waits, Block, Lost}
 use Rattle.acquisition.proofs.Bits.{taken-few}

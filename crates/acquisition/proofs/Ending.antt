@@ -3,17 +3,17 @@
 use mathlib.Core.Path.{_≡_, refl, sym, _∙_, ap, subst}
 use mathlib.Core.Bool.{Bool, true, false, not, true≢false}
 use mathlib.Core.List.{List, []}
-use Prim.Native.Nat.{ℕ, _+_, _-_, _*_, _<_, _≤_}
+use Prim.Native.Nat.{ℕ, _+_, _*_, _<_, _≤_}
 use native.Mathlib.Omega.{arith}
 use lib.Dec.{T, ltb, ltb→lt, nltb→le}
 use lib.ListN.{length, take, drop, length-drop, length-take}
 use Rattle.common.specs.Choice.{pick}
 use Rattle.reader_stream.proofs.Runs.{held-length}
 use Rattle.acquisition.specs.Step.{pendingOf, searchingOn, ReadReady, AcquisitionReady, endsReading, lostReading, afterReading}
-use Rattle.acquisition.specs.End.{lastEvent, ClosesReading, ClosesBlocks, overWith, goesOn, endOfBlocks, EndsBlocks, EndsPending, EndsRuns, endMeasure, EndCounts}
+use Rattle.acquisition.specs.End.{lastEvent, overWith, goesOn, endOfBlocks, EndsBlocks, EndsPending, EndsRuns, endMeasure, EndCounts}
 use Rattle.acquisition.specs.declared.Reading.{Reading}
 use Rattle.acquisition.specs.declared.ReadStep.{ReadStep}
-use Rattle.acquisition.specs.declared.Phase.the-variants.{Searches, Reads}
+use Rattle.acquisition.specs.declared.Phase.the-variants.{Reads}
 use Rattle.acquisition.specs.declared.Acquisition.{Acquisition}
 use Rattle.acquisition.specs.declared.EndStep.{EndStep}
 use Rattle.acquisition.specs.declared.Event.{Event}

@@ -1,22 +1,20 @@
 -- What the end of a reading counts.
 -- Assumes nothing.
-use mathlib.Core.Path.{_≡_, refl, sym, _∙_, ap, subst}
-use mathlib.Core.Bool.{Bool, true, false}
+use mathlib.Core.Path.{_≡_, sym, subst}
+use mathlib.Core.Bool.{Bool, true}
 use mathlib.Core.List.{List}
 use Prim.Native.Nat.{ℕ, zero, suc, _+_, _-_, _*_, _/_, _<_, _≤_}
 use native.Mathlib.Omega.{arith}
-use lib.ListN.{length, take, drop, length-drop, length-take}
+use lib.ListN.{length, drop, length-drop}
 use Rattle.common.specs.Choice.{pick}
 use Rattle.puncturing.specs.Mode.{modeOf}
 use Rattle.puncturing.specs.Step.{patternLength}
 use Rattle.reader.specs.Read.{symbolsPerPattern, runBits}
-use Rattle.reader_stream.specs.Runs.{fullSymbols, RunsReady, ClosesRuns}
+use Rattle.reader_stream.specs.Runs.{RunsReady, ClosesRuns}
 use Rattle.reader_stream.specs.declared.symbol_runs.SymbolRuns.{SymbolRuns}
 use Rattle.reader_stream.proofs.Runs.{short-run}
-use Rattle.block_sync.specs.Decision.{Decides, usedBits, follows, begins, searches}
+use Rattle.block_sync.specs.Decision.{usedBits}
 use Rattle.block_sync.specs.Feed.{heldBits, FinishesSync, refused, turned}
-use Rattle.block_sync.specs.declared.Lock.{Lock}
-use Rattle.block_sync.specs.declared.Decision.{Decision}
 use Rattle.block_sync.specs.declared.BlockSync.{BlockSync}
 use Rattle.block_sync.specs.declared.SyncStep.{SyncStep}
 use Rattle.block_sync.proofs.Decisions.{used-within, skipped-within}

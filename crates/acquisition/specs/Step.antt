@@ -19,7 +19,6 @@ use Rattle.acquisition.specs.declared.Reading.{Reading}
 use Rattle.acquisition.specs.declared.Phase.{Phase}
 use Rattle.acquisition.specs.declared.Phase.the-variants.{Searches, Reads}
 use Rattle.acquisition.specs.declared.Acquisition.{Acquisition}
-use Rattle.acquisition.specs.declared.FoundBlock.{FoundBlock}
 use Rattle.acquisition.specs.declared.ReadStep.{ReadStep}
 use Rattle.acquisition.specs.declared.Step.{Step}
 use Rattle.acquisition.specs.declared.Event.{Event}

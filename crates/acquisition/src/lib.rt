@@ -3,10 +3,9 @@
 // Inner: its functions may require what the crates above have tested. docs/ARCHITECTURE.md names the public surface.
 ghost use mathlib.Core.Path.{_≡_};
 ghost use mathlib.Core.List.{[], _++_};
-ghost use Prim.Native.Nat.{_+_, _*_, _<_, _≤_};
+ghost use Prim.Native.Nat.{_+_, _<_, _≤_};
 ghost use lib.ListN.{length};
 ghost use Rattle.common.specs.Lists.{All, padded};
-ghost use Rattle.reader_stream.specs.Runs.{RunsReady};
 ghost use Rattle.node_search.specs.Search.{FoundKnown};
 ghost use Rattle.acquisition.specs.Reading.{symbolAt, turnRead, turnTold, idleReading, Begins, TakesBits, eventOf, blockFound, usedBy, ReadingReady, SettlesBits, ReadsSymbols};
 ghost use Rattle.acquisition.specs.End.{ClosesReading, lastEvent, ClosesBlocks, overWith, goesOn, EndsBlocks, EndsAcquisition, EndCounts};

@@ -7,7 +7,7 @@ use Prim.Native.Nat.{ℕ}
 use lib.IntN.{pos}
 use Rattle.common.specs.Choice.{pick}
 use Rattle.program_io.specs.Checksum.{noBytes, traced}
-use Rattle.program_io.specs.Files.{inputOrigin, inputOver, inputEnded, inputFailed, outputFile, outputFailed, StandardInput, FreshOutput, Writes, Closes}
+use Rattle.program_io.specs.Files.{StandardFiles, inputOrigin, inputOver, inputEnded, inputFailed, outputFile, outputFailed, StandardInput, FreshOutput, Writes, Closes}
 use Rattle.program_io.specs.declared.input.Input.{Input}
 use Rattle.program_io.specs.declared.output.Output.{Output}
 use Rattle.program_io.specs.declared.calls.Ended.{Ended}
@@ -15,13 +15,13 @@ use Rattle.program_io.proofs.Traces.{traced-on}
 use Rattle.lock_stream.specs.Progress.{closingText}
 use Rattle.lock_stream.specs.Source.{cameOf}
 use Rattle.lock_stream.specs.declared.LockStream.{LockStream}
-use Rattle.dvbs_lock.specs.Ends.{Files, AllRead, Ending, Stops, output-stopped, errors-stopped, Failed, output-failed, errors-failed, Whole}
+use Rattle.dvbs_lock.specs.Ends.{AllRead, Ending, Stops, output-stopped, errors-stopped, Failed, output-failed, errors-failed, Whole}
 
-pub files-none : {input : Input} {output errors : Output} → StandardInput input → FreshOutput (pos 1) output → FreshOutput (pos 2) errors → Files input output errors
+pub files-none : {input : Input} {output errors : Output} → StandardInput input → FreshOutput (pos 1) output → FreshOutput (pos 2) errors → StandardFiles input output errors
 files-none i o e = record { input-file = i .file; input-argument = i .argument; input-start = i .start; output-file = o .file; errors-file = e .file }
 
-pub files-on : {input i : Input} {output errors o e : Output} → Files input output errors → inputOrigin i ≡ inputOrigin input → outputFile o ≡ outputFile output → outputFile e ≡ outputFile errors
-    → Files i o e
+pub files-on : {input i : Input} {output errors o e : Output} → StandardFiles input output errors → inputOrigin i ≡ inputOrigin input → outputFile o ≡ outputFile output → outputFile e ≡ outputFile errors
+    → StandardFiles i o e
 files-on {input} {i} f a b c = record {
   input-file = ap (λ x. x .fd) a ∙ f .input-file;
   input-argument = ap (λ x. x .argument) a ∙ f .input-argument;

@@ -11,7 +11,7 @@ use Rattle.common.specs.Lists.{All}
 use Rattle.acquisition.specs.Step.{freshAcquisition}
 use Rattle.acquisition.specs.Bits.{freshBits}
 use Rattle.program_io.specs.Checksum.{noBytes, traced}
-use Rattle.program_io.specs.Files.{inputTrace, inputOver, StandardInput, FreshOutput}
+use Rattle.program_io.specs.Files.{StandardFiles, inputTrace, inputOver, StandardInput, FreshOutput}
 use Rattle.program_io.specs.declared.input.Input.{Input}
 use Rattle.program_io.specs.declared.output.Output.{Output}
 use Rattle.program_io.proofs.Traces.{traced-on}
@@ -19,7 +19,7 @@ use Rattle.lock_stream.specs.Source.{freshSource, cameOf}
 use Rattle.lock_stream.specs.Stream.{freshStream, StreamReady, LockSteps, fresh}
 use Rattle.lock_stream.specs.declared.LockStream.{LockStream}
 use Rattle.dvbs_lock.specs.Numbers.{numbersOf, restBytes, ReadsNumbers}
-use Rattle.dvbs_lock.specs.Ends.{Going, Takes, Files, AllRead, TooMuch}
+use Rattle.dvbs_lock.specs.Ends.{Going, Takes, AllRead, TooMuch}
 use Rattle.dvbs_lock.specs.declared.NumbersTaken.{NumbersTaken}
 use Rattle.dvbs_lock.specs.declared.numbers.NumbersRead.{NumbersRead}
 use Rattle.dvbs_lock.proofs.Endings.{files-none, files-on}
@@ -34,7 +34,7 @@ pub record Reading (bits : Bool) (rate : ℕ) (input : Input) (output errors : O
   pub read : inputTrace input ≡ traced noBytes bytes
   pub counted : came ≡ length (numbersOf bits bytes)
   pub source-counted : cameOf (s .source) ≡ came
-  pub files : Files input output errors
+  pub files : StandardFiles input output errors
 
 fresh-came : (bits : Bool) (rate : ℕ) → cameOf (freshStream bits rate .source) ≡ 0
 unfolding freshStream freshSource freshAcquisition freshBits

@@ -10,7 +10,7 @@ use lib.IntN.{ℤ, pos}
 use lib.ListN.{length}
 use Rattle.common.specs.Choice.{pick}
 use Rattle.program_io.specs.Checksum.{noBytes, traced}
-use Rattle.program_io.specs.Files.{inputOrigin, originFile, originArgument, originStart, inputTrace, inputOver, inputEnded, inputFailed, outputFile, outputTrace, outputFailed, outputClosed}
+use Rattle.program_io.specs.Files.{StandardFiles, inputTrace, inputOver, inputEnded, inputFailed, outputFile, outputTrace, outputFailed, outputClosed}
 use Rattle.program_io.specs.Words.{argumentCount, wordArgument, wordBytes, sameBytes}
 use Rattle.program_io.specs.Calls.{askedOf, AnswersCall}
 use Rattle.program_io.specs.declared.input.Input.{Input}
@@ -98,14 +98,6 @@ pub record Finishes (output errors : Output) (s : LockStream) (r : LocksFinished
 
 -- ---- all of the input
 
--- standard input, standard output and standard error
-pub record Files (input : Input) (output errors : Output) : Type 0 where
-  pub input-file : originFile (inputOrigin input) ≡ pos 0
-  pub input-argument : originArgument (inputOrigin input) ≡ 0
-  pub input-start : originStart (inputOrigin input) ≡ 0
-  pub output-file : outputFile output ≡ pos 1
-  pub errors-file : outputFile errors ≡ pos 2
-
 -- All was read, unless a read failed, and its numbers were taken.
 pub record AllRead (bits : Bool) (rate : ℕ) (input : Input) (output errors : Output) (s : LockStream) (rest : ℕ) : Type 0 where
   pub bytes : List ℕ
@@ -163,7 +155,7 @@ pub data Status (bits : Bool) (rate : ℕ) (r : Ended) : Type 0 where
   part : r .status ≡ pos 1 → Failed bits rate r → Status bits rate r
 
 pub record Ends (bits : Bool) (rate : ℕ) (r : Ended) : Type 0 where
-  pub files : Files (r .input) (r .output) (r .errors)
+  pub files : StandardFiles (r .input) (r .output) (r .errors)
   pub status : Status bits rate r
 
 -- The status of the program: what every program answers where it is asked for its usage or its version; 2 for a wrong call; or how the run ended.

@@ -4,17 +4,16 @@
 // RATE is 0 to 4, 1/2, 2/3, 3/4, 5/6 or 7/8; `any` searches all five; `bits` takes decoded bytes whose blocks begin at any bit.
 // Status 0: all was read and written, and there was a lock. 1: something failed, or there was no lock. 2: a wrong call.
 ghost use mathlib.Core.Path.{_≡_};
-ghost use mathlib.Core.Bool.{false};
 ghost use Prim.Native.Nat.{_+_, _<_, _≤_};
 ghost use lib.IntN.{pos};
 ghost use lib.ListN.{length};
 ghost use Rattle.common.specs.Lists.{All};
 ghost use Rattle.lock_stream.specs.Source.{cameOf};
 ghost use Rattle.lock_stream.specs.Stream.{StreamReady};
-ghost use Rattle.program_io.specs.Files.{StandardInput, FreshOutput};
+ghost use Rattle.program_io.specs.Files.{StandardFiles, StandardInput, FreshOutput};
 ghost use Rattle.program_io.specs.Words.{argumentCount, wordBytes};
 ghost use Rattle.dvbs_lock.specs.Numbers.{restBytes};
-ghost use Rattle.dvbs_lock.specs.Ends.{sourceAsked, statusOf, Files, Takes, Finishes, AllRead, TooMuch, Ends, Exits};
+ghost use Rattle.dvbs_lock.specs.Ends.{sourceAsked, statusOf, Takes, Finishes, AllRead, TooMuch, Ends, Exits};
 use lock_stream::LockStream;
 use lock_stream::progress::LockProgress;
 use program_io::Arguments;
@@ -167,7 +166,7 @@ fn finish(
     text: &mut [u8],
 ) -> Ended
     requires { ⌜
-        (Files input output errors) × (AllRead bits rate input output errors stream rest) × (1504 ≤ length (now packets)) × (2048 ≤ length (now text)) ⌝ }
+        (StandardFiles input output errors) × (AllRead bits rate input output errors stream rest) × (1504 ≤ length (now packets)) × (2048 ≤ length (now text)) ⌝ }
     ensures { λ r. ⌜ Ends bits rate r ⌝ }
 {
     if input.failed() {
@@ -230,7 +229,7 @@ fn status_of(progress: LockProgress) -> i32
 
 // Tells that more points or bits came than can be counted.
 fn stop(bits: bool, rate: u8, input: Input, output: Output, errors: Output) -> Ended
-    requires { ⌜ (Files input output errors) × (TooMuch bits input) ⌝ }
+    requires { ⌜ (StandardFiles input output errors) × (TooMuch bits input) ⌝ }
     ensures { λ r. ⌜ Ends bits rate r ⌝ }
 {
     let errors = errors.write_text(b"standard error", b"standard input: too long\n");

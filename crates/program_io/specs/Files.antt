@@ -157,3 +157,11 @@ pub record Closes (o r : Output) : Type 0 where
   pub closed : outputFailed r ≡ false → outputClosed r ≡ true
   pub started : outputFailed r ≡ false → outputFailed o ≡ false
   pub failed : outputFailed o ≡ true → r ≡ o
+
+-- standard input, standard output and standard error
+pub record StandardFiles (input : Input) (output errors : Output) : Type 0 where
+  pub input-file : originFile (inputOrigin input) ≡ pos 0
+  pub input-argument : originArgument (inputOrigin input) ≡ 0
+  pub input-start : originStart (inputOrigin input) ≡ 0
+  pub output-file : outputFile output ≡ pos 1
+  pub errors-file : outputFile errors ≡ pos 2

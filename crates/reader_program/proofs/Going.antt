@@ -10,26 +10,26 @@ use lib.ListN.{length, getD, take, length-append}
 use lib.Seq.{take-length, take-append-add, getD-append-add}
 use Rattle.reader_stream.specs.Stream.{FreshReader}
 use Rattle.program_io.specs.Checksum.{noBytes, traced}
-use Rattle.program_io.specs.Files.{inputOrigin, originFile, originArgument, originStart, inputTrace, outputFile, outputTrace, outputFailed, StandardInput, FreshOutput, Writes}
+use Rattle.program_io.specs.Files.{StandardFiles, inputOrigin, originFile, originArgument, originStart, inputTrace, outputFile, outputTrace, outputFailed, StandardInput, FreshOutput, Writes}
 use Rattle.program_io.specs.declared.input.Input.{Input}
 use Rattle.program_io.specs.declared.output.Output.{Output}
 use Rattle.program_io.proofs.Traces.{traced-on}
 use Rattle.received_symbols.specs.Pass.{TakesAll, BytesTaken}
-use Rattle.reader_program.specs.Ends.{Turns, Files, Untold, Going, SymbolRefused}
+use Rattle.reader_program.specs.Ends.{Turns, Untold, Going, SymbolRefused}
 use Rattle.received_symbols.specs.declared.SymbolPass.{SymbolPass}
 use Rattle.reader_program.specs.declared.Turn.{Turn}
 use Rattle.received_symbols.proofs.Pieces.{taken-none, taken-on, none-left}
 
 -- ---- the files
 
-pub files-none : {input : Input} {output errors : Output} → StandardInput input → FreshOutput (pos 1) output → FreshOutput (pos 2) errors → Files input output errors
+pub files-none : {input : Input} {output errors : Output} → StandardInput input → FreshOutput (pos 1) output → FreshOutput (pos 2) errors → StandardFiles input output errors
 files-none i o e = record { input-file = i .file; input-argument = i .argument; input-start = i .start; output-file = o .file; errors-file = e .file }
 
 pub untold-none : {errors : Output} → FreshOutput (pos 2) errors → Untold errors
 untold-none e = record { trace = e .trace; unfailed = e .failed }
 
-module _ {input : Input} {output errors : Output} (f : Files input output errors) where
-  pub files-read : {i : Input} → inputOrigin i ≡ inputOrigin input → Files i output errors
+module _ {input : Input} {output errors : Output} (f : StandardFiles input output errors) where
+  pub files-read : {i : Input} → inputOrigin i ≡ inputOrigin input → StandardFiles i output errors
   files-read e = record {
     input-file = ap originFile e ∙ f .input-file;
     input-argument = ap originArgument e ∙ f .input-argument;
@@ -38,10 +38,10 @@ module _ {input : Input} {output errors : Output} (f : Files input output errors
     errors-file = f .errors-file;
   }
 
-  pub files-written : {o : Output} → outputFile o ≡ outputFile output → Files input o errors
+  pub files-written : {o : Output} → outputFile o ≡ outputFile output → StandardFiles input o errors
   files-written e = record { input-file = f .input-file; input-argument = f .input-argument; input-start = f .input-start; output-file = e ∙ f .output-file; errors-file = f .errors-file }
 
-  pub files-told : {o : Output} → outputFile o ≡ outputFile errors → Files input output o
+  pub files-told : {o : Output} → outputFile o ≡ outputFile errors → StandardFiles input output o
   files-told e = record { input-file = f .input-file; input-argument = f .input-argument; input-start = f .input-start; output-file = f .output-file; errors-file = e ∙ f .errors-file }
 
 -- ---- the first turn

@@ -13,7 +13,7 @@ use Rattle.puncturing.specs.Mode.{qpskCount}
 use Rattle.reader_stream.specs.Stream.{ReaderReady}
 use Rattle.reader_stream.specs.History.{SymbolsEnded}
 use Rattle.program_io.specs.Checksum.{noBytes, traced}
-use Rattle.program_io.specs.Files.{inputOrigin, originFile, originArgument, originStart, inputTrace, inputOver, inputEnded, inputFailed, outputFile, outputTrace, outputFailed, outputClosed, Reads}
+use Rattle.program_io.specs.Files.{StandardFiles, inputOrigin, inputTrace, inputOver, inputEnded, inputFailed, outputTrace, outputFailed, outputClosed, Reads}
 use Rattle.program_io.specs.Words.{argumentCount, wordArgument, wordBytes}
 use Rattle.program_io.specs.Calls.{askedOf, AnswersCall}
 use Rattle.program_io.specs.declared.input.Input.{Input}
@@ -63,14 +63,6 @@ pub record Turns (soft : Bool) (i : Input) (p : SymbolPass) (output : List ℕ) 
   pub fits : t .taken .count ≤ length exit
 
 -- ---- turns one after the other
-
--- standard input, standard output and standard error
-pub record Files (input : Input) (output errors : Output) : Type 0 where
-  pub input-file : originFile (inputOrigin input) ≡ pos 0
-  pub input-argument : originArgument (inputOrigin input) ≡ 0
-  pub input-start : originStart (inputOrigin input) ≡ 0
-  pub output-file : outputFile output ≡ pos 1
-  pub errors-file : outputFile errors ≡ pos 2
 
 -- nothing was told
 pub record Untold (errors : Output) : Type 0 where
@@ -132,7 +124,7 @@ pub data Status (soft : Bool) (rate : ℕ) (r : Ended) : Type 0 where
   part : r .status ≡ pos 1 → Failed soft rate r → Status soft rate r
 
 pub record Ends (soft : Bool) (rate : ℕ) (r : Ended) : Type 0 where
-  pub files : Files (r .input) (r .output) (r .errors)
+  pub files : StandardFiles (r .input) (r .output) (r .errors)
   pub status : Status soft rate r
 
 -- ---- the words of the command line

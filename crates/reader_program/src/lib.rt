@@ -7,9 +7,9 @@ ghost use Prim.Native.Nat.{_+_, _≤_, _<_};
 ghost use lib.IntN.{pos};
 ghost use lib.ListN.{length};
 ghost use Rattle.puncturing.specs.Mode.{qpskCount};
-ghost use Rattle.program_io.specs.Files.{inputOver, StandardInput, FreshOutput};
+ghost use Rattle.program_io.specs.Files.{StandardFiles, inputOver, StandardInput, FreshOutput};
 ghost use Rattle.program_io.specs.Words.{argumentCount, wordBytes};
-ghost use Rattle.reader_program.specs.Ends.{mostOf, ReadsBehind, Buffers, Turns, Files, Untold, Going, SymbolRefused, Ends, rateAsked, Exits};
+ghost use Rattle.reader_program.specs.Ends.{mostOf, ReadsBehind, Buffers, Turns, Untold, Going, SymbolRefused, Ends, rateAsked, Exits};
 use code_tables::QPSK_MODES;
 use common::put;
 use program_io::Arguments;
@@ -99,7 +99,7 @@ fn finish(
     bytes: &mut [u8],
 ) -> Ended
     requires { ⌜
-        (Files input output errors) × (Going soft rate input output pass came) × (Untold errors) × (inputOver input ≡ true)
+        (StandardFiles input output errors) × (Going soft rate input output pass came) × (Untold errors) × (inputOver input ≡ true)
         × (1632 ≤ length (now bits)) × (204 ≤ length (now bytes)) ⌝ }
     ensures { λ r. ⌜ Ends soft rate r ⌝ }
 {
@@ -138,7 +138,7 @@ fn finish(
 
 // Tells the place of a byte that is no symbol. Nothing after it is read.
 fn refuse(soft: bool, rate: u8, input: Input, output: Output, errors: Output, place: u64) -> Ended
-    requires { ⌜ (Files input output errors) × (SymbolRefused soft rate input output place) × (Untold errors) ⌝ }
+    requires { ⌜ (StandardFiles input output errors) × (SymbolRefused soft rate input output place) × (Untold errors) ⌝ }
     ensures { λ r. ⌜ Ends soft rate r ⌝ }
 {
     let mut text = [0u8; 96];
@@ -162,7 +162,7 @@ fn stop(
     pass: SymbolPass,
     came: u64,
 ) -> Ended
-    requires { ⌜ (Files input output errors) × (Going soft rate input output pass came) × (Untold errors) × (9223372036854775808 ≤ came) ⌝ }
+    requires { ⌜ (StandardFiles input output errors) × (Going soft rate input output pass came) × (Untold errors) × (9223372036854775808 ≤ came) ⌝ }
     ensures { λ r. ⌜ Ends soft rate r ⌝ }
 {
     let errors = errors.write_text(

@@ -12,10 +12,6 @@ use mathlib.Core.List.{List}
 use borrow.Author.Needs.{needs}
 use Rattle.acquisition.proofs.begin.Statement.{statement}
 use Rattle.acquisition.proofs.begin.Tie as tie
-use Rattle.acquisition.proofs.turn_read.Reads as turn-read-reads
-use Rattle.block_sync.proofs.BlockSync.new.Reads as new-reads
-use Rattle.reader_stream.proofs.symbol_runs.feed.Reads as feed-reads
-use Rattle.reader_stream.proofs.symbol_runs.open.Reads as open-reads
 
 turn-read-requires : tie.Need-turn-read-requires
 turn-read-requires c κs = search needs

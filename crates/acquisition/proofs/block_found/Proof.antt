@@ -4,8 +4,6 @@ use Rattle.acquisition.proofs.Numbers.{found-is}
 use borrow.Author.Needs.{needs}
 use Rattle.acquisition.proofs.block_found.Statement.{statement}
 use Rattle.acquisition.proofs.block_found.Tie as tie
-use Rattle.acquisition.proofs.symbol_at.Reads as symbol-at-reads
-use Rattle.acquisition.proofs.turn_told.Reads as turn-told-reads
 
 add-at : tie.Need-add-at
 add-at c = search needs

@@ -7,7 +7,6 @@ use mathlib.Core.Path.{ap}
 use borrow.Author.Needs.{needs}
 use Rattle.acquisition.proofs.idle.Statement.{statement}
 use Rattle.acquisition.proofs.idle.Tie as tie
-use Rattle.block_sync.proofs.BlockSync.new.Reads as new-reads
 
 new-requires : tie.Need-new-requires
 new-requires c κs = search needs

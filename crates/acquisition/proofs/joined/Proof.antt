@@ -6,7 +6,6 @@ use mathlib.Core.Path.{refl}
 use borrow.Author.Needs.{needs}
 use Rattle.acquisition.proofs.joined.Statement.{statement}
 use Rattle.acquisition.proofs.joined.Tie as tie
-use Rattle.common.proofs.put.Reads as put-reads
 
 slice-aggregate-put : tie.Need-slice-aggregate-put
 slice-aggregate-put c = search needs

@@ -9,7 +9,6 @@ use mathlib.Core.Path.{ap, _∙_}
 use borrow.Author.Needs.{needs}
 use Rattle.acquisition.proofs.reading_on.Statement.{statement}
 use Rattle.acquisition.proofs.reading_on.Tie as tie
-use Rattle.acquisition.proofs.joined.Reads as joined-reads
 
 slice-aggregate-joined : tie.Need-slice-aggregate-joined
 slice-aggregate-joined c = search needs

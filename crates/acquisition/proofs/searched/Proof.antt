@@ -11,9 +11,6 @@ use Rattle.node_search.specs.Search.{FoundKnown}
 use borrow.Author.Needs.{needs}
 use Rattle.acquisition.proofs.searched.Statement.{statement}
 use Rattle.acquisition.proofs.searched.Tie as tie
-use Rattle.acquisition.proofs.begin.Reads as begin-reads
-use Rattle.acquisition.proofs.reading_on.Reads as reading-on-reads
-use Rattle.acquisition.proofs.searching_on.Reads as searching-on-reads
 
 enum-known-search : tie.Need-enum-known-search
 enum-known-search c = search needs

@@ -10,8 +10,6 @@ use mathlib.Core.Path.{ap, ap₂, _∙_}
 use borrow.Author.Needs.{needs}
 use Rattle.acquisition.proofs.searching_on.Statement.{statement}
 use Rattle.acquisition.proofs.searching_on.Tie as tie
-use Rattle.acquisition.proofs.idle.Reads as idle-reads
-use Rattle.acquisition.proofs.joined.Reads as joined-reads
 
 slice-aggregate-joined : tie.Need-slice-aggregate-joined
 slice-aggregate-joined c = search needs

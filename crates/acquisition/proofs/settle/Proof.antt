@@ -7,10 +7,6 @@ use mathlib.Core.Path.{refl, ap}
 use borrow.Author.Needs.{needs}
 use Rattle.acquisition.proofs.settle.Statement.{statement}
 use Rattle.acquisition.proofs.settle.Tie as tie
-use Rattle.acquisition.proofs.block_found.Reads as block-found-reads
-use Rattle.acquisition.proofs.event_of.Reads as event-of-reads
-use Rattle.acquisition.proofs.take_bits.Reads as take-bits-reads
-use Rattle.acquisition.proofs.used_by.Reads as used-by-reads
 
 take-bits-requires : tie.Need-take-bits-requires
 take-bits-requires c κs = search needs

@@ -9,7 +9,6 @@ use Rattle.acquisition.proofs.Bits.{feed-counts, takes-bits}
 use borrow.Author.Needs.{needs}
 use Rattle.acquisition.proofs.take_bits.Statement.{statement}
 use Rattle.acquisition.proofs.take_bits.Tie as tie
-use Rattle.block_sync.proofs.BlockSync.feed.Reads as feed-reads
 
 feed-requires : tie.Need-feed-requires
 feed-requires c κs = search needs

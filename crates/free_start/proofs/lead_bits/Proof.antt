@@ -1,11 +1,9 @@
 -- `free_start::lead_bits` meets its contract: the table has the numbers of the definition.
 -- Assumes nothing.
-use mathlib.Core.List.{List, [], _∷_}
-use Prim.Native.Nat.{ℕ}
+use mathlib.Core.List.{[], _∷_}
 use lib.ListN.{getD}
 use Rattle.common.proofs.Computed.{agree-at}
 use Rattle.puncturing.specs.Mode.{modeOf}
-use Rattle.reader.specs.Read.{symbolsPerPattern}
 use Rattle.free_start.specs.Lead.{leadPatterns, leadBits}
 use borrow.Author.Needs.{needs}
 use Rattle.free_start.proofs.lead_bits.Statement.{statement}

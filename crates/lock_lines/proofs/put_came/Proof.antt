@@ -10,9 +10,6 @@ use Rattle.lock_lines.specs.Lines.{placeText, closingWord}
 use borrow.Author.Needs.{needs}
 use Rattle.lock_lines.proofs.put_came.Statement.{statement}
 use Rattle.lock_lines.proofs.put_came.Tie as tie
-use Rattle.lock_lines.proofs.put_came.Reads as reads
-use Rattle.lock_lines.proofs.put_came.Lts as lts
-use Rattle.lock_lines.proofs.put_start.Reads as put-start-reads
 
 -- src/lib.rt:86:26
 slice-aggregate-put-start : tie.Need-slice-aggregate-put-start

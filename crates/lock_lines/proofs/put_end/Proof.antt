@@ -7,10 +7,6 @@ use Rattle.report_lines.proofs.Lines.{joined-appended, restated}
 use borrow.Author.Needs.{needs}
 use Rattle.lock_lines.proofs.put_end.Statement.{statement}
 use Rattle.lock_lines.proofs.put_end.Tie as tie
-use Rattle.lock_lines.proofs.put_end.Reads as reads
-use Rattle.lock_lines.proofs.put_end.Lts as lts
-use Rattle.lock_lines.proofs.put_came.Reads as put-came-reads
-use Rattle.lock_lines.proofs.put_skipped.Reads as put-skipped-reads
 
 -- src/lib.rt:116:9
 put-came-requires : tie.Need-put-came-requires

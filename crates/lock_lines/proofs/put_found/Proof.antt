@@ -9,10 +9,6 @@ use Rattle.lock_lines.specs.Lines.{foundText}
 use borrow.Author.Needs.{needs}
 use Rattle.lock_lines.proofs.put_found.Statement.{statement}
 use Rattle.lock_lines.proofs.put_found.Tie as tie
-use Rattle.lock_lines.proofs.put_found.Reads as reads
-use Rattle.lock_lines.proofs.put_found.Lts as lts
-use Rattle.report_lines.proofs.put_field.Reads as put-field-reads
-use Rattle.report_lines.proofs.put_line.Reads as put-line-reads
 
 -- src/lib.rt:47:25
 slice-aggregate-put-line : tie.Need-slice-aggregate-put-line

@@ -7,10 +7,6 @@ use Rattle.report_lines.proofs.Lines.{joined-appended, restated}
 use borrow.Author.Needs.{needs}
 use Rattle.lock_lines.proofs.put_lock.Statement.{statement}
 use Rattle.lock_lines.proofs.put_lock.Tie as tie
-use Rattle.lock_lines.proofs.put_lock.Reads as reads
-use Rattle.lock_lines.proofs.put_lock.Lts as lts
-use Rattle.lock_lines.proofs.put_found.Reads as put-found-reads
-use Rattle.lock_lines.proofs.put_start.Reads as put-start-reads
 
 -- src/lib.rt:67:28
 slice-aggregate-put-start : tie.Need-slice-aggregate-put-start

@@ -7,10 +7,6 @@ use Rattle.report_lines.proofs.Lines.{joined-appended, restated}
 use borrow.Author.Needs.{needs}
 use Rattle.lock_lines.proofs.put_lost.Statement.{statement}
 use Rattle.lock_lines.proofs.put_lost.Tie as tie
-use Rattle.lock_lines.proofs.put_lost.Reads as reads
-use Rattle.lock_lines.proofs.put_lost.Lts as lts
-use Rattle.lock_lines.proofs.put_start.Reads as put-start-reads
-use Rattle.report_lines.proofs.put_line.Reads as put-line-reads
 
 -- src/lib.rt:76:28
 slice-aggregate-put-start : tie.Need-slice-aggregate-put-start

@@ -11,9 +11,6 @@ use Rattle.lock_lines.specs.Lines.{bitKey, symbolKey}
 use borrow.Author.Needs.{needs}
 use Rattle.lock_lines.proofs.put_place.Statement.{statement}
 use Rattle.lock_lines.proofs.put_place.Tie as tie
-use Rattle.lock_lines.proofs.put_place.Reads as reads
-use Rattle.lock_lines.proofs.put_place.Lts as lts
-use Rattle.report_lines.proofs.put_field.Reads as put-field-reads
 
 -- src/lib.rt:19:26
 slice-aggregate-put-field : tie.Need-slice-aggregate-put-field

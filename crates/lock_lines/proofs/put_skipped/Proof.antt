@@ -9,10 +9,6 @@ use Rattle.lock_lines.specs.Lines.{skippedText}
 use borrow.Author.Needs.{needs}
 use Rattle.lock_lines.proofs.put_skipped.Statement.{statement}
 use Rattle.lock_lines.proofs.put_skipped.Tie as tie
-use Rattle.lock_lines.proofs.put_skipped.Reads as reads
-use Rattle.lock_lines.proofs.put_skipped.Lts as lts
-use Rattle.report_lines.proofs.put_field.Reads as put-field-reads
-use Rattle.report_lines.proofs.put_line.Reads as put-line-reads
 
 -- src/lib.rt:97:25
 slice-aggregate-put-line : tie.Need-slice-aggregate-put-line

@@ -10,10 +10,6 @@ use Rattle.report_lines.proofs.Lines.{put-appended, joined-appended, restated}
 use borrow.Author.Needs.{needs}
 use Rattle.lock_lines.proofs.put_start.Statement.{statement}
 use Rattle.lock_lines.proofs.put_start.Tie as tie
-use Rattle.lock_lines.proofs.put_start.Reads as reads
-use Rattle.lock_lines.proofs.put_start.Lts as lts
-use Rattle.common.proofs.put.Reads as put-reads
-use Rattle.lock_lines.proofs.put_place.Reads as put-place-reads
 
 -- src/lib.rt:30:5
 put-requires : tie.Need-put-requires

@@ -5,7 +5,8 @@ use Prim.Native.Nat.{ℕ, _-_, _≤_}
 use native.Mathlib.Omega.{arith}
 use lib.ListN.{length, take, length-append, length-take, length-replicate}
 use lib.Seq.{length-take-le}
-use Rattle.reader_program.specs.Ends.{Files, Going, output-failed, part}
+use Rattle.program_io.specs.Files.{StandardFiles}
+use Rattle.reader_program.specs.Ends.{Going, output-failed, part}
 use Rattle.reader_program.proofs.Turning.{few-held}
 use Rattle.received_symbols.proofs.Pieces.{taken-ready, taken-few}
 use Rattle.reader_program.proofs.Going.{files-none, untold-none, files-read, files-written, going-none, going-over, going-more, going-refused}
@@ -15,7 +16,7 @@ use Rattle.reader_program.proofs.read_all.Tie as tie
 
 abbrev Inv-loop : tie.InvT-loop
 Inv-loop soft rate errors buffer₀ costs₀ bits₀ bytes₀ input₀ output₀ pass₀ came₀ t22 buffer pairs bits bytes input output pass came =
-    (Going soft rate input output pass came) × (Files input output errors) × (length buffer ≡ 262152) × (length pairs ≡ 32768) × (length bits ≡ 1632) × (length bytes ≡ 8600)
+    (Going soft rate input output pass came) × (StandardFiles input output errors) × (length buffer ≡ 262152) × (length pairs ≡ 32768) × (length bits ≡ 1632) × (length bytes ≡ 8600)
     × (came ≤ 9223372036855037951)
 
 abbrev μ-loop : tie.MeasureT-loop

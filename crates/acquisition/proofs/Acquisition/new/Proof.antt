@@ -9,7 +9,6 @@ use mathlib.Core.Path.{sym, subst}
 use borrow.Author.Needs.{needs}
 use Rattle.acquisition.proofs.Acquisition.new.Statement.{statement}
 use Rattle.acquisition.proofs.Acquisition.new.Tie as tie
-use Rattle.acquisition.proofs.searching_on.Reads as searching-on-reads
 
 array-share-prefix-pending : tie.Need-array-share-prefix-pending
 array-share-prefix-pending c = search needs
