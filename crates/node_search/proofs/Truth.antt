@@ -401,7 +401,23 @@ candidate-told {window} (next {hs} {cs} g below c w) h f a = by (decLt (a .index
 
 -- ---- the theorem
 
--- Of a window that was not harmed the search at its rate, or at any rate, tells the true hypothesis, or several: never a wrong one, and never nothing.
+among-searched : (rate turn offset : ℕ) → rate < 5 → turn < 8 → offset < symbolsPerPattern rate → (asked : ℕ) → (asked ≡ rate) ⊎ (asked ≡ anyRate)
+    → Among (hypothesis rate offset (turnClass rate turn)) (searched asked)
+among-searched rate turn offset hr ht ho asked (inl e) =
+    subst (λ (r : ℕ). Among (hypothesis rate offset (turnClass rate turn)) (searched r)) (sym e)
+    (subst (λ (b : Bool). Among (hypothesis rate offset (turnClass rate turn)) (pick b (hypothesesOf rate) (hypothesesBelow 5))) (sym (lt-ltb rate 5 hr)) (among-rate rate turn offset hr ht ho))
+among-searched rate turn offset hr ht ho asked (inr e) =
+    subst (λ (r : ℕ). Among (hypothesis rate offset (turnClass rate turn)) (searched r)) (sym e) (among-below rate 5 hr (among-rate rate turn offset hr ht ho))
+
+-- Of a window that was not harmed the search of the hypotheses of its rate, or of all, tells the true one, or several: never a wrong one, and never nothing.
+pub truth-told : (rate turn passed : ℕ) → rate < 5 → turn < 8 → {window : List ℕ} → SentWindow rate turn passed window → (asked : ℕ) → (asked ≡ rate) ⊎ (asked ≡ anyRate) → {search : Search}
+    → Searches window (searched asked) search → Told (trueHypothesis rate turn passed) search
+truth-told rate turn passed hr ht {window} sent asked a s =
+    subst (Told (trueHypothesis rate turn passed)) (sym (s .answer))
+    (candidate-told (s .are) (trueHypothesis rate turn passed) (true-below rate turn passed hr ht window sent)
+    (among-searched rate turn (startOffset rate passed) hr ht (offset-lt rate turn passed hr ht window sent) asked a))
+
+-- So of a call, which does not refuse such a window.
 pub truth-or-several : (rate turn passed : ℕ) → rate < 5 → turn < 8 → {window : List ℕ} → SentWindow rate turn passed window
     → (asked : ℕ) → (asked ≡ rate) ⊎ (asked ≡ anyRate) → {number : ℕ} {search : Search} → SearchesWindow asked window number search
     → (number ≡ 0) × Told (trueHypothesis rate turn passed) search
@@ -410,25 +426,11 @@ truth-or-several rate turn passed hr ht {window} sent asked a t = by a t
     small : largest window < 81
     small = omega (arith, largest-most window 80 (λ i l. let q : getD window i 0 < 81 = All-at (λ p. p < 81) window 0 i (sent .small) l in omega arith))
 
-    own : Among (trueHypothesis rate turn passed) (hypothesesOf rate)
-    own = among-rate rate turn (startOffset rate passed) hr ht (offset-lt rate turn passed hr ht window sent)
-
-    told : (hs : List Hypothesis) → Among (trueHypothesis rate turn passed) hs → {search : Search} → Searches window hs search → Told (trueHypothesis rate turn passed) search
-    told hs m s =
-        subst (Told (trueHypothesis rate turn passed)) (sym (s .answer))
-        (candidate-told (s .are) (trueHypothesis rate turn passed) (true-below rate turn passed hr ht window sent) m)
-
     within : (asked ≡ rate) ⊎ (asked ≡ anyRate) → asked < 6
     within (inl e) = omega arith
     within (inr e) = omega arith
 
-    among : (asked ≡ rate) ⊎ (asked ≡ anyRate) → Among (trueHypothesis rate turn passed) (searched asked)
-    among (inl e) =
-        subst (λ (r : ℕ). Among (trueHypothesis rate turn passed) (searched r)) (sym e)
-        (subst (λ (b : Bool). Among (trueHypothesis rate turn passed) (pick b (hypothesesOf rate) (hypothesesBelow 5))) (sym (lt-ltb rate 5 hr)) own)
-    among (inr e) = subst (λ (r : ℕ). Among (trueHypothesis rate turn passed) (searched r)) (sym e) (among-below rate 5 hr own)
-
     by : (asked ≡ rate) ⊎ (asked ≡ anyRate) → {number : ℕ} {search : Search} → SearchesWindow asked window number search
         → (number ≡ 0) × Told (trueHypothesis rate turn passed) search
     by a (refused e h n) = absurd (omega (arith, e, h, passed-tests asked window (within a) (sent .size) small))
-    by a (done z p s) = (z, told (searched asked) (among a) s)
+    by a (done z p s) = (z, truth-told rate turn passed hr ht sent asked a s)

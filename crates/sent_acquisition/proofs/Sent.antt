@@ -30,13 +30,13 @@ use Rattle.reader_stream.proofs.Runs.{all-take, all-drop}
 use Rattle.symbol_turns.specs.Turn.{turned, turnClass, byPair}
 use Rattle.free_start.specs.Lead.{leadBits}
 use Rattle.free_start.proofs.FreeStream.{cut}
-use Rattle.node_search.specs.Hypotheses.{anyRate}
-use Rattle.node_search.specs.Search.{SearchesWindow}
+use Rattle.node_search.specs.Hypotheses.{anyRate, searched}
+use Rattle.node_search.specs.Search.{Searches}
 use Rattle.node_search.specs.Sent.{AllPrefer, SentWindow, startOffset, trueHypothesis}
 use Rattle.node_search.specs.declared.Hypothesis.{Hypothesis}
 use Rattle.node_search.specs.declared.Search.{Search}
 use Rattle.node_search.specs.declared.Search.the-variants.{Found, Nothing, Several}
-use Rattle.node_search.proofs.Truth.{map-take, map-drop, prefer-length, prefer-take, prefer-drop, offset-lt, whole-passed, Told, truth-or-several}
+use Rattle.node_search.proofs.Truth.{map-take, map-drop, prefer-length, prefer-take, prefer-drop, offset-lt, whole-passed, Told, truth-told}
 use Rattle.sent_blocks.specs.Blocks.{interleavedBlocks, sentBytes}
 use Rattle.sent_blocks.proofs.Lengths.{interleaved-count, interleaved-whole}
 use Rattle.group_sync.specs.Stream.{beforeGroup}
@@ -121,8 +121,8 @@ module _ (packets : List (List ℕ)) (ws : All Packet packets) (rate turn passed
   }
 
   -- What the search of it finds at its rate, or at any rate, is true.
-  pub search-true : (asked : ℕ) → (asked ≡ rate) ⊎ (asked ≡ anyRate) → {number : ℕ} {h : Hypothesis} → SearchesWindow asked (take 1632 received) number (Found h) → h ≡ trueHypothesis rate turn passed
-  search-true asked a {h = h} t = found-is h (trueHypothesis rate turn passed) (truth-or-several rate turn passed hr ht window-sent asked a t .1)
+  pub search-true : (asked : ℕ) → (asked ≡ rate) ⊎ (asked ≡ anyRate) → {h : Hypothesis} → Searches (take 1632 received) (searched asked) (Found h) → h ≡ trueHypothesis rate turn passed
+  search-true asked a {h = h} t = found-is h (trueHypothesis rate turn passed) (truth-told rate turn passed hr ht window-sent asked a t)
 
   -- ---- from symbols to bits
 
@@ -208,7 +208,7 @@ module _ (packets : List (List ℕ)) (ws : All Packet packets) (rate turn passed
 
   -- ---- a reading by what was found
 
-  module _ (asked : ℕ) (a : (asked ≡ rate) ⊎ (asked ≡ anyRate)) {number : ℕ} {h : Hypothesis} (found : SearchesWindow asked (take 1632 received) number (Found h)) {mirrored : Bool}
+  module _ (asked : ℕ) (a : (asked ≡ rate) ⊎ (asked ≡ anyRate)) {h : Hypothesis} (found : Searches (take 1632 received) (searched asked) (Found h)) {mirrored : Bool}
       (right : RightMirror rate turn mirrored) {first : ℕ} {symbols : List ℕ} (unread : List ℕ) {given : List GivenBlock} {k : Reading} (fed : ReadingFeedings h mirrored first symbols given k)
       (behind : symbols ++ unread ≡ drop (h .offset) received) where
     true-one : h ≡ trueHypothesis rate turn passed
