@@ -59,12 +59,12 @@ use Rattle.node_search.proofs.Verdicts.{below-more}
 
 -- ---- lists that are mapped
 
-map-take : (f : ℕ → ℕ) (k : ℕ) (l : List ℕ) → map f (take k l) ≡ take k (map f l)
+pub map-take : (f : ℕ → ℕ) (k : ℕ) (l : List ℕ) → map f (take k l) ≡ take k (map f l)
 map-take f zero l = refl
 map-take f (suc k) [] = refl
 map-take f (suc k) (x ∷ l) = ap (λ (r : List ℕ). f x ∷ r) (map-take f k l)
 
-map-drop : (f : ℕ → ℕ) (k : ℕ) (l : List ℕ) → map f (drop k l) ≡ drop k (map f l)
+pub map-drop : (f : ℕ → ℕ) (k : ℕ) (l : List ℕ) → map f (drop k l) ≡ drop k (map f l)
 map-drop f zero l = refl
 map-drop f (suc k) [] = refl
 map-drop f (suc k) (x ∷ l) = map-drop f k l
@@ -91,7 +91,7 @@ abbrev cheapest : ℕ → ℕ → Bool
 cheapest p s = both (eqb (byPair p s) (ofPair cheaper p)) (ltb 0 (ofPair apart p))
 
 -- a symbol that is preferred costs what the decisions cost in any case, and their costs lie apart
-preferred-cost : (p s : ℕ) → p < 81 → s < 4 → Prefers byPair p s → (byPair p s ≡ ofPair cheaper p) × (1 ≤ ofPair apart p)
+pub preferred-cost : (p s : ℕ) → p < 81 → s < 4 → Prefers byPair p s → (byPair p s ≡ ofPair cheaper p) × (1 ≤ ofPair apart p)
 unfolding pairCost
 preferred-cost p s hp hs f =
     let t : T (below (preferring p s) 4) = test-of (preferring p s) 4 (λ o h. by o h (ℕ-discrete o s)) in
@@ -110,16 +110,16 @@ preferred-cost p s hp hs f =
     taken true b x y = y
     taken false b x y = absurd x
 
-prefer-length : {R : Type 0} {cost : R → ℕ → ℕ} {rs : List R} {ss : List ℕ} → AllPrefer cost rs ss → length rs ≡ length ss
+pub prefer-length : {R : Type 0} {cost : R → ℕ → ℕ} {rs : List R} {ss : List ℕ} → AllPrefer cost rs ss → length rs ≡ length ss
 prefer-length none = refl
 prefer-length (more c g) = ap suc (prefer-length g)
 
-prefer-take : {R : Type 0} {cost : R → ℕ → ℕ} {rs : List R} {ss : List ℕ} (k : ℕ) → AllPrefer cost rs ss → AllPrefer cost (take k rs) (take k ss)
+pub prefer-take : {R : Type 0} {cost : R → ℕ → ℕ} {rs : List R} {ss : List ℕ} (k : ℕ) → AllPrefer cost rs ss → AllPrefer cost (take k rs) (take k ss)
 prefer-take zero g = none
 prefer-take (suc k) none = none
 prefer-take (suc k) (more c g) = more c (prefer-take k g)
 
-prefer-drop : {R : Type 0} {cost : R → ℕ → ℕ} {rs : List R} {ss : List ℕ} (k : ℕ) → AllPrefer cost rs ss → AllPrefer cost (drop k rs) (drop k ss)
+pub prefer-drop : {R : Type 0} {cost : R → ℕ → ℕ} {rs : List R} {ss : List ℕ} (k : ℕ) → AllPrefer cost rs ss → AllPrefer cost (drop k rs) (drop k ss)
 prefer-drop zero g = g
 prefer-drop (suc k) none = none
 prefer-drop (suc k) (more c g) = prefer-drop k g
@@ -181,11 +181,11 @@ module _ (rate turn passed : ℕ) (hr : rate < 5) (ht : turn < 8) (window : List
   abbrev h : Hypothesis
   h = trueHypothesis rate turn passed
 
-  offset-lt : o < s
+  pub offset-lt : o < s
   offset-lt = mod-lt (s - passed % s) (some-symbols rate hr)
 
   -- with the symbols before the first whole pattern whole patterns passed
-  whole-passed : passed + o ≡ s * ((passed + o) / s)
+  pub whole-passed : passed + o ≡ s * ((passed + o) / s)
   whole-passed = by (passed % s) (passed / s) (div-add-mod passed s) (mod-lt passed (some-symbols rate hr)) (ℕ-discrete (passed % s) 0)
     where
       by : (r q : ℕ) → s * q + r ≡ passed → r < s → Dec (r ≡ 0) → passed + (s - r) % s ≡ s * ((passed + (s - r) % s) / s)
@@ -401,7 +401,23 @@ candidate-told {window} (next {hs} {cs} g below c w) h f a = by (decLt (a .index
 
 -- ---- the theorem
 
--- Of a window that was not harmed the search at its rate, or at any rate, tells the true hypothesis, or several: never a wrong one, and never nothing.
+among-searched : (rate turn offset : ℕ) → rate < 5 → turn < 8 → offset < symbolsPerPattern rate → (asked : ℕ) → (asked ≡ rate) ⊎ (asked ≡ anyRate)
+    → Among (hypothesis rate offset (turnClass rate turn)) (searched asked)
+among-searched rate turn offset hr ht ho asked (inl e) =
+    subst (λ (r : ℕ). Among (hypothesis rate offset (turnClass rate turn)) (searched r)) (sym e)
+    (subst (λ (b : Bool). Among (hypothesis rate offset (turnClass rate turn)) (pick b (hypothesesOf rate) (hypothesesBelow 5))) (sym (lt-ltb rate 5 hr)) (among-rate rate turn offset hr ht ho))
+among-searched rate turn offset hr ht ho asked (inr e) =
+    subst (λ (r : ℕ). Among (hypothesis rate offset (turnClass rate turn)) (searched r)) (sym e) (among-below rate 5 hr (among-rate rate turn offset hr ht ho))
+
+-- Of a window that was not harmed the search of the hypotheses of its rate, or of all, tells the true one, or several: never a wrong one, and never nothing.
+pub truth-told : (rate turn passed : ℕ) → rate < 5 → turn < 8 → {window : List ℕ} → SentWindow rate turn passed window → (asked : ℕ) → (asked ≡ rate) ⊎ (asked ≡ anyRate) → {search : Search}
+    → Searches window (searched asked) search → Told (trueHypothesis rate turn passed) search
+truth-told rate turn passed hr ht {window} sent asked a s =
+    subst (Told (trueHypothesis rate turn passed)) (sym (s .answer))
+    (candidate-told (s .are) (trueHypothesis rate turn passed) (true-below rate turn passed hr ht window sent)
+    (among-searched rate turn (startOffset rate passed) hr ht (offset-lt rate turn passed hr ht window sent) asked a))
+
+-- So of a call, which does not refuse such a window.
 pub truth-or-several : (rate turn passed : ℕ) → rate < 5 → turn < 8 → {window : List ℕ} → SentWindow rate turn passed window
     → (asked : ℕ) → (asked ≡ rate) ⊎ (asked ≡ anyRate) → {number : ℕ} {search : Search} → SearchesWindow asked window number search
     → (number ≡ 0) × Told (trueHypothesis rate turn passed) search
@@ -410,25 +426,11 @@ truth-or-several rate turn passed hr ht {window} sent asked a t = by a t
     small : largest window < 81
     small = omega (arith, largest-most window 80 (λ i l. let q : getD window i 0 < 81 = All-at (λ p. p < 81) window 0 i (sent .small) l in omega arith))
 
-    own : Among (trueHypothesis rate turn passed) (hypothesesOf rate)
-    own = among-rate rate turn (startOffset rate passed) hr ht (offset-lt rate turn passed hr ht window sent)
-
-    told : (hs : List Hypothesis) → Among (trueHypothesis rate turn passed) hs → {search : Search} → Searches window hs search → Told (trueHypothesis rate turn passed) search
-    told hs m s =
-        subst (Told (trueHypothesis rate turn passed)) (sym (s .answer))
-        (candidate-told (s .are) (trueHypothesis rate turn passed) (true-below rate turn passed hr ht window sent) m)
-
     within : (asked ≡ rate) ⊎ (asked ≡ anyRate) → asked < 6
     within (inl e) = omega arith
     within (inr e) = omega arith
 
-    among : (asked ≡ rate) ⊎ (asked ≡ anyRate) → Among (trueHypothesis rate turn passed) (searched asked)
-    among (inl e) =
-        subst (λ (r : ℕ). Among (trueHypothesis rate turn passed) (searched r)) (sym e)
-        (subst (λ (b : Bool). Among (trueHypothesis rate turn passed) (pick b (hypothesesOf rate) (hypothesesBelow 5))) (sym (lt-ltb rate 5 hr)) own)
-    among (inr e) = subst (λ (r : ℕ). Among (trueHypothesis rate turn passed) (searched r)) (sym e) (among-below rate 5 hr own)
-
     by : (asked ≡ rate) ⊎ (asked ≡ anyRate) → {number : ℕ} {search : Search} → SearchesWindow asked window number search
         → (number ≡ 0) × Told (trueHypothesis rate turn passed) search
     by a (refused e h n) = absurd (omega (arith, e, h, passed-tests asked window (within a) (sent .size) small))
-    by a (done z p s) = (z, told (searched asked) (among a) s)
+    by a (done z p s) = (z, truth-told rate turn passed hr ht sent asked a s)

@@ -57,12 +57,12 @@ decided-unique {rate} {m} {last′ = last′} {pairs} {left′ = left′} (run-p
 
 -- ---- the symbols that the pairs are of
 
-record SymbolsDecided {R : Type 0} (cost : R → ℕ → ℕ) (rate m : ℕ) (rs : List R) (out : List ℕ) (last : ℕ) (pairs : List ℕ) : Type 0 where
+pub record SymbolsDecided {R : Type 0} (cost : R → ℕ → ℕ) (rate m : ℕ) (rs : List R) (out : List ℕ) (last : ℕ) (pairs : List ℕ) : Type 0 where
   pub left : List R
   pub decided : Decided cost rate m rs out last left
   pub held : Costed cost left pairs
 
-symbols-decided : {R : Type 0} (cost : R → ℕ → ℕ) {rate m : ℕ} → rate < qpskCount → m < 64 → {pairs out left : List ℕ} {last : ℕ} → DecidedPairs rate m pairs out last left
+pub symbols-decided : {R : Type 0} (cost : R → ℕ → ℕ) {rate m : ℕ} → rate < qpskCount → m < 64 → {pairs out left : List ℕ} {last : ℕ} → DecidedPairs rate m pairs out last left
     → (rs : List R) → Costed cost rs pairs → SymbolsDecided cost rate m rs out last left
 symbols-decided cost {rate} hr hm (few-pairs l) rs c = record { left = rs; decided = few {rs = rs} (omega (arith, c .size)); held = c }
 symbols-decided {R} cost {rate} {m} hr hm {left = left} {last} (run-pairs {pairs = pairs} {out = out} bits total after full d r) rs c =

@@ -1,12 +1,12 @@
 -- A sender's stream, cut at any bit, straight or inverted: the packets that come of it, from bits to packets.
 -- Assumes nothing.
 use mathlib.Core.Path.{_≡_, refl, sym, ap, ap₂, subst, _∙_}
-use mathlib.Core.Bool.{Bool}
+use mathlib.Core.Bool.{Bool, false}
 use mathlib.Core.List.{List, [], _∷_, _++_, append-nil}
-use Prim.Native.Nat.{ℕ, _+_, _-_, _≤_}
+use Prim.Native.Nat.{ℕ, suc, _+_, _-_, _≤_}
 use native.Mathlib.Omega.{arith}
-use lib.ListN.{length, take, drop, length-drop}
-use lib.Seq.{take-all}
+use lib.ListN.{length, take, drop, length-take, length-drop, length-map}
+use lib.Seq.{take-length}
 use Rattle.common.specs.Lists.{All}
 use Rattle.randomizer.specs.Stream.{Packet}
 use Rattle.group_sync.specs.Stream.{beforeGroup}
@@ -16,7 +16,7 @@ use Rattle.block_sync.specs.Grid.{begun, followers, Drained, Unsynced}
 use Rattle.block_sync.specs.History.{GivenBlock, SyncFeedings}
 use Rattle.block_sync.specs.declared.BlockSync.{BlockSync}
 use Rattle.sent_sync.specs.Sent.{bitsFrom}
-use Rattle.sent_sync.proofs.Sent.{sent-anywhere}
+use Rattle.sent_sync.proofs.Sent.{sent-anywhere, sent-so-far}
 use Rattle.lock_receiver.proofs.Histories.{every-lock}
 use Rattle.lock_receiver.proofs.Promises.{unbroken-given}
 use Rattle.sent_lock.specs.Locks.{followersOf, locksOf, LocksTaken, none, lock}
@@ -34,28 +34,48 @@ no-locks (b ∷ bs) = no-locks bs
 one-lock : (b : List ℕ) (bs : List (List ℕ)) → locksOf (begun (b ∷ bs)) ≡ (b ∷ bs) ∷ []
 one-lock b bs = ap₂ (λ (x : List (List ℕ)) (y : List (List (List ℕ))). (b ∷ x) ∷ y) (follow-all bs) (no-locks bs)
 
--- ---- the theorem
+begun-count : (bs : List (List ℕ)) → length (begun bs) ≡ length bs
+begun-count [] = refl
+begun-count (b ∷ bs) = ap suc (length-map bs (λ b. record { begins = false; block = b }))
+
+-- ---- the theorems
 
 module _ (packets : List (List ℕ)) (ws : All Packet packets) (b : ℕ) where
-  abbrev Wanted : List (List ℕ) → Type 0
-  Wanted out = out ≡ take (length packets - b - 11 - beforeGroup b) (drop (b + beforeGroup b) packets)
+  -- what n blocks from block b on give
+  abbrev Wanted : ℕ → List (List ℕ) → Type 0
+  Wanted n out = out ≡ take (n - 11 - beforeGroup b) (drop (b + beforeGroup b) packets)
 
-  -- one lock of the blocks from block b on
-  lock-given : (blocks : List (List ℕ)) → blocks ≡ drop b (interleavedBlocks packets) → b ≤ length packets → {out : List (List ℕ)} → LocksTaken (blocks ∷ []) out → Wanted out
+  abbrev rest : List (List ℕ)
+  rest = drop b (interleavedBlocks packets)
+
+  rest-count : length rest ≡ length packets - b
+  rest-count = length-drop b (interleavedBlocks packets) ∙ ap (λ (k : ℕ). k - b) (interleaved-count packets)
+
+  -- one lock of the first of these blocks
+  lock-given : (blocks : List (List ℕ)) → blocks ≡ take (length blocks) rest → b ≤ length packets → {out : List (List ℕ)} → LocksTaken (blocks ∷ []) out → Wanted (length blocks) out
   lock-given blocks e h (lock {given = given} t none) =
-      let n : length blocks ≡ length packets - b = ap length e ∙ length-drop b (interleavedBlocks packets) ∙ ap (λ (k : ℕ). k - b) (interleaved-count packets) in
-      append-nil given
-      ∙ unbroken-given (every-lock t) packets ws b (omega (arith, n)) (e ∙ sym (take-all (length blocks) (drop b (interleavedBlocks packets)) (omega (arith, ap length e)))) .0
-      ∙ ap (λ (k : ℕ). take (k - 11 - beforeGroup b) (drop (b + beforeGroup b) packets)) n
+      append-nil given ∙ unbroken-given (every-lock t) packets ws b (omega (arith, ap length e, length-take (length blocks) rest, rest-count)) e .0
 
-  some-locks : (blocks : List (List ℕ)) → blocks ≡ drop b (interleavedBlocks packets) → b + 6 ≤ length packets → {out : List (List ℕ)} → LocksTaken (locksOf (begun blocks)) out → Wanted out
-  some-locks [] e h t = absurd (omega (arith, ap length e, length-drop b (interleavedBlocks packets), interleaved-count packets))
-  some-locks (x ∷ xs) e h {out} t = lock-given (x ∷ xs) e (omega arith) (subst (λ (l : List (List (List ℕ))). LocksTaken l out) (one-lock x xs) t)
+  some-locks : (blocks : List (List ℕ)) → blocks ≡ take (length blocks) rest → b ≤ length packets → {out : List (List ℕ)} → LocksTaken (locksOf (begun blocks)) out → Wanted (length blocks) out
+  some-locks [] e h none = let z : 0 - 11 - beforeGroup b ≡ 0 = omega arith in ap (λ (k : ℕ). take k (drop (b + beforeGroup b) packets)) (sym z)
+  some-locks (x ∷ xs) e h {out} t = lock-given (x ∷ xs) e h (subst (λ (l : List (List (List ℕ))). LocksTaken l out) (one-lock x xs) t)
 
   -- Six blocks or more from block b on, straight or inverted, behind any bits in which no place passes for a sync, in any pieces, and then the end: one lock,
   -- which gives every packet from the first start of a group on but those of the last eleven blocks.
   pub packets-anywhere : (i : Bool) (p : List ℕ) {given last : List GivenBlock} {skipped sk : ℕ} {s t : BlockSync} {out : List (List ℕ)} → b + 6 ≤ length packets
-      → Unsynced p (bitsFrom i b packets) → SyncFeedings (p ++ bitsFrom i b packets) given skipped s → Drained s last sk t → LocksTaken (locksOf (given ++ last)) out → Wanted out
+      → Unsynced p (bitsFrom i b packets) → SyncFeedings (p ++ bitsFrom i b packets) given skipped s → Drained s last sk t → LocksTaken (locksOf (given ++ last)) out
+      → Wanted (length packets - b) out
   packets-anywhere i p {out = out} h u f d l =
       let r = sent-anywhere packets ws b i p h u f d in
-      some-locks (drop b (interleavedBlocks packets)) refl h (subst (λ (x : List GivenBlock). LocksTaken (locksOf x) out) (r .blocks) l)
+      subst (λ (n : ℕ). Wanted n out) rest-count
+      (some-locks rest (sym (take-length rest)) (omega arith) (subst (λ (x : List GivenBlock). LocksTaken (locksOf x) out) (r .blocks) l))
+
+  -- And before the end, where only some of these bits came: the packets of the blocks that were given so far, but those of the last eleven.
+  pub packets-so-far : (i : Bool) (p : List ℕ) {bits : List ℕ} (more : List ℕ) {given : List GivenBlock} {skipped : ℕ} {s : BlockSync} {out : List (List ℕ)} → b + 6 ≤ length packets
+      → Unsynced p (bitsFrom i b packets) → bits ++ more ≡ p ++ bitsFrom i b packets → SyncFeedings bits given skipped s → LocksTaken (locksOf given) out → Wanted (length given) out
+  packets-so-far i p more {given} {out = out} h u e f l =
+      let r = sent-so-far packets ws b i p more h u e f in
+      let blocks : List (List ℕ) = take (length given) rest in
+      let n : length blocks ≡ length given = sym (begun-count blocks) ∙ ap length (sym (r .blocks)) in
+      subst (λ (k : ℕ). Wanted k out) n
+      (some-locks blocks (ap (λ (k : ℕ). take k rest) (sym n)) (omega arith) (subst (λ (x : List GivenBlock). LocksTaken (locksOf x) out) (r .blocks) l))

@@ -86,7 +86,7 @@ block-back i block g e =
     ∙ bytes-back block g (length (bitsOf block)) (omega arith) ∙ ap (λ (k : ℕ). take k block) q ∙ take-length block
 
 -- the bits of blocks are the bits of each
-turned-append : (i : Bool) (a b : List ℕ) → turnedBits i (a ++ b) ≡ turnedBits i a ++ turnedBits i b
+pub turned-append : (i : Bool) (a b : List ℕ) → turnedBits i (a ++ b) ≡ turnedBits i a ++ turnedBits i b
 unfolding turnedBits
 turned-append i a b = map-append (turnedBit i) a b
 

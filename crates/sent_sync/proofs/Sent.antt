@@ -5,7 +5,7 @@ use mathlib.Core.Bool.{Bool}
 use mathlib.Core.List.{List, [], _++_, flatten}
 use Prim.Native.Nat.{ℕ, _+_, _-_, _*_, _%_, _≤_, _<_}
 use native.Mathlib.Omega.{arith}
-use lib.ListN.{length, getD, drop, length-drop, List·getD-append}
+use lib.ListN.{length, getD, take, drop, length-drop, List·getD-append}
 use lib.Seq.{getD-drop}
 use Rattle.common.specs.Lists.{All, Bytes, Length}
 use Rattle.common.proofs.Lists.{All-at}
@@ -28,8 +28,9 @@ use Rattle.block_sync.specs.declared.BlockSync.{BlockSync}
 use Rattle.block_sync.proofs.Majority.{SyncHere, majority}
 use Rattle.block_sync.proofs.Grids.{here, grid-given}
 use Rattle.block_sync.proofs.Anywhere.{anywhere-given}
-use Rattle.sent_sync.specs.Sent.{bitsFrom, GivesSent, GivesSentAfter}
+use Rattle.sent_sync.specs.Sent.{bitsFrom, GivesSent, GivesSentAfter, GivesSentSoFar}
 use Rattle.sent_sync.proofs.Bytes.{byte-of, byte-turned, blocks-back, bits-size}
+use Rattle.sent_sync.proofs.Fronts.{front-given}
 
 -- ---- the first byte of a block
 
@@ -112,4 +113,16 @@ module _ (packets : List (List ℕ)) (ws : All Packet packets) where
           blocks = r .blocks ∙ ap begun (blocks-back i rest rest-whole rest-bytes);
           skips = r .skips;
           none-left = r .none-left;
+        }
+
+    -- And before the end, where only some of these bits came: what was given is the first of these blocks.
+    pub sent-so-far : (i : Bool) (p : List ℕ) {bits : List ℕ} (more : List ℕ) {given : List GivenBlock} {skipped : ℕ} {s : BlockSync} → b + 6 ≤ length packets → Unsynced p (bitsFrom i b packets)
+        → bits ++ more ≡ p ++ bitsFrom i b packets → SyncFeedings bits given skipped s → GivesSentSoFar packets b p (length bits) given skipped s
+    sent-so-far i p more {given} h u e f =
+        let r = front-given p (bitsFrom i b packets) more (sent-grid i) (omega (arith, rest-count)) u e f in
+        record {
+          blocks = r .blocks ∙ ap (λ (l : List (List ℕ)). begun (take (length given) l)) (blocks-back i rest rest-whole rest-bytes);
+          skips = r .skips;
+          counted = r .counted;
+          few-held = r .few-held;
         }

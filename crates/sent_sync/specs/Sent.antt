@@ -4,8 +4,8 @@
 use mathlib.Core.Path.{_≡_}
 use mathlib.Core.Bool.{Bool}
 use mathlib.Core.List.{List, flatten}
-use Prim.Native.Nat.{ℕ}
-use lib.ListN.{length, drop}
+use Prim.Native.Nat.{ℕ, _+_, _*_, _≤_, _<_}
+use lib.ListN.{length, take, drop}
 use Rattle.convolutional_code.specs.Bits.{bitsOf}
 use Rattle.sent_blocks.specs.Blocks.{interleavedBlocks}
 use Rattle.block_sync.specs.Decision.{turnedBits}
@@ -28,3 +28,11 @@ pub record GivesSentAfter (packets : List (List ℕ)) (b : ℕ) (before : List �
   pub blocks : given ≡ begun (drop b (interleavedBlocks packets))
   pub skips : skipped ≡ length before
   pub none-left : t .held ≡ 0
+
+-- What was given of them so far, where so many bits came: the first of these blocks, in order, the first as one that begins anew. No bit was skipped but of those
+-- before them. All bits that came are in these blocks, skipped, or held, and fewer are held than the aligner has room for.
+pub record GivesSentSoFar (packets : List (List ℕ)) (b : ℕ) (before : List ℕ) (came : ℕ) (given : List GivenBlock) (skipped : ℕ) (s : BlockSync) : Type 0 where
+  pub blocks : given ≡ begun (take (length given) (drop b (interleavedBlocks packets)))
+  pub skips : skipped ≤ length before
+  pub counted : skipped + 1632 * length given + s .held ≡ came
+  pub few-held : s .held < 8168

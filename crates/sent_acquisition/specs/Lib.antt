@@ -1,0 +1,4 @@
+pub mod Readings
+pub mod Right
+pub mod Sent
+pub mod Acquired

@@ -1,0 +1,127 @@
+-- Bits that have not all come: what is decided of some bits is the front of what is decided of more, so what is known of blocks that came to their end tells
+-- what was given of them so far.
+-- Assumes nothing.
+use mathlib.Core.Path.{_≡_, refl, sym, _∙_, ap, subst}
+use mathlib.Core.Bool.{Bool, true, false}
+use mathlib.Core.List.{List, [], _∷_, _++_, append-assoc}
+use Prim.Native.Nat.{ℕ, zero, suc, _+_, _-_, _*_, _≤_, _<_}
+use native.Mathlib.Decide.{decLt, ℕ-discrete}
+use native.Mathlib.Omega.{arith}
+use lib.ListN.{length, take, drop, length-append, length-drop}
+use lib.Seq.{length-take-le, take-append-seam}
+use Rattle.sync_search.specs.Sync.{syncAt, first, nowhere}
+use Rattle.block_sync.specs.Decision.{keeps, polarityAt, lockedAs, unlocked, Decides, follows, begins, searches, usedBits}
+use Rattle.block_sync.specs.Grid.{SyncGrid, gridBlocks, followers, begun, Unsynced}
+use Rattle.block_sync.specs.History as history
+use Rattle.block_sync.specs.History.{GivenBlock, SyncFeedings, Part, partOf, givenOf, Aligned, few, turn}
+use Rattle.block_sync.specs.declared.Lock.{Lock}
+use Rattle.block_sync.specs.declared.Decision.{Decision}
+use Rattle.block_sync.specs.declared.BlockSync.{BlockSync}
+use Rattle.block_sync.proofs.Decisions.{used-some}
+use Rattle.block_sync.proofs.Parts.{aligned-joined, aligned-few}
+use Rattle.block_sync.proofs.Histories.{held-back, given-append, skipped-append, every-history, every-bit}
+use Rattle.block_sync.proofs.Anywhere.{anywhere-aligned}
+
+-- ---- of all bits something is decided
+
+-- the first n places: the first sync among them, or none
+data Scanned (l : List ℕ) (n : ℕ) : Type 0 where
+  found : (at : ℕ) → at < n → syncAt l at ≡ true → ((q : ℕ) → q < at → syncAt l q ≡ false) → Scanned l n
+  clean : ((q : ℕ) → q < n → syncAt l q ≡ false) → Scanned l n
+
+one-more : (l : List ℕ) (n : ℕ) → ((q : ℕ) → q < n → syncAt l q ≡ false) → syncAt l n ≡ false → (q : ℕ) → q < suc n → Dec (q ≡ n) → syncAt l q ≡ false
+one-more l n f e q h (yes z) = ap (syncAt l) z ∙ e
+one-more l n f e q h (no z) = f q (omega arith)
+
+scan : (l : List ℕ) (n : ℕ) → Scanned l n
+scan l zero = clean (λ q h. absurd (omega arith))
+scan l (suc n) = next (scan l n) (syncAt l n) refl
+  where
+    next : Scanned l n → (b : Bool) → syncAt l n ≡ b → Scanned l (suc n)
+    next (found at h s f) b e = found at (omega arith) s f
+    next (clean f) true e = found n (omega arith) e f
+    next (clean f) false e = clean (λ q h. one-more l n f e q h (ℕ-discrete q n))
+
+record Made (k : Lock) (l : List ℕ) : Type 0 where
+  decision : Decision
+  decides : Decides k l decision
+
+made : (k : Lock) (l : List ℕ) → Made k l
+made k l = by (keeps k l) refl (scan l (length l - 6535))
+  where
+    by : (b : Bool) → keeps k l ≡ b → Scanned l (length l - 6535) → Made k l
+    by true e s = record { decision = record { skipped = 0; given = true; begins = false; lock = lockedAs (polarityAt l 0 (k .inverted)) }; decides = follows e refl }
+    by false e (found at h s f) = record {
+      decision = record { skipped = at; given = true; begins = true; lock = lockedAs (polarityAt l at false) };
+      decides = begins at e (first at (omega arith) (omega arith) s (λ q a b. f q b)) refl;
+    }
+    by false e (clean f) = record {
+      decision = record { skipped = length l - 6535; given = false; begins = false; lock = unlocked };
+      decides = searches e (nowhere (λ q a b. f q (omega arith))) refl;
+    }
+
+record Some (k : Lock) (l : List ℕ) : Type 0 where
+  parts : List Part
+  last : Lock
+  left : List ℕ
+  aligned : Aligned k l parts last left
+
+aligned-some : (n : ℕ) (k : Lock) (l : List ℕ) → length l ≤ n → Some k l
+aligned-some zero k l h = record { parts = []; last = k; left = l; aligned = few {l = l} (omega arith) }
+aligned-some (suc n) k l h = by (decLt (length l) 8168) (λ k′ l′ h′. aligned-some n k′ l′ h′)
+  where
+    by : Dec (length l < 8168) → ((k′ : Lock) (l′ : List ℕ) → length l′ ≤ n → Some k′ l′) → Some k l
+    by (yes z) rec = record { parts = []; last = k; left = l; aligned = few {l = l} z }
+    by (no z) rec =
+        let m = made k (take 8168 l) in
+        let d = m .decision in
+        let r = rec (d .lock) (drop (usedBits d) l)
+        (omega (arith, length-drop (usedBits d) l, used-some (m .decides) (omega (arith, length-take-le 8168 l (omega arith))))) in
+        record { parts = partOf d (take 8168 l) ∷ r .parts; last = r .last; left = r .left; aligned = turn {l = l} d (omega arith) (m .decides) (r .aligned) }
+
+-- ---- the first of some blocks
+
+take-followers : (n : ℕ) (bs : List (List ℕ)) → take n (followers bs) ≡ followers (take n bs)
+take-followers zero bs = refl
+take-followers (suc n) [] = refl
+take-followers (suc n) (b ∷ bs) = ap (λ (l : List GivenBlock). record { begins = false; block = b } ∷ l) (take-followers n bs)
+
+take-begun : (n : ℕ) (bs : List (List ℕ)) → take n (begun bs) ≡ begun (take n bs)
+take-begun zero bs = refl
+take-begun (suc n) [] = refl
+take-begun (suc n) (b ∷ bs) = ap (λ (l : List GivenBlock). record { begins = true; block = b } ∷ l) (take-followers n bs)
+
+front-begun : (g rest : List GivenBlock) (bs : List (List ℕ)) → g ++ rest ≡ begun bs → g ≡ begun (take (length g) bs)
+front-begun g rest bs e = sym (take-append-seam g rest) ∙ (ap (take (length g)) e ∙ take-begun (length g) bs)
+
+-- ---- what was given so far
+
+pub record GridSoFar (i : Bool) (p l : List ℕ) (came : ℕ) (given : List GivenBlock) (skipped : ℕ) (s : BlockSync) : Type 0 where
+  pub blocks : given ≡ begun (take (length given) (gridBlocks i l))
+  pub skips : skipped ≤ length p
+  pub counted : skipped + 1632 * length given + s .held ≡ came
+  pub few-held : s .held < 8168
+
+none-kept : (w : List ℕ) → keeps unlocked w ≡ false
+unfolding keeps
+none-kept w = refl
+
+-- Some of the bits that begin anywhere and then have six blocks or more, straight or inverted, in any pieces.
+pub front-given : {i : Bool} {f n : ℕ} (p l : List ℕ) {bits : List ℕ} (more : List ℕ) {given : List GivenBlock} {skipped : ℕ} {s : BlockSync} → SyncGrid i f n l → 5 < n → Unsynced p l
+    → bits ++ more ≡ p ++ l → SyncFeedings bits given skipped s → GridSoFar i p l (length bits) given skipped s
+front-given {i} p l {bits} more {given} {skipped} {s} g o u e h =
+    let c = every-history h in
+    let x = aligned-some (length (c .left ++ more)) (s .lock) (c .left ++ more) (omega arith) in
+    let r = anywhere-aligned (aligned-joined (c .aligned) more (x .aligned)) p l (none-kept (take 8168 (bits ++ more))) e g o u in
+    let a = every-bit h history.none in
+    let held : s .held ≡ length (c .left) = ap (λ (y : BlockSync). y .held) (c .state) in
+    record {
+      blocks =
+          front-begun given (givenOf (x .parts) ++ followers (gridBlocks i (x .left))) (gridBlocks i l)
+          (ap (λ (y : List GivenBlock). y ++ (givenOf (x .parts) ++ followers (gridBlocks i (x .left)))) (c .blocks)
+          ∙ (sym (append-assoc (givenOf (c .parts)) (givenOf (x .parts)) (followers (gridBlocks i (x .left))))
+          ∙ (ap (λ (y : List GivenBlock). y ++ followers (gridBlocks i (x .left))) (sym (given-append (c .parts) (x .parts))) ∙ r .given)));
+      skips = omega (arith, c .skips, skipped-append (c .parts) (x .parts), r .skips);
+      counted = omega (arith, a .counted, held, ap length (held-back s (c .left) (c .state)), length-append given []);
+      few-held = omega (arith, held, aligned-few (c .aligned));
+    }
