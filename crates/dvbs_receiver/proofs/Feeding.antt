@@ -24,7 +24,7 @@ use Rattle.receiver.proofs.Reached.{Sound}
 use Rattle.recording.specs.Recording.{marksFor}
 use Rattle.recording.proofs.Decided.{recording-taken}
 use Rattle.reception_counts.proofs.Ranges.{counts-range}
-use Rattle.receiver_stream.specs.Feed.{heldBytes, heldMarks, receiverStreamInRange, capacityOf, receiverFeedNumber, TakesPiece, FeedsReceiver, refused, fed}
+use Rattle.receiver_stream.specs.Feed.{heldBytes, heldMarks, receiverStreamInRange, capacityOf, receiverFeedNumber, ReceivesPiece, FeedsReceiver, refused, fed}
 use Rattle.receiver_stream.specs.Reporting.{Reports, streamReportNumber}
 use Rattle.receiver_stream.specs.declared.ReceiverStream.{ReceiverStream}
 use Rattle.receiver_stream.proofs.Histories.{marks-each}
@@ -68,7 +68,7 @@ module _ (bytes : List ℕ) (i : ReceiverStream) (h : StandsFor bytes i) where
       }
 
   module _ (piece own output : List ℕ) (z : receiverFeedNumber i piece own output ≡ 0) {count : ℕ} {next : ReceiverStream} {exit : List ℕ}
-      (t : TakesPiece i piece own output count next exit) where
+      (t : ReceivesPiece i piece own output count next exit) where
     passed : (marksFor piece own ≡ true) × (ltb (capacityOf i) (length piece) ≡ false)
     passed = none-due (receiverStreamInRange i) (marksFor piece own) (ltb (length output) (188 * ((i .held + length piece) / 204))) (ltb (capacityOf i) (length piece)) z
 

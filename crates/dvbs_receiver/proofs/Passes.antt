@@ -4,7 +4,7 @@ use mathlib.Core.List.{List}
 use Prim.Native.Nat.{ℕ, _≤_}
 use lib.ListN.{length, getD}
 use Rattle.state_bytes.proofs.Calls.{own-call}
-use Rattle.report.specs.Text.{textNumber, Writes}
+use Rattle.report.specs.Text.{textNumber, WritesText}
 use Rattle.receiver_stream.specs.Feed.{freshReceiverStream}
 use Rattle.receiver_stream.specs.History as own
 use Rattle.receiver_stream.specs.History.{ReceiverFeedings, Reception}
@@ -45,7 +45,7 @@ pass-received p =
 -- and the report is the one on them
 pub pass-reported : {came marks written last : List ℕ} → ReceiverPass (stateBytes freshReceiverStream) came marks written last
     → (output answer : List ℕ) (r : ℕ) (exit told : List ℕ) → 1 ≤ length answer → ReportsState last output answer r exit told
-    → (text : List ℕ) → PassReport came marks text → Writes (textNumber text output) text output (getD told 0 0) r exit
+    → (text : List ℕ) → PassReport came marks text → WritesText (textNumber text output) text output (getD told 0 0) r exit
 pass-reported {came} {marks} {written} p output answer r exit told one s text t =
     let w = pass-received p in
     let o = own-call reads (w .last) (w .stands) one s in
