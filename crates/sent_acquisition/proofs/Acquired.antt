@@ -17,7 +17,7 @@ use Rattle.symbol_turns.specs.Turn.{undoing, turnedPair}
 use Rattle.block_sync.specs.History.{GivenBlock}
 use Rattle.acquisition.specs.Reading.{Begins, ReadsSymbols}
 use Rattle.acquisition.specs.Step as steps
-use Rattle.acquisition.specs.Step.{pendingOf, searchingOn, readingOn, freshAcquisition, AcquisitionReady, AfterSearch, windowOf, SearchesOn, afterReading, StepsAcquisition}
+use Rattle.acquisition.specs.Step.{pendingOf, searchingOn, readingOn, freshAcquisition, AcquisitionReady, AfterSearch, windowOf, SearchesOn, afterReading, StepsAcquisition, endsReading, mirroredNext, lostReading}
 use Rattle.acquisition.specs.declared.Reading.{Reading}
 use Rattle.acquisition.specs.declared.Phase.{Phase}
 use Rattle.acquisition.specs.declared.Phase.the-variants.{Searches as Phase·searches, Reads}
@@ -100,7 +100,11 @@ after-is : (s : Acquisition) (piece : List ℕ) (t : _) → ReadsSymbols (s .rea
     → After (s .rate) (s .mirrored) (t .reading) pending came (afterReading s t pending came e)
 after-is s piece t f pending came Waits = goes-on
 after-is s piece t f pending came Block = goes-on
-after-is s piece t f pending came Lost = over _
+after-is s piece t f pending came Lost = by (endsReading (s .reading .sync .lock .locked) (s .reading .used))
+  where
+    by : (ends : Bool) → After (s .rate) (s .mirrored) (t .reading) pending came (lostReading s (t .reading) pending came ends)
+    by true = over (mirroredNext (s .mirrored) (s .reading .used))
+    by false = goes-on
 
 -- ---- what a step leaves
 
