@@ -22,7 +22,7 @@ use Rattle.node_search.proofs.Truth.{map-take}
 use Rattle.block_sync.specs.History.{GivenBlock, stepGiven, SyncFeedings, fresh, feeding}
 use Rattle.block_sync.specs.declared.BlockSync.{BlockSync}
 use Rattle.block_sync.specs.declared.SyncStep.{SyncStep}
-use Rattle.acquisition.specs.Reading.{turnRead, usedBy, TakesBits, eventOf, blockFound}
+use Rattle.acquisition.specs.Reading.{turnRead, usedBy, TakesBits, blockFound}
 use Rattle.acquisition.specs.declared.Reading.{Reading}
 use Rattle.acquisition.specs.declared.FoundBlock.{FoundBlock}
 use Rattle.acquisition.specs.declared.Event.the-variants.{Waits, Block, Lost}

@@ -3,12 +3,12 @@
 use mathlib.Core.Path.{_≡_, refl, sym, _∙_, ap, ap₂, subst}
 use mathlib.Core.Bool.{Bool, true, false}
 use mathlib.Core.List.{List, [], _∷_, _++_, map, map-append}
-use Prim.Native.Nat.{ℕ, zero, suc, _+_, _-_, _*_, _/_, _%_, _≤_, _<_}
+use Prim.Native.Nat.{ℕ, zero, suc, _+_, _-_, _%_, _≤_, _<_}
 use Prim.{tt}
 use native.Mathlib.Decide.{ℕ-discrete}
 use native.Mathlib.Omega.{arith}
 use lib.Bits.{bitXor}
-use lib.Dec.{T, eqb, ltb, leb, eqb→eq, ltb→lt, leb→le}
+use lib.Dec.{eqb, ltb, leb, eqb→eq, ltb→lt, leb→le}
 use lib.ListN.{length, getD, take, drop, replicate, length-map, length-replicate, take-append-drop}
 use lib.Seq.{take-append-seam}
 use Rattle.common.specs.Choice.{pick}
@@ -38,7 +38,7 @@ use Rattle.node_search.specs.Sent as prefer
 use Rattle.node_search.specs.Sent.{Prefers, AllPrefer}
 use Rattle.node_search.specs.Weight.{ofPair, cheaper}
 use Rattle.node_search.proofs.Truth.{map-take, preferred-cost}
-use Rattle.block_sync.specs.Decision.{turnedBit, turnedBits}
+use Rattle.block_sync.specs.Decision.{turnedBits}
 use Rattle.block_sync.proofs.Turning.{turned-bits}
 use Rattle.sent_acquisition.specs.Right.{SentSymbols, lessHalf, hasHalf}
 
