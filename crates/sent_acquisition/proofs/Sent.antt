@@ -22,10 +22,11 @@ use Rattle.puncturing.specs.Mode.{modeOf}
 use Rattle.puncturing.specs.Step.{patternLength}
 use Rattle.randomizer.specs.Stream.{Packet}
 use Rattle.interleaver.proofs.BlockLists.{flatten-join, length-flatten, All-take}
-use Rattle.reader.specs.Read.{symbolsPerPattern}
+use Rattle.reader.specs.Read.{symbolsPerPattern, runBits}
 use Rattle.reader.proofs.Patterns.{memory-in-range}
 use Rattle.reader.proofs.Streams.{take-bits, drop-bits}
 use Rattle.reader_stream.proofs.Runs.{all-take, all-drop}
+use Rattle.reader_stream.proofs.Unharmed.{WholeStream}
 use Rattle.symbol_turns.specs.Turn.{turned, turnClass, byPair}
 use Rattle.free_start.specs.Lead.{leadBits}
 use Rattle.free_start.proofs.FreeStream.{cut}
@@ -42,6 +43,7 @@ use Rattle.group_sync.specs.Stream.{beforeGroup}
 use Rattle.block_sync.specs.Decision.{turnedBits}
 use Rattle.block_sync.specs.Grid.{Unsynced}
 use Rattle.block_sync.specs.History.{GivenBlock}
+use Rattle.block_sync.specs.declared.BlockSync.{BlockSync}
 use Rattle.sent_sync.specs.Sent.{bitsFrom, GivesSentSoFar}
 use Rattle.sent_sync.proofs.Bytes.{turned-append}
 use Rattle.sent_sync.proofs.Sent.{sent-so-far}
@@ -49,10 +51,10 @@ use Rattle.sent_lock.specs.Locks.{locksOf, LocksTaken}
 use Rattle.sent_lock.proofs.Sent.{packets-so-far}
 use Rattle.acquisition.specs.Reading.{turnRead}
 use Rattle.acquisition.specs.declared.Reading.{Reading}
-use Rattle.sent_acquisition.specs.Readings.{ReadingCame}
+use Rattle.sent_acquisition.specs.Readings.{ReadingCame, ReadingClosed}
 use Rattle.sent_acquisition.specs.Right.{SentSymbols, lessHalf, hasHalf}
 use Rattle.sent_acquisition.specs.Sent.{SentStream, RightMirror, firstBit, bitsBefore}
-use Rattle.sent_acquisition.proofs.Right.{right-reading}
+use Rattle.sent_acquisition.proofs.Right.{right-reading, right-ended}
 
 -- ---- what was found
 
@@ -210,6 +212,22 @@ module _ (packets : List (List ℕ)) (ws : All Packet packets) (rate turn passed
     -- Behind the bits of the lead it has the sender's bits from the first bit on, straight, or all inverted where there is half a turn.
     pub bits-sent : drop (leadBits rate) (c .bits) ≡ take (length (c .bits) - leadBits rate) (turnedBits (hasHalf turn) (drop (firstBit rate passed) all))
     bits-sent = right-reading rate turn hr ht (drop (firstBit rate passed) all) read (symbols-sent read unread behind) (c .decided)
+
+    -- With the end, where six patterns came, it has all of them up to the last whole pattern that it took.
+    module _ {last : List GivenBlock} {t : BlockSync} (e : ReadingClosed c last t) (patterns : 6 * symbolsPerPattern rate ≤ length read) where
+      abbrev pub closedBits : List ℕ
+      closedBits = c .bits ++ take (e .count) (e .exit)
+
+      pub bits-closed : WholeStream rate (turnedBits (hasHalf turn) (drop (firstBit rate passed) all)) (length read) (drop (leadBits rate) closedBits) (e .rest)
+      bits-closed =
+          right-ended rate turn hr ht (drop (firstBit rate passed) all) read (symbols-sent read unread behind) (c .decided) patterns (k .runs) (c .ready) (c .rate-is) refl refl (e .closes)
+
+      module _ (b : ℕ) (whole : firstBit rate passed ≤ 1632 * b) (six : b + 6 ≤ length packets) (u : Unsynced (bitsBefore rate passed (hasHalf turn) b packets closedBits) (bitsFrom (hasHalf turn) b packets)) where
+        last-front : Front b closedBits
+        last-front = front-of b whole (omega arith) closedBits (runBits rate (length read)) (bits-closed .given)
+
+        pub blocks-closed : GivesSentSoFar packets b (bitsBefore rate passed (hasHalf turn) b packets closedBits) (length closedBits) (given ++ last) (e .skipped) t
+        blocks-closed = sent-so-far packets ws b (hasHalf turn) (bitsBefore rate passed (hasHalf turn) b packets closedBits) (last-front .more) six u (last-front .whole) (e .aligned)
 
     -- From a block on that begins behind the first bit, where no place before it passes for a sync: the reading gives the sender's blocks, and a fresh receiver for
     -- each lock their packets.

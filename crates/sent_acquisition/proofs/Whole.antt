@@ -12,7 +12,9 @@ use lib.Seq.{length-take-le, drop-append-seam}
 use Rattle.common.specs.Lists.{All}
 use Rattle.convolutional_code.specs.Bits.{bitsOf}
 use Rattle.randomizer.specs.Stream.{Packet}
+use Rattle.reader.specs.Read.{symbolsPerPattern}
 use Rattle.reader_stream.proofs.Runs.{all-drop}
+use Rattle.reader_stream.proofs.Unharmed.{WholeStream}
 use Rattle.symbol_turns.specs.Turn.{turned, byPair}
 use Rattle.free_start.specs.Lead.{leadBits}
 use Rattle.node_search.specs.Hypotheses.{anyRate}
@@ -24,16 +26,17 @@ use Rattle.group_sync.specs.Stream.{beforeGroup}
 use Rattle.block_sync.specs.Decision.{turnedBits}
 use Rattle.block_sync.specs.Grid.{Unsynced}
 use Rattle.block_sync.specs.History.{GivenBlock}
+use Rattle.block_sync.specs.declared.BlockSync.{BlockSync}
 use Rattle.sent_sync.specs.Sent.{bitsFrom, GivesSentSoFar}
 use Rattle.sent_lock.specs.Locks.{locksOf, LocksTaken}
 use Rattle.acquisition.specs.Reading.{turnRead}
 use Rattle.acquisition.specs.declared.Reading.{Reading}
-use Rattle.sent_acquisition.specs.Readings.{ReadingCame}
+use Rattle.sent_acquisition.specs.Readings.{ReadingCame, ReadingClosed}
 use Rattle.sent_acquisition.specs.Right.{lessHalf, hasHalf}
 use Rattle.sent_acquisition.specs.Sent.{SentStream, RightMirror, firstBit, bitsBefore}
 use Rattle.sent_acquisition.specs.Acquired.{ReadingOfThese}
 use Rattle.sent_acquisition.proofs.Readings.{reading-came}
-use Rattle.sent_acquisition.proofs.Sent.{turn-right, search-true, bits-sent, blocks-sent, packets-sent}
+use Rattle.sent_acquisition.proofs.Sent.{turn-right, search-true, bits-sent, bits-closed, blocks-closed, blocks-sent, packets-sent}
 
 -- the symbols from a later one on are the same stream, cut there
 later-cut : {rate turn passed : ℕ} {packets : List (List ℕ)} (before received : List ℕ) → SentStream rate turn passed packets (before ++ received)
@@ -96,3 +99,16 @@ module _ (packets : List (List ℕ)) (ws : All Packet packets) (rate turn passed
 
     pub packets-acquired : {out : List (List ℕ)} → LocksTaken (locksOf these) out → out ≡ take (length these - 11 - beforeGroup b) (drop (b + beforeGroup b) packets)
     packets-acquired l = packets-sent packets ws rate turn passedBefore hr ht (r .received) from-window (r .enough) unread reading-true behind b whole six u l
+
+  -- With the end, where six patterns came: it has the sender's bits up to the last whole pattern that it took, and of the blocks the same holds.
+  module _ {last : List GivenBlock} {t : BlockSync} (e : ReadingClosed reading-true last t) (patterns : 6 * symbolsPerPattern rate ≤ length (r .read)) where
+    abbrev pub endedBits : List ℕ
+    endedBits = reading-true .bits ++ take (e .count) (e .exit)
+
+    pub bits-ended : WholeStream rate (turnedBits (hasHalf turn) (drop (firstBit rate passedBefore) (bitsOf (sentBytes packets)))) (length (r .read)) (drop (leadBits rate) endedBits) (e .rest)
+    bits-ended = bits-closed packets ws rate turn passedBefore hr ht (r .received) from-window (r .enough) unread reading-true behind e patterns
+
+    module _ (b : ℕ) (whole : firstBit rate passedBefore ≤ 1632 * b) (six : b + 6 ≤ length packets)
+        (u : Unsynced (bitsBefore rate passedBefore (hasHalf turn) b packets endedBits) (bitsFrom (hasHalf turn) b packets)) where
+      pub sent-ended : GivesSentSoFar packets b (bitsBefore rate passedBefore (hasHalf turn) b packets endedBits) (length endedBits) (these ++ last) (e .skipped) t
+      sent-ended = blocks-closed packets ws rate turn passedBefore hr ht (r .received) from-window (r .enough) unread reading-true behind e patterns b whole six u
