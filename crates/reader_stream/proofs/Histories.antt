@@ -20,9 +20,10 @@ use Rattle.reader.proofs.Costs.{excess}
 use Rattle.reader.proofs.Reading.{decoded-as, read-as}
 use Rattle.reader.proofs.Streams.{take-bits}
 use Rattle.bit_packing.specs.Packing.{packedBytes, carriedBits}
-use Rattle.reader_stream.specs.Runs.{fullSymbols, keptSymbols, keptBits, Decided, few, run, DecidedPairs, few-pairs, run-pairs, EndDecided, heldOf, ClosesRuns}
+use Rattle.reader_stream.specs.Runs.{fullSymbols, keptSymbols, keptBits, Decided, few, run, DecidedPairs, few-pairs, run-pairs, EndDecided, heldOf, RunsReady, ClosesRuns}
 use Rattle.reader_stream.specs.Stream.{heldPairs, heldBits, FinishesReader}
 use Rattle.reader_stream.specs.History.{ReaderFeedings, none, feeding, PairsRead, SymbolsRead, SymbolsEnded}
+use Rattle.reader_stream.specs.declared.symbol_runs.SymbolRuns.{SymbolRuns}
 use Rattle.reader_stream.specs.declared.ReaderStream.{ReaderStream}
 use Rattle.reader_stream.specs.declared.Finished.{Finished}
 use Rattle.bit_packing.proofs.Bytes.{packed-few}
@@ -80,6 +81,27 @@ symbols-decided {R} cost {rate} {m} hr hm {left = left} {last} (run-pairs {pairs
     let i = symbols-decided cost hr (memory-in-range rate m hr hm (take-bits (keptBits rate) (d .best .binary))) r (drop (keptSymbols rate) rs)
     (costed-drop cost (keptSymbols rate) c) in
     record { left = i .left; decided = run {rs = rs} bits less after long e (i .decided); held = i .held }
+
+-- what runs hold of symbols is read at their end as far as it makes whole patterns
+pub closed-end : {R : Type 0} (cost : R → ℕ → ℕ) (r : SymbolRuns) → RunsReady r → (left : List R) → Costed cost left (heldOf r) → {output exit : List ℕ} {count rest : ℕ} → ClosesRuns r output count rest exit
+    → EndDecided cost (r .rate) (r .memory) left output count rest exit
+closed-end cost r g left c {output} {exit} {count} {rest} e =
+    let p = symbolsPerPattern (r .rate) in
+    let k : ℕ = p * e .whole in
+    let n : length left ≡ rest + k = omega (arith, c .size, held-length r g, e .split) in
+    let l : length (take k left) ≡ k = length-take-le k left (omega arith) in
+    let ck : Costed cost (take k left) (take k (heldOf r)) = costed-take cost k c in
+    let q : length (take k (heldOf r)) ≡ k = ck .size ∙ l in
+    record {
+      whole = e .whole;
+      split = sym n;
+      few = e .few;
+      total = e .total - excess (ck .extra) (length (take k left));
+      after = e .after;
+      bits =
+          read-as cost (take k left) (take k (heldOf r)) ck (r .rate) (r .memory) (g .known) (g .in-range) (ap (λ (j : ℕ). j % p) l ∙ mul-mod-right p (e .whole))
+          (subst (λ (j : ℕ). BestRead (runCost (costsOf (take k (heldOf r))) (r .rate) (r .memory)) (runBits (r .rate) j) (r .memory) output (e .after) (e .total) count exit) (sym q) (e .bits));
+    }
 
 -- ---- every history
 
@@ -143,29 +165,6 @@ module _ {R : Type 0} (cost : R → ℕ → ℕ) {rate : ℕ} {pairs bytes : Lis
 
   -- ---- the end
 
-  -- what is left of the symbols is read as far as it makes whole patterns
-  closed-end : (left : List R) → Costed cost left (heldPairs s) → {output exit : List ℕ} {count rest : ℕ} → ClosesRuns (s .runs) output count rest exit
-      → EndDecided cost (s .runs .rate) (s .runs .memory) left output count rest exit
-  closed-end left c {output} {exit} {count} {rest} e =
-      let r = s .runs in
-      let g = came .ready .runs-ready in
-      let p = symbolsPerPattern (r .rate) in
-      let k : ℕ = p * e .whole in
-      let n : length left ≡ rest + k = omega (arith, c .size, held-length r g, e .split) in
-      let l : length (take k left) ≡ k = length-take-le k left (omega arith) in
-      let ck : Costed cost (take k left) (take k (heldOf r)) = costed-take cost k c in
-      let q : length (take k (heldOf r)) ≡ k = ck .size ∙ l in
-      record {
-        whole = e .whole;
-        split = sym n;
-        few = e .few;
-        total = e .total - excess (ck .extra) (length (take k left));
-        after = e .after;
-        bits =
-            read-as cost (take k left) (take k (heldOf r)) ck (r .rate) (r .memory) (g .known) (g .in-range) (ap (λ (j : ℕ). j % p) l ∙ mul-mod-right p (e .whole))
-            (subst (λ (j : ℕ). BestRead (runCost (costsOf (take k (heldOf r))) (r .rate) (r .memory)) (runBits (r .rate) j) (r .memory) output (e .after) (e .total) count exit) (sym q) (e .bits));
-      }
-
   -- Whatever pieces the symbols came in, what is given to the end is the bytes of the bits of all of them.
   pub every-end : {output exit : List ℕ} {f : Finished} → FinishesReader s output f exit → SymbolsEnded cost rate rs (bytes ++ take (f .count) exit) (f .rest) (f .bits)
   every-end {exit = exit} {f} e =
@@ -184,7 +183,7 @@ module _ {R : Type 0} (cost : R → ℕ → ℕ) {rate : ℕ} {pairs bytes : Lis
               output = e .lent;
               exit = e .buffer;
               count = e .decided;
-              end = subst (λ (k : ℕ). EndDecided cost k (s .runs .memory) (h .left) (e .lent) (e .decided) (f .rest) (e .buffer)) (came .rate-is) (closed-end (h .left) (h .held) (e .closed));
+              end = subst (λ (k : ℕ). EndDecided cost k (s .runs .memory) (h .left) (e .lent) (e .decided) (f .rest) (e .buffer)) (came .rate-is) (closed-end cost (s .runs) (came .ready .runs-ready) (h .left) (h .held) (e .closed));
               bits-are = refl;
             };
         bytes-are = p .0;

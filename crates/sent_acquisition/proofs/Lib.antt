@@ -2,3 +2,4 @@ pub mod Readings
 pub mod Right
 pub mod Sent
 pub mod Acquired
+pub mod Whole

@@ -12,6 +12,7 @@ use lib.Seq.{take-add, take-length}
 use Rattle.common.specs.Choice.{pick}
 use Rattle.puncturing.specs.Mode.{qpskCount}
 use Rattle.reader_stream.specs.Runs.{fullSymbols, DecidedPairs, few-pairs, heldOf}
+use Rattle.reader_stream.specs.declared.symbol_runs.SymbolRuns.{SymbolRuns}
 use Rattle.reader_stream.proofs.Runs.{held-length}
 use Rattle.reader_stream.proofs.Feeding.{fed-decided, rate-kept}
 use Rattle.reader_stream.proofs.Histories.{joined}
@@ -22,11 +23,13 @@ use Rattle.node_search.proofs.Truth.{map-take}
 use Rattle.block_sync.specs.History.{GivenBlock, stepGiven, SyncFeedings, fresh, feeding}
 use Rattle.block_sync.specs.declared.BlockSync.{BlockSync}
 use Rattle.block_sync.specs.declared.SyncStep.{SyncStep}
-use Rattle.acquisition.specs.Reading.{turnRead, usedBy, TakesBits, eventOf, blockFound}
+use Rattle.acquisition.specs.Reading.{turnRead, usedBy, TakesBits, blockFound, SettlesBits}
+use Rattle.acquisition.specs.End.{ClosesReading}
 use Rattle.acquisition.specs.declared.Reading.{Reading}
 use Rattle.acquisition.specs.declared.FoundBlock.{FoundBlock}
+use Rattle.acquisition.specs.declared.Event.{Event}
 use Rattle.acquisition.specs.declared.Event.the-variants.{Waits, Block, Lost}
-use Rattle.sent_acquisition.specs.Readings.{blockIn, ReadingFeedings, begun, reading, ReadingCame}
+use Rattle.sent_acquisition.specs.Readings.{blockIn, ReadingFeedings, begun, reading, ReadingCame, ReadingClosed}
 
 -- ---- the aligner's part of a call
 
@@ -60,7 +63,13 @@ block-size : (given : Bool) (g : GivenBlock) → pick given 1632 0 ≡ 1632 * le
 block-size true g = refl
 block-size false g = refl
 
--- ---- the theorem
+settled-block : (k : Reading) (runs : SymbolRuns) (taken : ℕ) (bits : List ℕ) (r : _) (s : SettlesBits k runs taken bits r) → stepGiven (s .decided) ≡ blockIn (r .event) (r .block)
+settled-block k runs taken bits r s =
+    let d = s .decided in
+    let b = blockFound (k .runs .rate) (k .turn) (k .first) (k .used) d in
+    block-is (d .given) (ltb 0 (d .skipped)) b ∙ (ap (λ (e : Event). blockIn e b) (sym (s .event-is)) ∙ ap (blockIn (r .event)) (sym (s .block-is)))
+
+-- ---- the theorems
 
 pub reading-came : {h : Hypothesis} {mirrored : Bool} {first : ℕ} {symbols : List ℕ} {given : List GivenBlock} {k : Reading} → ReadingFeedings h mirrored first symbols given k
     → ReadingCame (h .rate) (turnRead h mirrored) first symbols given k
@@ -99,11 +108,8 @@ reading-came {h} {mirrored} {first} (reading {symbols} {given} {k} piece r befor
     (c .rate-is) (fed-decided (c .ready) (f .feeds))) in
     let all : lead ++ map back symbols ++ map back (take (r .taken) piece) ≡ lead ++ map back (symbols ++ take (r .taken) piece) =
     append-assoc lead (map back symbols) (map back (take (r .taken) piece)) ∙ ap (λ (l : List ℕ). lead ++ l) (sym (map-append back symbols (take (r .taken) piece))) in
-    let blocks : stepGiven d ≡ blockIn (r .event) (r .block) =
-    block-is (d .given) (ltb 0 (d .skipped)) (blockFound (k .runs .rate) (k .turn) (k .first) (k .used) d)
-    ∙ (ap (λ (e : _). blockIn e (blockFound (k .runs .rate) (k .turn) (k .first) (k .used) d)) (sym (s .event-is)) ∙ ap (blockIn (r .event)) (sym (s .block-is))) in
     subst (λ (x : Reading). ReadingCame rate turn first (symbols ++ take (r .taken) piece) (given ++ blockIn (r .event) (r .block)) x) (sym (s .reading))
-    (subst (λ (g : List GivenBlock). ReadingCame rate turn first (symbols ++ take (r .taken) piece) (given ++ g) (record { turn = k .turn; runs = f .next; sync = d .sync; first = k .first; used = k .used + usedBy d })) blocks
+    (subst (λ (g : List GivenBlock). ReadingCame rate turn first (symbols ++ take (r .taken) piece) (given ++ g) (record { turn = k .turn; runs = f .next; sync = d .sync; first = k .first; used = k .used + usedBy d })) (settled-block k (f .next) (f .taken) more r s)
     (record {
       ready = f .ready;
       rate-is = rate-kept (k .runs) (map (turnedPair (undoing (k .turn))) piece) (f .output) (f .feeds) ∙ c .rate-is;
@@ -123,3 +129,22 @@ reading-came {h} {mirrored} {first} (reading {symbols} {given} {k} piece r befor
             block-size (d .given) (record { begins = d .begins; block = d .block }),
           );
     }))
+
+-- what the end of the symbols adds
+pub reading-closed : {rate turn first : ℕ} {symbols : List ℕ} {given : List GivenBlock} {k : Reading} (c : ReadingCame rate turn first symbols given k) (r : _) → ClosesReading k r
+    → ReadingClosed c (blockIn (r .event) (r .block)) (r .reading .sync)
+reading-closed {given = given} {k} c r f =
+    let bits : List ℕ = c .bits ++ take (f .count) (f .exit) in
+    let s = f .settles in
+    record {
+      output = f .output;
+      exit = f .exit;
+      count = f .count;
+      rest = f .rest;
+      closes = f .closes;
+      skipped = c .skipped + s .decided .skipped;
+      aligned =
+          subst (SyncFeedings bits (given ++ blockIn (r .event) (r .block)) (c .skipped + s .decided .skipped)) (sym (ap (λ (x : Reading). x .sync) (s .reading)))
+          (subst (λ (g : List GivenBlock). SyncFeedings bits (given ++ g) (c .skipped + s .decided .skipped) (s .decided .sync)) (settled-block k (f .opened) 0 (take (f .count) (f .exit)) r s)
+          (takes-fed (c .aligned) (take (f .count) (f .exit)) (s .decided) (s .takes)));
+    }

@@ -3,12 +3,12 @@
 use mathlib.Core.Path.{_≡_, refl, sym, _∙_, ap, ap₂, subst}
 use mathlib.Core.Bool.{Bool, true, false}
 use mathlib.Core.List.{List, [], _∷_, _++_, map, map-append}
-use Prim.Native.Nat.{ℕ, zero, suc, _+_, _-_, _*_, _/_, _%_, _≤_, _<_}
+use Prim.Native.Nat.{ℕ, zero, suc, _+_, _-_, _*_, _%_, _≤_, _<_}
 use Prim.{tt}
 use native.Mathlib.Decide.{ℕ-discrete}
 use native.Mathlib.Omega.{arith}
 use lib.Bits.{bitXor}
-use lib.Dec.{T, eqb, ltb, leb, eqb→eq, ltb→lt, leb→le}
+use lib.Dec.{eqb, ltb, leb, eqb→eq, ltb→lt, leb→le}
 use lib.ListN.{length, getD, take, drop, replicate, length-map, length-replicate, take-append-drop}
 use lib.Seq.{take-append-seam}
 use Rattle.common.specs.Choice.{pick}
@@ -26,19 +26,21 @@ use Rattle.reader.specs.Clear as clear
 use Rattle.reader.specs.Clear.{Clear, AllClear}
 use Rattle.reader.specs.Cost.{Costed}
 use Rattle.reader.proofs.Costs.{sent-small}
-use Rattle.reader_stream.specs.Runs.{DecidedPairs}
-use Rattle.reader_stream.proofs.Histories.{symbols-decided}
-use Rattle.reader_stream.proofs.Unharmed.{all-front}
+use Rattle.reader.specs.Read.{symbolsPerPattern}
+use Rattle.reader_stream.specs.Runs.{DecidedPairs, EndDecided, heldOf, RunsReady, ClosesRuns}
+use Rattle.reader_stream.specs.declared.symbol_runs.SymbolRuns.{SymbolRuns}
+use Rattle.reader_stream.proofs.Histories.{SymbolsDecided, symbols-decided, closed-end}
+use Rattle.reader_stream.proofs.Unharmed.{WholeStream, all-front}
 use Rattle.symbol_turns.specs.Turn.{turned, undoing, turnedPair, turnedCost, byPair}
 use Rattle.symbol_turns.proofs.Turns.{turned-small, turned-all, undoing-small, clear-turned, costed-turned}
 use Rattle.symbol_turns.proofs.Ambiguity.{coder, flipped, half-turn, map-agrees, map-map}
 use Rattle.free_start.specs.Lead.{Unknown, leadSymbols, leadBits}
-use Rattle.free_start.proofs.FreeStream.{free-given-back}
+use Rattle.free_start.proofs.FreeStream.{free-given-back, free-whole}
 use Rattle.node_search.specs.Sent as prefer
 use Rattle.node_search.specs.Sent.{Prefers, AllPrefer}
 use Rattle.node_search.specs.Weight.{ofPair, cheaper}
 use Rattle.node_search.proofs.Truth.{map-take, preferred-cost}
-use Rattle.block_sync.specs.Decision.{turnedBit, turnedBits}
+use Rattle.block_sync.specs.Decision.{turnedBits}
 use Rattle.block_sync.proofs.Turning.{turned-bits}
 use Rattle.sent_acquisition.specs.Right.{SentSymbols, lessHalf, hasHalf}
 
@@ -181,20 +183,28 @@ module _ (rate turn : ℕ) (hr : rate < 5) (ht : turn < 8) (m : ℕ) (hm : m < 6
             ∙ half-turn rate hr bits w m hm))));
       }
 
--- ---- the theorem
+-- ---- the theorems
 
--- What is decided of a sender's symbols behind the lead, where the turn without its half is turned back: behind the bits of the lead those that were sent, or
--- all of them inverted, as far as they are decided.
-pub right-reading : (rate turn : ℕ) → rate < 5 → turn < 8 → (bits symbols : List ℕ) → SentSymbols rate turn bits symbols → {out held : List ℕ} {last : ℕ}
-    → DecidedPairs rate 0 (replicate (leadSymbols rate) 80 ++ map (turnedPair (undoing (lessHalf turn))) symbols) out last held
-    → drop (leadBits rate) out ≡ take (length out - leadBits rate) (turnedBits (hasHalf turn) bits)
-right-reading rate turn hr ht bits symbols sent {out} {held} {last} d =
+abbrev lead : ℕ → List ℕ
+lead rate = replicate (leadSymbols rate) 80
+
+-- The symbols, where the turn without its half is turned back, are clear about the coding of the bits, straight or inverted.
+record Upright (rate turn : ℕ) (bits symbols : List ℕ) : Type 0 where
+  memory : ℕ
+  in-range : memory < 64
+  came : List ℕ
+  later : List ℕ
+  stream : came ++ later ≡ symbolsOf (coderAt rate memory) (turnedBits (hasHalf turn) bits)
+  all-clear : AllClear (turnedCost beyond (lessHalf turn)) symbols came
+  costed : Costed (turnedCost beyond (lessHalf turn)) (lead rate ++ symbols) (lead rate ++ map (turnedPair (undoing (lessHalf turn))) symbols)
+
+upright : (rate turn : ℕ) → rate < 5 → turn < 8 → (bits symbols : List ℕ) → SentSymbols rate turn bits symbols → Upright rate turn bits symbols
+upright rate turn hr ht bits symbols sent =
     let u = lessHalf turn in
     let hu : u < 8 = less-small turn ht in
     let cost : ℕ → ℕ → ℕ = turnedCost beyond u in
     let x = halved rate turn hr ht (sent .memory) (sent .in-range) bits (sent .binary) in
-    let others : List ℕ = turnedBits (hasHalf turn) bits in
-    let all : List ℕ = symbolsOf (coderAt rate (x .memory)) others in
+    let all : List ℕ = symbolsOf (coderAt rate (x .memory)) (turnedBits (hasHalf turn) bits) in
     let four : All (λ s. s < 4) all = sent-small rate (x .memory) hr (x .in-range) (turned-bits (hasHalf turn) bits) in
     let n : ℕ = length (sent .came) in
     let split : take n all ++ drop n all ≡ all = take-append-drop n all in
@@ -204,16 +214,66 @@ right-reading rate turn hr ht bits symbols sent {out} {held} {last} d =
     sym (take-append-seam (map (turned turn) (sent .came)) (map (turned turn) (sent .later)))
     ∙ (ap₂ take (length-map (sent .came) (turned turn)) (sym (map-append (turned turn) (sent .came) (sent .later)) ∙ (ap (map (turned turn)) (sent .stream) ∙ x .same))
     ∙ sym (map-take (turned u) n all)) in
-    let g : AllClear cost symbols (take n all) =
-    clear-turned beyond u hu (take n all) some
-    (prefer-clear (sent .small) (turned-all u hu (take n all) some) (subst (AllPrefer byPair symbols) front (sent .preferred))) in
     -- and the decisions turned back are those on them
-    let lead : List ℕ = replicate (leadSymbols rate) 80 in
     let back : ℕ → ℕ = turnedPair (undoing u) in
-    let read : map back (lead ++ symbols) ≡ lead ++ map back symbols =
-    map-append back lead symbols ∙ ap (λ (l : List ℕ). l ++ map back symbols) (lost-turned (undoing u) (undoing-small u hu) (leadSymbols rate)) in
-    let w : All (λ p. p < 81) (lead ++ symbols) = All-append (λ p. p < 81) lead symbols (lost-small (leadSymbols rate)) (sent .small) in
-    let c : Costed cost (lead ++ symbols) (lead ++ map back symbols) = subst (Costed cost (lead ++ symbols)) read (costed-turned beyond u hu w (beyond-costed (lead ++ symbols) w)) in
-    let r = symbols-decided cost hr (omega arith) d (lead ++ symbols) c in
-    free-given-back cost rate hr lead (lost-unknown u hu (leadSymbols rate)) (length-replicate {A = ℕ} (leadSymbols rate) 80) (x .memory) (x .in-range) others (turned-bits (hasHalf turn) bits)
-    symbols (take n all) (drop n all) g split {left = r .left} (r .decided)
+    let read : map back (lead rate ++ symbols) ≡ lead rate ++ map back symbols =
+    map-append back (lead rate) symbols ∙ ap (λ (l : List ℕ). l ++ map back symbols) (lost-turned (undoing u) (undoing-small u hu) (leadSymbols rate)) in
+    let w : All (λ p. p < 81) (lead rate ++ symbols) = All-append (λ p. p < 81) (lead rate) symbols (lost-small (leadSymbols rate)) (sent .small) in
+    record {
+      memory = x .memory;
+      in-range = x .in-range;
+      came = take n all;
+      later = drop n all;
+      stream = split;
+      all-clear =
+          clear-turned beyond u hu (take n all) some
+          (prefer-clear (sent .small) (turned-all u hu (take n all) some) (subst (AllPrefer byPair symbols) front (sent .preferred)));
+      costed = subst (Costed cost (lead rate ++ symbols)) read (costed-turned beyond u hu w (beyond-costed (lead rate ++ symbols) w));
+    }
+
+module _ (rate turn : ℕ) (hr : rate < 5) (ht : turn < 8) (bits symbols : List ℕ) (sent : SentSymbols rate turn bits symbols) {out held : List ℕ} {last : ℕ}
+    (d : DecidedPairs rate 0 (replicate (leadSymbols rate) 80 ++ map (turnedPair (undoing (lessHalf turn))) symbols) out last held) where
+  abbrev cost : ℕ → ℕ → ℕ
+  cost = turnedCost beyond (lessHalf turn)
+
+  abbrev others : List ℕ
+  others = turnedBits (hasHalf turn) bits
+
+  set : Upright rate turn bits symbols
+  set = upright rate turn hr ht bits symbols sent
+
+  runs : SymbolsDecided cost rate 0 (lead rate ++ symbols) out last held
+  runs = symbols-decided cost hr (omega arith) d (lead rate ++ symbols) (set .costed)
+
+  unknown : All (Unknown cost) (lead rate)
+  unknown = lost-unknown (lessHalf turn) (less-small turn ht) (leadSymbols rate)
+
+  -- What is decided of a sender's symbols behind the lead, where the turn without its half is turned back: behind the bits of the lead those that were sent, or
+  -- all of them inverted, as far as they are decided.
+  pub right-reading : drop (leadBits rate) out ≡ take (length out - leadBits rate) (turnedBits (hasHalf turn) bits)
+  right-reading =
+      free-given-back cost rate hr (lead rate) unknown (length-replicate {A = ℕ} (leadSymbols rate) 80) (set .memory) (set .in-range) others (turned-bits (hasHalf turn) bits) symbols (set .came) (set .later)
+      (set .all-clear) (set .stream) {left = runs .left} (runs .decided)
+
+  -- And with the end, where six patterns came: all of them, up to the last whole pattern.
+  pub right-ended : 6 * symbolsPerPattern rate ≤ length symbols → (s : SymbolRuns) → RunsReady s → s .rate ≡ rate → s .memory ≡ last → heldOf s ≡ held
+      → {output exit : List ℕ} {count rest : ℕ} → ClosesRuns s output count rest exit
+      → WholeStream rate (turnedBits (hasHalf turn) bits) (length symbols) (drop (leadBits rate) (out ++ take count exit)) rest
+  right-ended six s g er em eh {output} {exit} {count} {rest} c =
+      let e : EndDecided cost (s .rate) (s .memory) (runs .left) output count rest exit = closed-end cost s g (runs .left) (subst (Costed cost (runs .left)) (sym eh) (runs .held)) c in
+      free-whole cost rate hr (lead rate) unknown (length-replicate {A = ℕ} (leadSymbols rate) 80) (set .memory) (set .in-range) others (turned-bits (hasHalf turn) bits) symbols (set .came) (set .later)
+      (set .all-clear) (set .stream) six
+      (record {
+        known = hr;
+        decided = out;
+        memory = last;
+        left = runs .left;
+        runs = runs .decided;
+        output = output;
+        exit = exit;
+        count = count;
+        end =
+            subst (λ (m : ℕ). EndDecided cost rate m (runs .left) output count rest exit) em
+            (subst (λ (r : ℕ). EndDecided cost r (s .memory) (runs .left) output count rest exit) er e);
+        bits-are = refl;
+      })

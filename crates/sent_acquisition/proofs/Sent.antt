@@ -1,6 +1,7 @@
--- A sender's stream, cut at any symbol and turned: what the reading gives that begins where the search found, from symbols to blocks and packets.
+-- A sender's stream, cut at any symbol and turned: what the search of its first window finds, and what a reading gives that begins there, from symbols to blocks
+-- and packets.
 -- Assumes nothing.
-use mathlib.Core.Path.{_≡_, refl, sym, _∙_, ap, ap₂, subst}
+use mathlib.Core.Path.{_≡_, refl, sym, _∙_, ap, subst}
 use mathlib.Core.Bool.{Bool, true, false, true≢false}
 use mathlib.Core.Logic.{_⊎_, inl, inr}
 use mathlib.Core.List.{List, _++_, map, flatten, append-assoc}
@@ -9,24 +10,23 @@ use Prim.{tt}
 use native.Mathlib.Omega.{arith}
 use borrow.Author.Tests.{eqb-true}
 use lib.Dec.{eqb, ltb, leb, eqb→eq, leb→le}
-use lib.ListN.{length, take, drop, length-append, length-drop, length-map, take-append-drop}
+use lib.ListN.{length, take, drop, length-append, length-map, take-append-drop}
 use lib.Seq.{length-take-le, take-append-seam, drop-append-add, drop-append-le}
 use Rattle.common.specs.Choice.{pick}
 use Rattle.common.specs.Lists.{All, Length}
-use Rattle.common.proofs.Computed.{below, below-at}
+use Rattle.common.proofs.Computed.{below-at}
 use Rattle.convolutional_code.specs.Bits.{bitsOf, Bits}
 use Rattle.convolutional_code.specs.Code.{memoryAfter}
 use Rattle.convolutional_code.proofs.Bits.{length-bits, bits-bits, bits-split}
 use Rattle.puncturing.specs.Mode.{modeOf}
 use Rattle.puncturing.specs.Step.{patternLength}
-use Rattle.inner_code.specs.Encode.{coderAt}
-use Rattle.inner_code.specs.Step.{symbolsOf}
 use Rattle.randomizer.specs.Stream.{Packet}
 use Rattle.interleaver.proofs.BlockLists.{flatten-join, length-flatten, All-take}
-use Rattle.reader.specs.Read.{symbolsPerPattern}
+use Rattle.reader.specs.Read.{symbolsPerPattern, runBits}
 use Rattle.reader.proofs.Patterns.{memory-in-range}
 use Rattle.reader.proofs.Streams.{take-bits, drop-bits}
 use Rattle.reader_stream.proofs.Runs.{all-take, all-drop}
+use Rattle.reader_stream.proofs.Unharmed.{WholeStream}
 use Rattle.symbol_turns.specs.Turn.{turned, turnClass, byPair}
 use Rattle.free_start.specs.Lead.{leadBits}
 use Rattle.free_start.proofs.FreeStream.{cut}
@@ -43,6 +43,7 @@ use Rattle.group_sync.specs.Stream.{beforeGroup}
 use Rattle.block_sync.specs.Decision.{turnedBits}
 use Rattle.block_sync.specs.Grid.{Unsynced}
 use Rattle.block_sync.specs.History.{GivenBlock}
+use Rattle.block_sync.specs.declared.BlockSync.{BlockSync}
 use Rattle.sent_sync.specs.Sent.{bitsFrom, GivesSentSoFar}
 use Rattle.sent_sync.proofs.Bytes.{turned-append}
 use Rattle.sent_sync.proofs.Sent.{sent-so-far}
@@ -50,11 +51,10 @@ use Rattle.sent_lock.specs.Locks.{locksOf, LocksTaken}
 use Rattle.sent_lock.proofs.Sent.{packets-so-far}
 use Rattle.acquisition.specs.Reading.{turnRead}
 use Rattle.acquisition.specs.declared.Reading.{Reading}
-use Rattle.sent_acquisition.specs.Readings.{ReadingFeedings, ReadingCame}
+use Rattle.sent_acquisition.specs.Readings.{ReadingCame, ReadingClosed}
 use Rattle.sent_acquisition.specs.Right.{SentSymbols, lessHalf, hasHalf}
 use Rattle.sent_acquisition.specs.Sent.{SentStream, RightMirror, firstBit, bitsBefore}
-use Rattle.sent_acquisition.proofs.Readings.{reading-came}
-use Rattle.sent_acquisition.proofs.Right.{right-reading}
+use Rattle.sent_acquisition.proofs.Right.{right-reading, right-ended}
 
 -- ---- what was found
 
@@ -81,7 +81,7 @@ mirror-right : (t : ℕ) → t < 8 → pick (ltb 3 t) ((t % 2 + 4) % 8) (t % 2) 
 unfolding lessHalf
 mirror-right t h = eqb→eq _ _ (below-at mirror-test 8 tt t h)
 
-turn-right : (rate turn passed : ℕ) (mirrored : Bool) → turn < 8 → RightMirror rate turn mirrored → turnRead (trueHypothesis rate turn passed) mirrored ≡ lessHalf turn
+pub turn-right : (rate turn passed : ℕ) (mirrored : Bool) → turn < 8 → RightMirror rate turn mirrored → turnRead (trueHypothesis rate turn passed) mirrored ≡ lessHalf turn
 unfolding turnClass lessHalf
 turn-right rate turn passed mirrored h r = by (eqb rate 3) refl
   where
@@ -90,7 +90,7 @@ turn-right rate turn passed mirrored h r = by (eqb rate 3) refl
     by true e = ap (λ (m : Bool). pick m ((turn % 2 + 4) % 8) (turn % 2)) (r (eqb-true rate 3 e)) ∙ mirror-right turn h
     by false e = refl
 
--- ---- the theorem
+-- ---- the stream
 
 module _ (packets : List (List ℕ)) (ws : All Packet packets) (rate turn passed : ℕ) (hr : rate < 5) (ht : turn < 8) (received : List ℕ) (sent : SentStream rate turn passed packets received)
     (enough : 1632 ≤ length received) where
@@ -206,34 +206,37 @@ module _ (packets : List (List ℕ)) (ws : All Packet packets) (rate turn passed
             ∙ sym (append-assoc lead between (bitsFrom (hasHalf turn) b packets))));
       }
 
-  -- ---- a reading by what was found
+  -- ---- a reading that turns back the turn that the symbols came with, but for half a turn
 
-  module _ (asked : ℕ) (a : (asked ≡ rate) ⊎ (asked ≡ anyRate)) {h : Hypothesis} (found : Searches (take 1632 received) (searched asked) (Found h)) {mirrored : Bool}
-      (right : RightMirror rate turn mirrored) {first : ℕ} {symbols : List ℕ} (unread : List ℕ) {given : List GivenBlock} {k : Reading} (fed : ReadingFeedings h mirrored first symbols given k)
-      (behind : symbols ++ unread ≡ drop (h .offset) received) where
-    true-one : h ≡ trueHypothesis rate turn passed
-    true-one = search-true asked a found
-
-    -- It was begun at the true rate, and turns back the turn that the symbols came with, but for half a turn.
-    pub came : ReadingCame rate (lessHalf turn) first symbols given k
-    came =
-        subst (λ (t : ℕ). ReadingCame rate t first symbols given k) (turn-right rate turn passed mirrored ht right)
-        (subst (λ (g : Hypothesis). ReadingCame (g .rate) (turnRead g mirrored) first symbols given k) true-one (reading-came fed))
-
+  module _ {first : ℕ} {read : List ℕ} (unread : List ℕ) {given : List GivenBlock} {k : Reading} (c : ReadingCame rate (lessHalf turn) first read given k) (behind : read ++ unread ≡ drop o received) where
     -- Behind the bits of the lead it has the sender's bits from the first bit on, straight, or all inverted where there is half a turn.
-    pub bits-acquired : drop (leadBits rate) (came .bits) ≡ take (length (came .bits) - leadBits rate) (turnedBits (hasHalf turn) (drop (firstBit rate passed) all))
-    bits-acquired =
-        right-reading rate turn hr ht (drop (firstBit rate passed) all) symbols
-        (symbols-sent symbols unread (behind ∙ ap (λ (g : Hypothesis). drop (g .offset) received) true-one)) (came .decided)
+    pub bits-sent : drop (leadBits rate) (c .bits) ≡ take (length (c .bits) - leadBits rate) (turnedBits (hasHalf turn) (drop (firstBit rate passed) all))
+    bits-sent = right-reading rate turn hr ht (drop (firstBit rate passed) all) read (symbols-sent read unread behind) (c .decided)
 
-    -- From a block on that begins behind the first bit, where no place before it passes for a sync: the reading gives the sender's blocks, and a fresh receiver
-    -- their packets.
-    module _ (b : ℕ) (whole : firstBit rate passed ≤ 1632 * b) (six : b + 6 ≤ length packets) (u : Unsynced (bitsBefore rate passed (hasHalf turn) b packets (came .bits)) (bitsFrom (hasHalf turn) b packets)) where
-      front : Front b (came .bits)
-      front = front-of b whole (omega arith) (came .bits) (length (came .bits) - leadBits rate) bits-acquired
+    -- With the end, where six patterns came, it has all of them up to the last whole pattern that it took.
+    module _ {last : List GivenBlock} {t : BlockSync} (e : ReadingClosed c last t) (patterns : 6 * symbolsPerPattern rate ≤ length read) where
+      abbrev pub closedBits : List ℕ
+      closedBits = c .bits ++ take (e .count) (e .exit)
 
-      pub sent-acquired : GivesSentSoFar packets b (bitsBefore rate passed (hasHalf turn) b packets (came .bits)) (length (came .bits)) given (came .skipped) (k .sync)
-      sent-acquired = sent-so-far packets ws b (hasHalf turn) (bitsBefore rate passed (hasHalf turn) b packets (came .bits)) (front .more) six u (front .whole) (came .aligned)
+      pub bits-closed : WholeStream rate (turnedBits (hasHalf turn) (drop (firstBit rate passed) all)) (length read) (drop (leadBits rate) closedBits) (e .rest)
+      bits-closed =
+          right-ended rate turn hr ht (drop (firstBit rate passed) all) read (symbols-sent read unread behind) (c .decided) patterns (k .runs) (c .ready) (c .rate-is) refl refl (e .closes)
 
-      pub packets-acquired : {out : List (List ℕ)} → LocksTaken (locksOf given) out → out ≡ take (length given - 11 - beforeGroup b) (drop (b + beforeGroup b) packets)
-      packets-acquired l = packets-so-far packets ws b (hasHalf turn) (bitsBefore rate passed (hasHalf turn) b packets (came .bits)) (front .more) six u (front .whole) (came .aligned) l
+      module _ (b : ℕ) (whole : firstBit rate passed ≤ 1632 * b) (six : b + 6 ≤ length packets) (u : Unsynced (bitsBefore rate passed (hasHalf turn) b packets closedBits) (bitsFrom (hasHalf turn) b packets)) where
+        last-front : Front b closedBits
+        last-front = front-of b whole (omega arith) closedBits (runBits rate (length read)) (bits-closed .given)
+
+        pub blocks-closed : GivesSentSoFar packets b (bitsBefore rate passed (hasHalf turn) b packets closedBits) (length closedBits) (given ++ last) (e .skipped) t
+        blocks-closed = sent-so-far packets ws b (hasHalf turn) (bitsBefore rate passed (hasHalf turn) b packets closedBits) (last-front .more) six u (last-front .whole) (e .aligned)
+
+    -- From a block on that begins behind the first bit, where no place before it passes for a sync: the reading gives the sender's blocks, and a fresh receiver for
+    -- each lock their packets.
+    module _ (b : ℕ) (whole : firstBit rate passed ≤ 1632 * b) (six : b + 6 ≤ length packets) (u : Unsynced (bitsBefore rate passed (hasHalf turn) b packets (c .bits)) (bitsFrom (hasHalf turn) b packets)) where
+      front : Front b (c .bits)
+      front = front-of b whole (omega arith) (c .bits) (length (c .bits) - leadBits rate) bits-sent
+
+      pub blocks-sent : GivesSentSoFar packets b (bitsBefore rate passed (hasHalf turn) b packets (c .bits)) (length (c .bits)) given (c .skipped) (k .sync)
+      blocks-sent = sent-so-far packets ws b (hasHalf turn) (bitsBefore rate passed (hasHalf turn) b packets (c .bits)) (front .more) six u (front .whole) (c .aligned)
+
+      pub packets-sent : {out : List (List ℕ)} → LocksTaken (locksOf given) out → out ≡ take (length given - 11 - beforeGroup b) (drop (b + beforeGroup b) packets)
+      packets-sent l = packets-so-far packets ws b (hasHalf turn) (bitsBefore rate passed (hasHalf turn) b packets (c .bits)) (front .more) six u (front .whole) (c .aligned) l

@@ -6,11 +6,12 @@ use mathlib.Core.Bool.{Bool}
 use mathlib.Core.List.{List, [], _∷_, _++_, map}
 use Prim.Native.Nat.{ℕ, _+_, _*_}
 use lib.ListN.{length, take, replicate}
-use Rattle.reader_stream.specs.Runs.{RunsReady, DecidedPairs, heldOf}
+use Rattle.reader_stream.specs.Runs.{RunsReady, DecidedPairs, heldOf, ClosesRuns}
 use Rattle.symbol_turns.specs.Turn.{undoing, turnedPair}
 use Rattle.free_start.specs.Lead.{leadSymbols}
 use Rattle.node_search.specs.declared.Hypothesis.{Hypothesis}
 use Rattle.block_sync.specs.History.{GivenBlock, SyncFeedings}
+use Rattle.block_sync.specs.declared.BlockSync.{BlockSync}
 use Rattle.acquisition.specs.Reading.{Begins, ReadsSymbols}
 use Rattle.acquisition.specs.declared.Reading.{Reading}
 use Rattle.acquisition.specs.declared.FoundBlock.{FoundBlock}
@@ -42,3 +43,14 @@ pub record ReadingCame (rate turn first : ℕ) (symbols : List ℕ) (given : Lis
   pub skipped : ℕ
   pub aligned : SyncFeedings bits given skipped (k .sync)
   pub used-is : k .used ≡ skipped + 1632 * length given
+
+-- What the end of the symbols adds: the bits of the whole patterns that the runs hold, so many symbols behind which are in no pattern. The aligner took these bits
+-- too.
+pub record ReadingClosed {rate turn first : ℕ} {symbols : List ℕ} {given : List GivenBlock} {k : Reading} (c : ReadingCame rate turn first symbols given k) (more : List GivenBlock) (s : BlockSync) : Type 0 where
+  pub output : List ℕ
+  pub exit : List ℕ
+  pub count : ℕ
+  pub rest : ℕ
+  pub closes : ClosesRuns (k .runs) output count rest exit
+  pub skipped : ℕ
+  pub aligned : SyncFeedings (c .bits ++ take count exit) (given ++ more) skipped s
