@@ -2,10 +2,11 @@
 -- Assumes nothing.
 use mathlib.Core.Bool.{Bool, true, false, not, _&&_, true≢false}
 use mathlib.Core.Path.{_≡_, refl, sym, _∙_, ap, ap₂, subst}
-use mathlib.Core.List.{List, [], _++_}
+use mathlib.Core.List.{List, [], _++_, append-assoc}
 use Prim.Native.Nat.{ℕ, zero, suc, _+_, _-_, _*_, _/_, _%_, _≤_, _<_}
 use native.Mathlib.Decide.{ℕ-discrete, decLt}
 use native.Mathlib.Omega.{arith}
+use borrow.Rule.Slice.PartMut.{putMid, midOf}
 use borrow.Author.Tests.{eqb-true, eq-eqb, ne-eqb, lt-ltb, le-ltb}
 use lib.Dec.{T, eqb, ltb}
 use lib.Ieee.{Float, nan, isNan, ofBits, ofFields, binary32, nanBits}
@@ -163,6 +164,17 @@ lists-pair bytes first count is qs most wi wq t h =
     ∙ point-pair (number bytes (8 * (first + t))) (number bytes (8 * (first + t) + 4))
 
 -- ---- their pairs
+
+-- a part of the output, and some pairs that are written there
+module _ (k n : ℕ) (output : List ℕ) where
+  pub part-length : k + n ≤ length output → length (midOf k (k + n - k) output) ≡ n
+  part-length h = length-take-le (k + n - k) (drop k output) (omega (arith, length-drop k output)) ∙ omega arith
+
+  pub part-put : (pairs : List ℕ) → length pairs ≡ n → putMid k (k + n - k) output pairs ≡ take k output ++ pairs ++ drop (k + length pairs) output
+  part-put pairs l =
+      let e : k + (k + n - k) ≡ k + length pairs = omega (arith, l) in
+      ap (λ (rest : List ℕ). take k output ++ (pairs ++ rest)) (drop-drop (k + n - k) k output ∙ ap (λ (j : ℕ). drop j output) e)
+      ∙ sym (append-assoc (take k output) pairs (drop (k + length pairs) output))
 
 module _ (bytes pairs : List ℕ) (w : (t : ℕ) → t < length bytes / 8 → getD pairs t 0 ≡ symbolPair (pointAt bytes t)) (long : length bytes / 8 ≤ length pairs) where
   abbrev n : ℕ

@@ -60,7 +60,7 @@ fn read_numbers(bytes: &[u8], at: usize, count: usize, numbers: &mut [f32])
     }
 }
 
-// Writes the decisions on at most 256 points, from one on, by two lists of their numbers. No mark says that a symbol is lost: two NaNs have the same decisions.
+// Writes the decisions on at most 256 points, from one on, by two lists of their numbers. No symbol is marked as lost: the decisions on two NaNs are the same.
 fn some_pairs(bytes: &[u8], first: usize, count: usize, output: &mut [u8])
     requires { ⌜ (count ≤ 256) × (8 * (first + count) ≤ length (now bytes)) × (count ≤ length (now output)) ⌝ }
     ensures { λ _. ⌜ ((t : ℕ) → t < count → getD (now (output .exit)) t 0 ≡ symbolPair (pointAt (now (bytes .entry)) (first + t))) ⌝ }
@@ -78,13 +78,12 @@ fn point_pairs(bytes: &[u8], count: usize, output: &mut [u8])
     requires { ⌜ (8 * count ≤ length (now bytes)) × (count ≤ length (now output)) ⌝ }
     ensures { λ _. ⌜ ((t : ℕ) → t < count → getD (now (output .exit)) t 0 ≡ symbolPair (pointAt (now (bytes .entry)) t)) ⌝ }
 {
-    let mut pairs = [0u8; 256];
     let mut k: usize = 0;
     while k < count {
         let some = least(256, (count - k) as u64) as usize;
-        some_pairs(bytes, k, some, &mut pairs);
-        put(&pairs[..some], k, output);
-        k += some;
+        let end = k + some;
+        some_pairs(bytes, k, some, &mut output[k..end]);
+        k = end;
     }
 }
 
