@@ -58,17 +58,17 @@ place-pair i q (suc mark) =
     let e : eqb (suc mark) 0 ≡ false = ne-eqb (suc mark) 0 (λ h. absurd (omega arith)) in
     ap (λ (b : Bool). 9 * pick b (numberDecision i) 8 + pick b (numberDecision q) 8) e
 
--- sixteen pairs are put
-pub sixteen-more : (f : ℕ → ReceivedSymbol) (size : ℕ) {output : List ℕ} (k : ℕ) (pairs exit : List ℕ) → length pairs ≡ 16 → k + 16 ≤ size
-    → ((i : ℕ) → i < 16 → getD pairs i 0 ≡ symbolPair (f (k + i))) → Each (Holds f) size output k
-    → exit ≡ take k output ++ pairs ++ drop (k + length pairs) output → Each (Holds f) size exit (k + 16)
-sixteen-more f size {output} k pairs exit l h w e x =
+-- so many pairs more are put
+pub pairs-more : (f : ℕ → ReceivedSymbol) (size : ℕ) {output : List ℕ} (k n : ℕ) (pairs exit : List ℕ) → length pairs ≡ n → k + n ≤ size
+    → ((i : ℕ) → i < n → getD pairs i 0 ≡ symbolPair (f (k + i))) → Each (Holds f) size output k
+    → exit ≡ take k output ++ pairs ++ drop (k + length pairs) output → Each (Holds f) size exit (k + n)
+pairs-more f size {output} k n pairs exit l h w e x =
     record { len = ap length x ∙ (length-placed output k pairs fits ∙ e .len); most = h; each = λ t b. ap (λ (y : List ℕ). getD y t 0) x ∙ by t b (decLt t k) }
   where
     fits : k + length pairs ≤ length output
     fits = omega (arith, l, e .len)
 
-    by : (t : ℕ) → t < k + 16 → Dec (t < k) → getD (take k output ++ pairs ++ drop (k + length pairs) output) t 0 ≡ symbolPair (f t)
+    by : (t : ℕ) → t < k + n → Dec (t < k) → getD (take k output ++ pairs ++ drop (k + length pairs) output) t 0 ≡ symbolPair (f t)
     by t b (yes c) = put-other output pairs k t fits (omega (arith, e .len)) (inl c) ∙ e .each t c
     by t b (no c) =
         let i : k + (t - k) ≡ t = omega arith in

@@ -65,7 +65,7 @@ fn number_decision(x: f32) -> u8
 }
 
 // The decisions on I and Q of a received symbol as one number, 9 i + q.
-pub fn symbol_pair(symbol: ReceivedSymbol) -> u8
+fn symbol_pair(symbol: ReceivedSymbol) -> u8
     ensures { λ r. ⌜ r ≡ symbolPair symbol ⌝ }
 {
     match symbol {

@@ -1,31 +1,34 @@
--- The f32 of a pattern, and the points of some bytes with their pairs.
+-- The f32 of a pattern, the points of some bytes, their numbers as two lists, and their pairs.
 -- Assumes nothing.
 use mathlib.Core.Bool.{Bool, true, false, not, _&&_, true≢false}
-use mathlib.Core.Path.{_≡_, refl, sym, _∙_, ap, subst}
-use mathlib.Core.List.{List, [], _++_, map, map-append}
+use mathlib.Core.Path.{_≡_, refl, sym, _∙_, ap, subst, ap₂}
+use mathlib.Core.List.{List, [], _++_, map, map-append, append-assoc}
 use Prim.Native.Nat.{ℕ, zero, suc, _+_, _-_, _*_, _/_, _%_, _≤_, _<_}
+use native.Mathlib.Decide.{ℕ-discrete, decLt}
 use native.Mathlib.Omega.{arith}
-use borrow.Author.Tests.{eqb-true, eq-eqb}
-use lib.Dec.{T, eqb}
-use lib.Ieee.{nan, ofBits, ofFields, binary32, nanBits}
-use lib.ListN.{length, getD, take, drop, length-append, length-drop, length-map}
-use lib.Seq.{ext-getD, getD-take, getD-drop, length-take-le, take-at, take-length, drop-drop}
+use borrow.Author.Tests.{eqb-true, eq-eqb, ne-eqb, lt-ltb, le-ltb}
+use lib.Dec.{T, eqb, ltb}
+use lib.Ieee.{nan, ofBits, ofFields, binary32, nanBits, Float, isNan}
+use lib.ListN.{length, getD, take, drop, length-append, length-drop, length-map, set, replicate, length-set, getD-replicate}
+use lib.Seq.{ext-getD, getD-take, getD-drop, length-take-le, take-at, take-length, drop-drop, getD-set-same, getD-set-other}
+use borrow.Rule.Slice.PartMut.{putMid, midOf}
+use Rattle.common.specs.Choice.{pick}
 use Rattle.common.specs.Lists.{All, chunks, chunksOf, restOf}
 use Rattle.common.proofs.Choice.{false-true}
 use Rattle.common.proofs.Lists.{getD-map-in}
 use Rattle.common.proofs.Chunks.{length-chunks, chunks-append}
 use Rattle.reader.proofs.Outcome.{not-true}
 use Rattle.reader.proofs.SoftDecisions.{along-costed}
-use Rattle.branch_metrics.specs.SoftPairs.{symbolPair}
+use Rattle.branch_metrics.specs.SoftPairs.{numberDecision, symbolPair, symbolAt}
 use Rattle.branch_metrics.specs.declared.soft_decision.ReceivedSymbol.the-variants.{Lost}
 use Rattle.branch_metrics.proofs.Runs.{along-small}
-use Rattle.branch_metrics.specs.Cost.{softly}
+use Rattle.branch_metrics.specs.Cost.{softly, received}
 use Rattle.reader.specs.Cost.{Costed}
 use Rattle.reader_stream.specs.Stream.{FeedsReader}
 use Rattle.reader_stream.specs.declared.ReaderStream.{ReaderStream}
 use Rattle.received_symbols.specs.Pass.{Held, TakesAll, TakesBytes}
 use Rattle.received_symbols.specs.declared.SymbolPass.{SymbolPass}
-use Rattle.received_symbols.specs.Received.{pointOf, pointAt, pointsOf, pairsOf}
+use Rattle.received_symbols.specs.Received.{pointOf, pointAt, pointsOf, pairsOf, number, point}
 
 -- ---- the patterns of NaNs
 
@@ -45,6 +48,24 @@ unfolding ofBits nanBits
 nan-pattern b e =
     let p = both-of _ _ e in
     fields-nan _ (b % 2147483648 / 8388608) (b % 8388608) (eqb-true _ _ (p .0)) (not-true (eqb (b % 8388608) 0) (p .1))
+
+-- without the sign, they are the patterns above that of the infinity
+pub above-infinity : (b : ℕ) → ltb 2139095040 (b % 2147483648) ≡ nanBits binary32 b
+unfolding nanBits
+above-infinity b = by (decLt 2139095040 (b % 2147483648))
+  where
+    low : b % 2147483648 ≤ 2139095040 → Dec (b % 2147483648 / 8388608 ≡ 255) → (eqb (b % 2147483648 / 8388608) 255 && not (eqb (b % 8388608) 0)) ≡ false
+    low h (yes x) =
+        let t : b % 8388608 ≡ 0 = omega arith in
+        simp (eq-eqb (b % 2147483648 / 8388608) 255 x, eq-eqb (b % 8388608) 0 t)
+    low h (no x) = simp (ne-eqb (b % 2147483648 / 8388608) 255 x)
+
+    by : Dec (2139095040 < b % 2147483648) → ltb 2139095040 (b % 2147483648) ≡ (eqb (b % 2147483648 / 8388608) 255 && not (eqb (b % 8388608) 0))
+    by (yes h) =
+        let x : b % 2147483648 / 8388608 ≡ 255 = omega arith in
+        let t : b % 8388608 ≡ 0 → ⊥ = λ z. absurd (omega arith) in
+        lt-ltb 2139095040 (b % 2147483648) h ∙ sym (simp (eq-eqb (b % 2147483648 / 8388608) 255 x, ne-eqb (b % 8388608) 0 t))
+    by (no h) = let l : b % 2147483648 ≤ 2139095040 = omega arith in le-ltb 2139095040 (b % 2147483648) l ∙ sym (low l (ℕ-discrete (b % 2147483648 / 8388608) 255))
 
 -- every other pattern is that of one number
 pub no-nan : (t : Bool) → t ≡ false → T (not t)
@@ -102,7 +123,67 @@ pairs-append a b e =
 pub pairs-length : (bytes : List ℕ) → length (pairsOf bytes) ≡ length bytes / 8
 pairs-length bytes = length-map (pointsOf bytes) symbolPair ∙ points-length bytes
 
+-- ---- their numbers as two lists
+
+-- so many points' numbers are read, one of each
+pub record NumbersRead (bytes : List ℕ) (at size : ℕ) (numbers : List Float) (n : ℕ) : Type 0 where
+  pub len : length numbers ≡ size
+  pub each : (t : ℕ) → t < n → getD numbers t nan ≡ number bytes (at + 8 * t)
+
+pub number-more : (bytes : List ℕ) (at : ℕ) {size : ℕ} {numbers : List Float} {n : ℕ} (x : Float) → n < size → x ≡ number bytes (at + 8 * n)
+    → NumbersRead bytes at size numbers n → NumbersRead bytes at size (set numbers n x) (n + 1)
+number-more bytes at {size} {numbers} {n} x h p r = record { len = length-set numbers n x ∙ r .len; each = λ t l. by t l (ℕ-discrete t n) }
+  where
+    by : (t : ℕ) → t < n + 1 → Dec (t ≡ n) → getD (set numbers n x) t nan ≡ number bytes (at + 8 * t)
+    by t l (yes e) =
+        subst (λ (j : ℕ). getD (set numbers n x) j nan ≡ number bytes (at + 8 * j)) (sym e) (getD-set-same numbers n x nan (omega (arith, r .len)) ∙ p)
+    by t l (no e) = getD-set-other numbers n t x nan e ∙ r .each t (omega arith)
+
+-- two NaNs have the decisions of a lost symbol
+point-pair : (i q : Float) → symbolPair (received i q 0) ≡ symbolPair (point i q)
+unfolding symbolPair numberDecision
+point-pair i q = by (isNan i) (isNan q) refl refl
+  where
+    by : (a b : Bool) → isNan i ≡ a → isNan q ≡ b → symbolPair (received i q 0) ≡ symbolPair (pick a (pick b Lost (received i q 0)) (received i q 0))
+    by true true e f = rw (e, f) refl
+    by true false e f = refl
+    by false true e f = refl
+    by false false e f = refl
+
+-- no symbol of the lists is marked
+abbrev unmarked : List ℕ
+unmarked = replicate 256 0
+
+pub marks-length : (count : ℕ) → count ≤ 256 → length (take count unmarked) ≡ count
+marks-length count h = length-take-le count unmarked h
+
+-- their pairs are those of the points
+pub lists-pair : (bytes : List ℕ) (first count : ℕ) (is qs : List Float) → count ≤ 256
+    → ((t : ℕ) → t < count → getD is t nan ≡ number bytes (8 * first + 8 * t)) → ((t : ℕ) → t < count → getD qs t nan ≡ number bytes (8 * first + 4 + 8 * t))
+    → (t : ℕ) → t < count → symbolPair (symbolAt (take count is) (take count qs) (take count unmarked) t) ≡ symbolPair (pointAt bytes (first + t))
+lists-pair bytes first count is qs most wi wq t h =
+    let ei : 8 * first + 8 * t ≡ 8 * (first + t) = omega arith in
+    let eq : 8 * first + 4 + 8 * t ≡ 8 * (first + t) + 4 = omega arith in
+    let i : getD (take count is) t nan ≡ number bytes (8 * (first + t)) = getD-take count is t nan h ∙ (wi t h ∙ ap (number bytes) ei) in
+    let q : getD (take count qs) t nan ≡ number bytes (8 * (first + t) + 4) = getD-take count qs t nan h ∙ (wq t h ∙ ap (number bytes) eq) in
+    let within : t < 256 = omega arith in
+    let m : getD (take count unmarked) t 0 ≡ 0 = getD-take count unmarked t 0 h ∙ getD-replicate {A = ℕ} 256 t 0 0 within in
+    ap₂ (λ (x y : Float). symbolPair (received x y (getD (take count unmarked) t 0))) i q
+    ∙ ap (λ (k : ℕ). symbolPair (received (number bytes (8 * (first + t))) (number bytes (8 * (first + t) + 4)) k)) m
+    ∙ point-pair (number bytes (8 * (first + t))) (number bytes (8 * (first + t) + 4))
+
 -- ---- their pairs
+
+-- a part of the output, and some pairs that are written there
+module _ (k n : ℕ) (output : List ℕ) where
+  pub part-length : k + n ≤ length output → length (midOf k (k + n - k) output) ≡ n
+  part-length h = length-take-le (k + n - k) (drop k output) (omega (arith, length-drop k output)) ∙ omega arith
+
+  pub part-put : (pairs : List ℕ) → length pairs ≡ n → putMid k (k + n - k) output pairs ≡ take k output ++ pairs ++ drop (k + length pairs) output
+  part-put pairs l =
+      let e : k + (k + n - k) ≡ k + length pairs = omega (arith, l) in
+      ap (λ (rest : List ℕ). take k output ++ (pairs ++ rest)) (drop-drop (k + n - k) k output ∙ ap (λ (j : ℕ). drop j output) e)
+      ∙ sym (append-assoc (take k output) pairs (drop (k + length pairs) output))
 
 module _ (bytes pairs : List ℕ) (w : (t : ℕ) → t < length bytes / 8 → getD pairs t 0 ≡ symbolPair (pointAt bytes t)) (long : length bytes / 8 ≤ length pairs) where
   abbrev n : ℕ

@@ -3,17 +3,16 @@
 ghost use mathlib.Core.Path.{_≡_};
 ghost use mathlib.Core.Bool.{true};
 ghost use Prim.Native.Nat.{ℕ, _+_, _*_, _/_, _<_, _≤_};
-ghost use lib.Ieee.{isNan, ofBits, binary32, nanBits};
+ghost use lib.Ieee.{nan, ofBits, binary32, nanBits};
 ghost use lib.ListN.{length, getD};
 ghost use Rattle.branch_metrics.specs.SoftPairs.{symbolPair};
 ghost use Rattle.reader_stream.specs.Stream.{ReaderReady};
-ghost use Rattle.received_symbols.specs.Received.{wordAt, number, point, pointAt};
+ghost use Rattle.received_symbols.specs.Received.{wordAt, number, pointAt};
 ghost use Rattle.received_symbols.specs.Pass.{TakesBytes};
 use crate::SymbolPass;
 use crate::SymbolsTaken;
-use branch_metrics::soft_decision::Point;
-use branch_metrics::soft_decision::ReceivedSymbol;
-use branch_metrics::soft_decision::symbol_pair;
+use branch_metrics::soft_decision::soft_pairs;
+use common::least;
 use common::put;
 use reader_stream::ReaderStream;
 
@@ -32,14 +31,11 @@ fn word_at(bytes: &[u8], at: usize) -> u32
     word_of(bytes[at], bytes[at + 1], bytes[at + 2], bytes[at + 3])
 }
 
-// Whether a pattern is that of a NaN: the field of the exponent is all ones, and that of the digits is not 0.
+// Whether a pattern is that of a NaN: without the sign, it is above that of the infinity.
 fn is_nan_pattern(bits: u32) -> bool
     ensures { λ r. ⌜ r ≡ nanBits binary32 bits ⌝ }
 {
-    if bits % 2147483648 / 8388608 != 255 {
-        return false;
-    }
-    bits % 8388608 != 0
+    bits % 2147483648 > 2139095040
 }
 
 // The f32 of a pattern. `from_bits` is not defined for that of a NaN, so a NaN is made.
@@ -52,34 +48,29 @@ fn number_of(bits: u32) -> f32
     f32::from_bits(bits)
 }
 
-// A NaN alone differs from itself.
-fn is_nan(x: f32) -> bool
-    ensures { λ r. ⌜ r ≡ isNan x ⌝ }
+// Reads one number of each of so many points, I or Q: that of the first point has its lowest byte at a place.
+fn read_numbers(bytes: &[u8], at: usize, count: usize, numbers: &mut [f32])
+    requires { ⌜ (at + 8 * count ≤ length (now bytes) + 4) × (count ≤ length (now numbers)) ⌝ }
+    ensures { λ _. ⌜ ((t : ℕ) → t < count → getD (now (numbers .exit)) t nan ≡ number (now (bytes .entry)) (at + 8 * t)) ⌝ }
 {
-    x != x
+    let mut k: usize = 0;
+    while k < count {
+        numbers[k] = number_of(word_at(bytes, at + 8 * k));
+        k += 1;
+    }
 }
 
-// The symbol that two numbers stand for.
-fn point_of(i: f32, q: f32) -> ReceivedSymbol
-    ensures { λ r. ⌜ r ≡ point i q ⌝ }
+// Writes the decisions on at most 256 points, from one on, by two lists of their numbers. No symbol is marked as lost: the decisions on two NaNs are the same.
+fn some_pairs(bytes: &[u8], first: usize, count: usize, output: &mut [u8])
+    requires { ⌜ (count ≤ 256) × (8 * (first + count) ≤ length (now bytes)) × (count ≤ length (now output)) ⌝ }
+    ensures { λ _. ⌜ ((t : ℕ) → t < count → getD (now (output .exit)) t 0 ≡ symbolPair (pointAt (now (bytes .entry)) (first + t))) ⌝ }
 {
-    if !is_nan(i) {
-        return ReceivedSymbol::At(Point { i, q });
-    }
-    if !is_nan(q) {
-        return ReceivedSymbol::At(Point { i, q });
-    }
-    ReceivedSymbol::Lost
-}
-
-// The symbol whose point is at a place.
-fn point_at(bytes: &[u8], at: usize) -> ReceivedSymbol
-    requires { ⌜ at + 8 ≤ length (now bytes) ⌝ }
-    ensures { λ r. ⌜ r ≡ point (number (now (bytes .entry)) at) (number (now (bytes .entry)) (at + 4)) ⌝ }
-{
-    let i = number_of(word_at(bytes, at));
-    let q = number_of(word_at(bytes, at + 4));
-    point_of(i, q)
+    let mut is = [0.0f32; 256];
+    read_numbers(bytes, 8 * first, count, &mut is);
+    let mut qs = [0.0f32; 256];
+    read_numbers(bytes, 8 * first + 4, count, &mut qs);
+    let lost = [0u8; 256];
+    soft_pairs(&is[..count], &qs[..count], &lost[..count], output);
 }
 
 // Writes the decisions on so many points, one number for each.
@@ -89,8 +80,10 @@ pub fn point_pairs(bytes: &[u8], count: usize, output: &mut [u8])
 {
     let mut k: usize = 0;
     while k < count {
-        output[k] = symbol_pair(point_at(bytes, 8 * k));
-        k += 1;
+        let some = least(256, (count - k) as u64) as usize;
+        let end = k + some;
+        some_pairs(bytes, k, some, &mut output[k..end]);
+        k = end;
     }
 }
 

@@ -7,7 +7,7 @@ use native.Mathlib.Omega.{arith}
 use lib.ListN.{length}
 use Rattle.common.proofs.Each.{Each, each-none}
 use Rattle.branch_metrics.specs.SoftPairs.{symbolAt}
-use Rattle.branch_metrics.proofs.Runs.{Holds, sixteen-more}
+use Rattle.branch_metrics.proofs.Runs.{Holds, pairs-more}
 use Rattle.branch_metrics.proofs.soft_decision.write_sixteens.Statement.{statement}
 use Rattle.branch_metrics.proofs.soft_decision.write_sixteens.Tie as tie
 
@@ -42,7 +42,7 @@ loop-again : tie.Need-loop-again Inv-loop μ-loop
 loop-again c =
     let l = c .before .before .before .before .before .before .before .loop in
     let p = c .before .before .before .before .before .sixteen-pairs in
-    (omega (arith, l .inv .0), sixteen-more _ _ (l .k) (p .result) _ (sym (slice-aggregate-put (c .before .before .before .before))) (omega (arith, l .inv .0)) (p .ensures) (l .inv .1) (c .before .before .put .ensures))
+    (omega (arith, l .inv .0), pairs-more _ _ (l .k) 16 (p .result) _ (sym (slice-aggregate-put (c .before .before .before .before))) (omega (arith, l .inv .0)) (p .ensures) (l .inv .1) (c .before .before .put .ensures))
 
 same-length : tie.Need-same-length Inv-loop μ-loop
 same-length c = c .before .loop .inv .1 .len
