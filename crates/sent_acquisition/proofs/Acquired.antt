@@ -28,7 +28,7 @@ use Rattle.acquisition.specs.declared.Event.the-variants.{Waits, Block, Lost}
 use Rattle.acquisition.proofs.Symbols.{run-counts}
 use Rattle.sent_acquisition.specs.Readings as readings
 use Rattle.sent_acquisition.specs.Readings.{blockIn}
-use Rattle.sent_acquisition.specs.Acquired.{AcquisitionSteps, fresh, step, ReadingOfThese, BlocksOfReadings, none, more, AcquisitionCame, searching, reading}
+use Rattle.sent_acquisition.specs.Acquired.{AcquisitionSteps, fresh, step, ReadingOfThese, BlocksOfReadings, none, more, BlocksRead, AcquisitionCame, searching, reading}
 use Rattle.sent_acquisition.proofs.Readings.{reading-came}
 
 -- the symbols that are pending
@@ -59,9 +59,10 @@ reading-grown {asked} {unread = unread} r new =
           sym (append-assoc (r .read) unread new) ∙ (ap (λ (l : List ℕ). l ++ new) (r .behind) ∙ sym (drop-append-le o (r .received) new (omega (arith, few, r .enough))));
     }
 
-grown : {asked : ℕ} {symbols : List ℕ} {given : List GivenBlock} → BlocksOfReadings asked symbols given → (new : List ℕ) → BlocksOfReadings asked (symbols ++ new) given
+grown : {asked : ℕ} {symbols : List ℕ} {given : List GivenBlock} {last : ℕ} → BlocksOfReadings asked symbols given last → (new : List ℕ) → BlocksOfReadings asked (symbols ++ new) given last
+unfolding reading-grown
 grown none new = none
-grown (more mirrored k unread b r) new = more mirrored k (unread ++ new) (grown b new) (reading-grown r new)
+grown (more mirrored k unread b r h) new = more mirrored k (unread ++ new) (grown b new) (reading-grown r new) h
 
 -- ---- a call of the reading
 
@@ -91,6 +92,18 @@ reading-passed {unread = unread} r =
     (append-assoc (take o (r .received)) (r .read) unread ∙ (ap (λ (l : List ℕ). take o (r .received) ++ l) (r .behind) ∙ take-append-drop o (r .received)))
     ∙ r .split)
 
+read-within : {asked : ℕ} {symbols : List ℕ} {these : List GivenBlock} {mirrored : Bool} {k : Reading} {unread : List ℕ} (r : ReadingOfThese asked symbols these mirrored k unread)
+    → length (r .before) + r .hypothesis .offset + length (r .read) ≡ length (r .before ++ (take (r .hypothesis .offset) (r .received) ++ r .read))
+read-within {asked} r =
+    let o = r .hypothesis .offset in
+    let few : o < 4 = found-known asked (take 1632 (r .received)) (Found (r .hypothesis)) (r .found) .1 in
+    omega (
+      arith,
+      length-append (r .before) (take o (r .received) ++ r .read),
+      length-append (take o (r .received)) (r .read),
+      length-take-le o (r .received) (omega (arith, few, r .enough)),
+    )
+
 -- After a call the reading goes on, or is over.
 data After (asked : ℕ) (mirrored : Bool) (k : Reading) (pending : List ℕ) (came : ℕ) : Acquisition → Type 0 where
   goes-on : After asked mirrored k pending came (readingOn asked mirrored k pending came)
@@ -109,28 +122,30 @@ after-is s piece t f pending came Lost = by (endsReading (s .reading .sync .lock
 -- ---- what a step leaves
 
 module _ {asked : ℕ} {symbols : List ℕ} where
-  searching-at : {given : List GivenBlock} (mirrored : Bool) (passed pending : List ℕ) (came : ℕ) → passed ++ pending ≡ symbols → BlocksOfReadings asked symbols given → came ≡ length symbols
-      → AcquisitionCame asked symbols given (searchingOn asked mirrored pending came)
-  searching-at {given} mirrored passed pending came e b n =
-      subst (λ (c : ℕ). AcquisitionCame asked symbols given (searchingOn asked mirrored pending c)) (sym n) (searching mirrored passed pending e b)
+  searching-at : {given : List GivenBlock} {last : ℕ} (mirrored : Bool) (passed pending : List ℕ) (came : ℕ) → passed ++ pending ≡ symbols → BlocksOfReadings asked symbols given last → last ≤ length passed
+      → came ≡ length symbols → AcquisitionCame asked symbols given (searchingOn asked mirrored pending came)
+  searching-at {given} mirrored passed pending came e b h n =
+      subst (λ (c : ℕ). AcquisitionCame asked symbols given (searchingOn asked mirrored pending c)) (sym n) (searching mirrored passed pending e b h)
 
-  reading-at : {given these : List GivenBlock} (mirrored : Bool) (k : Reading) (pending : List ℕ) (came : ℕ) → BlocksOfReadings asked symbols given
-      → ReadingOfThese asked symbols these mirrored k pending → came ≡ length symbols → AcquisitionCame asked symbols (given ++ these) (readingOn asked mirrored k pending came)
-  reading-at {given} {these} mirrored k pending came b r n =
-      subst (λ (c : ℕ). AcquisitionCame asked symbols (given ++ these) (readingOn asked mirrored k pending c)) (sym n) (reading mirrored k pending b r)
+  reading-at : {given these : List GivenBlock} {last : ℕ} (mirrored : Bool) (k : Reading) (pending : List ℕ) (came : ℕ) → BlocksOfReadings asked symbols given last
+      → (r : ReadingOfThese asked symbols these mirrored k pending) → last ≤ length (r .before) → came ≡ length symbols
+      → AcquisitionCame asked symbols (given ++ these) (readingOn asked mirrored k pending came)
+  reading-at {given} {these} mirrored k pending came b r h n =
+      subst (λ (c : ℕ). AcquisitionCame asked symbols (given ++ these) (readingOn asked mirrored k pending c)) (sym n) (reading mirrored k pending b r h)
 
-  settled : {given these : List GivenBlock} {mirrored : Bool} {k : Reading} {pending : List ℕ} {came : ℕ} {next : Acquisition} → After asked mirrored k pending came next
-      → BlocksOfReadings asked symbols given → ReadingOfThese asked symbols these mirrored k pending → came ≡ length symbols → AcquisitionCame asked symbols (given ++ these) next
-  settled {mirrored = mirrored} {k} {pending} {came} goes-on b r n = reading-at mirrored k pending came b r n
-  settled {mirrored = mirrored} {k} {pending} {came} (over next) b r n =
-      searching-at next (r .before ++ (take (r .hypothesis .offset) (r .received) ++ r .read)) pending came (reading-passed r) (more mirrored k pending b r) n
+  settled : {given these : List GivenBlock} {last : ℕ} {mirrored : Bool} {k : Reading} {pending : List ℕ} {came : ℕ} {next : Acquisition} → After asked mirrored k pending came next
+      → BlocksOfReadings asked symbols given last → (r : ReadingOfThese asked symbols these mirrored k pending) → last ≤ length (r .before) → came ≡ length symbols
+      → AcquisitionCame asked symbols (given ++ these) next
+  settled {mirrored = mirrored} {k} {pending} {came} goes-on b r h n = reading-at mirrored k pending came b r h n
+  settled {mirrored = mirrored} {k} {pending} {came} (over next) b r h n =
+      searching-at next (r .before ++ (take (r .hypothesis .offset) (r .received) ++ r .read)) pending came (reading-passed r) (more mirrored k pending b r h) (omega (arith, read-within r)) n
 
   -- the search of a full window
-  after-search : {given : List GivenBlock} (mirrored : Bool) (passed window : List ℕ) (came : ℕ) {search : Search} {next : Acquisition} → passed ++ window ≡ symbols → length window ≡ 1632 → came ≡ length symbols
-      → BlocksOfReadings asked symbols given → Searches window (searched asked) search → AfterSearch asked mirrored came window search next → AcquisitionCame asked symbols given next
-  after-search {given} mirrored passed window came e size n b s (steps.found h k w) =
+  after-search : {given : List GivenBlock} {last : ℕ} (mirrored : Bool) (passed window : List ℕ) (came : ℕ) {search : Search} {next : Acquisition} → passed ++ window ≡ symbols → length window ≡ 1632 → came ≡ length symbols
+      → BlocksOfReadings asked symbols given last → last ≤ length passed → Searches window (searched asked) search → AfterSearch asked mirrored came window search next → AcquisitionCame asked symbols given next
+  after-search {given} mirrored passed window came e size n b l s (steps.found h k w) =
       let all : take 1632 window ≡ window = ap (λ (x : ℕ). take x window) (sym size) ∙ take-length window in
-      let first : came - 1632 + h .offset ≡ length passed + h .offset = let l = ap length e ∙ refl in omega (arith, length-append passed window, l, size, n) in
+      let first : came - 1632 + h .offset ≡ length passed + h .offset = omega (arith, length-append passed window, ap length e, size, n) in
       subst (λ (g : List GivenBlock). AcquisitionCame asked symbols g (readingOn asked mirrored k (drop (h .offset) window) came)) (append-nil given)
       (reading-at mirrored k (drop (h .offset) window) came b
       (record {
@@ -144,9 +159,11 @@ module _ {asked : ℕ} {symbols : List ℕ} where
         fed = readings.begun (subst (λ (f : ℕ). Begins h mirrored f k) first w);
         behind = refl;
       })
-      n)
-  after-search mirrored passed window came e size n b s steps.nothing = searching-at mirrored symbols [] came (append-nil symbols) b n
-  after-search mirrored passed window came e size n b s steps.several = searching-at mirrored symbols [] came (append-nil symbols) b n
+      l n)
+  after-search mirrored passed window came e size n b l s steps.nothing =
+      searching-at mirrored symbols [] came (append-nil symbols) b (omega (arith, length-append passed window, ap length e, l)) n
+  after-search mirrored passed window came e size n b l s steps.several =
+      searching-at mirrored symbols [] came (append-nil symbols) b (omega (arith, length-append passed window, ap length e, l)) n
 
 -- ---- a step
 
@@ -155,17 +172,17 @@ module _ (asked : ℕ) (symbols : List ℕ) (given : List GivenBlock) (piece : L
   Left x = AcquisitionCame asked (symbols ++ take (x .taken) piece) (given ++ blockIn (x .event) (x .block)) (x .acquisition)
 
   -- while it searches
-  hunted : (mirrored : Bool) (passed pending : List ℕ) → passed ++ pending ≡ symbols → BlocksOfReadings asked symbols given → length pending < 1632
+  hunted : {last : ℕ} (mirrored : Bool) (passed pending : List ℕ) → passed ++ pending ≡ symbols → BlocksOfReadings asked symbols given last → last ≤ length passed → length pending < 1632
       → SearchesOn (searchingOn asked mirrored pending (length symbols)) piece r → Left r
-  hunted mirrored passed pending e b few (steps.gathers l x) =
+  hunted mirrored passed pending e b h few (steps.gathers l x) =
       let s = searchingOn asked mirrored pending (length symbols) in
       subst Left (sym x)
       (subst (λ (g : List GivenBlock). AcquisitionCame asked (symbols ++ take (length piece) piece) g (searchingOn asked mirrored (pendingOf s ++ piece) (length symbols + length piece))) (sym (append-nil given))
       (searching-at mirrored passed (pendingOf s ++ piece) (length symbols + length piece)
       (sym (append-assoc passed (pendingOf s) piece)
       ∙ (ap (λ (l : List ℕ). passed ++ l ++ piece) (front pending) ∙ (ap (λ (l : List ℕ). l ++ piece) e ∙ ap (λ (l : List ℕ). symbols ++ l) (sym (take-length piece)))))
-      (grown b (take (length piece) piece)) (omega (arith, length-append symbols (take (length piece) piece), ap length (take-length piece)))))
-  hunted mirrored passed pending e b few (steps.fills l w) =
+      (grown b (take (length piece) piece)) h (omega (arith, length-append symbols (take (length piece) piece), ap length (take-length piece)))))
+  hunted mirrored passed pending e b h few (steps.fills l w) =
       let s = searchingOn asked mirrored pending (length symbols) in
       let n : ℕ = 1632 - length pending in
       let new : List ℕ = take n piece in
@@ -175,29 +192,31 @@ module _ (asked : ℕ) (symbols : List ℕ) (given : List GivenBlock) (piece : L
       (after-search mirrored passed (windowOf s piece) (length symbols + n)
       (sym (append-assoc passed (pendingOf s) new) ∙ (ap (λ (l : List ℕ). passed ++ l ++ new) (front pending) ∙ ap (λ (l : List ℕ). l ++ new) e))
       (length-append (pendingOf s) new ∙ (let f = ap length (front pending) in omega (arith, f, size, few)))
-      (omega (arith, length-append symbols new, size)) (grown b new) (w .searches) (w .after)))
+      (omega (arith, length-append symbols new, size)) (grown b new) h (w .searches) (w .after)))
 
-  module _ (mirrored : Bool) (k : Reading) (pending : List ℕ) {before these : List GivenBlock} (same : before ++ these ≡ given) (b : BlocksOfReadings asked symbols before)
-      (c : ReadingOfThese asked symbols these mirrored k pending) where
+  module _ (mirrored : Bool) (k : Reading) (pending : List ℕ) {before these : List GivenBlock} {last : ℕ} (same : before ++ these ≡ given) (b : BlocksOfReadings asked symbols before last)
+      (c : ReadingOfThese asked symbols these mirrored k pending) (h : last ≤ length (c .before)) where
     abbrev s : Acquisition
     s = readingOn asked mirrored k pending (length symbols)
 
-    joined : (last : List GivenBlock) → before ++ (these ++ last) ≡ given ++ last
-    joined last = sym (append-assoc before these last) ∙ ap (λ (g : List GivenBlock). g ++ last) same
+    joined : (new : List GivenBlock) → before ++ (these ++ new) ≡ given ++ new
+    joined new = sym (append-assoc before these new) ∙ ap (λ (g : List GivenBlock). g ++ new) same
 
     -- while symbols are pending that the reading has not read
     drained : steps.ReadsPending s r → Left r
+    unfolding reading-grown extended
     drained d =
         let t = d .read in
         let rest : List ℕ = drop (t .taken) (pendingOf s) in
         subst Left (sym (d .result))
         (subst (λ (g : List GivenBlock). AcquisitionCame asked (symbols ++ []) g (afterReading s t rest (length symbols) (t .event))) (joined (blockIn (t .event) (t .block)))
         (settled (after-is s (pendingOf s) t (d .reads) rest (length symbols) (t .event)) (grown b [])
-        (extended (reading-grown c []) (pendingOf s) rest t (d .reads) (take-append-drop (t .taken) (pendingOf s) ∙ (front pending ∙ sym (append-nil pending))))
+        (extended (reading-grown c []) (pendingOf s) rest t (d .reads) (take-append-drop (t .taken) (pendingOf s) ∙ (front pending ∙ sym (append-nil pending)))) h
         (omega (arith, length-append symbols []))))
 
     -- and else
     went : length pending ≡ 0 → pending ≡ [] → steps.ReadsPiece s piece r → Left r
+    unfolding reading-grown extended
     went z nothing d =
         let t = d .read in
         let new : List ℕ = take (t .taken) piece in
@@ -210,7 +229,7 @@ module _ (asked : ℕ) (symbols : List ℕ) (given : List GivenBlock) (piece : L
         append-nil (take (t .taken) turns) ∙ (take-take (t .taken) 1632 piece (omega (arith, most, length-take 1632 piece)) ∙ ap (λ (l : List ℕ). l ++ new) (sym nothing)) in
         subst Left (sym (d .result))
         (subst (λ (g : List GivenBlock). AcquisitionCame asked (symbols ++ new) g (afterReading s t [] (length symbols + t .taken) (t .event))) (joined (blockIn (t .event) (t .block)))
-        (settled (after-is s turns t f [] (length symbols + t .taken) (t .event)) (grown b new) (extended (reading-grown c new) turns [] t f part)
+        (settled (after-is s turns t f [] (length symbols + t .taken) (t .event)) (grown b new) (extended (reading-grown c new) turns [] t f part) h
         (omega (arith, length-append symbols new, length-take-le (t .taken) piece few))))
 
 empty : (l : List ℕ) → length l ≡ 0 → l ≡ []
@@ -218,24 +237,28 @@ empty l e = sym (take-length l) ∙ ap (λ (n : ℕ). take n l) e
 
 stepped : {asked : ℕ} {symbols : List ℕ} {given : List GivenBlock} {s : Acquisition} (piece : List ℕ) (r : Step) → AcquisitionCame asked symbols given s → AcquisitionReady s → StepsAcquisition s piece r
     → AcquisitionCame asked (symbols ++ take (r .taken) piece) (given ++ blockIn (r .event) (r .block)) (r .acquisition)
-stepped {asked} {symbols} {given} piece r (searching mirrored passed pending e b) ready (steps.hunts p h) = hunted asked symbols given piece r mirrored passed pending e b (ready .phase-ready .window-few) h
-stepped {asked} {symbols} {given} piece r (searching mirrored passed pending e b) ready (steps.drains p h d) = absurd (true≢false (sym (ap isReads p)))
-stepped {asked} {symbols} {given} piece r (searching mirrored passed pending e b) ready (steps.reads p h d) = absurd (true≢false (sym (ap isReads p)))
-stepped {asked} {symbols} {given} piece r (reading mirrored k pending b c) ready (steps.hunts p h) = absurd (true≢false (ap isReads p))
-stepped {asked} {symbols} {given} piece r (reading mirrored k pending b c) ready (steps.drains p h d) = drained asked symbols given piece r mirrored k pending refl b c d
-stepped {asked} {symbols} {given} piece r (reading mirrored k pending b c) ready (steps.reads p h d) = went asked symbols given piece r mirrored k pending refl b c h (empty pending h) d
+stepped {asked} {symbols} {given} piece r (searching mirrored passed pending e b l) ready (steps.hunts p h) = hunted asked symbols given piece r mirrored passed pending e b l (ready .phase-ready .window-few) h
+stepped {asked} {symbols} {given} piece r (searching mirrored passed pending e b l) ready (steps.drains p h d) = absurd (true≢false (sym (ap isReads p)))
+stepped {asked} {symbols} {given} piece r (searching mirrored passed pending e b l) ready (steps.reads p h d) = absurd (true≢false (sym (ap isReads p)))
+stepped {asked} {symbols} {given} piece r (reading mirrored k pending b c l) ready (steps.hunts p h) = absurd (true≢false (ap isReads p))
+stepped {asked} {symbols} {given} piece r (reading mirrored k pending b c l) ready (steps.drains p h d) = drained asked symbols given piece r mirrored k pending refl b c l d
+stepped {asked} {symbols} {given} piece r (reading mirrored k pending b c l) ready (steps.reads p h d) = went asked symbols given piece r mirrored k pending refl b c l h (empty pending h) d
 
 -- ---- the theorems
 
 pub acquisition-came : {asked : ℕ} {symbols : List ℕ} {given : List GivenBlock} {s : Acquisition} → AcquisitionSteps asked symbols given s → AcquisitionCame asked symbols given s
 unfolding freshAcquisition
-acquisition-came fresh = searching false [] [] refl none
+acquisition-came fresh = searching false [] [] refl none (omega arith)
 acquisition-came (step piece r before ready f) = stepped piece r (acquisition-came before) ready f
 
 -- Whatever the pieces, every block is one of a reading, which began in a window of the symbols in which the search found its hypothesis.
-pub blocks-read : {asked : ℕ} {symbols : List ℕ} {given : List GivenBlock} {s : Acquisition} → AcquisitionSteps asked symbols given s → BlocksOfReadings asked symbols given
+pub blocks-read : {asked : ℕ} {symbols : List ℕ} {given : List GivenBlock} {s : Acquisition} → AcquisitionSteps asked symbols given s → BlocksRead asked symbols given
 blocks-read a = by (acquisition-came a)
   where
-    by : {asked : ℕ} {symbols : List ℕ} {given : List GivenBlock} {s : Acquisition} → AcquisitionCame asked symbols given s → BlocksOfReadings asked symbols given
-    by (searching mirrored passed pending e b) = b
-    by (reading mirrored k pending b c) = more mirrored k pending b c
+    by : {asked : ℕ} {symbols : List ℕ} {given : List GivenBlock} {s : Acquisition} → AcquisitionCame asked symbols given s → BlocksRead asked symbols given
+    by (searching {last = last} mirrored passed pending e b h) = record { last = last; within = omega (arith, length-append passed pending, ap length e, h); blocks = b }
+    by (reading mirrored k pending b r h) = record {
+      last = length (r .before) + r .hypothesis .offset + length (r .read);
+      within = omega (arith, read-within r, length-append (r .before ++ (take (r .hypothesis .offset) (r .received) ++ r .read)) pending, ap length (reading-passed r));
+      blocks = more mirrored k pending b r h;
+    }

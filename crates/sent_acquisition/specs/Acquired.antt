@@ -36,16 +36,24 @@ pub record ReadingOfThese (asked : ℕ) (symbols : List ℕ) (given : List Given
   pub fed : ReadingFeedings hypothesis mirrored (length before + hypothesis .offset) read given k
   pub behind : read ++ unread ≡ drop (hypothesis .offset) received
 
--- The blocks of such readings, one reading after the other.
-pub data BlocksOfReadings (asked : ℕ) (symbols : List ℕ) : List GivenBlock → Type 0 where
-  none : BlocksOfReadings asked symbols []
-  more : {given these : List GivenBlock} (mirrored : Bool) (k : Reading) (unread : List ℕ) → BlocksOfReadings asked symbols given → ReadingOfThese asked symbols these mirrored k unread
-      → BlocksOfReadings asked symbols (given ++ these)
+-- The blocks of such readings, one reading after the other, and how many symbols there are up to the last one that a reading took. Each window begins behind what
+-- the reading before it took, so no symbol is in two readings.
+pub data BlocksOfReadings (asked : ℕ) (symbols : List ℕ) : List GivenBlock → ℕ → Type 0 where
+  none : BlocksOfReadings asked symbols [] 0
+  more : {given these : List GivenBlock} {last : ℕ} (mirrored : Bool) (k : Reading) (unread : List ℕ) → BlocksOfReadings asked symbols given last
+      → (r : ReadingOfThese asked symbols these mirrored k unread) → last ≤ length (r .before)
+      → BlocksOfReadings asked symbols (given ++ these) (length (r .before) + r .hypothesis .offset + length (r .read))
+
+pub record BlocksRead (asked : ℕ) (symbols : List ℕ) (given : List GivenBlock) : Type 0 where
+  pub last : ℕ
+  pub within : last ≤ length symbols
+  pub blocks : BlocksOfReadings asked symbols given last
 
 -- What the steps come to. While it searches, the last symbols are pending; while it reads, those behind the ones that the reading took. The blocks are those of
 -- readings that are over, and of the one that goes on.
 pub data AcquisitionCame (asked : ℕ) (symbols : List ℕ) : List GivenBlock → Acquisition → Type 0 where
-  searching : {given : List GivenBlock} (mirrored : Bool) (passed pending : List ℕ) → passed ++ pending ≡ symbols → BlocksOfReadings asked symbols given
+  searching : {given : List GivenBlock} {last : ℕ} (mirrored : Bool) (passed pending : List ℕ) → passed ++ pending ≡ symbols → BlocksOfReadings asked symbols given last → last ≤ length passed
       → AcquisitionCame asked symbols given (searchingOn asked mirrored pending (length symbols))
-  reading : {given these : List GivenBlock} (mirrored : Bool) (k : Reading) (pending : List ℕ) → BlocksOfReadings asked symbols given → ReadingOfThese asked symbols these mirrored k pending
+  reading : {given these : List GivenBlock} {last : ℕ} (mirrored : Bool) (k : Reading) (pending : List ℕ) → BlocksOfReadings asked symbols given last
+      → (r : ReadingOfThese asked symbols these mirrored k pending) → last ≤ length (r .before)
       → AcquisitionCame asked symbols (given ++ these) (readingOn asked mirrored k pending (length symbols))
