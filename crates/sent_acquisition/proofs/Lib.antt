@@ -3,3 +3,4 @@ pub mod Right
 pub mod Sent
 pub mod Acquired
 pub mod Whole
+pub mod Mirror
