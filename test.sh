@@ -68,16 +68,19 @@ export CARGO_HOME=$PWD/target/cargo-home CARGO_TARGET_DIR=$PWD/target/cargo
 in_reference=(--release --offline --manifest-path reference/Cargo.toml)
 quietly ./build.sh libdvbs libdvbs_bridge
 quietly rt staticlib kernels
+# Each program is proved once more where it is built, one after the other. What needs none of them goes on beside that.
+./build.sh $(basename -s .1 man/*.1) > "$work/built" 2>&1 &
+building=$!
 export EXPORTS_DIR=$PWD/target/staticlib
 quietly cargo test "${in_reference[@]}" --lib --test programs --test vectors --test library
-# The comparison of the library with the reference is the longest of what is left, and goes on beside the others.
 quietly cargo build "${in_reference[@]}"
 compared=target/cargo/release
-"$compared/compare" > "$work/compared" 2>&1 &
-comparison=$!
 "$compared/compare_bridge"
 "$compared/compare_states"
-quietly ./build.sh $(basename -s .1 man/*.1)
+# The comparison of the library with the reference is the longest of what is left, and goes on beside the others.
+"$compared/compare" > "$work/compared" 2>&1 &
+comparison=$!
+wait "$building" || { cat "$work/built"; fail "the programs"; }
 "$compared/compare_losses"
 "$compared/compare_calls" target/bin/send_calls
 "$compared/compare_reports" target/bin/report_calls

@@ -13,7 +13,7 @@ cc=${CC:-cc}
 sizes="1 10 100 1000"
 
 mkdir -p "$build"
-rt check pass_report dvbs_send dvbs_read_soft dvbs_receive > "$build/programs.log" 2>&1 || { cat "$build/programs.log"; exit 1; }
+./build.sh pass_report dvbs_send dvbs_read_soft dvbs_receive > "$build/programs.log" 2>&1 || { cat "$build/programs.log"; exit 1; }
 "$cc" -std=gnu11 -O2 -Wall -Wextra bench/usage.c -o "$build/usage"
 "$cc" -std=gnu11 -O3 -Wall -Wextra bench/feed.c bench/plain.c -o "$build/feed"
 

@@ -22,7 +22,7 @@ use Rattle.puncturing.specs.Run.{puncturedSymbols, patternPlaceAfter, heldBehin
 use Rattle.puncturing.proofs.Places.{known}
 use Rattle.puncturing.proofs.WellFormed.{well-formed, next-by-lt, symbol-count-by, held-by-range}
 use Rattle.inner_code.specs.Converter.{encodedBits, uncodedNumbers, sequenced}
-use Rattle.inner_code.specs.Step.{inRangeBy, InRangeBy, stepBy, symbolBy, symbolsBy, coderBy, coderInRange, CoderInRange, coderStep, symbolStep, symbolsOf, coderAfter}
+use Rattle.inner_code.specs.Step.{inRangeBy, InRangeBy, stepBy, symbolBy, symbolsBy, coderBy, coderInRange, CoderInRange, symbolsOf, coderAfter}
 use Rattle.inner_code.specs.Encode.{freshCoder, blockSymbolsBy, blockCoderBy, blockSymbols, blockCoder}
 use Rattle.inner_code.specs.declared.InnerCoder.{InnerCoder}
 use Rattle.inner_code.proofs.Converter.{encoded-bits, length-encoded, length-uncoded, length-block-encoded, uncoded-none, encoded-append, uncoded-append, sequenced-append, length-sequenced, encoded-qpsk, uncoded-qpsk}
@@ -101,7 +101,7 @@ module _ {m : Mode} (w : WellFormed m) where
 pub fresh-in-range : (r : ℕ) → r < modeCount → CoderInRange (freshCoder r)
 fresh-in-range r h = fresh-in-range-by (well-formed r h) r
 
-pub step-in-range : (c : InnerCoder) (b : ℕ) → CoderInRange c → b < 2 → CoderInRange (coderStep c b)
+pub step-in-range : (c : InnerCoder) (b : ℕ) → CoderInRange c → b < 2 → CoderInRange (stepBy (modeOf (c .rate)) c b)
 step-in-range c b g h = step-in-range-by (formed c g) c b g h
 
 pub length-symbols : (c : InnerCoder) {bits : List ℕ} → CoderInRange c → Bits bits → length (symbolsOf c bits) ≡ symbolsIn (c .rate) (c .place) (length bits)
@@ -124,12 +124,12 @@ coder-in-range c {bits} g t =
 pub coder-place : (c : InnerCoder) (bits : List ℕ) → coderAfter c bits .place ≡ patternPlaceAfter (c .rate) (c .place) (length bits)
 unfolding coderBy patternPlaceAfter
 coder-place c [] = refl
-coder-place c (b ∷ bs) = coder-place (coderStep c b) bs
+coder-place c (b ∷ bs) = coder-place (stepBy (modeOf (c .rate)) c b) bs
 
 pub coder-memory : (c : InnerCoder) (bits : List ℕ) → coderAfter c bits .memory ≡ memoryAfter (c .memory) bits
 unfolding coderBy memoryAfter
 coder-memory c [] = refl
-coder-memory c (b ∷ bs) = coder-memory (coderStep c b) bs
+coder-memory c (b ∷ bs) = coder-memory (stepBy (modeOf (c .rate)) c b) bs
 
 -- ---- the two branches
 
@@ -265,7 +265,7 @@ symbols-held : (c : InnerCoder) (l : List ℕ) {n : ℕ} {bits : List ℕ} → H
 unfolding symbolsBy puncturedSymbols
 symbols-held c l nothing = refl
 symbols-held c l (also {n} {b = b} {bs} ex ey t) =
-    ap (λ (s : List ℕ). symbolList (symbolStep c b) ++ s) (symbols-held (coderStep c b) l t)
+    ap (λ (s : List ℕ). symbolList (symbolBy (modeOf (c .rate)) c b) ++ s) (symbols-held (stepBy (modeOf (c .rate)) c b) l t)
     ∙ (λ i.
     symbolList (punctured (c .rate) (c .place) (sym ex i) (sym ey i) (c .held))
     ++ puncturedSymbols (c .rate) (nextPlace (c .rate) (c .place)) (heldAfter (c .rate) (c .place) (sym ex i) (sym ey i) (c .held)) l (suc n) (length bs))
@@ -281,7 +281,7 @@ coder-held : (c : InnerCoder) (l : List ℕ) {n : ℕ} {bits : List ℕ} → Hol
 unfolding coderBy memoryAfter patternPlaceAfter heldBehind
 coder-held c l nothing = refl
 coder-held c l (also {n} {b = b} {bs} ex ey t) =
-    coder-held (coderStep c b) l t
+    coder-held (stepBy (modeOf (c .rate)) c b) l t
     ∙ (λ i. record {
       rate = c .rate;
       memory = memoryAfter (nextMemory (c .memory) b) bs;

@@ -15,7 +15,7 @@ use Rattle.puncturing.specs.Step.{countBy}
 use Rattle.puncturing.specs.declared.Symbol.{Symbol}
 use Rattle.puncturing.specs.declared.Symbol.the-variants.{None}
 use Rattle.inner_code.specs.Converter.{encodedBits, uncodedNumbers, sequenced}
-use Rattle.inner_code.specs.Step.{inRangeBy, symbolsBy, coderBy, coderInRange, CoderInRange, coderStep, symbolStep}
+use Rattle.inner_code.specs.Step.{inRangeBy, stepBy, symbolBy, symbolsBy, coderBy, coderInRange, CoderInRange}
 use Rattle.inner_code.specs.declared.InnerCoder.{InnerCoder}
 use Rattle.inner_code.specs.declared.Encoded.{Encoded}
 
@@ -37,10 +37,10 @@ abbrev pub stepNumber : InnerCoder → ℕ
 stepNumber c = firstDue (unless (coderInRange c) 5 ∷ unless (modeOf (c .rate) .sent) 6 ∷ [])
 
 abbrev pub stepCoder : InnerCoder → Bool → InnerCoder
-stepCoder c bit = pick (eqb (stepNumber c) 0) (coderStep c (indicator bit)) c
+stepCoder c bit = pick (eqb (stepNumber c) 0) (stepBy (modeOf (c .rate)) c (indicator bit)) c
 
 abbrev pub stepSymbol : InnerCoder → Bool → Symbol
-stepSymbol c bit = pick (eqb (stepNumber c) 0) (symbolStep c (indicator bit)) None
+stepSymbol c bit = pick (eqb (stepNumber c) 0) (symbolBy (modeOf (c .rate)) c (indicator bit)) None
 
 -- ---- one block
 
@@ -72,13 +72,8 @@ symbolCount c = symbolCountBy (modeOf (c .rate)) c
 
 abbrev pub innerEncodeNumber : InnerCoder → List ℕ → List ℕ → ℕ
 innerEncodeNumber c block output =
-    firstDue (
-    unless (coderInRange c) 5
-    ∷ unless (modeOf (c .rate) .sent) 6
-    ∷ unless (eqb (length block) 204) 3
-    ∷ when (ltb (length output) (length (blockSymbols c block))) 4
-    ∷ []
-    )
+    firstDue (unless (coderInRange c) 5 ∷ unless (modeOf (c .rate) .sent) 6
+    ∷ unless (eqb (length block) 204) 3 ∷ when (ltb (length output) (length (blockSymbols c block))) 4 ∷ [])
 
 abbrev pub encodeCoder : InnerCoder → List ℕ → List ℕ → InnerCoder
 encodeCoder c block output = pick (eqb (innerEncodeNumber c block output) 0) (blockCoder c block) c

@@ -51,12 +51,6 @@ coderInRange c = pick (ltb (c .rate) modeCount) (inRangeBy (modeOf (c .rate)) c)
 abbrev pub CoderInRange : InnerCoder → Type 0
 CoderInRange c = InRangeBy (modeOf (c .rate)) c
 
-abbrev pub coderStep : InnerCoder → ℕ → InnerCoder
-coderStep c = stepBy (modeOf (c .rate)) c
-
-abbrev pub symbolStep : InnerCoder → ℕ → Symbol
-symbolStep c = symbolBy (modeOf (c .rate)) c
-
 abbrev pub symbolsOf : InnerCoder → List ℕ → List ℕ
 symbolsOf c = symbolsBy (modeOf (c .rate)) c
 

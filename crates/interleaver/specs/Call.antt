@@ -14,13 +14,7 @@ use Rattle.interleaver.specs.declared.branches.Branches.{Branches}
 
 -- the number of the answer, by the tests in the order of document 01
 abbrev pub passNumber : Side → Branches → List ℕ → List ℕ → ℕ
-passNumber side s block output =
-    firstDue (
-    unless (branchesInRange side s) 5
-    ∷ unless (eqb (length block) 204) 3
-    ∷ when (ltb (length output) 204) 4
-    ∷ []
-    )
+passNumber side s block output = firstDue (unless (branchesInRange side s) 5 ∷ unless (eqb (length block) 204) 3 ∷ when (ltb (length output) 204) 4 ∷ [])
 
 -- the state and the output after the call
 abbrev pub passBranches : Side → Branches → List ℕ → List ℕ → Branches

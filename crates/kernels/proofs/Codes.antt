@@ -11,7 +11,7 @@ use borrow.Rule.Slice.PartMut.{putMid, midOf}
 use lib.ListN.{length, take, drop, length-append, length-drop}
 use lib.Seq.{length-take-le}
 use Rattle.puncturing.specs.Step.{symbolList}
-use Rattle.inner_code.specs.Step.{CoderInRange, symbolsBy, symbolStep, coderStep, symbolsOf}
+use Rattle.inner_code.specs.Step.{CoderInRange, stepBy, symbolBy, symbolsBy, symbolsOf}
 use Rattle.common.specs.Lists.{chunksOf}
 use Rattle.common.proofs.Computed as computed
 use Rattle.common.proofs.Chunks.{chunks-whole}
@@ -39,8 +39,8 @@ symbols-few : (c : InnerCoder) (bits : List ℕ) → length (symbolsOf c bits) �
 unfolding symbolsBy
 symbols-few c [] = omega arith
 symbols-few c (b ∷ bs) =
-    let r = symbols-few (coderStep c b) bs in
-    omega (arith, at-most-one (symbolStep c b), length-append (symbolList (symbolStep c b)) (symbolsOf (coderStep c b) bs))
+    let r = symbols-few (stepBy (modeOf (c .rate)) c b) bs in
+    omega (arith, at-most-one (symbolBy (modeOf (c .rate)) c b), length-append (symbolList (symbolBy (modeOf (c .rate)) c b)) (symbolsOf (stepBy (modeOf (c .rate)) c b) bs))
 
 bits-few : (r : ℕ) → r < modeCount → blockBits r ≤ 1632
 unfolding blockBitsBy modeOf

@@ -90,14 +90,8 @@ pub record TakesOne (v : LockReceiver) (block output lines : List ℕ) (r : Lock
 -- eight packets and eight lines, 7 where the block cannot be counted; 0 where none refuses.
 abbrev pub lockRefusal : LockReceiver → List ℕ → List ℕ → List ℕ → ℕ
 lockRefusal v block output lines =
-    firstDue (
-    unless (lockInRange v) 5
-    ∷ unless (eqb (length block) 204) 3
-    ∷ when (ltb (length output) 1504) 4
-    ∷ when (ltb (length lines) 8) 4
-    ∷ unless (ltb (v .receiver .counts .taken) 4294967295) 7
-    ∷ []
-    )
+    firstDue (unless (lockInRange v) 5 ∷ unless (eqb (length block) 204) 3 ∷ when (ltb (length output) 1504) 4
+    ∷ when (ltb (length lines) 8) 4 ∷ unless (ltb (v .receiver .counts .taken) 4294967295) 7 ∷ [])
 
 -- a block that no test refuses
 pub record LockReady (v : LockReceiver) (block output lines : List ℕ) : Type 0 where

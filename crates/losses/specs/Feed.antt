@@ -92,13 +92,8 @@ pub record WritesLines (lines output : List ℕ) (count : ℕ) (exit : List ℕ)
 -- 4 where there is not room for a line for each packet that waits and each block that is whole then, 7 where not all the bytes can be taken.
 abbrev pub lossFeedNumber : LossStream → List ℕ → List ℕ → List ℕ → ℕ
 lossFeedNumber i piece marks output =
-    firstDue (
-    unless (lossStreamInRange i) 5
-    ∷ unless (marksFit piece marks) 20
-    ∷ when (ltb (length output) (waitingOf (i .certainty) + (i .held + length piece) / 204)) 4
-    ∷ when (ltb (capacityOf i) (length piece)) 7
-    ∷ []
-    )
+    firstDue (unless (lossStreamInRange i) 5 ∷ unless (marksFit piece marks) 20
+    ∷ when (ltb (length output) (waitingOf (i .certainty) + (i .held + length piece) / 204)) 4 ∷ when (ltb (capacityOf i) (length piece)) 7 ∷ [])
 
 -- what feeding promises: all as before, or the whole piece taken
 pub data FeedsLosses (i : LossStream) (piece marks output : List ℕ) (number count : ℕ) (next : LossStream) (exit : List ℕ) : Type 0 where

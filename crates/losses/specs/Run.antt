@@ -13,12 +13,7 @@ use Rattle.losses.specs.History.{LossList}
 -- 7 where not all the blocks can be counted.
 abbrev pub listNumber : List ℕ → List ℕ → List ℕ → ℕ
 listNumber bytes marks output =
-    firstDue (
-    unless (marksFit bytes marks) 20
-    ∷ when (ltb (length output) (length bytes / 204)) 4
-    ∷ when (ltb (204 * 4294967295) (length bytes)) 7
-    ∷ []
-    )
+    firstDue (unless (marksFit bytes marks) 20 ∷ when (ltb (length output) (length bytes / 204)) 4 ∷ when (ltb (204 * 4294967295) (length bytes)) 7 ∷ [])
 
 -- all as before, or the list of the recording at the front of the output
 pub data ListsRecording (bytes marks output : List ℕ) (number count : ℕ) (exit : List ℕ) : Type 0 where

@@ -23,13 +23,7 @@ derandomized place packet = 0x47 ∷ drop 1 (randomized place packet)
 -- the number of the answer, by the tests in the order of document 01
 abbrev pub randomizeNumber : ℕ → List ℕ → List ℕ → ℕ
 randomizeNumber place packet output =
-    firstDue (
-    when (ltb 7 place) 5
-    ∷ unless (eqb (length packet) 188) 1
-    ∷ unless (eqb (getD packet 0 0) 0x47) 2
-    ∷ when (ltb (length output) 188) 4
-    ∷ []
-    )
+    firstDue (when (ltb 7 place) 5 ∷ unless (eqb (length packet) 188) 1 ∷ unless (eqb (getD packet 0 0) 0x47) 2 ∷ when (ltb (length output) 188) 4 ∷ [])
 
 abbrev pub derandomizeNumber : ℕ → List ℕ → List ℕ → ℕ
 derandomizeNumber place packet output = firstDue (when (ltb 7 place) 5 ∷ unless (eqb (length packet) 188) 1 ∷ when (ltb (length output) 188) 4 ∷ [])

@@ -13,7 +13,7 @@ use Rattle.puncturing.specs.Mode.{modeOf, qpskCount}
 use Rattle.puncturing.specs.Step.{nextPlace, heldCount, symbolList, punctured, heldAfter, puncturedBy, heldBy, heldCountBy}
 use Rattle.branch_metrics.specs.Steps.{kind}
 use Rattle.puncturing.proofs.Places.{end, _&_, Everywhere, everywhere}
-use Rattle.inner_code.specs.Step.{CoderInRange, coderStep, symbolStep, symbolsOf, coderAfter, symbolsBy, coderBy}
+use Rattle.inner_code.specs.Step.{CoderInRange, stepBy, symbolBy, symbolsOf, coderAfter, symbolsBy, coderBy}
 use Rattle.inner_code.specs.declared.InnerCoder.{InnerCoder}
 use Rattle.inner_code.proofs.Coder.{step-in-range}
 
@@ -76,16 +76,16 @@ stream-symbols c g q none = append-nil (holding (c .rate) (c .place) (c .held))
 stream-symbols c g q (more {b} {l} h t) =
     let x = coded tapsX (c .memory) b in
     let y = coded tapsY (c .memory) b in
-    let d = coderStep c b in
-    let one : holding (c .rate) (c .place) (c .held) ++ put (kind (c .rate) (c .place)) x y ≡ flat (symbolList (symbolStep c b)) ++ holding (d .rate) (d .place) (d .held)
+    let d = stepBy (modeOf (c .rate)) c b in
+    let one : holding (c .rate) (c .place) (c .held) ++ put (kind (c .rate) (c .place)) x y ≡ flat (symbolList (symbolBy (modeOf (c .rate)) c b)) ++ holding (d .rate) (d .place) (d .held)
     = everywhere Serial serial (c .rate) (c .place) q (g .place) x y (c .held) (coded-lt tapsX (c .memory) b) (coded-lt tapsY (c .memory) b) in
     let rest = stream-symbols d (step-in-range c b g h) q t in
     sym (append-assoc (holding (c .rate) (c .place) (c .held)) (put (kind (c .rate) (c .place)) x y) (stream (d .rate) (d .place) (d .memory) l))
     ∙ (ap (λ (s : List ℕ). s ++ stream (d .rate) (d .place) (d .memory) l) one
-    ∙ (append-assoc (flat (symbolList (symbolStep c b))) (holding (d .rate) (d .place) (d .held)) (stream (d .rate) (d .place) (d .memory) l)
-    ∙ (ap (λ (s : List ℕ). flat (symbolList (symbolStep c b)) ++ s) rest
-    ∙ (sym (append-assoc (flat (symbolList (symbolStep c b))) (flat (symbolsOf d l)) (holding (d .rate) (coderAfter d l .place) (coderAfter d l .held)))
-    ∙ ap (λ (s : List ℕ). s ++ holding (d .rate) (coderAfter d l .place) (coderAfter d l .held)) (sym (flat-append (symbolList (symbolStep c b)) (symbolsOf d l)))))))
+    ∙ (append-assoc (flat (symbolList (symbolBy (modeOf (c .rate)) c b))) (holding (d .rate) (d .place) (d .held)) (stream (d .rate) (d .place) (d .memory) l)
+    ∙ (ap (λ (s : List ℕ). flat (symbolList (symbolBy (modeOf (c .rate)) c b)) ++ s) rest
+    ∙ (sym (append-assoc (flat (symbolList (symbolBy (modeOf (c .rate)) c b))) (flat (symbolsOf d l)) (holding (d .rate) (coderAfter d l .place) (coderAfter d l .held)))
+    ∙ ap (λ (s : List ℕ). s ++ holding (d .rate) (coderAfter d l .place) (coderAfter d l .held)) (sym (flat-append (symbolList (symbolBy (modeOf (c .rate)) c b)) (symbolsOf d l)))))))
 
 -- the coded bits are bits
 pub stream-bits : (rate place m : ℕ) (bits : List ℕ) → Bits (stream rate place m bits)

@@ -43,16 +43,8 @@ sound is qs lost = pick (eqb (length qs) (length is)) (pick (eqb (length lost) (
 -- whole patterns, 13 where the run has more than 1,632 bits, 14 where the symbols do not pass, 4 for short room.
 abbrev pub answerNumber : ℕ → ℕ → Bool → ℕ → Bool → ℕ → ℕ
 answerNumber rate memory lists n symbols space =
-    firstDue (
-    unless (ltb rate qpskCount) 6
-    ∷ unless (ltb memory 64) 5
-    ∷ unless lists 24
-    ∷ unless (eqb (n % symbolsPerPattern rate) 0) 12
-    ∷ when (ltb 1632 (runBits rate n)) 13
-    ∷ unless symbols 14
-    ∷ when (ltb space (runBits rate n)) 4
-    ∷ []
-    )
+    firstDue (unless (ltb rate qpskCount) 6 ∷ unless (ltb memory 64) 5 ∷ unless lists 24 ∷ unless (eqb (n % symbolsPerPattern rate) 0) 12
+    ∷ when (ltb 1632 (runBits rate n)) 13 ∷ unless symbols 14 ∷ when (ltb space (runBits rate n)) 4 ∷ [])
 
 -- of hard decisions, which come as one list of symbols
 abbrev pub readNumber : ℕ → ℕ → List ℕ → List ℕ → ℕ

@@ -120,14 +120,8 @@ outputAfter OutOfStep left output = output
 -- the tests before the work, in the order of documents 01 and 02; 0 where none refuses
 abbrev pub receiveRefusal : Receiver → List ℕ → List ℕ → List ℕ → ℕ
 receiveRefusal s block marks output =
-    firstDue (
-    unless (receiverInRange s) 5
-    ∷ unless (eqb (length block) 204) 3
-    ∷ unless (areMarks marks) 20
-    ∷ when (ltb (length output) 188) 4
-    ∷ unless (ltb (s .counts .taken) 4294967295) 7
-    ∷ []
-    )
+    firstDue (unless (receiverInRange s) 5 ∷ unless (eqb (length block) 204) 3 ∷ unless (areMarks marks) 20
+    ∷ when (ltb (length output) 188) 4 ∷ unless (ltb (s .counts .taken) 4294967295) 7 ∷ [])
 
 -- a call that no test refuses
 pub record Ready (s : Receiver) (block marks output : List ℕ) : Type 0 where

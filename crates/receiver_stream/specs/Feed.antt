@@ -47,13 +47,8 @@ pub record ReceivesPiece (i : ReceiverStream) (piece marks output : List ℕ) (c
 -- is not room for a packet for each block that is whole then, 7 where not all the bytes can be taken; 0 where none refuses.
 abbrev pub receiverFeedNumber : ReceiverStream → List ℕ → List ℕ → List ℕ → ℕ
 receiverFeedNumber i piece marks output =
-    firstDue (
-    unless (receiverStreamInRange i) 5
-    ∷ unless (marksFor piece marks) 20
-    ∷ when (ltb (length output) (188 * ((i .held + length piece) / 204))) 4
-    ∷ when (ltb (capacityOf i) (length piece)) 7
-    ∷ []
-    )
+    firstDue (unless (receiverStreamInRange i) 5 ∷ unless (marksFor piece marks) 20
+    ∷ when (ltb (length output) (188 * ((i .held + length piece) / 204))) 4 ∷ when (ltb (capacityOf i) (length piece)) 7 ∷ [])
 
 -- what feeding promises: all as before, or the whole piece taken
 pub data FeedsReceiver (i : ReceiverStream) (piece marks output : List ℕ) (number count : ℕ) (next : ReceiverStream) (exit : List ℕ) : Type 0 where

@@ -21,12 +21,7 @@ blockCount bytes = length bytes / 204
 -- the tests before the work, in the order of document 02; 0 where none refuses
 abbrev pub blockRefusal : List ℕ → ℕ → ℕ → List ℕ → ℕ
 blockRefusal bytes blocks p output =
-    firstDue (
-    unless (eqb blocks (blockCount bytes)) 5
-    ∷ when (ltb (min blocks 4294967295) (p + 12)) 16
-    ∷ when (ltb (length output) 204) 4
-    ∷ []
-    )
+    firstDue (unless (eqb blocks (blockCount bytes)) 5 ∷ when (ltb (min blocks 4294967295) (p + 12)) 16 ∷ when (ltb (length output) 204) 4 ∷ [])
 
 -- the output after the work: a codeword is written to its front
 abbrev pub outputWith : Decoded → List ℕ → List ℕ → List ℕ

@@ -44,10 +44,8 @@ givenBytes number = pick (eqb number 0) 188 0
 -- a packet for each whole block, 7 where not all of them can be counted; 0 where none refuses.
 abbrev pub recordingTests : Receiver → List ℕ → List ℕ → List Test
 recordingTests s bytes output =
-    unless (receiverInRange s) 5
-    ∷ when (ltb (length output) (188 * (length bytes / 204))) 4
-    ∷ when (ltb (4294967295 - s .counts .taken) (length bytes / 204)) 7
-    ∷ []
+    unless (receiverInRange s) 5 ∷ when (ltb (length output) (188 * (length bytes / 204))) 4
+    ∷ when (ltb (4294967295 - s .counts .taken) (length bytes / 204)) 7 ∷ []
 
 abbrev pub recordingNumber : Receiver → List ℕ → List ℕ → ℕ
 recordingNumber s bytes output = firstDue (recordingTests s bytes output)

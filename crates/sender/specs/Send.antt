@@ -60,13 +60,7 @@ isSent t s = t (s .coder .rate) .sent
 -- 0 where nothing is.
 abbrev pub sendRefusal : (ℕ → Mode) → Sender → List ℕ → List ℕ → ℕ
 sendRefusal t s input output =
-    firstDue (
-    unless (senderInRange t s) 5
-    ∷ unless (isSent t s) 6
-    ∷ unless (isInput input) 1
-    ∷ when (ltb (length output) (sentCount t s)) 4
-    ∷ []
-    )
+    firstDue (unless (senderInRange t s) 5 ∷ unless (isSent t s) 6 ∷ unless (isInput input) 1 ∷ when (ltb (length output) (sentCount t s)) 4 ∷ [])
 
 -- the number of the answer: the refusal, or else which packet was sent
 abbrev pub sendNumber : (ℕ → Mode) → Sender → List ℕ → List ℕ → ℕ

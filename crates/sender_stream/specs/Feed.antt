@@ -53,13 +53,8 @@ fedSenderStream w piece = holding (callsSender modeOf (w .sender) (packetsFor (w
 -- each packet that is whole; 0 where nothing is refused
 abbrev pub senderFeedNumber : SenderStream → List ℕ → List ℕ → List ℕ → ℕ
 senderFeedNumber w piece output answers =
-    firstDue (
-    unless (senderStreamInRange w) 5
-    ∷ unless (isSent modeOf (w .sender)) 6
-    ∷ when (ltb (length output) (length (fedSymbols w piece))) 4
-    ∷ when (ltb (length answers) (wholeCount w piece)) 4
-    ∷ []
-    )
+    firstDue (unless (senderStreamInRange w) 5 ∷ unless (isSent modeOf (w .sender)) 6
+    ∷ when (ltb (length output) (length (fedSymbols w piece))) 4 ∷ when (ltb (length answers) (wholeCount w piece)) 4 ∷ [])
 
 -- what the tests tell
 pub record OutputsFit (w : SenderStream) (piece output answers : List ℕ) : Type 0 where

@@ -33,12 +33,7 @@ pub record Sendable (rate : ℕ) (bytes output : List ℕ) : Type 0 where
 -- 4 where the output is too short for all the symbols; 0 where nothing is.
 abbrev pub runRefusal : ℕ → List ℕ → List ℕ → ℕ
 runRefusal rate bytes output =
-    firstDue (
-    unless (modeOf rate .sent) 6
-    ∷ unless (eqb (length bytes % 188) 0) 1
-    ∷ when (ltb (length output) (length (runSymbols rate bytes))) 4
-    ∷ []
-    )
+    firstDue (unless (modeOf rate .sent) 6 ∷ unless (eqb (length bytes % 188) 0) 1 ∷ when (ltb (length output) (length (runSymbols rate bytes))) 4 ∷ [])
 
 -- the number of the answer: the refusal, or else 15 where a null packet was put in
 abbrev pub runNumber : ℕ → List ℕ → List ℕ → ℕ
