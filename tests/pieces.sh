@@ -33,7 +33,7 @@ report_of() {
     cat part | "$bin/pass_report" | cmp - wanted || fail "report of $1 bytes of $2 through a pipe"
 }
 for n in 0 1 203 204 205 2244 65535 65536 65537 130559 130560 130561 131071 131072 131073 244743; do report_of "$n" recording; done
-for n in 2448 2449 2651; do report_of "$n" /dev/zero; done
+for n in 2448 2449 2651 2752; do report_of "$n" /dev/zero; done
 report_of 8013 "$OLDPWD/reference/tests/data/recording"
 echo "reports at the ends of the buffers: as the reference's"
 
