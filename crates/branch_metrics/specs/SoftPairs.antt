@@ -10,6 +10,7 @@ use Rattle.common.specs.Choice.{pick}
 use Rattle.branch_metrics.specs.Level.{levelOf}
 use Rattle.branch_metrics.specs.Cost.{received}
 use Rattle.branch_metrics.specs.declared.soft_decision.ReceivedSymbol.{ReceivedSymbol}
+use Rattle.branch_metrics.specs.declared.soft_decision.Point.{Point}
 use Rattle.branch_metrics.specs.declared.soft_decision.ReceivedSymbol.the-variants.{At, Lost}
 
 -- the decision on a number: its level, or 8 for a NaN, of which nothing is known
@@ -20,8 +21,12 @@ numberDecision x = cond (isNan x) 8 (levelOf x)
 abbrev pub marked : ℕ → ℕ → ℕ
 marked mark d = pick (eqb mark 0) d 8
 
+-- those on I and Q of a point as one number
+abbrev pub pointLevels : Point → ℕ
+pointLevels p = 9 * numberDecision (p .i) + numberDecision (p .q)
+
 unfoldable pub symbolPair : ReceivedSymbol → ℕ
-symbolPair (At p) = 9 * numberDecision (p .i) + numberDecision (p .q)
+symbolPair (At p) = pointLevels p
 symbolPair Lost = 80
 
 -- the symbol at a place of three lists

@@ -7,7 +7,7 @@ ghost use lib.Ieee.{le, nan, isNan};
 ghost use lib.ListN.{length, getD};
 ghost use Rattle.common.specs.Choice.{indicator};
 ghost use Rattle.branch_metrics.specs.Level.{levelOf};
-ghost use Rattle.branch_metrics.specs.SoftPairs.{numberDecision, marked, symbolPair, symbolAt};
+ghost use Rattle.branch_metrics.specs.SoftPairs.{pointLevels, numberDecision, marked, symbolPair, symbolAt};
 use common::put;
 
 // A received point.
@@ -64,12 +64,19 @@ fn number_decision(x: f32) -> u8
     decision(x, 0, number_level(x))
 }
 
-// The decisions on I and Q of a received symbol as one number, 9 i + q.
+// The decisions on I and Q of a point as one number, 9 i + q: each is the level of its number, or 8 for a NaN.
+fn point_levels(point: Point) -> u8
+    ensures { λ r. ⌜ r ≡ pointLevels point ⌝ }
+{
+    9 * number_decision(point.i) + number_decision(point.q)
+}
+
+// The decisions on a received symbol, in the same way.
 fn symbol_pair(symbol: ReceivedSymbol) -> u8
     ensures { λ r. ⌜ r ≡ symbolPair symbol ⌝ }
 {
     match symbol {
-        ReceivedSymbol::At(point) => 9 * number_decision(point.i) + number_decision(point.q),
+        ReceivedSymbol::At(point) => point_levels(point),
         ReceivedSymbol::Lost => 80,
     }
 }
