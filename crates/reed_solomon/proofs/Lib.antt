@@ -6,7 +6,7 @@ pub mod MarkedDistance
 pub mod LongDivision
 mod SparseMultiple
 mod SparseDivision
-mod DivisionInPlace
+mod GroupDivision
 mod Residue
 mod Erasures
 mod Completeness

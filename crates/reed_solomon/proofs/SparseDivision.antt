@@ -212,7 +212,7 @@ module _ (x : Fin 256) where
       ∙ spread-identity bytes (power (ops bytes) x (84 - d)) (total ds) (high x q) (high x z)
 
   -- leading zeros do not count
-  high-leading : (n : ℕ) (l : List ℕ) → high x (replicate n 0 ++ l) ≡ high x l
+  pub high-leading : (n : ℕ) (l : List ℕ) → high x (replicate n 0 ++ l) ≡ high x l
   high-leading n l =
       high-append x (replicate n 0) l
       ∙ ap (λ (u : Fin 256). bytes .add (high x l) (bytes .mul (power (ops bytes) x (length l)) u)) (high-zeros x n)
@@ -348,12 +348,12 @@ laid-out l m h e =
         ap (drop (8 + length l)) (zeros-split (8 + length l) (216 - length l) 224 (omega arith))
         ∙ drop-at (replicate (8 + length l) 0) (replicate (216 - length l) 0) (8 + length l) (length-replicate {A = ℕ} (8 + length l) 0)
 
-pub divided-values : (l m q p s r : List ℕ) → length l ≤ 204 → m ≡ take 8 (replicate 224 0) ++ l ++ drop (8 + length l) (replicate 224 0)
-    → length m ≡ 224 → length q ≡ 320 → length p ≡ 96 → SparseQuotient m q 128 → SparseRemainder m q p 96 → SameValues (take 16 (drop 68 s)) (take 84 p) → r ≡ take 16 (drop 68 s)
+pub divided-values : (l m q p r : List ℕ) → length l ≤ 204 → m ≡ take 8 (replicate 224 0) ++ l ++ drop (8 + length l) (replicate 224 0)
+    → length m ≡ 224 → length q ≡ 320 → length p ≡ 96 → SparseQuotient m q 128 → SparseRemainder m q p 96 → SameValues r (take 84 p)
     → SameValues r (l ++ replicate (204 - length l) 0)
-divided-values l m q p s r h e lm lq lp Q R D f =
+divided-values l m q p r h e lm lq lp Q R D =
     record {
       each = λ j b.
-          ap (high (alpha j)) f ∙ D .each j b ∙ sparse-values m q p lm lq lp Q R j b ∙ ap (high (alpha j)) (laid-out l m h e)
+          D .each j b ∙ sparse-values m q p lm lq lp Q R j b ∙ ap (high (alpha j)) (laid-out l m h e)
           ∙ high-leading (alpha j) 8 (l ++ replicate (204 - length l) 0);
     }

@@ -4,7 +4,7 @@
 use mathlib.Core.Path.{_≡_}
 use mathlib.Core.Bool.{Bool, true, false}
 use mathlib.Core.List.{List, [], _∷_}
-use Prim.Native.Nat.{ℕ, _+_, _-_, _≤_, _<_}
+use Prim.Native.Nat.{ℕ, zero, suc, _+_, _-_, _/_, _%_, _^_, _≤_, _<_, Fin}
 use lib.Bits.{bitXor}
 use lib.Dec.{eqb}
 use lib.ListN.{length, getD, take, drop}
@@ -15,7 +15,6 @@ use Rattle.algebra.proofs.Polynomial.{fromRoots}
 use Rattle.algebra.proofs.Syndromes.{dot}
 use Rattle.galois.specs.Field256.{numbers}
 use Rattle.galois.proofs.Instance.{bytes, byte}
-use Rattle.galois.specs.Lanes.{productsOf}
 use Rattle.galois.proofs.Elements.{word, elements, alpha}
 use Rattle.reed_solomon.specs.Encode.{checkBytes}
 
@@ -44,9 +43,36 @@ pub record SparseQuotient (m q : List ℕ) (i : ℕ) : Type 0 where
 pub record SparseRemainder (m q r : List ℕ) (i : ℕ) : Type 0 where
   pub each : (k : ℕ) → k < i → getD r k 0 ≡ delayedSum delays q (212 + k) (getD m (128 + k) 0)
 
--- s, and lane by lane the products of two rows
-unfoldable pub reducedOf : List ℕ → List ℕ → List ℕ → List ℕ → List ℕ → List ℕ
-reducedOf s f following g generator = plus numbers (plus numbers s (productsOf following f)) (productsOf generator g)
+-- bit i of a number
+abbrev pub bitOf : ℕ → ℕ → ℕ
+bitOf i x = x / 2 ^ i % 2
+
+-- f c_0 l_n + f c_1 l_(n - 1) + .., a term for each factor c
+unfoldable pub backSum : (ℕ → ℕ) → List ℕ → List ℕ → ℕ → Fin 256
+backSum f [] l n = bytes .𝟘
+backSum f (c ∷ cs) l n = bytes .add (bytes .mul (byte (f c)) (byte (getD l n 0))) (backSum f cs l (n - 1))
+
+-- coefficient n of the product of two polynomials, the highest coefficient being coefficient 0: c_0 f_n + c_1 f_(n - 1) + .. + c_n f_0
+unfoldable pub coefficient : List ℕ → (ℕ → Fin 256) → ℕ → Fin 256
+coefficient [] f n = bytes .𝟘
+coefficient (c ∷ cs) f zero = bytes .mul (byte c) (f zero)
+coefficient (c ∷ cs) f (suc n) = bytes .add (bytes .mul (byte c) (f (suc n))) (coefficient cs f n)
+
+-- the quotient of x^31 by g
+abbrev pub reciprocal : List ℕ
+reciprocal = 0x01 ∷ 0x3B ∷ 0x21 ∷ 0x72 ∷ 0x29 ∷ 0x0A ∷ 0x33 ∷ 0x1B ∷ 0xFA ∷ 0xC5 ∷ 0x88 ∷ 0x5D ∷ 0x27 ∷ 0xCC ∷ 0x6B ∷ 0xED ∷ []
+
+-- g below x^16
+abbrev pub tail : List ℕ
+tail = 0x3B ∷ 0x0D ∷ 0x68 ∷ 0xBD ∷ 0x44 ∷ 0xD1 ∷ 0x1E ∷ 0x08 ∷ 0xA3 ∷ 0x41 ∷ 0x29 ∷ 0xE5 ∷ 0x62 ∷ 0x32 ∷ 0x24 ∷ 0x3B ∷ []
+
+-- q is v times that quotient, its sixteen highest coefficients
+pub record ShortQuotient (v q : List ℕ) : Type 0 where
+  pub each : (n : ℕ) → n < 16 → byte (getD q n 0) ≡ coefficient reciprocal (λ k. byte (getD v k 0)) n
+
+-- r is w and the sixteen lowest coefficients of q times g, which x^16 times q does not reach
+pub record WithProduct (w q r : List ℕ) : Type 0 where
+  pub each : (n : ℕ) → n < 16 → byte (getD r n 0) ≡ bytes .add (byte (getD w n 0)) (coefficient tail (λ k. byte (getD q k 0)) (15 + n))
 
 -- the same values at the sixteen roots of g
 pub record SameValues (a b : List ℕ) : Type 0 where

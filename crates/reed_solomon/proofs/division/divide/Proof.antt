@@ -1,51 +1,45 @@
--- `reed_solomon::division::divide` meets its contract: after i turns what is left from i on has the values that came.
+-- `reed_solomon::division::divide` meets its contract: after i coefficients what is left has their values.
 -- Assumes nothing.
-use mathlib.Core.Path.{_≡_, refl, ap, _∙_}
-use mathlib.Core.List.{List}
-use Prim.Native.Nat.{ℕ, _+_, _-_, _%_, _≤_}
+use mathlib.Core.Path.{_≡_}
+use Prim.Native.Nat.{_-_, _%_, _≤_}
 use native.Mathlib.Omega.{arith}
-use lib.ListN.{length, getD, take, drop, replicate}
-use Rattle.reed_solomon.specs.Steps.{reducedOf, SameValues}
-use Rattle.reed_solomon.proofs.DivisionInPlace.{one, two, same-values, divide-more}
+use lib.ListN.{take}
+use lib.Seq.{length-take-le}
+use Rattle.reed_solomon.specs.Steps.{SameValues}
+use Rattle.reed_solomon.proofs.GroupDivision.{horner-none, horner-more}
 use borrow.Author.Needs.{needs}
 use Rattle.reed_solomon.proofs.division.divide.Statement.{statement}
 use Rattle.reed_solomon.proofs.division.divide.Tie as tie
 
 abbrev Inv-loop : tie.InvT-loop
-Inv-loop p₀ i₀ p i = (i ≤ 68) × (i % 2 ≡ 0) × (length p ≡ length p₀) × SameValues (take (84 - i) (drop i p)) (take 84 p₀)
+Inv-loop p r₀ i₀ r i = (i ≤ 84) × (i % 16 ≡ 4) × SameValues r (take i p)
 
 abbrev μ-loop : tie.MeasureT-loop
-μ-loop p₀ i₀ p i = 68 - i
+μ-loop p r₀ i₀ r i = 84 - i
+
+sub-put : tie.Need-sub-put Inv-loop μ-loop
+sub-put c = search needs
+
+part-put-start : tie.Need-part-put-start Inv-loop μ-loop
+part-put-start c = search needs
+
+part-put-end : tie.Need-part-put-end Inv-loop μ-loop
+part-put-end c = search needs
+
+slice-aggregate-put : tie.Need-slice-aggregate-put Inv-loop μ-loop
+slice-aggregate-put c = search needs
+
+put-requires : tie.Need-put-requires Inv-loop μ-loop
+put-requires c κs = omega (arith, length-take-le 4 (c .before .before .before .args .p .now) (search needs))
 
 loop-holds : tie.Need-loop-holds Inv-loop μ-loop
-loop-holds c = (search needs, refl, refl, same-values _)
-
-slice-read-f : tie.Need-slice-read-f Inv-loop μ-loop
-slice-read-f c = search needs
-
-add-g : tie.Need-add-g Inv-loop μ-loop
-add-g c = search needs
-
-slice-read-g : tie.Need-slice-read-g Inv-loop μ-loop
-slice-read-g c = search needs
-
-add-sixteen : tie.Need-add-sixteen Inv-loop μ-loop
-add-sixteen c = search needs
+loop-holds c = (search needs, search needs, horner-none (c .before .before .before .before .before .args .p .now) _ (search needs) (c .before .put .ensures))
 
 sixteen-requires : tie.Need-sixteen-requires Inv-loop μ-loop
 sixteen-requires c κs = search needs
 
 reduced-requires : tie.Need-reduced-requires Inv-loop μ-loop
 reduced-requires c κs = search needs
-
-slice-aggregate-put : tie.Need-slice-aggregate-put Inv-loop μ-loop
-slice-aggregate-put c = search needs
-
-add-put : tie.Need-add-put Inv-loop μ-loop
-add-put c = search needs
-
-put-requires : tie.Need-put-requires Inv-loop μ-loop
-put-requires c κs = search needs
 
 add-i : tie.Need-add-i Inv-loop μ-loop
 add-i c = search needs
@@ -55,25 +49,14 @@ loop-less c = search needs
 
 loop-again : tie.Need-loop-again Inv-loop μ-loop
 loop-again c =
-    let l = c .before .before .before .before .before .before .before .before .before .before .before .loop in
-    let p = l .p in
-    let e : c .before .before .before .before .before .reduced .result ≡ reducedOf (take 16 (drop (l .i + 2) p)) (replicate 16 (getD p (l .i) 0)) two (replicate 16 (getD p (l .i + 1) 0)) one =
-    c .before .before .before .before .before .reduced .ensures
-    ∙ ap (λ (w : List ℕ). reducedOf w (replicate 16 (getD p (l .i) 0)) two (replicate 16 (getD p (l .i + 1) 0)) one) (c .before .before .before .before .before .before .sixteen .ensures) in (
-      omega (arith, l .inv .0, l .inv .1),
-      omega (arith, l .inv .1),
-      c .before .before .put .kept .1 .1 .0 ∙ l .inv .2,
-      divide-more p _ _ _ (l .i) (omega (arith, l .inv .0, l .inv .1)) (omega (arith, l .inv .2, c .before .before .before .before .before .before .before .before .before .before .before .before .before .pre)) e (c .before .before .put .ensures) (l .inv .3),
-    )
-
-same-length : tie.Need-same-length Inv-loop μ-loop
-same-length c = search needs
+    let l = c .before .before .before .loop in
+    (omega (arith, l .inv .1), omega (arith, l .inv .1), horner-more _ (l .r) _ (c .before .sixteen .result) (l .i) (c .before .sixteen .ok .1 .0 .1) (c .before .sixteen .ensures) (c .reduced .ensures) (l .inv .2))
 
 returns : tie.Need-returns Inv-loop μ-loop
 returns c =
     let l = c .before .loop in
-    let e : l .i ≡ 68 = omega (arith, l .inv .0, l .inv .1) in
-    rw e at (l .inv .3)
+    let e : l .i ≡ 84 = omega (arith, l .inv .0, l .inv .1) in
+    rw e at (l .inv .2)
 
 pub divide-spec : {M : Type 1} → statement M
 divide-spec =
@@ -81,18 +64,15 @@ divide-spec =
     (tie.spec
     Inv-loop
     μ-loop
+    sub-put
+    part-put-start
+    part-put-end
+    slice-aggregate-put
+    put-requires
     loop-holds
-    slice-read-f
-    add-g
-    slice-read-g
-    add-sixteen
     sixteen-requires
     reduced-requires
-    slice-aggregate-put
-    add-put
-    put-requires
     add-i
     loop-less
     loop-again
-    same-length
     returns)

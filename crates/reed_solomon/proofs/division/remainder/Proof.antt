@@ -15,7 +15,7 @@ slice-aggregate-sparse-quotient : tie.Need-slice-aggregate-sparse-quotient
 slice-aggregate-sparse-quotient c = search needs
 
 sparse-quotient-requires : tie.Need-sparse-quotient-requires
-sparse-quotient-requires c κs = c .before .before .put .kept .1 .1 .0
+sparse-quotient-requires c κs = search needs
 
 slice-aggregate-sparse-remainder : tie.Need-slice-aggregate-sparse-remainder
 slice-aggregate-sparse-remainder c = search needs
@@ -24,7 +24,7 @@ slice-aggregate-sparse-remainder-2 : tie.Need-slice-aggregate-sparse-remainder-2
 slice-aggregate-sparse-remainder-2 c = search needs
 
 sparse-remainder-requires : tie.Need-sparse-remainder-requires
-sparse-remainder-requires c κs = (c .before .before .before .before .before .put .kept .1 .1 .0, c .before .before .sparse-quotient .ok .1 .0 .1)
+sparse-remainder-requires c κs = search needs
 
 slice-aggregate-divide : tie.Need-slice-aggregate-divide
 slice-aggregate-divide c = search needs
@@ -32,16 +32,12 @@ slice-aggregate-divide c = search needs
 divide-requires : tie.Need-divide-requires
 divide-requires c κs = search needs
 
-slice-aggregate-sixteen : tie.Need-slice-aggregate-sixteen
-slice-aggregate-sixteen c = search needs
-
-sixteen-requires : tie.Need-sixteen-requires
-sixteen-requires c κs = search needs
-
 returns : tie.Need-returns
 returns c =
-    let l = c .before .before .before .before .before .before .before .before .before .before .before .before .before .before .args .list .now in
-    divided-values l (c .before .before .before .before .before .before .before .before .before .before .before .put .last .1 .1 .0) (c .before .before .before .before .before .before .before .before .sparse-quotient .result) (c .before .before .before .before .before .sparse-remainder .result) (c .before .before .before .divide .last .0) (c .sixteen .result) (c .before .before .before .before .before .before .before .before .before .before .before .before .before .before .pre) (c .before .before .before .before .before .before .before .before .before .before .before .put .ensures) (c .before .before .before .before .before .before .before .before .before .before .before .put .kept .1 .1 .0) (c .before .before .before .before .before .before .before .before .sparse-quotient .ok .1 .0 .1) (c .before .before .before .before .before .sparse-remainder .ok .1 .0 .1) (c .before .before .before .before .before .before .before .before .sparse-quotient .ensures) (c .before .before .before .before .before .sparse-remainder .ensures) (c .before .before .before .divide .ensures) (c .sixteen .ensures)
+    let s = c .before .before in
+    let q = s .before .before .before in
+    let p = q .before .before .before in
+    divided-values (p .before .before .before .args .list .now) (p .put .last .1 .1 .0) (q .sparse-quotient .result) (s .sparse-remainder .result) (c .divide .result) (p .before .before .before .pre) (p .put .ensures) (p .put .kept .1 .1 .0) (q .sparse-quotient .ok .1 .0 .1) (s .sparse-remainder .ok .1 .0 .1) (q .sparse-quotient .ensures) (s .sparse-remainder .ensures) (c .divide .ensures)
 
 pub remainder-spec : {M : Type 1} → statement M
 remainder-spec =
@@ -56,6 +52,4 @@ remainder-spec =
     sparse-remainder-requires
     slice-aggregate-divide
     divide-requires
-    slice-aggregate-sixteen
-    sixteen-requires
     returns)
