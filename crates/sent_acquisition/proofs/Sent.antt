@@ -10,7 +10,7 @@ use Prim.{tt}
 use native.Mathlib.Omega.{arith}
 use borrow.Author.Tests.{eqb-true}
 use lib.Dec.{eqb, ltb, leb, eqb→eq, leb→le}
-use lib.ListN.{length, take, drop, length-append, length-map, take-append-drop}
+use lib.ListN.{length, take, drop, length-append, length-map, take-append-drop, length-take, length-drop}
 use lib.Seq.{length-take-le, take-append-seam, drop-append-add, drop-append-le}
 use Rattle.common.specs.Choice.{pick}
 use Rattle.common.specs.Lists.{All, Length}
@@ -28,7 +28,7 @@ use Rattle.reader.proofs.Streams.{take-bits, drop-bits}
 use Rattle.reader_stream.proofs.Runs.{all-take, all-drop}
 use Rattle.reader_stream.proofs.Unharmed.{WholeStream}
 use Rattle.symbol_turns.specs.Turn.{turned, turnClass, byPair}
-use Rattle.free_start.specs.Lead.{leadBits}
+use Rattle.free_start.specs.Lead.{leadBits, leadPatterns}
 use Rattle.free_start.proofs.FreeStream.{cut}
 use Rattle.node_search.specs.Hypotheses.{anyRate, searched}
 use Rattle.node_search.specs.Search.{Searches}
@@ -44,6 +44,7 @@ use Rattle.block_sync.specs.Decision.{turnedBits}
 use Rattle.block_sync.specs.Grid.{Unsynced}
 use Rattle.block_sync.specs.History.{GivenBlock}
 use Rattle.block_sync.specs.declared.BlockSync.{BlockSync}
+use Rattle.block_sync.proofs.Turning.{turned-length}
 use Rattle.sent_sync.specs.Sent.{bitsFrom, GivesSentSoFar}
 use Rattle.sent_sync.proofs.Bytes.{turned-append}
 use Rattle.sent_sync.proofs.Sent.{sent-so-far}
@@ -54,6 +55,8 @@ use Rattle.acquisition.specs.declared.Reading.{Reading}
 use Rattle.sent_acquisition.specs.Readings.{ReadingCame, ReadingClosed}
 use Rattle.sent_acquisition.specs.Right.{SentSymbols, lessHalf, hasHalf}
 use Rattle.sent_acquisition.specs.Sent.{SentStream, RightMirror, firstBit, bitsBefore}
+use Rattle.sent_acquisition.specs.Acquired.{Unfollowed}
+use Rattle.sent_acquisition.proofs.Lasting.{goes-on}
 use Rattle.sent_acquisition.proofs.Right.{right-reading, right-ended}
 
 -- ---- what was found
@@ -168,6 +171,16 @@ module _ (packets : List (List ℕ)) (ws : All Packet packets) (rate turn passed
 
   -- ---- from bits to blocks
 
+  before-size : (b : ℕ) → b ≤ length packets → length (bitsOf (flatten (take b (interleavedBlocks packets)))) ≡ 1632 * b
+  before-size b fit =
+      let blocks : List (List ℕ) = interleavedBlocks packets in
+      omega (
+        arith,
+        length-bits (flatten (take b blocks)),
+        length-flatten 204 (take b blocks) (All-take (Length 204) b blocks (interleaved-whole packets)),
+        length-take-le b blocks (omega (arith, interleaved-count packets)),
+      )
+
   -- the sender's bits from the first bit on: those before block b, and those of the blocks from b on
   bits-parted : (inverted : Bool) (b : ℕ) → firstBit rate passed ≤ 1632 * b → b ≤ length packets
       → turnedBits inverted (drop (firstBit rate passed) all) ≡ turnedBits inverted (drop (firstBit rate passed) (bitsOf (flatten (take b (interleavedBlocks packets))))) ++ bitsFrom inverted b packets
@@ -177,13 +190,7 @@ module _ (packets : List (List ℕ)) (ws : All Packet packets) (rate turn passed
       let back : List ℕ = bitsOf (flatten (drop b blocks)) in
       let two : all ≡ front ++ back =
       ap (λ (l : List (List ℕ)). bitsOf (flatten l)) (sym (take-append-drop b blocks)) ∙ (ap bitsOf (flatten-join (take b blocks) (drop b blocks)) ∙ bits-split (flatten (take b blocks)) (flatten (drop b blocks))) in
-      let size : length front ≡ 1632 * b =
-      omega (
-        arith,
-        length-bits (flatten (take b blocks)),
-        length-flatten 204 (take b blocks) (All-take (Length 204) b blocks (interleaved-whole packets)),
-        length-take-le b blocks (omega (arith, interleaved-count packets)),
-      ) in
+      let size : length front ≡ 1632 * b = before-size b fit in
       ap (λ (l : List ℕ). turnedBits inverted (drop (firstBit rate passed) l)) two
       ∙ (ap (turnedBits inverted) (drop-append-le (firstBit rate passed) front back (omega arith)) ∙ turned-append inverted (drop (firstBit rate passed) front) back)
 
@@ -240,3 +247,19 @@ module _ (packets : List (List ℕ)) (ws : All Packet packets) (rate turn passed
 
       pub packets-sent : {out : List (List ℕ)} → LocksTaken (locksOf given) out → out ≡ take (length given - 11 - beforeGroup b) (drop (b + beforeGroup b) packets)
       packets-sent l = packets-so-far packets ws b (hasHalf turn) (bitsBefore rate passed (hasHalf turn) b packets (c .bits)) (front .more) six u (front .whole) (c .aligned) l
+
+      -- Before the first block that is whole there are fewer bits than two decisions without a block skip, so none of its calls ends it.
+      pub reading-on : 1632 * b < firstBit rate passed + 1632 → {h : Hypothesis} {mirrored : Bool} {ended : Bool} → Unfollowed h mirrored first read given k ended → ended ≡ false
+      unfolding leadBits leadPatterns modeOf
+      reading-on near v =
+          let lead : leadBits rate ≤ 10 = leb→le _ _ (below-at (λ r. leb (leadBits r) 10) 5 tt rate hr) in
+          let between : List ℕ = drop (firstBit rate passed) (bitsOf (flatten (take b (interleavedBlocks packets)))) in
+          goes-on v c blocks-sent
+          (omega (
+            arith,
+            length-append (take (leadBits rate) (c .bits)) (turnedBits (hasHalf turn) between),
+            length-take (leadBits rate) (c .bits),
+            turned-length (hasHalf turn) between,
+            length-drop (firstBit rate passed) (bitsOf (flatten (take b (interleavedBlocks packets)))),
+            before-size b (omega arith),
+          ))

@@ -2,7 +2,7 @@
 -- began, its bits are the sender's, and so are its blocks and packets.
 -- Assumes nothing.
 use mathlib.Core.Path.{_≡_, sym, _∙_, ap, subst}
-use mathlib.Core.Bool.{Bool}
+use mathlib.Core.Bool.{Bool, false}
 use mathlib.Core.Logic.{_⊎_}
 use mathlib.Core.List.{List, _++_, map, append-assoc}
 use Prim.Native.Nat.{ℕ, _+_, _-_, _*_, _≤_, _<_}
@@ -34,9 +34,9 @@ use Rattle.acquisition.specs.declared.Reading.{Reading}
 use Rattle.sent_acquisition.specs.Readings.{ReadingCame, ReadingClosed}
 use Rattle.sent_acquisition.specs.Right.{lessHalf, hasHalf}
 use Rattle.sent_acquisition.specs.Sent.{SentStream, RightMirror, firstBit, bitsBefore}
-use Rattle.sent_acquisition.specs.Acquired.{ReadingOfThese}
+use Rattle.sent_acquisition.specs.Acquired.{ReadingOfThese, Unfollowed}
 use Rattle.sent_acquisition.proofs.Readings.{reading-came}
-use Rattle.sent_acquisition.proofs.Sent.{turn-right, search-true, bits-sent, bits-closed, blocks-closed, blocks-sent, packets-sent}
+use Rattle.sent_acquisition.proofs.Sent.{turn-right, search-true, bits-sent, bits-closed, blocks-closed, blocks-sent, packets-sent, reading-on}
 
 -- the symbols from a later one on are the same stream, cut there
 later-cut : {rate turn passed : ℕ} {packets : List (List ℕ)} (before received : List ℕ) → SentStream rate turn passed packets (before ++ received)
@@ -99,6 +99,11 @@ module _ (packets : List (List ℕ)) (ws : All Packet packets) (rate turn passed
 
     pub packets-acquired : {out : List (List ℕ)} → LocksTaken (locksOf these) out → out ≡ take (length these - 11 - beforeGroup b) (drop (b + beforeGroup b) packets)
     packets-acquired l = packets-sent packets ws rate turn passedBefore hr ht (r .received) from-window (r .enough) unread reading-true behind b whole six u l
+
+    -- Where that is the first whole block, the reading goes on as long as the stream does: no decision without a block ends it.
+    pub reading-lasts : 1632 * b < firstBit rate passedBefore + 1632 → {ended : Bool}
+        → Unfollowed (r .hypothesis) mirrored (length (r .before) + r .hypothesis .offset) (r .read) these k ended → ended ≡ false
+    reading-lasts near v = reading-on packets ws rate turn passedBefore hr ht (r .received) from-window (r .enough) unread reading-true behind b whole six u near v
 
   -- With the end, where six patterns came: it has the sender's bits up to the last whole pattern that it took, and of the blocks the same holds.
   module _ {last : List GivenBlock} {t : BlockSync} (e : ReadingClosed reading-true last t) (patterns : 6 * symbolsPerPattern rate ≤ length (r .read)) where

@@ -11,7 +11,9 @@ use Rattle.node_search.specs.Search.{Searches}
 use Rattle.node_search.specs.declared.Hypothesis.{Hypothesis}
 use Rattle.node_search.specs.declared.Search.the-variants.{Found}
 use Rattle.block_sync.specs.History.{GivenBlock}
-use Rattle.acquisition.specs.Step.{searchingOn, readingOn, freshAcquisition, AcquisitionReady, StepsAcquisition}
+use Rattle.acquisition.specs.Reading.{ReadsSymbols}
+use Rattle.acquisition.specs.Step.{searchingOn, readingOn, freshAcquisition, endsReading, AcquisitionReady, StepsAcquisition}
+use Rattle.acquisition.specs.declared.Event.the-variants.{Lost}
 use Rattle.acquisition.specs.declared.Reading.{Reading}
 use Rattle.acquisition.specs.declared.Acquisition.{Acquisition}
 use Rattle.acquisition.specs.declared.Step.{Step}
@@ -35,6 +37,11 @@ pub record ReadingOfThese (asked : ℕ) (symbols : List ℕ) (given : List Given
   pub read : List ℕ
   pub fed : ReadingFeedings hypothesis mirrored (length before + hypothesis .offset) read given k
   pub behind : read ++ unread ≡ drop (hypothesis .offset) received
+
+-- A reading whose last call decided that no block follows, and whether that ended it.
+pub data Unfollowed (h : Hypothesis) (mirrored : Bool) (first : ℕ) : List ℕ → List GivenBlock → Reading → Bool → Type 0 where
+  unfollowed : {symbols : List ℕ} {given : List GivenBlock} {k : Reading} (piece : List ℕ) (r : _) → ReadingFeedings h mirrored first symbols given k → ReadsSymbols k piece r → r .event ≡ Lost
+      → Unfollowed h mirrored first (symbols ++ take (r .taken) piece) (given ++ blockIn (r .event) (r .block)) (r .reading) (endsReading (k .sync .lock .locked) (k .used))
 
 -- The blocks of such readings, one reading after the other, and how many symbols there are up to the last one that a reading took. Each window begins behind what
 -- the reading before it took, so no symbol is in two readings.

@@ -9,11 +9,13 @@ use native.Mathlib.Decide.{decLt, ℕ-discrete}
 use native.Mathlib.Omega.{arith}
 use lib.ListN.{length, take, drop, length-append, length-drop}
 use lib.Seq.{length-take-le, take-append-seam}
+use Rattle.common.specs.Choice.{pick}
+use Rattle.common.proofs.Choice.{false-true}
 use Rattle.sync_search.specs.Sync.{syncAt, first, nowhere}
-use Rattle.block_sync.specs.Decision.{keeps, polarityAt, lockedAs, unlocked, Decides, follows, begins, searches, usedBits}
+use Rattle.block_sync.specs.Decision.{keeps, polarityAt, lockedAs, unlocked, Decides, follows, begins, searches, usedBits, blockOf}
 use Rattle.block_sync.specs.Grid.{SyncGrid, gridBlocks, followers, begun, Unsynced}
 use Rattle.block_sync.specs.History as history
-use Rattle.block_sync.specs.History.{GivenBlock, SyncFeedings, Part, partOf, givenOf, Aligned, few, turn}
+use Rattle.block_sync.specs.History.{GivenBlock, SyncFeedings, Part, partOf, partGiven, givenOf, skippedOf, Aligned, few, turn}
 use Rattle.block_sync.specs.declared.Lock.{Lock}
 use Rattle.block_sync.specs.declared.Decision.{Decision}
 use Rattle.block_sync.specs.declared.BlockSync.{BlockSync}
@@ -41,6 +43,10 @@ scan l (suc n) = next (scan l n) (syncAt l n) refl
     next (found at h s f) b e = found at (omega arith) s f
     next (clean f) true e = found n (omega arith) e f
     next (clean f) false e = clean (λ q h. one-more l n f e q h (ℕ-discrete q n))
+
+unlocked-keeps : (k : Lock) (l : List ℕ) → k .locked ≡ false → keeps k l ≡ false
+unfolding keeps
+unlocked-keeps k l e = rw e refl
 
 record Made (k : Lock) (l : List ℕ) : Type 0 where
   decision : Decision
@@ -94,6 +100,69 @@ take-begun (suc n) (b ∷ bs) = ap (λ (l : List GivenBlock). record { begins = 
 front-begun : (g rest : List GivenBlock) (bs : List (List ℕ)) → g ++ rest ≡ begun bs → g ≡ begun (take (length g) bs)
 front-begun g rest bs e = sym (take-append-seam g rest) ∙ (ap (take (length g)) e ∙ take-begun (length g) bs)
 
+-- ---- a lock lasts
+
+-- whether one of the blocks begins anew
+abbrev anew : List GivenBlock → Bool
+anew [] = false
+anew (g ∷ l) = pick (g .begins) true (anew l)
+
+anew-behind : (a b : List GivenBlock) → anew b ≡ true → anew (a ++ b) ≡ true
+anew-behind [] b e = e
+anew-behind (g ∷ a) b e = by (g .begins) (anew-behind a b e)
+  where
+    by : (x : Bool) → anew (a ++ b) ≡ true → pick x true (anew (a ++ b)) ≡ true
+    by true r = refl
+    by false r = r
+
+anew-before : (a b : List GivenBlock) → anew a ≡ true → anew (a ++ b) ≡ true
+anew-before [] b e = false-true e
+anew-before (g ∷ a) b e = by (g .begins) e (anew-before a b)
+  where
+    by : (x : Bool) → pick x true (anew a) ≡ true → (anew a ≡ true → anew (a ++ b) ≡ true) → pick x true (anew (a ++ b)) ≡ true
+    by true r f = refl
+    by false r f = f r
+
+none-anew : (bs : List (List ℕ)) → anew (followers bs) ≡ false
+none-anew [] = refl
+none-anew (b ∷ bs) = none-anew bs
+
+-- of blocks of which the first alone begins anew, none behind the first does
+first-anew : (g : GivenBlock) (a : List GivenBlock) (bs : List (List ℕ)) → g ∷ a ≡ begun bs → anew a ≡ false
+first-anew g a [] e = absurd (omega (arith, ap length e))
+first-anew g a (b ∷ bs) e = ap anew (ap (drop 1) e) ∙ none-anew bs
+
+-- where there is a lock behind decisions that began with none, one of their blocks begins anew
+lock-anew : {k last : Lock} {l left : List ℕ} {parts : List Part} → Aligned k l parts last left → k .locked ≡ false → last .locked ≡ true → anew (givenOf parts) ≡ true
+lock-anew (few h) e f = false-true (sym e ∙ f)
+lock-anew {k} {last} {l} (turn {parts = ps} d h x a) e f = by x (λ z. lock-anew a z f)
+  where
+    by : Decides k (take 8168 l) d → (d .lock .locked ≡ false → anew (givenOf ps) ≡ true) → anew (partGiven (partOf d (take 8168 l)) ++ givenOf ps) ≡ true
+    by (follows z r) rec = false-true (sym (unlocked-keeps k (take 8168 l) e) ∙ z)
+    by (begins at z s r) rec = ap (λ (y : Decision). anew (partGiven (partOf y (take 8168 l)) ++ givenOf ps)) r
+    by (searches z s r) rec = anew-behind (partGiven (partOf d (take 8168 l))) (givenOf ps) (rec (ap (λ (y : Decision). y .lock .locked) r))
+
+-- Decisions of which none gives a block skip 1,633 bits each.
+pub none-given : {k last : Lock} {l left : List ℕ} {parts : List Part} → Aligned k l parts last left → length (givenOf parts) ≡ 0 → skippedOf parts ≡ 1633 * length parts
+none-given (few h) e = refl
+none-given {k} {last} {l} (turn {parts = ps} d h x a) e = by x (λ z. none-given a z)
+  where
+    w : List ℕ
+    w = take 8168 l
+
+    size : length w ≡ 8168
+    size = length-take-le 8168 l h
+
+    counts : (b : Bool) → d .given ≡ b → length (pick b (record { begins = d .begins; block = blockOf (d .lock .inverted) (partOf d w .bits) } ∷ []) [] ++ givenOf ps) ≡ 0
+    counts b z = ap (λ (b : Bool). length (pick b (record { begins = d .begins; block = blockOf (d .lock .inverted) (partOf d w .bits) } ∷ []) [] ++ givenOf ps)) (sym z) ∙ e
+
+    by : Decides k w d → (length (givenOf ps) ≡ 0 → skippedOf ps ≡ 1633 * length ps) → length (take (d .skipped) w) + skippedOf ps ≡ 1633 * length (partOf d w ∷ ps)
+    by (follows z r) rec = absurd (let y = counts true (ap (λ (y : Decision). y .given) r) in omega arith)
+    by (begins at z s r) rec = absurd (let y = counts true (ap (λ (y : Decision). y .given) r) in omega arith)
+    by (searches z s r) rec =
+        let y = ap (λ (y : Decision). y .skipped) r in
+        omega (arith, size, length-take-le (d .skipped) w (omega (arith, size)), rec (counts false (ap (λ (y : Decision). y .given) r)))
+
 -- ---- what was given so far
 
 pub record GridSoFar (i : Bool) (p l : List ℕ) (came : ℕ) (given : List GivenBlock) (skipped : ℕ) (s : BlockSync) : Type 0 where
@@ -101,6 +170,17 @@ pub record GridSoFar (i : Bool) (p l : List ℕ) (came : ℕ) (given : List Give
   pub skips : skipped ≤ length p
   pub counted : skipped + 1632 * length given + s .held ≡ came
   pub few-held : s .held < 8168
+  pub lasts : 0 < length given → s .lock .locked ≡ true
+
+-- where a block was given, there is a lock: else a later one would begin anew
+lock-lasts : {k last : Lock} {l left : List ℕ} {parts : List Part} → Aligned k l parts last left → (given rest : List GivenBlock) (bs : List (List ℕ)) → given ++ (givenOf parts ++ rest) ≡ begun bs
+    → 0 < length given → last .locked ≡ true → k .locked ≡ true
+lock-lasts a [] rest bs e h f = absurd (omega arith)
+lock-lasts {k} {parts = ps} a (g ∷ given) rest bs e h f = by (k .locked) refl
+  where
+    by : (b : Bool) → k .locked ≡ b → k .locked ≡ true
+    by true z = z
+    by false z = false-true (sym (first-anew g (given ++ (givenOf ps ++ rest)) bs e) ∙ anew-behind given (givenOf ps ++ rest) (anew-before (givenOf ps) rest (lock-anew a z f)))
 
 none-kept : (w : List ℕ) → keeps unlocked w ≡ false
 unfolding keeps
@@ -115,13 +195,14 @@ front-given {i} p l {bits} more {given} {skipped} {s} g o u e h =
     let r = anywhere-aligned (aligned-joined (c .aligned) more (x .aligned)) p l (none-kept (take 8168 (bits ++ more))) e g o u in
     let a = every-bit h history.none in
     let held : s .held ≡ length (c .left) = ap (λ (y : BlockSync). y .held) (c .state) in
+    let all : given ++ (givenOf (x .parts) ++ followers (gridBlocks i (x .left))) ≡ begun (gridBlocks i l) =
+    ap (λ (y : List GivenBlock). y ++ (givenOf (x .parts) ++ followers (gridBlocks i (x .left)))) (c .blocks)
+    ∙ (sym (append-assoc (givenOf (c .parts)) (givenOf (x .parts)) (followers (gridBlocks i (x .left))))
+    ∙ (ap (λ (y : List GivenBlock). y ++ followers (gridBlocks i (x .left))) (sym (given-append (c .parts) (x .parts))) ∙ r .given)) in
     record {
-      blocks =
-          front-begun given (givenOf (x .parts) ++ followers (gridBlocks i (x .left))) (gridBlocks i l)
-          (ap (λ (y : List GivenBlock). y ++ (givenOf (x .parts) ++ followers (gridBlocks i (x .left)))) (c .blocks)
-          ∙ (sym (append-assoc (givenOf (c .parts)) (givenOf (x .parts)) (followers (gridBlocks i (x .left))))
-          ∙ (ap (λ (y : List GivenBlock). y ++ followers (gridBlocks i (x .left))) (sym (given-append (c .parts) (x .parts))) ∙ r .given)));
+      blocks = front-begun given (givenOf (x .parts) ++ followers (gridBlocks i (x .left))) (gridBlocks i l) all;
       skips = omega (arith, c .skips, skipped-append (c .parts) (x .parts), r .skips);
       counted = omega (arith, a .counted, held, ap length (held-back s (c .left) (c .state)), length-append given []);
       few-held = omega (arith, held, aligned-few (c .aligned));
+      lasts = λ some. lock-lasts (x .aligned) given (followers (gridBlocks i (x .left))) (gridBlocks i l) all some (ap (λ (y : Lock). y .locked) (r .lock));
     }

@@ -125,4 +125,5 @@ module _ (packets : List (List ℕ)) (ws : All Packet packets) where
           skips = r .skips;
           counted = r .counted;
           few-held = r .few-held;
+          lasts = r .lasts;
         }

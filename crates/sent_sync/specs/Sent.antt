@@ -2,7 +2,7 @@
 -- Clauses: EN 300 421, 4.4.1 to 4.4.3 (source document 002).
 -- Assumes nothing.
 use mathlib.Core.Path.{_≡_}
-use mathlib.Core.Bool.{Bool}
+use mathlib.Core.Bool.{Bool, true}
 use mathlib.Core.List.{List, flatten}
 use Prim.Native.Nat.{ℕ, _+_, _*_, _≤_, _<_}
 use lib.ListN.{length, take, drop}
@@ -30,9 +30,10 @@ pub record GivesSentAfter (packets : List (List ℕ)) (b : ℕ) (before : List �
   pub none-left : t .held ≡ 0
 
 -- What was given of them so far, where so many bits came: the first of these blocks, in order, the first as one that begins anew. No bit was skipped but of those
--- before them. All bits that came are in these blocks, skipped, or held, and fewer are held than the aligner has room for.
+-- before them. All bits that came are in these blocks, skipped, or held, and fewer are held than the aligner has room for. A lock that was found lasts.
 pub record GivesSentSoFar (packets : List (List ℕ)) (b : ℕ) (before : List ℕ) (came : ℕ) (given : List GivenBlock) (skipped : ℕ) (s : BlockSync) : Type 0 where
   pub blocks : given ≡ begun (take (length given) (drop b (interleavedBlocks packets)))
   pub skips : skipped ≤ length before
   pub counted : skipped + 1632 * length given + s .held ≡ came
   pub few-held : s .held < 8168
+  pub lasts : 0 < length given → s .lock .locked ≡ true
