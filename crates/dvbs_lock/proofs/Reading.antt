@@ -9,7 +9,6 @@ use lib.IntN.{pos}
 use lib.ListN.{length, take, length-append}
 use Rattle.common.specs.Lists.{All}
 use Rattle.acquisition.specs.Step.{freshAcquisition}
-use Rattle.acquisition.specs.Bits.{freshBits}
 use Rattle.program_io.specs.Checksum.{noBytes, traced}
 use Rattle.program_io.specs.Files.{StandardFiles, inputTrace, inputOver, StandardInput, FreshOutput}
 use Rattle.program_io.specs.declared.input.Input.{Input}
@@ -37,9 +36,8 @@ pub record Reading (bits : Bool) (rate : ℕ) (input : Input) (output errors : O
   pub files : StandardFiles input output errors
 
 fresh-came : (bits : Bool) (rate : ℕ) → cameOf (freshStream bits rate .source) ≡ 0
-unfolding freshStream freshSource freshAcquisition freshBits
-fresh-came true rate = refl
-fresh-came false rate = refl
+unfolding freshStream freshSource freshAcquisition
+fresh-came bits rate = refl
 
 pub reading-none : (bits : Bool) (rate : ℕ) {input : Input} {output errors : Output} {s : LockStream} → StandardInput input → FreshOutput (pos 1) output → FreshOutput (pos 2) errors
     → s ≡ freshStream bits rate → StreamReady s → Reading bits rate input output errors s 0 0
