@@ -238,6 +238,16 @@ fn joined(bits: [u8; 8168], held: usize, piece: &[u8]) -> [u8; 8168]
     buffer
 }
 
+// The first bits of an array, and those of a piece after them, which fill it.
+fn filled(bits: [u8; 8168], held: usize, piece: &[u8]) -> [u8; 8168]
+    requires { ⌜ held + length (now piece) ≡ 8168 ⌝ }
+    ensures { λ r. ⌜ r ≡ take held bits ++ now (piece .entry) ⌝ }
+{
+    let mut buffer = bits;
+    put(piece, held, &mut buffer);
+    buffer
+}
+
 // Decides, gives the block and drops the bits that are used up.
 fn turn(taken: usize, lock: Lock, bits: &[u8]) -> SyncStep
     requires { ⌜ length (now bits) ≤ 8168 ⌝ }
@@ -313,7 +323,7 @@ impl BlockSync {
             };
             return idle(Answer::Done, piece.len(), sync);
         }
-        let buffer = joined(bits, held, &piece[..space]);
+        let buffer = filled(bits, held, &piece[..space]);
         turn(space, lock, &buffer)
     }
 
