@@ -1,18 +1,17 @@
 -- What feeding and the end of the bits make, from the parts that the code computes.
 -- Assumes nothing.
-use mathlib.Core.Path.{_≡_, sym, _∙_, ap, ap₂, subst}
+use mathlib.Core.Path.{_≡_, sym, _∙_, ap, ap₂}
 use mathlib.Core.Bool.{Bool, true, false}
-use mathlib.Core.List.{List, _++_}
+use mathlib.Core.List.{List, _++_, append-nil}
 use Prim.Native.Nat.{ℕ, _+_, _-_, _≤_, _<_}
 use native.Mathlib.Omega.{arith}
-use lib.ListN.{length, take, drop, replicate, length-append, length-drop}
+use lib.ListN.{length, take, drop, replicate, length-append, length-drop, drop-of-length-le}
 use lib.Seq.{length-take-le, take-all}
 use Rattle.answer.specs.declared.Answer.the-variants.{Done}
 use Rattle.common.specs.Choice.{pick}
 use Rattle.common.specs.Lists.{padded}
-use Rattle.common.proofs.Padded.{padded-full}
 use Rattle.block_sync.specs.Decision.{blockOf, usedBits, blockGiven}
-use Rattle.block_sync.specs.Feed.{holding, heldBits, turnedStep, TurnsBuffer}
+use Rattle.block_sync.specs.Feed.{holding, heldBits, turnedStep}
 use Rattle.block_sync.specs.declared.Decision.{Decision}
 use Rattle.block_sync.specs.declared.BlockSync.{BlockSync}
 use Rattle.block_sync.specs.declared.SyncStep.{SyncStep}
@@ -61,8 +60,8 @@ pub full-length : (s : BlockSync) (piece : List ℕ) → length (s .bits) ≡ 81
     → length (heldBits s ++ take (8168 - s .held) piece) ≡ 8168
 full-length s piece e h k = omega (arith, length-append (heldBits s) (take (8168 - s .held) piece), held-length s e (omega arith), part-length s piece k)
 
-pub fills : (s : BlockSync) (piece buffer : List ℕ) (r : SyncStep) → length (s .bits) ≡ 8168 → s .held < 8168 → 8168 - s .held ≤ length piece
-    → buffer ≡ padded 8168 (heldBits s ++ take (8168 - s .held) piece) → TurnsBuffer (8168 - s .held) (s .lock) buffer r
-    → TurnsBuffer (8168 - s .held) (s .lock) (heldBits s ++ take (8168 - s .held) piece) r
-fills s piece buffer r e h k b t =
-    subst (λ (l : List ℕ). TurnsBuffer (8168 - s .held) (s .lock) l r) (b ∙ padded-full 8168 (heldBits s ++ take (8168 - s .held) piece) (full-length s piece e h k)) t
+-- bits that fill an array from a place on
+pub filled-is : (held : ℕ) (bits piece exit : List ℕ) → length bits ≡ 8168 → held + length piece ≡ 8168 → exit ≡ take held bits ++ piece ++ drop (held + length piece) bits
+    → exit ≡ take held bits ++ piece
+filled-is held bits piece exit e h w =
+    w ∙ ap (λ (l : List ℕ). take held bits ++ piece ++ l) (drop-of-length-le bits {i = held + length piece} (omega arith)) ∙ append-nil (take held bits ++ piece)

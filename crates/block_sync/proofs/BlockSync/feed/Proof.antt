@@ -1,12 +1,14 @@
 -- `block_sync::BlockSync::feed` meets its contract.
 -- Assumes nothing.
-use mathlib.Core.Path.{_≡_, sym, ap, _∙_}
+use mathlib.Core.Path.{_≡_, sym, ap, subst, _∙_}
+use mathlib.Core.List.{List}
+use Prim.Native.Nat.{ℕ, _-_}
 use native.Mathlib.Omega.{arith}
 use lib.ListN.{length}
-use Rattle.block_sync.specs.Feed.{idleStep, refused, gathered, turned}
+use Rattle.block_sync.specs.Feed.{idleStep, TurnsBuffer, refused, gathered, turned}
 use Rattle.block_sync.specs.declared.BlockSync.{BlockSync}
 use Rattle.answer.specs.declared.Answer.the-variants.{Done}
-use Rattle.block_sync.proofs.Buffers.{gathers, part-length, fills}
+use Rattle.block_sync.proofs.Buffers.{gathers, part-length}
 use borrow.Author.Needs.{needs}
 use Rattle.block_sync.proofs.BlockSync.feed.Statement.{statement}
 use Rattle.block_sync.proofs.BlockSync.feed.Tie as tie
@@ -39,11 +41,11 @@ returns-2 c =
     let n = length (s .args .piece .now) in
     gathered (omega (arith, c .before .before .if2 .taken)) (c .idle2 .ensures ∙ ap (λ (x : BlockSync). idleStep Done n x) (gathers (s .args .self) (s .args .piece .now) _ (size s) (omega (arith, c .before .before .before .if1 .left)) (c .before .joined .ensures)))
 
-slice-aggregate-joined : tie.Need-slice-aggregate-joined
-slice-aggregate-joined c = let s = c .before .before .before .before .before .before in sym (part-length (s .args .self) (s .args .piece .now) (c .before .if2 .left))
+slice-aggregate-filled : tie.Need-slice-aggregate-filled
+slice-aggregate-filled c = let s = c .before .before .before .before .before .before in sym (part-length (s .args .self) (s .args .piece .now) (c .before .if2 .left))
 
-joined-requires-2 : tie.Need-joined-requires-2
-joined-requires-2 c κs = let s = c .before .before .before .before .before .before in omega (arith, part-length (s .args .self) (s .args .piece .now) (c .before .if2 .left), c .before .before .if1 .left)
+filled-requires : tie.Need-filled-requires
+filled-requires c κs = let s = c .before .before .before .before .before .before in omega (arith, part-length (s .args .self) (s .args .piece .now) (c .before .if2 .left), c .before .before .if1 .left)
 
 slice-aggregate-turn : tie.Need-slice-aggregate-turn
 slice-aggregate-turn c = search needs
@@ -54,7 +56,7 @@ turn-requires c κs = search needs
 returns-3 : tie.Need-returns-3
 returns-3 c =
     let s = c .before .before .before .before .before .before .before .before .before in
-    turned (omega (arith, c .before .before .before .before .before .if1 .left)) (omega (arith, c .before .before .before .before .if2 .left)) (fills (s .args .self) (s .args .piece .now) _ _ (size s) (omega (arith, c .before .before .before .before .before .if1 .left)) (c .before .before .before .before .if2 .left) (c .before .before .joined2 .ensures) (c .turn .ensures))
+    turned (omega (arith, c .before .before .before .before .before .if1 .left)) (omega (arith, c .before .before .before .before .if2 .left)) (subst (λ (l : List ℕ). TurnsBuffer (8168 - s .args .self .held) (s .args .self .lock) l (c .turn .result)) (c .before .before .filled .ensures) (c .turn .ensures))
 
 pub feed-spec : {M : Type 1} → statement M
 feed-spec =
@@ -67,8 +69,8 @@ feed-spec =
     add-t14
     idle-requires-2
     returns-2
-    slice-aggregate-joined
-    joined-requires-2
+    slice-aggregate-filled
+    filled-requires
     slice-aggregate-turn
     turn-requires
     returns-3)
