@@ -112,6 +112,11 @@ done
 cmp "$work"/bridged_by_* && grep -q '^rest=5$' "$work/counts" || fail "bridge_pass as C++"
 # A saved state that cannot be written ends the pass.
 ! target/try/bridge_pass "$work/none/state" < "$work/blocks" > "$work/packets" 2> "$work/err" && grep -q "not saved" "$work/err" || fail "bridge_pass: no file"
+# Nor does one end well whose input fails, or whose output takes nothing.
+for side in target/try/bridge_pass "$work/bridge_pass"; do
+    ! "$side" "$work/state" < . > "$work/packets" 2> "$work/err" && [ "$(cat "$work/err")" = "blocks were not read to their end" ] || fail "$side: a directory"
+    ! "$side" "$work/state" < "$work/blocks" > /dev/full 2> "$work/err" && [ "$(cat "$work/err")" = "packets were not written" ] || fail "$side: a full device"
+done
 # Nothing of the sender is in the part for the bridge.
 nm target/staticlib/libdvbs_bridge.a > "$work/names"
 ! grep -E "send|inner_code|convolutional|puncturing|encode" "$work/names" || fail "libdvbs_bridge.a has a part of the sender"
@@ -129,7 +134,11 @@ for mode in 0 1 2 3 5; do
     done
 done
 ! target/try/truck 2 "$work/none/state" < "$work/packets" > "$work/symbols" 2> "$work/err" && grep -q "not saved" "$work/err" || fail "truck: no file"
-! target/try/truck 4 "$work/state" < "$work/packets" > "$work/symbols" 2> "$work/err" && [ ! -s "$work/symbols" ] || fail "truck: a mode that is not sent"
+for mode in 4 258 2x ""; do
+    ! target/try/truck "$mode" "$work/state" < "$work/packets" > "$work/symbols" 2> "$work/err" && [ ! -s "$work/symbols" ] || fail "truck: mode '$mode', which is not sent"
+done
+! target/try/truck 2 "$work/state" < . > "$work/symbols" 2> "$work/err" && [ "$(cat "$work/err")" = "packets were not read to their end" ] || fail "truck: a directory"
+! target/try/truck 2 "$work/state" < "$work/packets" > /dev/full 2> "$work/err" && [ "$(cat "$work/err")" = "symbols were not written" ] || fail "truck: a full device"
 echo "truck: as expected"
 
 # usage PROGRAM WORD..: with these words it gives its usage line on standard error, does nothing else, and ends with 2.

@@ -56,9 +56,11 @@ int main(int argc, char **argv)
     dvbs_bridge_fresh(state, sizeof state);
     while ((length = fread(block, 1, sizeof block, stdin)) == sizeof block) {
         uint8_t answer = dvbs_bridge_take(state, sizeof state, block, sizeof block, packet, sizeof packet);
-        if (answer == 0)
-            fwrite(packet, 1, sizeof packet, stdout);
-        else if (answer < 8 || answer > 11) {
+        if (answer == 0 && fwrite(packet, 1, sizeof packet, stdout) != sizeof packet) {
+            fprintf(stderr, "packets were not written\n");
+            return 1;
+        }
+        if (answer != 0 && (answer < 8 || answer > 11)) {
             fprintf(stderr, "a block was refused: answer %u\n", answer);
             return 1;
         }
@@ -74,6 +76,14 @@ int main(int argc, char **argv)
                 return 1;
             }
         }
+    }
+    if (ferror(stdin)) {
+        fprintf(stderr, "blocks were not read to their end\n");
+        return 1;
+    }
+    if (fflush(stdout) != 0) {
+        fprintf(stderr, "packets were not written\n");
+        return 1;
     }
     for (uint8_t number = 0; number < 8; number++)
         if (count(state, number, &value))

@@ -40,7 +40,8 @@ int main(int argc, char **argv)
         fprintf(stderr, "usage: truck MODE FILE < packets > symbols\n");
         return 2;
     }
-    if (dvbs_sender_fresh(state, sizeof state, (uint8_t)atoi(argv[1])) != 0) {
+    /* A mode is one digit. */
+    if (strlen(argv[1]) != 1 || argv[1][0] < '0' || argv[1][0] > '9' || dvbs_sender_fresh(state, sizeof state, (uint8_t)(argv[1][0] - '0')) != 0) {
         fprintf(stderr, "%s: no mode that is sent\n", argv[1]);
         return 2;
     }
@@ -69,6 +70,10 @@ int main(int argc, char **argv)
                 return 1;
             }
         }
+    }
+    if (ferror(stdin)) {
+        fprintf(stderr, "packets were not read to their end\n");
+        return 1;
     }
     if (fflush(stdout) != 0) {
         fprintf(stderr, "symbols were not written\n");
