@@ -8,7 +8,6 @@
 #include "dvbs.h"
 
 #include <stdio.h>
-#include <stdlib.h>
 #include <string.h>
 
 static int save(const char *path, const uint8_t *state)
