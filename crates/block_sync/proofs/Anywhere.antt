@@ -3,7 +3,7 @@
 use mathlib.Core.Path.{_≡_, refl, sym, _∙_, ap, ap₂, subst}
 use mathlib.Core.Bool.{Bool, true, false}
 use mathlib.Core.List.{List, [], _∷_, _++_, append-assoc}
-use Prim.Native.Nat.{ℕ, _+_, _-_, _*_, _≤_, _<_}
+use Prim.Native.Nat.{ℕ, _+_, _-_, _*_, _%_, _≤_, _<_}
 use native.Mathlib.Decide.{decLt}
 use native.Mathlib.Nat.{add-zero}
 use native.Mathlib.Omega.{arith}
@@ -80,7 +80,7 @@ module _ {i : Bool} {f n : ℕ} (p l : List ℕ) (g : SyncGrid i f n l) (o : 5 <
 
   at-block : (b : ℕ) → b < 5 → length p ≤ 1632 → SyncHere i (f + b) w (length p + 1632 * b)
   unfolding SyncHere
-  at-block b x k = byte-take 8168 (p ++ l) (length p + 1632 * b) (omega arith) ∙ byte-behind p l (1632 * b) ∙ g .syncs b (omega arith)
+  at-block b x k = byte-take 8168 (p ++ l) (length p + 1632 * b) (omega arith) ∙ byte-behind p l (1632 * b) ∙ g .syncs b (omega (arith, g .size))
 
   at-first : length p ≤ 1632 → SyncHere i f w (length p)
   unfolding SyncHere
@@ -115,6 +115,7 @@ pub record AnyLeft (i : Bool) (p l : List ℕ) (parts : List Part) (last : Lock)
   pub lock : last ≡ lockedAs i
   pub given : givenOf parts ++ followers (gridBlocks i left) ≡ begun (gridBlocks i l)
   pub skips : skippedOf parts ≡ length p
+  pub part : length left % 1632 ≡ length l % 1632
 
 -- a lock that is lost is as none
 as-unlocked : {k : Lock} {w : List ℕ} {d : Decision} → keeps k w ≡ false → Decides k w d → Decides unlocked w d
@@ -161,6 +162,7 @@ anywhere-aligned {k} {last} {l₀} {left} (turn {parts = ps} d h x a) {i} {f} {n
           lock = r .lock;
           given = ap (λ (y : Decision). (partGiven (partOf y (take 8168 l₀)) ++ givenOf ps) ++ followers (gridBlocks i left)) c ∙ r .given;
           skips = omega (arith, r .skips);
+          part = r .part;
         }
     by (no z) rec =
         let z′ : length p ≤ 1632 = omega (arith, z) in
@@ -182,6 +184,7 @@ anywhere-aligned {k} {last} {l₀} {left} (turn {parts = ps} d h x a) {i} {f} {n
           lock = r .lock;
           given = append-assoc (partGiven (partOf d (take 8168 l₀))) (givenOf ps) (followers (gridBlocks i left)) ∙ ap₂ (λ (a b : List GivenBlock). a ++ b) j (r .given) ∙ sym (ap begun b);
           skips = omega (arith, r .skips);
+          part = r .part ∙ (let ld = ap length t ∙ length-drop 1632 l in omega (arith, g .size));
         }
 
 -- ---- the theorem
@@ -197,5 +200,5 @@ anywhere-given p l g o u h dr =
     record {
       blocks = ap₂ (λ (u v : List GivenBlock). u ++ v) (c .blocks) (q .blocks) ∙ r .given;
       skips = ap₂ (λ (u v : ℕ). u + v) (c .skips ∙ r .skips) (q .skips) ∙ add-zero (length p);
-      none-left = q .none-left;
+      left = q .part-left ∙ r .part;
     }

@@ -4,14 +4,14 @@
 use mathlib.Core.Path.{_≡_, refl, sym, _∙_, ap, ap₂, subst}
 use mathlib.Core.Bool.{Bool, true, false}
 use mathlib.Core.List.{List, [], _∷_, _++_, append-assoc}
-use Prim.Native.Nat.{ℕ, _+_, _-_, _*_, _≤_, _<_}
+use Prim.Native.Nat.{ℕ, _+_, _-_, _*_, _%_, _≤_, _<_}
 use mathlib.Core.Logic.{_⊎_, inl, inr}
 use native.Mathlib.Decide.{ℕ-discrete}
 use native.Mathlib.Nat.{add-zero}
 use native.Mathlib.Omega.{arith}
 use borrow.Author.Tests.{ne-eqb, le-ltb}
 use lib.Dec.{eqb, ltb}
-use lib.ListN.{length, take, drop, length-append}
+use lib.ListN.{length, take, drop, length-append, length-drop}
 use lib.Seq.{length-take-le, take-take, take-append-le, drop-append-le, drop-append-seam}
 use Rattle.common.specs.Choice.{pick, indicator}
 use Rattle.common.proofs.Choice.{false-true}
@@ -88,7 +88,7 @@ lost-front i w e k =
 
 -- ---- what is decided while blocks are given
 
-module _ {i : Bool} {f n : ℕ} (c y : List ℕ) (g : SyncGrid i f n c) (h : 8168 ≤ length (c ++ y)) (k : 8168 ≤ length y) (lost : keeps (lockedAs i) (take 8168 y) ≡ false) where
+module _ {i : Bool} {f n : ℕ} (c y : List ℕ) (g : SyncGrid i f n c) (whole : length c ≡ 1632 * n) (h : 8168 ≤ length (c ++ y)) (k : 8168 ≤ length y) (lost : keeps (lockedAs i) (take 8168 y) ≡ false) where
   abbrev w : List ℕ
   w = take 8168 (c ++ y)
 
@@ -97,7 +97,7 @@ module _ {i : Bool} {f n : ℕ} (c y : List ℕ) (g : SyncGrid i f n c) (h : 816
 
   front-here : (b : ℕ) → b < n → 1632 * b + 8 ≤ 8168 → SyncHere i (f + b) w (1632 * b)
   unfolding SyncHere
-  front-here b x z = byte-take 8168 (c ++ y) (1632 * b) z ∙ byte-front c y (1632 * b) (omega (arith, g .size)) ∙ g .syncs b x
+  front-here b x z = byte-take 8168 (c ++ y) (1632 * b) z ∙ byte-front c y (1632 * b) (omega (arith, g .size)) ∙ g .syncs b (omega (arith, g .size))
 
   front-first : 0 < n → SyncHere i f w 0
   front-first o = let e : f + 0 ≡ f = omega arith in subst (λ (x : ℕ). SyncHere i x w 0) e (front-here 0 o (omega arith))
@@ -114,8 +114,8 @@ module _ {i : Bool} {f n : ℕ} (c y : List ℕ) (g : SyncGrid i f n c) (h : 816
   stays o = by (ℕ-discrete n 1) (ℕ-discrete n 2)
     where
       by : Dec (n ≡ 1) → Dec (n ≡ 2) → polarityAt w 0 i ≡ i
-      by (yes e) z = polarity-stays w i (omega (arith, size)) 1632 (inl refl) (behind 1632 (omega (arith, g .size)) (omega arith))
-      by (no e) (yes z) = polarity-stays w i (omega (arith, size)) 3264 (inr refl) (behind 3264 (omega (arith, g .size)) (omega arith))
+      by (yes e) z = polarity-stays w i (omega (arith, size)) 1632 (inl refl) (behind 1632 (omega arith) (omega arith))
+      by (no e) (yes z) = polarity-stays w i (omega (arith, size)) 3264 (inr refl) (behind 3264 (omega arith) (omega arith))
       by (no e) (no z) = majority i f w 0 i (omega (arith, size)) (front-first o) (front-here 1 (omega arith) (omega arith)) (front-here 2 (omega arith) (omega arith))
 
   front-follows : 0 < n → Decides (lockedAs i) w (followed i)
@@ -146,16 +146,17 @@ record SlipLeft (i j : Bool) (c p l : List ℕ) (parts : List Part) (last : Lock
   pub lock : last ≡ lockedAs j
   pub given : givenOf parts ++ followers (gridBlocks j left) ≡ followers (gridBlocks i c) ++ begun (gridBlocks j l)
   pub skips : skippedOf parts ≡ length p
+  pub part : length left % 1632 ≡ length l % 1632
 
 empty-list : (c : List ℕ) → length c ≡ 0 → c ≡ []
 empty-list [] e = refl
 empty-list (x ∷ c) e = absurd (omega arith)
 
 slip-aligned : {k last : Lock} {l₀ left : List ℕ} {parts : List Part} → Aligned k l₀ parts last left → {i j : Bool} {f n b m : ℕ} (c p l : List ℕ) → k ≡ lockedAs i → l₀ ≡ c ++ (p ++ l)
-    → SyncGrid i f n c → SyncGrid j b m l → 5 < m → Unsynced p l → keeps (lockedAs i) (take 8168 (p ++ l)) ≡ false → SlipLeft i j c p l parts last left
-slip-aligned (few h) c p l q e g g′ o u lost = absurd (omega (arith, ap length e ∙ length-append c (p ++ l), length-append p l, g′ .size))
-slip-aligned {k} {last} {l₀} {left} (turn {parts = ps} d h x a) {i} {j} {f} {n} {b} {m} c p l q e g g′ o u lost =
-    by (ℕ-discrete n 0) (λ c′ q′ e′ f′ n′ s. slip-aligned a {i = i} {j = j} {f = f′} {n = n′} c′ p l q′ e′ s g′ o u lost)
+    → SyncGrid i f n c → length c ≡ 1632 * n → SyncGrid j b m l → 5 < m → Unsynced p l → keeps (lockedAs i) (take 8168 (p ++ l)) ≡ false → SlipLeft i j c p l parts last left
+slip-aligned (few h) c p l q e g whole g′ o u lost = absurd (omega (arith, ap length e ∙ length-append c (p ++ l), length-append p l, g′ .size))
+slip-aligned {k} {last} {l₀} {left} (turn {parts = ps} d h x a) {i} {j} {f} {n} {b} {m} c p l q e g whole g′ o u lost =
+    by (ℕ-discrete n 0) (λ c′ q′ e′ f′ n′ s whole′. slip-aligned a {i = i} {j = j} {f = f′} {n = n′} c′ p l q′ e′ s whole′ g′ o u lost)
   where
     v : take 8168 l₀ ≡ take 8168 (c ++ (p ++ l))
     v = ap (take 8168) e
@@ -166,10 +167,10 @@ slip-aligned {k} {last} {l₀} {left} (turn {parts = ps} d h x a) {i} {j} {f} {n
     k′ : 8168 ≤ length (p ++ l)
     k′ = omega (arith, length-append p l, g′ .size)
 
-    by : Dec (n ≡ 0) → ((c′ : List ℕ) → d .lock ≡ lockedAs i → drop (usedBits d) l₀ ≡ c′ ++ (p ++ l) → (f′ n′ : ℕ) → SyncGrid i f′ n′ c′ → SlipLeft i j c′ p l ps last left)
+    by : Dec (n ≡ 0) → ((c′ : List ℕ) → d .lock ≡ lockedAs i → drop (usedBits d) l₀ ≡ c′ ++ (p ++ l) → (f′ n′ : ℕ) → SyncGrid i f′ n′ c′ → length c′ ≡ 1632 * n′ → SlipLeft i j c′ p l ps last left)
         → SlipLeft i j c p l (partOf d (take 8168 l₀) ∷ ps) last left
     by (yes z) rec =
-        let y : length c ≡ 0 = omega (arith, g .size) in
+        let y : length c ≡ 0 = omega arith in
         let t : l₀ ≡ p ++ l = e ∙ ap (λ (s : List ℕ). s ++ (p ++ l)) (empty-list c y) in
         let r = anywhere-aligned (turn d h x a) p l (ap₂ (λ (s : Lock) (w : List ℕ). keeps s (take 8168 w)) q t ∙ lost) t g′ o u in
         record {
@@ -177,18 +178,19 @@ slip-aligned {k} {last} {l₀} {left} (turn {parts = ps} d h x a) {i} {j} {f} {n
           n = r .n;
           grid = r .grid;
           lock = r .lock;
-          given = r .given ∙ ap (λ (s : List (List ℕ)). followers s ++ begun (gridBlocks j l)) (sym (blocks-none i c y));
+          given = r .given ∙ ap (λ (s : List (List ℕ)). followers s ++ begun (gridBlocks j l)) (sym (blocks-none i c (omega arith)));
           skips = r .skips;
+          part = r .part;
         }
     by (no z) rec =
-        let s : d ≡ followed i = decides-unique (subst (λ (w : List ℕ). Decides (lockedAs i) w d) v (subst (λ (y : Lock). Decides y (take 8168 l₀) d) q x)) (front-follows c (p ++ l) g h′ k′ lost (omega arith)) in
+        let s : d ≡ followed i = decides-unique (subst (λ (w : List ℕ). Decides (lockedAs i) w d) v (subst (λ (y : Lock). Decides y (take 8168 l₀) d) q x)) (front-follows c (p ++ l) g whole h′ k′ lost (omega arith)) in
         let y : n - 1 + 1 ≡ n = omega arith in
         let gd : SyncGrid i (f + 1) (n - 1) (drop 1632 c) = grid-drop (subst (λ (t : ℕ). SyncGrid i f t c) (sym y) g) in
         let t : drop (usedBits d) l₀ ≡ drop 1632 c ++ (p ++ l) = ap₂ drop (ap usedBits s) e ∙ drop-append-le 1632 c (p ++ l) (omega (arith, g .size)) in
-        let r = rec (drop 1632 c) (ap (λ (y : Decision). y .lock) s) t (f + 1) (n - 1) gd in
+        let r = rec (drop 1632 c) (ap (λ (y : Decision). y .lock) s) t (f + 1) (n - 1) gd (omega (arith, length-drop 1632 c)) in
         let bl = blocks-more i c (omega (arith, g .size)) in
         let pg : partGiven (partOf d (take 8168 l₀)) ≡ followers (blockOf i (take 1632 c) ∷ []) =
-        ap₂ (λ (y : Decision) (w : List ℕ). partGiven (partOf y w)) s v ∙ ap (λ (w : List ℕ). followers (blockOf i w ∷ [])) (front-block c (p ++ l) g h′ k′ lost (omega arith)) in
+        ap₂ (λ (y : Decision) (w : List ℕ). partGiven (partOf y w)) s v ∙ ap (λ (w : List ℕ). followers (blockOf i w ∷ [])) (front-block c (p ++ l) g whole h′ k′ lost (omega arith)) in
         let sk : length (take (d .skipped) (take 8168 l₀)) ≡ 0 = ap (λ (y : Decision). length (take (y .skipped) (take 8168 l₀))) s in
         record {
           f = r .f;
@@ -199,6 +201,7 @@ slip-aligned {k} {last} {l₀} {left} (turn {parts = ps} d h x a) {i} {j} {f} {n
               append-assoc (partGiven (partOf d (take 8168 l₀))) (givenOf ps) (followers (gridBlocks j left)) ∙ ap₂ (λ (a b : List GivenBlock). a ++ b) pg (r .given)
               ∙ ap (λ (s : List (List ℕ)). followers s ++ begun (gridBlocks j l)) (sym bl);
           skips = omega (arith, r .skips);
+          part = r .part;
         }
 
 -- from a fresh value on
@@ -209,22 +212,23 @@ record SlipFresh (i j : Bool) (c p l : List ℕ) (parts : List Part) (last : Loc
   pub lock : last ≡ lockedAs j
   pub given : givenOf parts ++ followers (gridBlocks j left) ≡ begun (gridBlocks i c) ++ begun (gridBlocks j l)
   pub skips : skippedOf parts ≡ length p
+  pub part : length left % 1632 ≡ length l % 1632
 
 slip-fresh : {k last : Lock} {l₀ left : List ℕ} {parts : List Part} → Aligned k l₀ parts last left → {i j : Bool} {f n b m : ℕ} (c p l : List ℕ) → k ≡ unlocked → l₀ ≡ c ++ (p ++ l)
-    → SyncGrid i f n c → 4 < n → SyncGrid j b m l → 5 < m → Unsynced p l → keeps (lockedAs i) (take 8168 (p ++ l)) ≡ false → SlipFresh i j c p l parts last left
-slip-fresh (few h) c p l q e g a g′ o u lost = absurd (omega (arith, ap length e ∙ length-append c (p ++ l), length-append p l, g′ .size))
-slip-fresh {k} {last} {l₀} {left} (turn {parts = qs} d h x al) {i} {j} {f} {n} {b} {m} c p l q e g a g′ o u lost =
+    → SyncGrid i f n c → length c ≡ 1632 * n → 4 < n → SyncGrid j b m l → 5 < m → Unsynced p l → keeps (lockedAs i) (take 8168 (p ++ l)) ≡ false → SlipFresh i j c p l parts last left
+slip-fresh (few h) c p l q e g whole a g′ o u lost = absurd (omega (arith, ap length e ∙ length-append c (p ++ l), length-append p l, g′ .size))
+slip-fresh {k} {last} {l₀} {left} (turn {parts = qs} d h x al) {i} {j} {f} {n} {b} {m} c p l q e g whole a g′ o u lost =
     let v : take 8168 l₀ ≡ take 8168 (c ++ (p ++ l)) = ap (take 8168) e in
     let h′ : 8168 ≤ length (c ++ (p ++ l)) = let y = ap length e in omega arith in
     let k′ : 8168 ≤ length (p ++ l) = omega (arith, length-append p l, g′ .size) in
-    let s : d ≡ begunAt i = decides-unique (subst (λ (w : List ℕ). Decides unlocked w d) v (subst (λ (y : Lock). Decides y (take 8168 l₀) d) q x)) (front-begins c (p ++ l) g h′ k′ lost a) in
+    let s : d ≡ begunAt i = decides-unique (subst (λ (w : List ℕ). Decides unlocked w d) v (subst (λ (y : Lock). Decides y (take 8168 l₀) d) q x)) (front-begins c (p ++ l) g whole h′ k′ lost a) in
     let y : n - 1 + 1 ≡ n = omega arith in
     let gd : SyncGrid i (f + 1) (n - 1) (drop 1632 c) = grid-drop (subst (λ (t : ℕ). SyncGrid i f t c) (sym y) g) in
     let t : drop (usedBits d) l₀ ≡ drop 1632 c ++ (p ++ l) = ap₂ drop (ap usedBits s) e ∙ drop-append-le 1632 c (p ++ l) (omega (arith, g .size)) in
-    let r = slip-aligned al (drop 1632 c) p l (ap (λ (y : Decision). y .lock) s) t gd g′ o u lost in
+    let r = slip-aligned al (drop 1632 c) p l (ap (λ (y : Decision). y .lock) s) t gd (omega (arith, length-drop 1632 c)) g′ o u lost in
     let bl = blocks-more i c (omega (arith, g .size)) in
     let pg : partGiven (partOf d (take 8168 l₀)) ≡ begun (blockOf i (take 1632 c) ∷ []) =
-    ap₂ (λ (y : Decision) (w : List ℕ). partGiven (partOf y w)) s v ∙ ap (λ (w : List ℕ). begun (blockOf i w ∷ [])) (front-block c (p ++ l) g h′ k′ lost (omega arith)) in
+    ap₂ (λ (y : Decision) (w : List ℕ). partGiven (partOf y w)) s v ∙ ap (λ (w : List ℕ). begun (blockOf i w ∷ [])) (front-block c (p ++ l) g whole h′ k′ lost (omega arith)) in
     let sk : length (take (d .skipped) (take 8168 l₀)) ≡ 0 = ap (λ (y : Decision). length (take (y .skipped) (take 8168 l₀))) s in
     record {
       f = r .f;
@@ -235,21 +239,22 @@ slip-fresh {k} {last} {l₀} {left} (turn {parts = qs} d h x al) {i} {j} {f} {n}
           append-assoc (partGiven (partOf d (take 8168 l₀))) (givenOf qs) (followers (gridBlocks j left)) ∙ ap₂ (λ (a b : List GivenBlock). a ++ b) pg (r .given)
           ∙ ap (λ (s : List (List ℕ)). begun s ++ begun (gridBlocks j l)) (sym bl);
       skips = omega (arith, r .skips);
+      part = r .part;
     }
 
 -- ---- the theorem
 
--- Five blocks or more, then bits none of which passes for a sync and at which the lock is lost, then six blocks or more, each part straight or inverted, in
+-- Five whole blocks or more, then bits none of which passes for a sync and at which the lock is lost, then six blocks or more, each part straight or inverted, in
 -- any pieces, and then the end. Exactly the bits between are skipped, and the first block behind them is given as one that begins anew.
-pub slip-given : {i j : Bool} {f n b m : ℕ} (c p l : List ℕ) {given rest : List GivenBlock} {skipped sk : ℕ} {s t : BlockSync} → SyncGrid i f n c → 4 < n → SyncGrid j b m l → 5 < m
+pub slip-given : {i j : Bool} {f n b m : ℕ} (c p l : List ℕ) {given rest : List GivenBlock} {skipped sk : ℕ} {s t : BlockSync} → SyncGrid i f n c → length c ≡ 1632 * n → 4 < n → SyncGrid j b m l → 5 < m
     → Unsynced p l → keeps (lockedAs i) (take 8168 (p ++ l)) ≡ false → SyncFeedings (c ++ (p ++ l)) given skipped s → Drained s rest sk t
     → SlipGiven i j c p l (given ++ rest) (skipped + sk) t
-slip-given c p l g a g′ o u lost fs dr =
+slip-given c p l g whole a g′ o u lost fs dr =
     let z = every-history fs in
-    let r = slip-fresh (z .aligned) c p l refl refl g a g′ o u lost in
+    let r = slip-fresh (z .aligned) c p l refl refl g whole a g′ o u lost in
     let q = grid-drained (r .grid) (aligned-few (z .aligned)) (z .state ∙ ap (λ (k : Lock). holding k (z .left)) (r .lock)) dr in
     record {
       blocks = ap₂ (λ (u v : List GivenBlock). u ++ v) (z .blocks) (q .blocks) ∙ r .given;
       skips = ap₂ (λ (u v : ℕ). u + v) (z .skips ∙ r .skips) (q .skips) ∙ add-zero (length p);
-      none-left = q .none-left;
+      left = q .part-left ∙ r .part;
     }

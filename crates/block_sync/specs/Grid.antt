@@ -4,7 +4,7 @@
 use mathlib.Core.Path.{_≡_}
 use mathlib.Core.Bool.{Bool, true, false}
 use mathlib.Core.List.{List, [], _∷_, _++_, map}
-use Prim.Native.Nat.{ℕ, _+_, _-_, _*_, _%_, _<_}
+use Prim.Native.Nat.{ℕ, _+_, _-_, _*_, _%_, _<_, _≤_}
 use lib.Dec.{eqb}
 use lib.ListN.{length}
 use Rattle.common.specs.Choice.{pick}
@@ -23,10 +23,12 @@ syncByte n = pick (eqb (n % 8) 0) 0xB8 0x47
 abbrev pub turnedByte : Bool → ℕ → ℕ
 turnedByte inverted v = pick inverted (255 - v) v
 
--- n blocks of bits, straight or all inverted, that begin with the sync bytes of a sender's blocks from block `first` on; all else may be anything
+-- The bits of n blocks and of a part of one more, straight or all inverted. Each of them, as far as there is a whole byte of it, begins with the sync byte of
+-- a sender's block, from block `first` on; all else may be anything.
 pub record SyncGrid (inverted : Bool) (first n : ℕ) (l : List ℕ) : Type 0 where
-  pub size : length l ≡ 1632 * n
-  pub syncs : (b : ℕ) → b < n → byteAt l (1632 * b) ≡ turnedByte inverted (syncByte (first + b))
+  pub size : 1632 * n ≤ length l
+  pub part : length l < 1632 * n + 1632
+  pub syncs : (b : ℕ) → 1632 * b + 8 ≤ length l → byteAt l (1632 * b) ≡ turnedByte inverted (syncByte (first + b))
 
 -- the bytes of the blocks
 unfoldable pub gridBlocks : Bool → List ℕ → List (List ℕ)
@@ -49,11 +51,11 @@ pub data Drained : BlockSync → List GivenBlock → ℕ → BlockSync → Type 
 
 -- ---- what the theorems say
 
--- All blocks are given, the first as one that begins anew; no bit is skipped or left.
+-- All blocks that are whole are given, the first as one that begins anew; no bit is skipped, and those of a part of a block are left.
 pub record GridGiven (i : Bool) (l : List ℕ) (given : List GivenBlock) (skipped : ℕ) (t : BlockSync) : Type 0 where
   pub blocks : given ≡ begun (gridBlocks i l)
   pub skips : skipped ≡ 0
-  pub none-left : t .held ≡ 0
+  pub left : t .held ≡ length l % 1632
 
 -- no place before the blocks passes for a sync
 abbrev pub Unsynced : List ℕ → List ℕ → Type 0
@@ -63,10 +65,10 @@ Unsynced p l = (q : ℕ) → q < length p → syncAt (p ++ l) q ≡ false
 pub record AnywhereGiven (i : Bool) (p l : List ℕ) (given : List GivenBlock) (skipped : ℕ) (t : BlockSync) : Type 0 where
   pub blocks : given ≡ begun (gridBlocks i l)
   pub skips : skipped ≡ length p
-  pub none-left : t .held ≡ 0
+  pub left : t .held ≡ length l % 1632
 
 -- Blocks, other bits, blocks: the bits between are skipped, and the first block behind them begins anew too.
 pub record SlipGiven (i j : Bool) (c p l : List ℕ) (given : List GivenBlock) (skipped : ℕ) (t : BlockSync) : Type 0 where
   pub blocks : given ≡ begun (gridBlocks i c) ++ begun (gridBlocks j l)
   pub skips : skipped ≡ length p
-  pub none-left : t .held ≡ 0
+  pub left : t .held ≡ length l % 1632

@@ -67,21 +67,26 @@ module _ (packets : List (List ℕ)) (ws : All Packet packets) where
     rest-bytes : All Bytes rest
     rest-bytes = All-drop Bytes b sent (interleaved-bytes packets ws)
 
+    rest-size : (i : Bool) → length (bitsFrom i b packets) ≡ 1632 * length rest
+    rest-size i = bits-size i (flatten rest) ∙ (let n = length-flatten 204 rest rest-whole in omega arith)
+
     -- their bits, straight or inverted, have all sync bytes in their places
     pub sent-grid : (i : Bool) → SyncGrid i b (length rest) (bitsFrom i b packets)
     sent-grid i = record {
-      size = bits-size i (flatten rest) ∙ (let n = length-flatten 204 rest rest-whole in omega arith);
+      size = omega (arith, rest-size i);
+      part = omega (arith, rest-size i);
       syncs = λ j h.
           let n = length-flatten 204 rest rest-whole in
           let e : 1632 * j ≡ 8 * (204 * j) = omega arith in
           let z : 204 * j + 0 ≡ 204 * j = omega arith in
+          let k : j < length rest = omega (arith, rest-size i) in
           let y : b + j < length packets = omega (arith, rest-count) in
           byte-turned i (bitsOf (flatten rest)) (1632 * j) (omega (arith, length-bits (flatten rest)))
           ∙ ap (λ (k : ℕ). turnedByte i (byteAt (bitsOf (flatten rest)) k)) e
           ∙ ap (turnedByte i)
           (byte-of (flatten rest) (flat-bytes rest rest-bytes) (204 * j) (omega arith)
           ∙ ap (λ (k : ℕ). getD (flatten rest) k 0) (sym z)
-          ∙ flatten-at rest rest-whole j 0 h (omega arith)
+          ∙ flatten-at rest rest-whole j 0 k (omega arith)
           ∙ ap (λ (l : List ℕ). getD l 0 0) (getD-drop b sent j [])
           ∙ sent-first (b + j) y);
     }
@@ -102,7 +107,7 @@ module _ (packets : List (List ℕ)) (ws : All Packet packets) where
         record {
           blocks = r .blocks ∙ ap begun (blocks-back i rest rest-whole rest-bytes);
           skips = r .skips;
-          none-left = r .none-left;
+          none-left = r .left ∙ (let n = rest-size i in omega arith);
         }
 
     -- The same after bits that begin anywhere, no place of which passes for a sync: exactly these are skipped.
@@ -113,7 +118,7 @@ module _ (packets : List (List ℕ)) (ws : All Packet packets) where
         record {
           blocks = r .blocks ∙ ap begun (blocks-back i rest rest-whole rest-bytes);
           skips = r .skips;
-          none-left = r .none-left;
+          none-left = r .left ∙ (let n = rest-size i in omega arith);
         }
 
     -- And before the end, where only some of these bits came: what was given is the first of these blocks.
