@@ -48,7 +48,7 @@ sync-same : (a l : List ℕ) (at bt : ℕ) → ((k : ℕ) → k ≤ 6528 → byt
 unfolding syncAt
 sync-same a l at bt f = rw (count-same a l 0x47 at bt f, count-same a l 0xB8 at bt f) refl
 
-sync-take : (m : ℕ) (l : List ℕ) (at : ℕ) → at + 6536 ≤ m → syncAt (take m l) at ≡ syncAt l at
+pub sync-take : (m : ℕ) (l : List ℕ) (at : ℕ) → at + 6536 ≤ m → syncAt (take m l) at ≡ syncAt l at
 sync-take m l at h = sync-same (take m l) l at at (λ k x. byte-take m l (at + k) (omega arith))
 
 sync-drop : (m : ℕ) (l : List ℕ) (at : ℕ) → syncAt (drop m l) at ≡ syncAt l (m + at)

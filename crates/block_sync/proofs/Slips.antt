@@ -33,7 +33,7 @@ use Rattle.block_sync.proofs.Anywhere.{anywhere-aligned}
 
 -- ---- bytes of the front and of what is behind it
 
-byte-front : (c x : List ℕ) (at : ℕ) → at + 8 ≤ length c → byteAt (c ++ x) at ≡ byteAt c at
+pub byte-front : (c x : List ℕ) (at : ℕ) → at + 8 ≤ length c → byteAt (c ++ x) at ≡ byteAt c at
 byte-front c x at h = sym (byte-take (length c) (c ++ x) at h) ∙ ap (λ (l : List ℕ). byteAt l at) (take-append-le (length c) c x (omega arith)) ∙ byte-take (length c) c at h
 
 byte-after : (c x : List ℕ) (at : ℕ) → byteAt (c ++ x) (length c + at) ≡ byteAt x at

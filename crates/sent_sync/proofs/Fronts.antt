@@ -1,19 +1,19 @@
 -- Bits that have not all come: what is decided of some bits is the front of what is decided of more, so what is known of blocks that came to their end tells
--- what was given of them so far.
+-- what was given of them so far, and what is given of them where they end there.
 -- Assumes nothing.
-use mathlib.Core.Path.{_≡_, refl, sym, _∙_, ap}
+use mathlib.Core.Path.{_≡_, refl, sym, _∙_, ap, ap₂, subst}
 use mathlib.Core.Bool.{Bool, true, false}
 use mathlib.Core.List.{List, [], _∷_, _++_, append-assoc}
-use Prim.Native.Nat.{ℕ, zero, suc, _+_, _-_, _*_, _≤_, _<_}
+use Prim.Native.Nat.{ℕ, zero, suc, _+_, _-_, _*_, _/_, _≤_, _<_}
 use native.Mathlib.Decide.{decLt, ℕ-discrete}
 use native.Mathlib.Omega.{arith}
-use lib.ListN.{length, take, drop, length-append, length-drop}
-use lib.Seq.{length-take-le, take-append-seam}
+use lib.ListN.{length, take, drop, length-append, length-drop, take-append-drop}
+use lib.Seq.{length-take-le, take-append-seam, take-append-le, drop-append-le, drop-append-seam}
 use Rattle.common.specs.Choice.{pick}
 use Rattle.common.proofs.Choice.{false-true}
 use Rattle.sync_search.specs.Sync.{syncAt, first, nowhere}
 use Rattle.block_sync.specs.Decision.{keeps, polarityAt, lockedAs, unlocked, Decides, follows, begins, searches, usedBits, blockOf}
-use Rattle.block_sync.specs.Grid.{SyncGrid, gridBlocks, followers, begun, Unsynced}
+use Rattle.block_sync.specs.Grid.{SyncGrid, gridBlocks, followers, begun, Unsynced, Drained, AnywhereGiven}
 use Rattle.block_sync.specs.History as history
 use Rattle.block_sync.specs.History.{GivenBlock, SyncFeedings, Part, partOf, partGiven, givenOf, skippedOf, Aligned, few, turn}
 use Rattle.block_sync.specs.declared.Lock.{Lock}
@@ -22,7 +22,9 @@ use Rattle.block_sync.specs.declared.BlockSync.{BlockSync}
 use Rattle.block_sync.proofs.Decisions.{used-some}
 use Rattle.block_sync.proofs.Parts.{aligned-joined, aligned-few}
 use Rattle.block_sync.proofs.Histories.{held-back, given-append, skipped-append, every-history, every-bit}
-use Rattle.block_sync.proofs.Anywhere.{anywhere-aligned}
+use Rattle.block_sync.proofs.Grids.{blocks-none, blocks-more}
+use Rattle.block_sync.proofs.Anywhere.{sync-take, anywhere-aligned, anywhere-given}
+use Rattle.block_sync.proofs.Slips.{byte-front}
 
 -- ---- of all bits something is decided
 
@@ -206,3 +208,44 @@ front-given {i} p l {bits} more {given} {skipped} {s} g o u e h =
       few-held = omega (arith, held, aligned-few (c .aligned));
       lasts = λ some. lock-lasts (x .aligned) given (followers (gridBlocks i (x .left))) (gridBlocks i l) all some (ap (λ (y : Lock). y .locked) (r .lock));
     }
+
+-- ---- the end, where it comes before all bits did
+
+grid-front : {i : Bool} {f n : ℕ} (l more : List ℕ) → SyncGrid i f n (l ++ more) → SyncGrid i f (length l / 1632) l
+grid-front l more g = record {
+  size = omega arith;
+  part = omega arith;
+  syncs = λ b h. sym (byte-front l more (1632 * b) h) ∙ g .syncs b (omega (arith, length-append l more));
+}
+
+unsynced-front : (p l more : List ℕ) → 6536 ≤ length l → Unsynced p (l ++ more) → Unsynced p l
+unsynced-front p l more h u q z =
+    ap (λ (x : List ℕ). syncAt x q) (sym (take-append-seam (p ++ l) more))
+    ∙ (sync-take (length (p ++ l)) ((p ++ l) ++ more) q (omega (arith, length-append p l)) ∙ (ap (λ (x : List ℕ). syncAt x q) (append-assoc p l more) ∙ u q z))
+
+-- the blocks that are whole in the front are the first of all
+pub blocks-front : (i : Bool) (n : ℕ) (l more : List ℕ) → length l / 1632 ≡ n → gridBlocks i l ≡ take n (gridBlocks i (l ++ more))
+blocks-front i zero l more e = blocks-none i l (omega arith)
+blocks-front i (suc n) l more e =
+    let h : 1632 ≤ length l = omega arith in
+    let r = blocks-front i n (drop 1632 l) more (omega (arith, length-drop 1632 l)) in
+    blocks-more i l h
+    ∙ (ap₂ (λ (x y : List (List ℕ)). x ++ y) (ap (λ (x : List ℕ). blockOf i x ∷ []) (sym (take-append-le 1632 l more h)))
+    (r ∙ ap (λ (x : List ℕ). take n (gridBlocks i x)) (sym (drop-append-le 1632 l more h)))
+    ∙ ap (take (suc n)) (sym (blocks-more i (l ++ more) (omega (arith, length-append l more)))))
+
+-- Where six blocks came whole, these and all others that did are given, and the bits of the last are left.
+pub front-drained : {i : Bool} {f n : ℕ} (p l : List ℕ) {bits : List ℕ} (more : List ℕ) {given rest : List GivenBlock} {skipped sk : ℕ} {s t : BlockSync} → SyncGrid i f n l → length p + 9792 ≤ length bits
+    → Unsynced p l → bits ++ more ≡ p ++ l → SyncFeedings bits given skipped s → Drained s rest sk t
+    → (drop (length p) bits ++ more ≡ l) × AnywhereGiven i p (drop (length p) bits) (given ++ rest) (skipped + sk) t
+front-drained {i} {f} {n} p l {bits} more {given} {skipped = skipped} {s = s} g six u e h d =
+    let came : List ℕ = drop (length p) bits in
+    let front : take (length p) bits ≡ p = sym (take-append-le (length p) bits more (omega arith)) ∙ (ap (take (length p)) e ∙ take-append-seam p l) in
+    let back : came ++ more ≡ l = sym (drop-append-le (length p) bits more (omega arith)) ∙ (ap (drop (length p)) e ∙ drop-append-seam p l) in
+    let all : bits ≡ p ++ came = sym (take-append-drop (length p) bits) ∙ ap (λ (x : List ℕ). x ++ came) front in
+    let size : length came ≡ length bits - length p = length-drop (length p) bits in
+    (
+      back,
+      anywhere-given p came (grid-front came more (subst (SyncGrid i f n) (sym back) g)) (omega arith) (unsynced-front p came more (omega arith) (subst (Unsynced p) (sym back) u))
+      (subst (λ (x : List ℕ). SyncFeedings x given skipped s) all h) d,
+    )

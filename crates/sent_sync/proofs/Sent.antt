@@ -3,7 +3,7 @@
 use mathlib.Core.Path.{_≡_, refl, sym, _∙_, ap, subst}
 use mathlib.Core.Bool.{Bool}
 use mathlib.Core.List.{List, [], _++_, flatten}
-use Prim.Native.Nat.{ℕ, _+_, _-_, _*_, _%_, _≤_, _<_}
+use Prim.Native.Nat.{ℕ, _+_, _-_, _*_, _/_, _%_, _≤_, _<_}
 use native.Mathlib.Omega.{arith}
 use lib.ListN.{length, getD, take, drop, length-drop, List·getD-append}
 use lib.Seq.{getD-drop}
@@ -22,16 +22,16 @@ use Rattle.convolutional_code.specs.Bits.{bitsOf}
 use Rattle.convolutional_code.proofs.Bits.{length-bits}
 use Rattle.sync_search.specs.Sync.{byteAt}
 use Rattle.block_sync.specs.Decision.{polarityAt}
-use Rattle.block_sync.specs.Grid.{syncByte, turnedByte, SyncGrid, begun, Drained, Unsynced}
+use Rattle.block_sync.specs.Grid.{syncByte, turnedByte, SyncGrid, gridBlocks, begun, Drained, Unsynced}
 use Rattle.block_sync.specs.History.{GivenBlock, SyncFeedings}
 use Rattle.block_sync.specs.declared.BlockSync.{BlockSync}
 use Rattle.block_sync.proofs.Majority.{SyncHere, majority}
 use Rattle.block_sync.proofs.Packed.{byte-turned}
 use Rattle.block_sync.proofs.Grids.{here, grid-given}
 use Rattle.block_sync.proofs.Anywhere.{anywhere-given}
-use Rattle.sent_sync.specs.Sent.{bitsFrom, GivesSent, GivesSentAfter, GivesSentSoFar}
+use Rattle.sent_sync.specs.Sent.{bitsFrom, GivesSent, GivesSentAfter, GivesSentSoFar, GivesSentWhole}
 use Rattle.sent_sync.proofs.Bytes.{byte-of, blocks-back, bits-size}
-use Rattle.sent_sync.proofs.Fronts.{front-given}
+use Rattle.sent_sync.proofs.Fronts.{front-given, blocks-front, front-drained}
 
 -- ---- the first byte of a block
 
@@ -132,4 +132,23 @@ module _ (packets : List (List ℕ)) (ws : All Packet packets) where
           counted = r .counted;
           few-held = r .few-held;
           lasts = r .lasts;
+        }
+
+    -- And with the end there, where six of these blocks came whole.
+    pub sent-whole : (i : Bool) (p : List ℕ) {bits : List ℕ} (more : List ℕ) {given last : List GivenBlock} {skipped sk : ℕ} {s t : BlockSync} → length p + 9792 ≤ length bits
+        → Unsynced p (bitsFrom i b packets) → bits ++ more ≡ p ++ bitsFrom i b packets → SyncFeedings bits given skipped s → Drained s last sk t
+        → GivesSentWhole packets b p (length bits) (given ++ last) (skipped + sk) t
+    sent-whole i p {bits} more h u e f d =
+        let r = front-drained p (bitsFrom i b packets) more (sent-grid i) h u e f d in
+        let came : List ℕ = drop (length p) bits in
+        let n : ℕ = (length bits - length p) / 1632 in
+        let size : length came ≡ length bits - length p = length-drop (length p) bits in
+        record {
+          blocks =
+              r .1 .blocks
+              ∙ ap begun
+              (blocks-front i n came more (ap (λ (k : ℕ). k / 1632) size)
+              ∙ ap (take n) (ap (λ (l : List ℕ). gridBlocks i l) (r .0) ∙ blocks-back i rest rest-whole rest-bytes));
+          skips = r .1 .skips;
+          left = r .1 .left ∙ ap (λ (k : ℕ). k % 1632) size;
         }

@@ -4,7 +4,7 @@
 use mathlib.Core.Path.{_≡_}
 use mathlib.Core.Bool.{Bool, true}
 use mathlib.Core.List.{List, flatten}
-use Prim.Native.Nat.{ℕ, _+_, _*_, _≤_, _<_}
+use Prim.Native.Nat.{ℕ, _+_, _-_, _*_, _/_, _%_, _≤_, _<_}
 use lib.ListN.{length, take, drop}
 use Rattle.convolutional_code.specs.Bits.{bitsOf}
 use Rattle.sent_blocks.specs.Blocks.{interleavedBlocks}
@@ -37,3 +37,10 @@ pub record GivesSentSoFar (packets : List (List ℕ)) (b : ℕ) (before : List �
   pub counted : skipped + 1632 * length given + s .held ≡ came
   pub few-held : s .held < 8168
   pub lasts : 0 < length given → s .lock .locked ≡ true
+
+-- With the end behind so many bits: all blocks that came whole, and no other, in order, the first as one that begins anew. The bits before them are skipped, and
+-- those of a block that did not come whole are left.
+pub record GivesSentWhole (packets : List (List ℕ)) (b : ℕ) (before : List ℕ) (came : ℕ) (given : List GivenBlock) (skipped : ℕ) (t : BlockSync) : Type 0 where
+  pub blocks : given ≡ begun (take ((came - length before) / 1632) (drop b (interleavedBlocks packets)))
+  pub skips : skipped ≡ length before
+  pub left : t .held ≡ (came - length before) % 1632
