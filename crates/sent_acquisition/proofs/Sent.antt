@@ -41,15 +41,15 @@ use Rattle.sent_blocks.specs.Blocks.{interleavedBlocks, sentBytes}
 use Rattle.sent_blocks.proofs.Lengths.{interleaved-count, interleaved-whole}
 use Rattle.group_sync.specs.Stream.{beforeGroup}
 use Rattle.block_sync.specs.Decision.{turnedBits}
-use Rattle.block_sync.specs.Grid.{Unsynced}
+use Rattle.block_sync.specs.Grid.{Unsynced, Drained}
 use Rattle.block_sync.specs.History.{GivenBlock}
 use Rattle.block_sync.specs.declared.BlockSync.{BlockSync}
 use Rattle.block_sync.proofs.Turning.{turned-length}
-use Rattle.sent_sync.specs.Sent.{bitsFrom, GivesSentSoFar}
+use Rattle.sent_sync.specs.Sent.{bitsFrom, GivesSentSoFar, GivesSentWhole}
 use Rattle.sent_sync.proofs.Bytes.{turned-append}
-use Rattle.sent_sync.proofs.Sent.{sent-so-far}
+use Rattle.sent_sync.proofs.Sent.{sent-so-far, sent-whole}
 use Rattle.sent_lock.specs.Locks.{locksOf, LocksTaken}
-use Rattle.sent_lock.proofs.Sent.{packets-so-far}
+use Rattle.sent_lock.proofs.Sent.{packets-so-far, packets-whole}
 use Rattle.acquisition.specs.Reading.{turnRead}
 use Rattle.acquisition.specs.declared.Reading.{Reading}
 use Rattle.sent_acquisition.specs.Readings.{ReadingCame, ReadingClosed}
@@ -235,6 +235,16 @@ module _ (packets : List (List ℕ)) (ws : All Packet packets) (rate turn passed
 
         pub blocks-closed : GivesSentSoFar packets b (bitsBefore rate passed (hasHalf turn) b packets closedBits) (length closedBits) (given ++ last) (e .skipped) t
         blocks-closed = sent-so-far packets ws b (hasHalf turn) (bitsBefore rate passed (hasHalf turn) b packets closedBits) (last-front .more) six u (last-front .whole) (e .aligned)
+
+        -- and with the bits that the aligner holds, where six of these blocks came whole
+        module _ {rest : List GivenBlock} {sk : ℕ} {v : BlockSync} (d : Drained t rest sk v) (whole-six : length (bitsBefore rate passed (hasHalf turn) b packets closedBits) + 9792 ≤ length closedBits) where
+          pub blocks-drained : GivesSentWhole packets b (bitsBefore rate passed (hasHalf turn) b packets closedBits) (length closedBits) ((given ++ last) ++ rest) (e .skipped + sk) v
+          blocks-drained = sent-whole packets ws b (hasHalf turn) (bitsBefore rate passed (hasHalf turn) b packets closedBits) (last-front .more) whole-six u (last-front .whole) (e .aligned) d
+
+          pub packets-drained : {out : List (List ℕ)} → LocksTaken (locksOf ((given ++ last) ++ rest)) out
+              → out ≡ take (length ((given ++ last) ++ rest) - 11 - beforeGroup b) (drop (b + beforeGroup b) packets)
+          packets-drained l =
+              packets-whole packets ws b (hasHalf turn) (bitsBefore rate passed (hasHalf turn) b packets closedBits) (last-front .more) (omega arith) whole-six u (last-front .whole) (e .aligned) d l
 
     -- From a block on that begins behind the first bit, where no place before it passes for a sync: the reading gives the sender's blocks, and a fresh receiver for
     -- each lock their packets.

@@ -24,10 +24,10 @@ use Rattle.node_search.proofs.Truth.{map-drop, prefer-length, prefer-drop}
 use Rattle.sent_blocks.specs.Blocks.{sentBytes}
 use Rattle.group_sync.specs.Stream.{beforeGroup}
 use Rattle.block_sync.specs.Decision.{turnedBits}
-use Rattle.block_sync.specs.Grid.{Unsynced}
+use Rattle.block_sync.specs.Grid.{Unsynced, Drained}
 use Rattle.block_sync.specs.History.{GivenBlock}
 use Rattle.block_sync.specs.declared.BlockSync.{BlockSync}
-use Rattle.sent_sync.specs.Sent.{bitsFrom, GivesSentSoFar}
+use Rattle.sent_sync.specs.Sent.{bitsFrom, GivesSentSoFar, GivesSentWhole}
 use Rattle.sent_lock.specs.Locks.{locksOf, LocksTaken}
 use Rattle.acquisition.specs.Reading.{turnRead}
 use Rattle.acquisition.specs.declared.Reading.{Reading}
@@ -36,7 +36,7 @@ use Rattle.sent_acquisition.specs.Right.{lessHalf, hasHalf}
 use Rattle.sent_acquisition.specs.Sent.{SentStream, RightMirror, firstBit, bitsBefore}
 use Rattle.sent_acquisition.specs.Acquired.{ReadingOfThese, Unfollowed}
 use Rattle.sent_acquisition.proofs.Readings.{reading-came}
-use Rattle.sent_acquisition.proofs.Sent.{turn-right, search-true, bits-sent, bits-closed, blocks-closed, blocks-sent, packets-sent, reading-on}
+use Rattle.sent_acquisition.proofs.Sent.{turn-right, search-true, bits-sent, bits-closed, blocks-closed, blocks-drained, packets-drained, blocks-sent, packets-sent, reading-on}
 
 -- the symbols from a later one on are the same stream, cut there
 later-cut : {rate turn passed : ℕ} {packets : List (List ℕ)} (before received : List ℕ) → SentStream rate turn passed packets (before ++ received)
@@ -117,3 +117,14 @@ module _ (packets : List (List ℕ)) (ws : All Packet packets) (rate turn passed
         (u : Unsynced (bitsBefore rate passedBefore (hasHalf turn) b packets endedBits) (bitsFrom (hasHalf turn) b packets)) where
       pub sent-ended : GivesSentSoFar packets b (bitsBefore rate passedBefore (hasHalf turn) b packets endedBits) (length endedBits) (these ++ last) (e .skipped) t
       sent-ended = blocks-closed packets ws rate turn passedBefore hr ht (r .received) from-window (r .enough) unread reading-true behind e patterns b whole six u
+
+      -- With the bits that the aligner holds, where six of these blocks came whole: every block that came whole is given, and no other, and a fresh receiver for
+      -- each lock gives their packets.
+      module _ {rest : List GivenBlock} {sk : ℕ} {v : BlockSync} (d : Drained t rest sk v)
+          (whole-six : length (bitsBefore rate passedBefore (hasHalf turn) b packets endedBits) + 9792 ≤ length endedBits) where
+        pub sent-drained : GivesSentWhole packets b (bitsBefore rate passedBefore (hasHalf turn) b packets endedBits) (length endedBits) ((these ++ last) ++ rest) (e .skipped + sk) v
+        sent-drained = blocks-drained packets ws rate turn passedBefore hr ht (r .received) from-window (r .enough) unread reading-true behind e patterns b whole six u d whole-six
+
+        pub packets-ended : {out : List (List ℕ)} → LocksTaken (locksOf ((these ++ last) ++ rest)) out
+            → out ≡ take (length ((these ++ last) ++ rest) - 11 - beforeGroup b) (drop (b + beforeGroup b) packets)
+        packets-ended l = packets-drained packets ws rate turn passedBefore hr ht (r .received) from-window (r .enough) unread reading-true behind e patterns b whole six u d whole-six l

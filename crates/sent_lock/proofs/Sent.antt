@@ -3,7 +3,7 @@
 use mathlib.Core.Path.{_≡_, refl, sym, ap, ap₂, subst, _∙_}
 use mathlib.Core.Bool.{Bool, false}
 use mathlib.Core.List.{List, [], _∷_, _++_, append-nil}
-use Prim.Native.Nat.{ℕ, suc, _+_, _-_, _≤_}
+use Prim.Native.Nat.{ℕ, zero, suc, _+_, _-_, _/_, _≤_}
 use native.Mathlib.Omega.{arith}
 use lib.ListN.{length, take, drop, length-take, length-drop, length-map}
 use lib.Seq.{take-length}
@@ -16,7 +16,7 @@ use Rattle.block_sync.specs.Grid.{begun, followers, Drained, Unsynced}
 use Rattle.block_sync.specs.History.{GivenBlock, SyncFeedings}
 use Rattle.block_sync.specs.declared.BlockSync.{BlockSync}
 use Rattle.sent_sync.specs.Sent.{bitsFrom}
-use Rattle.sent_sync.proofs.Sent.{sent-anywhere, sent-so-far}
+use Rattle.sent_sync.proofs.Sent.{sent-anywhere, sent-so-far, sent-whole}
 use Rattle.lock_receiver.proofs.Histories.{every-lock}
 use Rattle.lock_receiver.proofs.Promises.{unbroken-given}
 use Rattle.sent_lock.specs.Locks.{followersOf, locksOf, LocksTaken, none, lock}
@@ -37,6 +37,12 @@ one-lock b bs = ap₂ (λ (x : List (List ℕ)) (y : List (List (List ℕ))). (b
 begun-count : (bs : List (List ℕ)) → length (begun bs) ≡ length bs
 begun-count [] = refl
 begun-count (b ∷ bs) = ap suc (length-map bs (λ b. record { begins = false; block = b }))
+
+-- the first n, where there may be fewer
+shorter : (n : ℕ) (bs : List (List ℕ)) → take n bs ≡ take (length (take n bs)) bs
+shorter zero bs = refl
+shorter (suc n) [] = refl
+shorter (suc n) (b ∷ bs) = ap (λ (l : List (List ℕ)). b ∷ l) (shorter n bs)
 
 -- ---- the theorems
 
@@ -70,12 +76,21 @@ module _ (packets : List (List ℕ)) (ws : All Packet packets) (b : ℕ) where
       subst (λ (n : ℕ). Wanted n out) rest-count
       (some-locks rest (sym (take-length rest)) (omega arith) (subst (λ (x : List GivenBlock). LocksTaken (locksOf x) out) (r .blocks) l))
 
+  -- the packets of the first of these blocks
+  first-packets : (n : ℕ) {given : List GivenBlock} {out : List (List ℕ)} → given ≡ begun (take n rest) → b ≤ length packets → LocksTaken (locksOf given) out → Wanted (length given) out
+  first-packets n {given} {out} e h l =
+      let blocks : List (List ℕ) = take n rest in
+      let k : length blocks ≡ length given = sym (begun-count blocks) ∙ ap length (sym e) in
+      let m : take n rest ≡ take (length blocks) rest = shorter n rest in
+      subst (λ (k : ℕ). Wanted k out) k (some-locks blocks m h (subst (λ (x : List GivenBlock). LocksTaken (locksOf x) out) e l))
+
   -- And before the end, where only some of these bits came: the packets of the blocks that were given so far, but those of the last eleven.
   pub packets-so-far : (i : Bool) (p : List ℕ) {bits : List ℕ} (more : List ℕ) {given : List GivenBlock} {skipped : ℕ} {s : BlockSync} {out : List (List ℕ)} → b + 6 ≤ length packets
       → Unsynced p (bitsFrom i b packets) → bits ++ more ≡ p ++ bitsFrom i b packets → SyncFeedings bits given skipped s → LocksTaken (locksOf given) out → Wanted (length given) out
-  packets-so-far i p more {given} {out = out} h u e f l =
-      let r = sent-so-far packets ws b i p more h u e f in
-      let blocks : List (List ℕ) = take (length given) rest in
-      let n : length blocks ≡ length given = sym (begun-count blocks) ∙ ap length (sym (r .blocks)) in
-      subst (λ (k : ℕ). Wanted k out) n
-      (some-locks blocks (ap (λ (k : ℕ). take k rest) (sym n)) (omega arith) (subst (λ (x : List GivenBlock). LocksTaken (locksOf x) out) (r .blocks) l))
+  packets-so-far i p more {given} h u e f l = first-packets (length given) (sent-so-far packets ws b i p more h u e f .blocks) (omega arith) l
+
+  -- And with the end there, where six of these blocks came whole.
+  pub packets-whole : (i : Bool) (p : List ℕ) {bits : List ℕ} (more : List ℕ) {given last : List GivenBlock} {skipped sk : ℕ} {s t : BlockSync} {out : List (List ℕ)} → b ≤ length packets
+      → length p + 9792 ≤ length bits → Unsynced p (bitsFrom i b packets) → bits ++ more ≡ p ++ bitsFrom i b packets → SyncFeedings bits given skipped s → Drained s last sk t
+      → LocksTaken (locksOf (given ++ last)) out → Wanted (length (given ++ last)) out
+  packets-whole i p {bits} more h six u e f d l = first-packets ((length bits - length p) / 1632) (sent-whole packets ws b i p more six u e f d .blocks) h l
