@@ -243,9 +243,8 @@ front-drained {i} {f} {n} p l {bits} more {given} {skipped = skipped} {s = s} g 
     let front : take (length p) bits ≡ p = sym (take-append-le (length p) bits more (omega arith)) ∙ (ap (take (length p)) e ∙ take-append-seam p l) in
     let back : came ++ more ≡ l = sym (drop-append-le (length p) bits more (omega arith)) ∙ (ap (drop (length p)) e ∙ drop-append-seam p l) in
     let all : bits ≡ p ++ came = sym (take-append-drop (length p) bits) ∙ ap (λ (x : List ℕ). x ++ came) front in
-    let size : length came ≡ length bits - length p = length-drop (length p) bits in
-    (
+    let size : length came ≡ length bits - length p = length-drop (length p) bits in (
       back,
       anywhere-given p came (grid-front came more (subst (SyncGrid i f n) (sym back) g)) (omega arith) (unsynced-front p came more (omega arith) (subst (Unsynced p) (sym back) u))
-      (subst (λ (x : List ℕ). SyncFeedings x given skipped s) all h) d,
+          (subst (λ (x : List ℕ). SyncFeedings x given skipped s) all h) d,
     )
