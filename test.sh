@@ -40,6 +40,7 @@ tool rustc rustc
 # What takes seconds comes first.
 quietly bash tests/unused.sh
 quietly bash tests/sentences.sh
+quietly bash tests/arrays.sh
 quietly bash tests/repeated.sh
 quietly bash tests/programs.sh
 bash docs/crates.sh | quietly cmp - docs/crates.svg
