@@ -19,9 +19,11 @@ use Rattle.common.proofs.Largest.{largest-zeros}
 use Rattle.program_io.specs.Checksum.{noBytes, traced}
 use Rattle.program_io.specs.Files.{inputOrigin, originFile, inputTrace, inputOver, inputFailed, outputFile, outputTrace, outputFailed, Fills}
 use Rattle.program_io.specs.Files as files
+use Rattle.program_io.specs.declared.calls.MarkedEnded.{MarkedEnded}
 use Rattle.program_io.specs.declared.input.Input.{Input}
 use Rattle.program_io.specs.declared.input.Filled.{Filled}
 use Rattle.program_io.specs.declared.output.Output.{Output}
+use Rattle.program_io.specs.declared.trace.Trace.{Trace}
 use Rattle.program_io.proofs.Traces.{traced-on}
 use Rattle.losses.specs.Watch.{waitingOf}
 use Rattle.losses.specs.Feed.{freshLossStream, capacityOf, marksOf, marksFit, lossFeedNumber, FeedsLosses, refused, fed, WritesLines, lossCloseNumber, endLines, closeLines}
@@ -32,10 +34,9 @@ use Rattle.losses.proofs.Streams.{stream-range}
 use Rattle.losses.proofs.Histories.{largest-both, largest-behind, came-none, came-range, came-capacity, came-feeds, came-listed}
 use Rattle.answer_lines.specs.Lines.{listText}
 use Rattle.answer_lines.proofs.Lists.{list-append}
-use Rattle.dvbs_losses.specs.Text.{restText}
+use Rattle.dvbs_losses.specs.Text.{restText, badMarkText}
 use Rattle.dvbs_losses.specs.Ends.{Going, BadMark, Stops, Turns, AllRead, Whole, Cut, Failed, Status, part, Ends}
 use Rattle.dvbs_losses.specs.Ends as ends
-use Rattle.dvbs_losses.specs.declared.LossesEnded.{LossesEnded}
 use Rattle.dvbs_losses.specs.declared.Turned.{Turned}
 use Rattle.dvbs_losses.proofs.Lists.{padded-both, padded-length}
 
@@ -144,8 +145,8 @@ cut-of g = record { lines = g .lines; written = g .written }
 pub finished : {input marks : Input} {output : Output} {i : LossStream} {rest : ℕ} (a : AllRead input marks output i rest) → inputFailed input ≡ false
     → {lines exit text : List ℕ} {count : ℕ} → WritesLines (closeLines i lines) lines count exit → length lines ≡ 8 → text ≡ listText (take count exit) ++ restText rest
     → {written last : Output} → files.Writes output text written → files.Closes written last → outputFailed last ≡ false
-    → (status : ℤ) → Whole (record { status = status; input = input; marks = marks; output = last })
-finished {input} {marks} {output} {i} {rest} a u {lines} {exit} {text} {count} w n e {written} {last} f h v status =
+    → {errors : Output} → outputTrace errors ≡ noBytes → (status : ℤ) → Whole (record { status = status; input = input; marks = marks; output = last; errors = errors })
+finished {input} {marks} {output} {i} {rest} a u {lines} {exit} {text} {count} w n e {written} {last} f h v q status =
     let g = a .going in
     let range = came-range (g .came) in
     let room : waitingOf (i .certainty) ≤ length lines = let r = stream-range i range in omega (arith, r .waiting .0, most-seven (i .receiver .sync .place)) in
@@ -172,11 +173,12 @@ finished {input} {marks} {output} {i} {rest} a u {lines} {exit} {text} {count} w
           ∙ ap₂ (λ (l : List ℕ) (r : ℕ). l ++ restText r) (sym (list-append (g .lines) (endLines i))) (sym (a .rest-is)));
       unfailed = v;
       closed = h .closed v;
+      untold = q;
     }
 
 -- ---- the loop
 
-pub record Running (start : Input) (input own : Input) (output : Output) (i : LossStream) (blocks : ℕ) : Type 0 where
+pub record Running (start : Input) (input own : Input) (output errors : Output) (i : LossStream) (blocks : ℕ) : Type 0 where
   pub bytes : List ℕ
   pub going : Going bytes own output i
   pub counted : length bytes ≡ 204 * blocks
@@ -186,9 +188,11 @@ pub record Running (start : Input) (input own : Input) (output : Output) (i : Lo
   pub input-is : originFile (inputOrigin input) ≡ pos 0
   pub marks-are : inputOrigin own ≡ inputOrigin start
   pub output-is : outputFile output ≡ pos 1
+  pub untold : files.FreshOutput (pos 2) errors
 
-pub running-none : {start input : Input} {output : Output} → inputTrace start ≡ noBytes → files.StandardInput input → files.FreshOutput (pos 1) output → Running start input start output freshLossStream 0
-running-none {start} {input} {output} t s f = record {
+pub running-none : {start input : Input} {output errors : Output} → inputTrace start ≡ noBytes → files.StandardInput input → files.FreshOutput (pos 1) output → files.FreshOutput (pos 2) errors
+    → Running start input start output errors freshLossStream 0
+running-none t s f e = record {
   bytes = [];
   going = record { own = []; lines = []; came = came-none; marks-read = t; marks-fit = omega arith; marks-all = inl refl; written = f .trace };
   counted = refl;
@@ -198,42 +202,49 @@ running-none {start} {input} {output} t s f = record {
   input-is = s .file;
   marks-are = refl;
   output-is = f .file;
+  untold = e;
 }
 
-module _ {start input own : Input} {output : Output} {i : LossStream} {blocks : ℕ} (r : Running start input own output i blocks) where
+module _ {start input own : Input} {output errors : Output} {i : LossStream} {blocks : ℕ} (r : Running start input own output errors i blocks) where
   pub running-capacity : blocks < 4294967295 → 204 ≤ capacityOf i
   running-capacity h = omega (arith, came-capacity (r .going .came), r .counted)
 
   -- no block more was read
-  pub running-rest : {buffer : List ℕ} {filled : Filled} → Fills input buffer filled → length buffer ≡ 204 → filled .length < 204 → AllRead (filled .input) own output i (filled .length)
-  running-rest {buffer} {filled} f n h = record {
-    bytes = r .bytes;
-    after-it = take (filled .length) buffer;
-    going = r .going;
-    read = traced-on (r .bytes) (take (filled .length) buffer) (r .read) (f .trace);
-    rest-is = length-take-le (filled .length) buffer (f .within);
-    few = h;
-    whole = omega (arith, r .counted);
-    ended = λ e. inl (ap (λ (t : Bool). pick t false (inputOver (filled .input))) e ∙ f .short (omega (arith, n, h)));
-  }
+  pub running-rest : {buffer : List ℕ} {filled : Filled} → Fills input buffer filled → length buffer ≡ 204 → filled .length < 204 → AllRead (filled .input) own output i (filled .length) × (outputTrace errors ≡ noBytes)
+  running-rest {buffer} {filled} f n h = (
+    record {
+      bytes = r .bytes;
+      after-it = take (filled .length) buffer;
+      going = r .going;
+      read = traced-on (r .bytes) (take (filled .length) buffer) (r .read) (f .trace);
+      rest-is = length-take-le (filled .length) buffer (f .within);
+      few = h;
+      whole = omega (arith, r .counted);
+      ended = λ e. inl (ap (λ (t : Bool). pick t false (inputOver (filled .input))) e ∙ f .short (omega (arith, n, h)));
+    },
+    r .untold .trace,
+  )
 
-  pub running-full : 4294967295 ≤ blocks → AllRead input own output i 0
-  running-full h = record {
-    bytes = r .bytes;
-    after-it = [];
-    going = r .going;
-    read = r .read ∙ ap (traced noBytes) (sym (append-nil (r .bytes)));
-    rest-is = refl;
-    few = omega arith;
-    whole = omega (arith, r .counted);
-    ended = λ e. inr (omega (arith, r .counted, r .most, h));
-  }
+  pub running-full : 4294967295 ≤ blocks → AllRead input own output i 0 × (outputTrace errors ≡ noBytes)
+  running-full h = (
+    record {
+      bytes = r .bytes;
+      after-it = [];
+      going = r .going;
+      read = r .read ∙ ap (traced noBytes) (sym (append-nil (r .bytes)));
+      rest-is = refl;
+      few = omega arith;
+      whole = omega (arith, r .counted);
+      ended = λ e. inr (omega (arith, r .counted, r .most, h));
+    },
+    r .untold .trace,
+  )
 
-  module _ {buffer block : List ℕ} {filled : Filled} (f : Fills input buffer filled) (b : block ≡ buffer) (n : length buffer ≡ 204) (full : 204 ≤ filled .length) {t : Turned} (w : Turns own output i block t) where
+  module _ {buffer block : List ℕ} {filled : Filled} (f : Fills input buffer filled) (b : block ≡ buffer) (n : length buffer ≡ 204) (full : 204 ≤ filled .length) {t : Turned} (w : Turns own output errors i block t) where
     came : take (filled .length) buffer ≡ block
     came = take-all (filled .length) buffer (omega (arith, n, full)) ∙ sym b
 
-    pub running-more : blocks < 4294967295 → t .failed ≡ false → Running start (filled .input) (t .marks) (t .output) (t .stream) (blocks + 1)
+    pub running-more : blocks < 4294967295 → t .failed ≡ false → Running start (filled .input) (t .marks) (t .output) (t .errors) (t .stream) (blocks + 1)
     running-more h e = record {
       bytes = r .bytes ++ block;
       going = w .goes (r .bytes) (r .going) e;
@@ -244,29 +255,37 @@ module _ {start input own : Input} {output : Output} {i : LossStream} {blocks : 
       input-is = ap originFile (f .origin) ∙ r .input-is;
       marks-are = w .marks-are ∙ r .marks-are;
       output-is = w .output-is ∙ r .output-is;
+      untold = subst (files.FreshOutput (pos 2)) (sym (w .untold e)) (r .untold);
     }
 
-    pub running-stops : t .failed ≡ true → (e : LossesEnded) → e .status ≡ pos 1 → e .input ≡ filled .input → e .marks ≡ t .marks → e .output ≡ t .output → Ends start e
-    running-stops h e s a m o = record {
+    pub running-stops : t .failed ≡ true → (e : MarkedEnded) → e .status ≡ pos 1 → e .input ≡ filled .input → e .marks ≡ t .marks → e .output ≡ t .output → e .errors ≡ t .errors → Ends start e
+    running-stops h e s a m o p = record {
       input-is = ap (λ (x : Input). originFile (inputOrigin x)) a ∙ ap originFile (f .origin) ∙ r .input-is;
       marks-are = ap inputOrigin m ∙ w .marks-are ∙ r .marks-are;
       output-is = ap outputFile o ∙ w .output-is ∙ r .output-is;
+      errors-are = ap outputFile p ∙ w .errors-are ∙ r .untold .file;
       status = part s (by (w .stops (r .bytes) (r .going) h));
     }
       where
         cut : t .output ≡ output → Cut (e .output)
         cut q = subst Cut (sym (o ∙ q)) (cut-of (r .going))
 
-        by : Stops output (t .marks) (t .output) → Failed e
-        by (ends.marks-failed g q) = ends.marks-failed (ap inputFailed m ∙ g) (cut q)
-        by (ends.output-failed g) = ends.output-failed (ap outputFailed o ∙ g)
-        by (ends.mark-refused g q) = ends.mark-refused (subst BadMark (sym m) g) (cut q)
+        nothing : t .errors ≡ errors → outputTrace (e .errors) ≡ noBytes
+        nothing u = ap outputTrace (p ∙ u) ∙ r .untold .trace
 
-pub ends-finished : {start input own : Input} {output : Output} {i : LossStream} {blocks : ℕ} (r : Running start input own output i blocks) (before : Input) → inputOrigin before ≡ inputOrigin input → (e : LossesEnded)
-    → Status e × (inputOrigin (e .input) ≡ inputOrigin before) × (inputOrigin (e .marks) ≡ inputOrigin own) × (outputFile (e .output) ≡ outputFile output) → Ends start e
+        by : Stops output errors (t .marks) (t .output) (t .errors) → Failed e
+        by (ends.marks-failed g q u) = ends.marks-failed (ap inputFailed m ∙ g) (cut q) (nothing u)
+        by (ends.output-failed g u) = ends.output-failed (ap outputFailed o ∙ g) (nothing u)
+        by (ends.mark-refused g q v) =
+            ends.mark-refused (subst BadMark (sym m) g) (cut q)
+            (λ u. ap outputTrace p ∙ v .whole (sym (ap outputFailed p) ∙ u) ∙ ap (λ (x : Trace). traced x badMarkText) (r .untold .trace))
+
+pub ends-finished : {start input own : Input} {output errors : Output} {i : LossStream} {blocks : ℕ} (r : Running start input own output errors i blocks) (before : Input) → inputOrigin before ≡ inputOrigin input → (e : MarkedEnded)
+    → Status e × (inputOrigin (e .input) ≡ inputOrigin before) × (inputOrigin (e .marks) ≡ inputOrigin own) × (outputFile (e .output) ≡ outputFile output) × (outputFile (e .errors) ≡ outputFile errors) → Ends start e
 ends-finished r before q e f = record {
   input-is = ap originFile (f .1 ∙ q) ∙ r .input-is;
   marks-are = f .2 ∙ r .marks-are;
   output-is = f .3 ∙ r .output-is;
+  errors-are = f .4 ∙ r .untold .file;
   status = f .0;
 }

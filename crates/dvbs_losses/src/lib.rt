@@ -9,7 +9,7 @@ ghost use Prim.Native.Nat.{_≤_};
 ghost use lib.ListN.{length};
 ghost use Rattle.common.specs.Lists.{padded};
 ghost use Rattle.program_io.specs.Checksum.{noBytes};
-ghost use Rattle.program_io.specs.Files.{inputTrace, inputOrigin, outputFile};
+ghost use Rattle.program_io.specs.Files.{inputTrace, inputOrigin, outputFile, outputTrace};
 ghost use Rattle.program_io.specs.Words.{argumentCount, wordIsOption};
 ghost use Rattle.losses.specs.Feed.{capacityOf};
 ghost use Rattle.dvbs_losses.specs.Ends.{rightCall, Turns, AllRead, Status, Ends, Exits};
@@ -18,23 +18,17 @@ use losses::LossStream;
 use program_io::Arguments;
 use program_io::Asked;
 use program_io::Input;
+use program_io::MarkedEnded;
 use program_io::Output;
 use program_io::Word;
 use reception_counts::Counts;
-
-// How it ended, with the files as it left them.
-pub struct LossesEnded {
-    pub status: i32,
-    pub input: Input,
-    pub marks: Input,
-    pub output: Output,
-}
 
 // What a piece came to.
 struct Turned {
     failed: bool,
     marks: Input,
     output: Output,
+    errors: Output,
     stream: LossStream,
 }
 
@@ -48,10 +42,16 @@ fn marks_of(own: &[u8]) -> [u8; 204]
     marks
 }
 
-// Takes a block with its marks, and writes the lines that are decided then.
-fn turn(marks: Input, output: Output, stream: LossStream, block: [u8; 204]) -> Turned
+// Takes a block with its marks, and writes the lines that are decided then, or tells a mark above 1.
+fn turn(
+    marks: Input,
+    output: Output,
+    errors: Output,
+    stream: LossStream,
+    block: [u8; 204],
+) -> Turned
     requires { ⌜ 204 ≤ capacityOf stream ⌝ }
-    ensures { λ r. ⌜ Turns marks output stream block r ⌝ }
+    ensures { λ r. ⌜ Turns marks output errors stream block r ⌝ }
 {
     let mut own = [0u8; 204];
     let mut lines = [0u64; 8];
@@ -64,6 +64,7 @@ fn turn(marks: Input, output: Output, stream: LossStream, block: [u8; 204]) -> T
             failed: true,
             marks: next,
             output,
+            errors,
             stream,
         };
     }
@@ -73,12 +74,12 @@ fn turn(marks: Input, output: Output, stream: LossStream, block: [u8; 204]) -> T
     let count = fed.count;
     let after = fed.stream;
     if answer.number() != 0 {
-        let errors = Output::errors();
-        errors.write_text(b"standard error", b"marks: a mark above 1\n");
+        let errors = errors.write_text(b"standard error", b"marks: a mark above 1\n");
         return Turned {
             failed: true,
             marks: next,
             output,
+            errors,
             stream,
         };
     }
@@ -89,6 +90,7 @@ fn turn(marks: Input, output: Output, stream: LossStream, block: [u8; 204]) -> T
         failed,
         marks: next,
         output: written,
+        errors,
         stream: after,
     }
 }
@@ -98,30 +100,34 @@ fn finish(
     input: Input,
     marks: Input,
     output: Output,
+    errors: Output,
     stream: LossStream,
     rest: usize,
-) -> LossesEnded
-    requires { ⌜ AllRead input marks output stream rest ⌝ }
+) -> MarkedEnded
+    requires { ⌜ (AllRead input marks output stream rest) × (outputTrace errors ≡ noBytes) ⌝ }
     ensures { λ r. ⌜
         (Status r)
         × (inputOrigin (r .input) ≡ inputOrigin input)
         × (inputOrigin (r .marks) ≡ inputOrigin marks)
-        × (outputFile (r .output) ≡ outputFile output) ⌝ }
+        × (outputFile (r .output) ≡ outputFile output)
+        × (outputFile (r .errors) ≡ outputFile errors) ⌝ }
 {
     if input.failed() {
-        return LossesEnded {
+        return MarkedEnded {
             status: 1,
             input,
             marks,
             output,
+            errors,
         };
     }
     if marks.failed() {
-        return LossesEnded {
+        return MarkedEnded {
             status: 1,
             input,
             marks,
             output,
+            errors,
         };
     }
     let mut lines = [0u64; 8];
@@ -133,29 +139,32 @@ fn finish(
     let written = output.write_text(b"standard output", &text[..size]);
     let output = written.close(b"standard output");
     if output.failed() {
-        return LossesEnded {
+        return MarkedEnded {
             status: 1,
             input,
             marks,
             output,
+            errors,
         };
     }
-    LossesEnded {
+    MarkedEnded {
         status: 0,
         input,
         marks,
         output,
+        errors,
     }
 }
 
 // The list of what is on standard input, with these marks, a block at a time, so that a live feed's lines come out when their blocks are whole.
-fn run(marks: Input) -> LossesEnded
+fn run(marks: Input) -> MarkedEnded
     requires { ⌜ inputTrace marks ≡ noBytes ⌝ }
     ensures { λ r. ⌜ Ends marks r ⌝ }
 {
     let mut input = Input::standard();
     let mut own = marks;
     let mut output = Output::standard();
+    let mut errors = Output::errors();
     let mut stream = LossStream::new();
     let mut blocks: u64 = 0;
     while blocks < Counts::MOST {
@@ -164,24 +173,26 @@ fn run(marks: Input) -> LossesEnded
         let size = filled.length;
         input = filled.input;
         if size < 204 {
-            return finish(input, own, output, stream, size);
+            return finish(input, own, output, errors, stream, size);
         }
-        let turned = turn(own, output, stream, block);
+        let turned = turn(own, output, errors, stream, block);
         let failed = turned.failed;
         own = turned.marks;
         output = turned.output;
+        errors = turned.errors;
         stream = turned.stream;
         if failed {
-            return LossesEnded {
+            return MarkedEnded {
                 status: 1,
                 input,
                 marks: own,
                 output,
+                errors,
             };
         }
         blocks += 1;
     }
-    finish(input, own, output, stream, 0)
+    finish(input, own, output, errors, stream, 0)
 }
 
 // Whether there is no argument, or one that may name a file.

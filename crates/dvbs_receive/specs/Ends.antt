@@ -16,6 +16,7 @@ use Rattle.program_io.specs.Files.{inputOrigin, originFile, inputEnded, inputFa
 use Rattle.program_io.specs.Words.{argumentCount, wordArgument, wordBytes, wordIsOption}
 use Rattle.program_io.specs.declared.calls.Asked.{Asked}
 use Rattle.program_io.specs.declared.calls.Asked.the-variants.{Help, Version, Work}
+use Rattle.program_io.specs.declared.calls.MarkedEnded.{MarkedEnded}
 use Rattle.program_io.specs.declared.input.Input.{Input}
 use Rattle.program_io.specs.declared.output.Output.{Output}
 use Rattle.program_io.specs.declared.words.Arguments.{Arguments}
@@ -25,7 +26,6 @@ use Rattle.receiver_stream.specs.Feed.{capacityOf}
 use Rattle.receiver_stream.specs.Reporting.{streamReport}
 use Rattle.receiver_stream.specs.declared.ReceiverStream.{ReceiverStream}
 use Rattle.pass.specs.Pass.{PassCame, BadMark}
-use Rattle.dvbs_receive.specs.declared.ReceiveEnded.{ReceiveEnded}
 use Rattle.dvbs_receive.specs.declared.PassTold.{PassTold}
 
 -- dvbs_receive
@@ -57,7 +57,7 @@ pub data Tells (stream : ReceiverStream) (output : Output) (r : PassTold) : Type
 
 -- status 0: all was read, up to the end of the input or the last block that can be counted, and what it comes to was written; the output was closed,
 -- and the report was told
-pub record Whole (start : Input) (r : ReceiveEnded) : Type 0 where
+pub record Whole (start : Input) (r : MarkedEnded) : Type 0 where
   pub stream : ReceiverStream
   pub all : PassCame true start (r .input) (r .marks) (r .output) stream
   pub ended : (inputEnded (r .input) ≡ true) ⊎ (capacityOf stream ≡ 0)
@@ -66,19 +66,19 @@ pub record Whole (start : Input) (r : ReceiveEnded) : Type 0 where
   pub told : outputTrace (r .errors) ≡ traced noBytes (reportText (streamReport stream))
 
 -- status 1: what failed, and then no line of the report was told; or a mark above 1, which was told with its block
-pub data Failed (r : ReceiveEnded) : Type 0 where
+pub data Failed (r : MarkedEnded) : Type 0 where
   input-failed : inputFailed (r .input) ≡ true → outputTrace (r .errors) ≡ noBytes → Failed r
   marks-failed : inputFailed (r .marks) ≡ true → outputTrace (r .errors) ≡ noBytes → Failed r
   output-failed : outputFailed (r .output) ≡ true → outputTrace (r .errors) ≡ noBytes → Failed r
   errors-failed : outputFailed (r .errors) ≡ true → Failed r
   mark-refused : (block : ℕ) → BadMark (r .marks) block → outputTrace (r .errors) ≡ traced noBytes (refusalText block 20) → Failed r
 
-pub data Status (start : Input) (r : ReceiveEnded) : Type 0 where
+pub data Status (start : Input) (r : MarkedEnded) : Type 0 where
   whole : r .status ≡ pos 0 → Whole start r → Status start r
   part : r .status ≡ pos 1 → Failed r → Status start r
 
 -- the files are standard input, the marks as they were made, standard output and standard error
-pub record Ends (start : Input) (r : ReceiveEnded) : Type 0 where
+pub record Ends (start : Input) (r : MarkedEnded) : Type 0 where
   pub input-is : originFile (inputOrigin (r .input)) ≡ pos 0
   pub marks-are : inputOrigin (r .marks) ≡ inputOrigin start
   pub output-is : outputFile (r .output) ≡ pos 1
@@ -88,6 +88,6 @@ pub record Ends (start : Input) (r : ReceiveEnded) : Type 0 where
 -- The status of the program: that of what every program answers, which is 2 for a wrong call; or how the pass ended.
 pub data Exits (status : ℤ) : Type 0 where
   answered : AnswersCall programName usageText (λ a w. rightCall (askedOf (argumentCount a) (wordBytes w)) (argumentCount a) (wordIsOption w) ≡ false) status → Exits status
-  ran : (a : Arguments) (w : Word) (marks : Input) (r : ReceiveEnded) → wordArgument w ≡ 1
+  ran : (a : Arguments) (w : Word) (marks : Input) (r : MarkedEnded) → wordArgument w ≡ 1
       → rightCall (askedOf (argumentCount a) (wordBytes w)) (argumentCount a) (wordIsOption w) ≡ true → NamedInput (argumentCount a) marks → Ends marks r
       → status ≡ r .status → Exits status

@@ -17,18 +17,10 @@ use program_io::Answered;
 use program_io::Arguments;
 use program_io::Asked;
 use program_io::Input;
+use program_io::MarkedEnded;
 use program_io::Output;
 use program_io::Word;
 use receiver_stream::ReceiverStream;
-
-// How it ended, with the files as it left them.
-pub struct ReceiveEnded {
-    pub status: i32,
-    pub input: Input,
-    pub marks: Input,
-    pub output: Output,
-    pub errors: Output,
-}
 
 // The end of what was written, and what was told of it.
 struct PassTold {
@@ -69,7 +61,7 @@ fn tell_report(stream: ReceiverStream, output: Output, errors: Output) -> PassTo
 }
 
 // The pass on standard input, with these marks.
-fn run(marks: Input) -> ReceiveEnded
+fn run(marks: Input) -> MarkedEnded
     requires { ⌜ inputTrace marks ≡ noBytes ⌝ }
     ensures { λ r. ⌜ Ends marks r ⌝ }
 {
@@ -77,7 +69,7 @@ fn run(marks: Input) -> ReceiveEnded
     let output = Output::standard();
     let errors = Output::errors();
     if marks.failed() {
-        return ReceiveEnded {
+        return MarkedEnded {
             status: 1,
             input,
             marks,
@@ -107,7 +99,7 @@ fn run(marks: Input) -> ReceiveEnded
             let told = tell_report(stream, output, errors);
             let output = told.output;
             let errors = told.errors;
-            ReceiveEnded {
+            MarkedEnded {
                 status: told.status,
                 input,
                 marks,
@@ -115,7 +107,7 @@ fn run(marks: Input) -> ReceiveEnded
                 errors,
             }
         }
-        Ending::Failed => ReceiveEnded {
+        Ending::Failed => MarkedEnded {
             status: 1,
             input,
             marks,
@@ -124,7 +116,7 @@ fn run(marks: Input) -> ReceiveEnded
         },
         Ending::Refused(block) => {
             let errors = tell_mark(block, errors);
-            ReceiveEnded {
+            MarkedEnded {
                 status: 1,
                 input,
                 marks,

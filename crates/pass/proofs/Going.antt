@@ -256,6 +256,11 @@ pub hands-file : {o r : Output} {wanted : Bool} {packets : List ℕ} → HandsOn
 hands-file (written e w) = w .file
 hands-file (kept e w) = ap outputFile w
 
+-- nothing is done where nothing is wanted
+pub hands-nothing : {o r : Output} {wanted : Bool} {packets : List ℕ} → HandsOn o wanted packets r → wanted ≡ false → r ≡ o
+hands-nothing (written e w) n = absurd (true≢false (sym e ∙ n))
+hands-nothing (kept e w) n = w
+
 -- no more is given than there is room for
 pub feeds-within : {i next : ReceiverStream} {piece own output exit : List ℕ} {number count : ℕ} → FeedsReceiver i piece own output number count next exit → count ≤ length exit
 feeds-within (refused e p c s x) = omega (arith, c)

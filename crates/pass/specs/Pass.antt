@@ -74,9 +74,11 @@ pub data Ends (wanted : Bool) (start : Input) (r : Pass) : Type 0 where
   output-failed : r .ending ≡ Failed → outputFailed (r .output) ≡ true → wanted ≡ true → Ends wanted start r
   refused : (block : ℕ) → r .ending ≡ Refused block → BadMark (r .marks) block → (inputEnded start ≡ true → ⊥) → Ends wanted start r
 
--- The inputs and the output stay what they are. Whole is all of the input up to its end, or to the last block that can be counted.
+-- The inputs and the output stay what they are; where no packets are wanted, nothing is done with the output. Whole is all of the input up to its end, or
+-- to the last block that can be counted.
 pub record Passes (input marks : Input) (output : Output) (wanted : Bool) (r : Pass) : Type 0 where
   pub input-origin : inputOrigin (r .input) ≡ inputOrigin input
   pub marks-origin : inputOrigin (r .marks) ≡ inputOrigin marks
   pub file : outputFile (r .output) ≡ outputFile output
+  pub unwanted : wanted ≡ false → r .output ≡ output
   pub ends : Ends wanted marks r

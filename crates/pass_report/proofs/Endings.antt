@@ -50,6 +50,10 @@ module _ {start input : Input} {output : Output} {p : Pass} (k : Passes input st
   pub came-of : p .ending ≡ Whole → ReceiverCame (p .stream)
   came-of w = let g = whole-came w .0 in record { bytes = g .bytes; marks = _; written = g .packets; reception = g .reception }
 
+  -- nothing was done with the output
+  pub fresh : FreshOutput (pos 1) (p .output)
+  fresh = subst (FreshOutput (pos 1)) (sym (k .unwanted refl)) o
+
   file : originFile (inputOrigin (p .input)) ≡ pos 0
   file = ap originFile (k .input-origin) ∙ i .file
 
@@ -83,12 +87,12 @@ module _ {start input : Input} {output : Output} {p : Pass} (k : Passes input st
   }
 
   -- it was not
-  pub ends-failed : isWhole (p .ending) ≡ false → Ends (record { status = pos 1; input = p .input; output = output })
-  ends-failed w = record { input-is = file; output-is = o .file; status = own.part refl (by (k .ends)) }
+  pub ends-failed : isWhole (p .ending) ≡ false → Ends (record { status = pos 1; input = p .input; output = p .output })
+  ends-failed w = record { input-is = file; output-is = fresh .file; status = own.part refl (by (k .ends)) }
     where
-      by : pass.Ends false start p → own.Failed (record { status = pos 1; input = p .input; output = output })
+      by : pass.Ends false start p → own.Failed (record { status = pos 1; input = p .input; output = p .output })
       by (whole e g x) = absurd (true≢false (sym (ap isWhole e) ∙ w))
-      by (input-failed e f) = own.input-failed f (o .trace)
+      by (input-failed e f) = own.input-failed f (fresh .trace)
       by (marks-failed e f q) = absurd (q (n .ended))
       by (output-failed e f q) = absurd (true≢false (sym q))
       by (refused b e f q) = absurd (q (n .ended))

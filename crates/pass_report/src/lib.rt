@@ -70,6 +70,7 @@ fn run() -> PassEnded
         &mut packets,
     );
     let input = pass.input;
+    let output = pass.output;
     let stream = pass.stream;
     let ending = pass.ending;
     if is_whole(ending) {

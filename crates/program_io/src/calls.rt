@@ -22,6 +22,15 @@ pub struct Ended {
     pub errors: Output,
 }
 
+// The same of a run whose received bytes have marks.
+pub struct MarkedEnded {
+    pub status: i32,
+    pub input: Input,
+    pub marks: Input,
+    pub output: Output,
+    pub errors: Output,
+}
+
 // A text that was given, and the status of the program.
 pub struct Answered {
     pub output: Output,

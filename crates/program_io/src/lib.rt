@@ -10,6 +10,7 @@ mod words;
 pub use calls::Answered;
 pub use calls::Asked;
 pub use calls::Ended;
+pub use calls::MarkedEnded;
 pub use calls::answer;
 pub use calls::asked_for;
 pub use calls::help;

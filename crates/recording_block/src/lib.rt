@@ -8,7 +8,7 @@ ghost use Prim.Native.Nat.{_*_};
 ghost use lib.IntN.{pos};
 ghost use Rattle.answer_lines.specs.Lines.{blockText};
 ghost use Rattle.program_io.specs.Calls.{Answers};
-ghost use Rattle.program_io.specs.Files.{OpenedInput, outputFile, Writes};
+ghost use Rattle.program_io.specs.Files.{OpenedInput, FreshOutput, outputFile, Writes};
 ghost use Rattle.program_io.specs.Words.{argumentCount, wordBytes, wordIsOption};
 ghost use Rattle.recording_block.specs.Ends.{programName, usageText, blockIn, requestOf, BlockAnswered, Beyond, Ends, Exits};
 use program_io::Answered;
@@ -43,11 +43,17 @@ fn tell(number: u8, changed: Changed, errors: Output) -> Output
 }
 
 // Closes the output, and tells what was answered where nothing was lost.
-fn finish(p: u64, number: u8, changed: Changed, input: Input, output: Output) -> Ended
-    requires { ⌜ (BlockAnswered p number changed input output) × (outputFile output ≡ pos 1) ⌝ }
+fn finish(
+    p: u64,
+    number: u8,
+    changed: Changed,
+    input: Input,
+    output: Output,
+    errors: Output,
+) -> Ended
+    requires { ⌜ (BlockAnswered p number changed input output) × (outputFile output ≡ pos 1) × (FreshOutput (pos 2) errors) ⌝ }
     ensures { λ r. ⌜ Ends p r ⌝ }
 {
-    let errors = Output::errors();
     let output = output.close(b"standard output");
     if output.failed() {
         return Ended {
@@ -101,7 +107,7 @@ fn give_block(p: u64, input: Input) -> Ended
     let changed = decoded.changed;
     let number = answer.number();
     if number != 0 {
-        return finish(p, number, changed, input, output);
+        return finish(p, number, changed, input, output, errors);
     }
     let output = output.write(b"standard output", &block);
     if output.failed() {
@@ -112,7 +118,7 @@ fn give_block(p: u64, input: Input) -> Ended
             errors,
         };
     }
-    finish(p, number, changed, input, output)
+    finish(p, number, changed, input, output, errors)
 }
 
 // Tells that no recording has such a block.

@@ -19,7 +19,7 @@ failed-requires c κs = search needs
 returns : tie.Need-returns
 returns c =
     let s = c .before .before in
-    (part refl (input-failed (sym (c .before .failed .ensures) ∙ c .if1 .taken) (cut-of (s .pre .going))), refl, refl, refl)
+    (part refl (input-failed (sym (c .before .failed .ensures) ∙ c .if1 .taken) (cut-of (s .pre .0 .going)) (s .pre .1)), refl, refl, refl, refl)
 
 failed-requires-2 : tie.Need-failed-requires-2
 failed-requires-2 c κs = search needs
@@ -27,7 +27,7 @@ failed-requires-2 c κs = search needs
 returns-2 : tie.Need-returns-2
 returns-2 c =
     let s = c .before .before .before .before in
-    (part refl (marks-failed (sym (c .before .failed2 .ensures) ∙ c .if2 .taken) (cut-of (s .pre .going))), refl, refl, refl)
+    (part refl (marks-failed (sym (c .before .failed2 .ensures) ∙ c .if2 .taken) (cut-of (s .pre .0 .going)) (s .pre .1)), refl, refl, refl, refl)
 
 slice-aggregate-close : tie.Need-slice-aggregate-close
 slice-aggregate-close c = search needs
@@ -95,7 +95,8 @@ failed-requires-3 c κs = search needs
 
 returns-3 : tie.Need-returns-3
 returns-3 c =
-    (part refl (output-failed (sym (c .before .failed3 .ensures) ∙ c .if3 .taken)), refl, refl, c .before .before .close2 .ensures .file ∙ c .before .before .before .before .write-text .ensures .file)
+    let s = c .before .before .before .before .before .before .before .before .before .before .before .before .before .before .before .before .before .before .before .before .before .before in
+    (part refl (output-failed (sym (c .before .failed3 .ensures) ∙ c .if3 .taken) (s .pre .1)), refl, refl, c .before .before .close2 .ensures .file ∙ c .before .before .before .before .write-text .ensures .file, refl)
 
 returns-4 : tie.Need-returns-4
 returns-4 c =
@@ -105,7 +106,7 @@ returns-4 c =
     let q = c .before .before .before .before .before .before .before .before .put-line in
     let u = sym (c .before .before .before .before .before .before .before .before .before .before .before .before .before .before .before .before .before .before .before .before .before .failed .ensures) ∙ c .before .before .before .before .before .before .before .before .before .before .before .before .before .before .before .before .before .before .before .before .if1 .left in
     let v = sym (c .before .failed3 .ensures) ∙ c .if3 .left in
-    (whole refl (finished (s .pre) u (d .ensures .1) refl (q .ensures .text ∙ ap (λ (x : List ℕ). x ++ restText (s .args .rest)) (p .ensures .text)) (c .before .before .before .before .write-text .ensures) (c .before .before .close2 .ensures) v _), refl, refl, c .before .before .close2 .ensures .file ∙ c .before .before .before .before .write-text .ensures .file)
+    (whole refl (finished (s .pre .0) u (d .ensures .1) refl (q .ensures .text ∙ ap (λ (x : List ℕ). x ++ restText (s .args .rest)) (p .ensures .text)) (c .before .before .before .before .write-text .ensures) (c .before .before .close2 .ensures) v (s .pre .1) _), refl, refl, c .before .before .close2 .ensures .file ∙ c .before .before .before .before .write-text .ensures .file, refl)
 
 pub finish-spec : {M : Type 1} → statement M
 finish-spec =

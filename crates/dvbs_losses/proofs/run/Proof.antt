@@ -11,10 +11,10 @@ use Rattle.dvbs_losses.proofs.run.Statement.{statement}
 use Rattle.dvbs_losses.proofs.run.Tie as tie
 
 abbrev Inv-loop : tie.InvT-loop
-Inv-loop input₀ own₀ output₀ stream₀ blocks₀ block₀ input own output stream blocks = Running own₀ input own output stream blocks
+Inv-loop input₀ own₀ output₀ errors₀ stream₀ blocks₀ block₀ input own output errors stream blocks = Running own₀ input own output errors stream blocks
 
 abbrev μ-loop : tie.MeasureT-loop
-μ-loop input₀ own₀ output₀ stream₀ blocks₀ block₀ input own output stream blocks = 4294967295 - blocks
+μ-loop input₀ own₀ output₀ errors₀ stream₀ blocks₀ block₀ input own output errors stream blocks = 4294967295 - blocks
 
 standard-requires : tie.Need-standard-requires Inv-loop μ-loop
 standard-requires c κs = search needs
@@ -22,13 +22,17 @@ standard-requires c κs = search needs
 standard-requires-2 : tie.Need-standard-requires-2 Inv-loop μ-loop
 standard-requires-2 c κs = search needs
 
+errors-requires : tie.Need-errors-requires Inv-loop μ-loop
+errors-requires c κs = search needs
+
 new-requires : tie.Need-new-requires Inv-loop μ-loop
 new-requires c κs = search needs
 
 loop-holds : tie.Need-loop-holds Inv-loop μ-loop
 loop-holds c =
-    let s = c .before .before .before in
-    subst (λ (i : LossStream). Running (s .args .marks) (c .before .before .standard .result) (s .args .marks) (c .before .standard2 .result) i 0) (sym (c .new .ensures)) (running-none (s .pre) (c .before .before .standard .ensures) (c .before .standard2 .ensures))
+    let s = c .before .before .before .before in
+    let e = c .before .errors in
+    subst (λ (i : LossStream). Running (s .args .marks) (c .before .before .before .standard .result) (s .args .marks) (c .before .before .standard2 .result) (e .result) i 0) (sym (c .new .ensures)) (running-none (s .pre) (c .before .before .before .standard .ensures) (c .before .before .standard2 .ensures) (e .ensures))
 
 slice-aggregate-fill : tie.Need-slice-aggregate-fill Inv-loop μ-loop
 slice-aggregate-fill c = search needs
@@ -55,21 +59,21 @@ turn-requires c κs = running-capacity (c .before .before .before .before .befor
 
 returns-2 : tie.Need-returns-2 Inv-loop μ-loop
 returns-2 c =
-    let f = c .before .before .before .before .before .before .before .before .fill in
+    let f = c .before .before .before .before .before .before .before .before .before .fill in
     let l : length (f .last .1 .1 .0) ≡ 204 = search needs in
-    running-stops (c .before .before .before .before .before .before .before .before .before .before .before .before .loop .inv) (f .ensures) refl l (omega (arith, c .before .before .before .before .before .if1 .left)) (c .before .before .before .before .turn .ensures) (c .if2 .taken) _ refl refl refl refl
+    running-stops (c .before .before .before .before .before .before .before .before .before .before .before .before .before .loop .inv) (f .ensures) refl l (omega (arith, c .before .before .before .before .before .before .if1 .left)) (c .before .before .before .before .before .turn .ensures) (c .if2 .taken) _ refl refl refl refl refl
 
 add-blocks : tie.Need-add-blocks Inv-loop μ-loop
-add-blocks c = omega (arith, c .before .before .before .before .before .before .before .before .before .before .before .loop-test .taken)
+add-blocks c = omega (arith, c .before .before .before .before .before .before .before .before .before .before .before .before .loop-test .taken)
 
 loop-less : tie.Need-loop-less Inv-loop μ-loop
-loop-less c = omega (arith, c .before .before .before .before .before .before .before .before .before .before .before .loop-test .taken)
+loop-less c = omega (arith, c .before .before .before .before .before .before .before .before .before .before .before .before .loop-test .taken)
 
 loop-again : tie.Need-loop-again Inv-loop μ-loop
 loop-again c =
-    let f = c .before .before .before .before .before .before .before .before .fill in
+    let f = c .before .before .before .before .before .before .before .before .before .fill in
     let l : length (f .last .1 .1 .0) ≡ 204 = search needs in
-    running-more (c .before .before .before .before .before .before .before .before .before .before .before .before .loop .inv) (f .ensures) refl l (omega (arith, c .before .before .before .before .before .if1 .left)) (c .before .before .before .before .turn .ensures) (c .before .before .before .before .before .before .before .before .before .before .before .loop-test .taken) (c .if2 .left)
+    running-more (c .before .before .before .before .before .before .before .before .before .before .before .before .before .loop .inv) (f .ensures) refl l (omega (arith, c .before .before .before .before .before .before .if1 .left)) (c .before .before .before .before .before .turn .ensures) (c .before .before .before .before .before .before .before .before .before .before .before .before .loop-test .taken) (c .if2 .left)
 
 finish-requires-2 : tie.Need-finish-requires-2 Inv-loop μ-loop
 finish-requires-2 c κs = running-full (c .before .loop .inv) (c .loop-test .left)
@@ -85,6 +89,7 @@ run-spec =
     μ-loop
     standard-requires
     standard-requires-2
+    errors-requires
     new-requires
     loop-holds
     slice-aggregate-fill

@@ -32,8 +32,10 @@ returns c =
     record {
       marks-are = f .ensures .origin;
       output-is = refl;
+      errors-are = refl;
+      untold = λ e. refl;
       goes = λ bytes g e. absurd (true≢false e);
-      stops = λ bytes g e. marks-failed (sym (c .before .failed .ensures) ∙ c .if1 .taken) refl;
+      stops = λ bytes g e. marks-failed (sym (c .before .failed .ensures) ∙ c .if1 .taken) refl refl;
     }
 
 array-share-prefix-own : tie.Need-array-share-prefix-own
@@ -53,7 +55,7 @@ marks-of-requires c κs =
     omega (arith, length-take-le (f .result .length) (f .last .1 .1 .0) (f .ensures .within), f .ensures .within, l)
 
 slice-aggregate-feed : tie.Need-slice-aggregate-feed
-slice-aggregate-feed c = search needs
+slice-aggregate-feed c = search (needs, c .before .before .before .before .before .before .before .before .before .before .good .1 .1 .1 .1 .0 .1 .0 .1)
 
 slice-aggregate-feed-2 : tie.Need-slice-aggregate-feed-2
 slice-aggregate-feed-2 c = search needs
@@ -67,9 +69,6 @@ feed-requires c κs = search needs
 number-requires : tie.Need-number-requires
 number-requires c κs = search needs
 
-errors-requires : tie.Need-errors-requires
-errors-requires c κs = search needs
-
 slice-aggregate-write-text : tie.Need-slice-aggregate-write-text
 slice-aggregate-write-text c = search needs
 
@@ -81,16 +80,18 @@ write-text-requires c κs = search needs
 
 returns-2 : tie.Need-returns-2
 returns-2 c =
-    let s = c .before .before .before .before .before .before .before .before .before .before .before .before .before .before .before .before .before .before .before .before .before in
-    let f = c .before .before .before .before .before .before .before .before .before .before .before .before .before .before .before .before .before .before .fill in
+    let s = c .before .before .before .before .before .before .before .before .before .before .before .before .before .before .before .before .before .before .before .before in
+    let f = c .before .before .before .before .before .before .before .before .before .before .before .before .before .before .before .before .before .fill in
     let l : length (f .last .1 .1 .0) ≡ 204 = search needs in
-    let n : length (s .args .t4) ≡ 204 = search needs in
+    let n : length (s .args .t5) ≡ 204 = s .good .1 .1 .1 .1 .0 .1 .0 .1 in
     record {
       marks-are = f .ensures .origin;
       output-is = refl;
+      errors-are = c .write-text .ensures .file;
+      untold = λ e. absurd (true≢false e);
       goes = λ bytes g e. absurd (true≢false e);
       stops = λ bytes g e.
-          mark-refused (mark-bad bytes (s .args .t4) g n (l ∙ sym n) (f .ensures) (c .before .before .before .before .before .before .before .before .before .before .before .before .marks-of .ensures) (c .before .before .before .before .before .before .before .before .feed .ensures) refl (omega (arith, s .pre, n)) (λ z. c .before .before .before .before .if2 .taken (c .before .before .before .before .before .number .ensures ∙ z))) refl;
+          mark-refused (mark-bad bytes (s .args .t5) g n (l ∙ sym n) (f .ensures) (c .before .before .before .before .before .before .before .before .before .before .before .marks-of .ensures) (c .before .before .before .before .before .before .before .feed .ensures) refl (omega (arith, s .pre, n)) (λ z. c .before .before .before .if2 .taken (c .before .before .before .before .number .ensures ∙ z))) refl (c .write-text .ensures);
     }
 
 slice-aggregate-put-list : tie.Need-slice-aggregate-put-list
@@ -135,16 +136,18 @@ returns-3 c =
     let s = c .before .before .before .before .before .before .before .before .before .before .before .before .before .before .before .before .before .before .before .before .before .before .before .before .before in
     let f = c .before .before .before .before .before .before .before .before .before .before .before .before .before .before .before .before .before .before .before .before .before .before .fill in
     let l : length (f .last .1 .1 .0) ≡ 204 = search needs in
-    let n : length (s .args .t4) ≡ 204 = search needs in
+    let n : length (s .args .t5) ≡ 204 = s .good .1 .1 .1 .1 .0 .1 .0 .1 in
     let v = c .before .write in
     let p = c .before .before .before .before .before .put-list in
     record {
       marks-are = f .ensures .origin;
       output-is = v .ensures .file;
+      errors-are = refl;
+      untold = λ e. refl;
       goes = λ bytes g e.
-          going-on bytes (s .args .t4) g n (l ∙ sym n) (f .ensures) (c .before .before .before .before .before .before .before .before .before .before .before .before .before .before .before .before .marks-of .ensures) (c .before .before .before .before .before .before .before .before .before .before .before .before .feed .ensures) (sym (c .before .before .before .before .before .before .before .before .before .number .ensures) ∙ c .before .before .before .before .before .before .before .before .if2 .left)
+          going-on bytes (s .args .t5) g n (l ∙ sym n) (f .ensures) (c .before .before .before .before .before .before .before .before .before .before .before .before .before .before .before .before .marks-of .ensures) (c .before .before .before .before .before .before .before .before .before .before .before .before .feed .ensures) (sym (c .before .before .before .before .before .before .before .before .before .number .ensures) ∙ c .before .before .before .before .before .before .before .before .if2 .left)
           (subst (λ (x : List ℕ). files.Writes (s .args .output) x (v .result)) (p .ensures .text) (v .ensures)) (sym (c .failed2 .ensures) ∙ e);
-      stops = λ bytes g e. output-failed (sym (c .failed2 .ensures) ∙ e);
+      stops = λ bytes g e. output-failed (sym (c .failed2 .ensures) ∙ e) refl;
     }
 
 pub turn-spec : {M : Type 1} → statement M
@@ -164,7 +167,6 @@ turn-spec =
     slice-aggregate-feed-3
     feed-requires
     number-requires
-    errors-requires
     slice-aggregate-write-text
     slice-aggregate-write-text-2
     write-text-requires

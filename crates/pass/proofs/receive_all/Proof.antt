@@ -1,7 +1,7 @@
 -- `pass::receive_all` meets its contract.
 -- Assumes nothing.
 use mathlib.Core.Path.{_≡_, refl, sym, ap, ap₂, subst, _∙_}
-use mathlib.Core.Bool.{Bool, true≢false}
+use mathlib.Core.Bool.{Bool, false, true≢false}
 use Prim.Native.Nat.{ℕ, _≤_, min}
 use native.Mathlib.Omega.{arith}
 use lib.ListN.{length}
@@ -11,7 +11,7 @@ use Rattle.program_io.specs.Files.{inputOrigin, outputFile}
 use Rattle.receiver_stream.specs.Feed.{capacityOf}
 use Rattle.receiver_stream.proofs.Laws.{reception-range}
 use Rattle.pass.specs.Pass.{PassCame, marks-failed, output-failed, refused}
-use Rattle.pass.proofs.Going.{came-none, came-taken, came-over, ended-read, came-bad, came-more, came-less, hands-file, hands-wanted, feeds-within}
+use Rattle.pass.proofs.Going.{came-none, came-taken, came-over, ended-read, came-bad, came-more, came-less, hands-file, hands-nothing, hands-wanted, feeds-within}
 use borrow.Author.Needs.{needs}
 use Rattle.pass.proofs.receive_all.Statement.{statement}
 use Rattle.pass.proofs.receive_all.Tie as tie
@@ -25,6 +25,7 @@ Inv-loop wanted bytes₀ own₀ packets₀ input₀ marks₀ output₀ stream₀
     × (inputOrigin input ≡ inputOrigin input₀)
     × (inputOrigin marks ≡ inputOrigin marks₀)
     × (outputFile output ≡ outputFile output₀)
+    × (wanted ≡ false → output ≡ output₀)
 
 abbrev μ-loop : tie.MeasureT-loop
 μ-loop wanted bytes₀ own₀ packets₀ input₀ marks₀ output₀ stream₀ t21 bytes own packets input marks output stream = capacityOf stream
@@ -35,7 +36,7 @@ new-requires c κs = search needs
 loop-holds : tie.Need-loop-holds Inv-loop μ-loop
 loop-holds c =
     let p = c .before .before .before .before .pre in
-    (came-none _ (p .0) (p .1) (p .2) (p .3) (c .new .ensures), p .4, p .5, p .6, refl, refl, refl)
+    (came-none _ (p .0) (p .1) (p .2) (p .3) (c .new .ensures), p .4, p .5, p .6, refl, refl, refl, λ w. refl)
 
 capacity-requires : tie.Need-capacity-requires Inv-loop μ-loop
 capacity-requires c κs = search needs
@@ -77,6 +78,7 @@ returns c =
       input-origin = r .ensures .origin ∙ l .inv .4;
       marks-origin = l .inv .5;
       file = l .inv .6;
+      unwanted = l .inv .7;
       ends = came-over (l .inv .0) (most-is (c .before .before .before .before .before .before .before .before)) (r .ensures) (c .before .if1 .taken) (c .ending-of .ensures);
     }
 
@@ -105,6 +107,7 @@ returns-2 c =
       input-origin = c .before .before .before .before .before .before .before .before .before .before .before .read .ensures .origin ∙ l .inv .4;
       marks-origin = c .before .before .before .before .before .read-marks .ensures .origin ∙ l .inv .5;
       file = l .inv .6;
+      unwanted = l .inv .7;
       ends =
           marks-failed refl failed
           (λ e. true≢false (sym failed ∙ ended-read (l .inv .0) (most-is (c .before .before .before .before .before .before .before .before .before .before .before .before .before .before)) (c .before .before .before .before .before .before .before .before .before .before .before .read .ensures) (c .before .before .before .before .before .read-marks .ensures) (c .before .before .before .before .before .before .before .before .before .before .before .read .kept .1 .1 .0 ∙ l .inv .1) (c .before .before .before .before .before .read-marks .kept .1 .0 ∙ l .inv .2) e .0));
@@ -148,6 +151,7 @@ returns-3 c =
       input-origin = r .ensures .origin ∙ l .inv .4;
       marks-origin = m .ensures .origin ∙ l .inv .5;
       file = l .inv .6;
+      unwanted = l .inv .7;
       ends =
           refused (c .block-of .result) refl
           (came-bad (l .inv .0) (most-is (c .before .before .before .before .before .before .before .before .before .before .before .before .before .before .before .before .before .before)) (r .ensures) (m .ensures) (r .kept .1 .1 .0 ∙ l .inv .1) (m .kept .1 .0 ∙ l .inv .2) (c .before .before .first-above .result) (c .block-of .result) (c .before .before .first-above .ensures) (c .before .if3 .taken) (c .block-of .ensures))
@@ -202,6 +206,7 @@ returns-4 c =
       input-origin = c .before .before .before .before .before .before .before .before .before .before .before .before .before .before .before .before .before .before .before .before .before .before .before .before .before .read .ensures .origin ∙ l .inv .4;
       marks-origin = c .before .before .before .before .before .before .before .before .before .before .before .before .before .before .before .before .before .before .before .read-marks .ensures .origin ∙ l .inv .5;
       file = hands-file (c .before .before .before .hand-on .ensures) ∙ l .inv .6;
+      unwanted = λ w. hands-nothing (c .before .before .before .hand-on .ensures) w ∙ l .inv .7 w;
       ends = output-failed refl (sym (c .before .failed2 .ensures) ∙ c .if4 .taken) (hands-wanted (c .before .before .before .hand-on .ensures) (l .inv .0 .unfailed) (sym (c .before .failed2 .ensures) ∙ c .if4 .taken));
     }
 
@@ -229,6 +234,7 @@ loop-again c =
       r .ensures .origin ∙ l .inv .4,
       m .ensures .origin ∙ l .inv .5,
       hands-file (c .before .before .before .hand-on .ensures) ∙ l .inv .6,
+      λ w. hands-nothing (c .before .before .before .hand-on .ensures) w ∙ l .inv .7 w,
     )
 
 pub receive-all-spec : {M : Type 1} → statement M

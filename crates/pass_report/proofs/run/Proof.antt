@@ -1,7 +1,7 @@
 -- `pass_report::run` meets its contract.
 -- Assumes nothing.
 use mathlib.Core.Path.{sym, _∙_}
-use Rattle.pass_report.proofs.Endings.{all-whole, came-of, ends-printed, ends-failed}
+use Rattle.pass_report.proofs.Endings.{all-whole, came-of, fresh, ends-printed, ends-failed}
 use borrow.Author.Needs.{needs}
 use Rattle.pass_report.proofs.run.Statement.{statement}
 use Rattle.pass_report.proofs.run.Tie as tie
@@ -42,15 +42,19 @@ is-whole-requires c κs = search needs
 print-requires : tie.Need-print-requires
 print-requires c κs =
     let w = all-whole _ (sym (c .before .is-whole .ensures) ∙ c .if1 .taken) in
-    (came-of (c .before .before .before .before .before .before .before .receive-all .ensures) (c .before .before .before .before .before .before .before .before .before .before .before .before .before .before .before .before .standard .ensures) (c .before .before .before .before .before .before .before .before .before .before .before .before .before .before .before .none .ensures) (c .before .before .before .before .before .before .before .before .before .before .before .before .before .before .standard2 .ensures) w, c .before .before .before .before .before .before .before .before .before .before .before .before .before .before .standard2 .ensures)
+    let k = c .before .before .before .before .before .before .before .before .receive-all .ensures in
+    let i = c .before .before .before .before .before .before .before .before .before .before .before .before .before .before .before .before .before .standard .ensures in
+    let n = c .before .before .before .before .before .before .before .before .before .before .before .before .before .before .before .before .none .ensures in
+    let o = c .before .before .before .before .before .before .before .before .before .before .before .before .before .before .before .standard2 .ensures in
+    (came-of k i n o w, fresh k i n o)
 
 returns : tie.Need-returns
 returns c =
     let w = all-whole _ (sym (c .before .before .is-whole .ensures) ∙ c .before .if1 .taken) in
-    ends-printed (c .before .before .before .before .before .before .before .before .receive-all .ensures) (c .before .before .before .before .before .before .before .before .before .before .before .before .before .before .before .before .before .standard .ensures) (c .before .before .before .before .before .before .before .before .before .before .before .before .before .before .before .before .none .ensures) (c .before .before .before .before .before .before .before .before .before .before .before .before .before .before .before .standard2 .ensures) w (c .print .ensures)
+    ends-printed (c .before .before .before .before .before .before .before .before .before .receive-all .ensures) (c .before .before .before .before .before .before .before .before .before .before .before .before .before .before .before .before .before .before .standard .ensures) (c .before .before .before .before .before .before .before .before .before .before .before .before .before .before .before .before .before .none .ensures) (c .before .before .before .before .before .before .before .before .before .before .before .before .before .before .before .before .standard2 .ensures) w (c .print .ensures)
 
 returns-2 : tie.Need-returns-2
-returns-2 c = ends-failed (c .before .before .before .before .before .before .before .receive-all .ensures) (c .before .before .before .before .before .before .before .before .before .before .before .before .before .before .before .before .standard .ensures) (c .before .before .before .before .before .before .before .before .before .before .before .before .before .before .before .none .ensures) (c .before .before .before .before .before .before .before .before .before .before .before .before .before .before .standard2 .ensures) (sym (c .before .is-whole .ensures) ∙ c .if1 .left)
+returns-2 c = ends-failed (c .before .before .before .before .before .before .before .before .receive-all .ensures) (c .before .before .before .before .before .before .before .before .before .before .before .before .before .before .before .before .before .standard .ensures) (c .before .before .before .before .before .before .before .before .before .before .before .before .before .before .before .before .none .ensures) (c .before .before .before .before .before .before .before .before .before .before .before .before .before .before .before .standard2 .ensures) (sym (c .before .is-whole .ensures) ∙ c .if1 .left)
 
 pub run-spec : {M : Type 1} → statement M
 run-spec =

@@ -12,9 +12,6 @@ use borrow.Author.Needs.{needs}
 use Rattle.recording_block.proofs.finish.Statement.{statement}
 use Rattle.recording_block.proofs.finish.Tie as tie
 
-errors-requires : tie.Need-errors-requires
-errors-requires c κs = search needs
-
 slice-aggregate-close : tie.Need-slice-aggregate-close
 slice-aggregate-close c = search needs
 
@@ -26,8 +23,8 @@ failed-requires c κs = search needs
 
 returns : tie.Need-returns
 returns c =
-    let s = c .before .before .before .before .before in
-    let e = c .before .before .before .before .errors .ensures in
+    let s = c .before .before .before .before in
+    let e = s .pre .2 in
     record {
       output-is = c .before .before .close .ensures .file ∙ s .pre .1;
       errors-are = e .file;
@@ -42,20 +39,20 @@ failed-requires-2 c κs = search needs
 
 returns-2 : tie.Need-returns-2
 returns-2 c =
-    let s = c .before .before .before .before .before .before .before .before in
+    let s = c .before .before .before .before .before .before .before in
     let t = c .before .before .tell .ensures in
     record {
       output-is = c .before .before .before .before .before .close .ensures .file ∙ s .pre .1;
-      errors-are = t .file ∙ c .before .before .before .before .before .before .before .errors .ensures .file;
+      errors-are = t .file ∙ s .pre .2 .file;
       status = part refl (errors-failed (sym (c .before .failed2 .ensures) ∙ c .if2 .taken));
     }
 
 returns-3 : tie.Need-returns-3
 returns-3 c =
-    let s = c .before .before .before .before .before .before .before .before .before in
+    let s = c .before .before .before .before .before .before .before .before in
     let k = c .before .before .before .before .before .before .close .ensures in
     let t = c .before .before .before .tell .ensures in
-    let e = c .before .before .before .before .before .before .before .before .errors .ensures in
+    let e = s .pre .2 in
     let u = sym (c .before .before .before .before .before .failed .ensures) ∙ c .before .before .before .before .if1 .left in
     let v = sym (c .before .before .failed2 .ensures) ∙ c .before .if2 .left in
     let z = c .if3 .taken in
@@ -76,10 +73,10 @@ returns-3 c =
 
 returns-4 : tie.Need-returns-4
 returns-4 c =
-    let s = c .before .before .before .before .before .before .before .before .before in
+    let s = c .before .before .before .before .before .before .before .before in
     let k = c .before .before .before .before .before .before .close .ensures in
     let t = c .before .before .before .tell .ensures in
-    let e = c .before .before .before .before .before .before .before .before .errors .ensures in
+    let e = s .pre .2 in
     let u = sym (c .before .before .before .before .before .failed .ensures) ∙ c .before .before .before .before .if1 .left in
     let v = sym (c .before .before .failed2 .ensures) ∙ c .before .if2 .left in
     let z = c .if3 .left in
@@ -100,7 +97,6 @@ pub finish-spec : {M : Type 1} → statement M
 finish-spec =
     tie.close
     (tie.spec
-    errors-requires
     slice-aggregate-close
     close-requires
     failed-requires

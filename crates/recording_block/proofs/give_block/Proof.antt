@@ -75,6 +75,7 @@ finish-requires c κs =
       answered (c .before .before .before .before .before .before .before .before .before .before .before .before .before .before .before .before .before .before .args .p) (c .before .before .before .before .before .before .before .before .before .before .before .before .before .before .before .before .before .before .pre) (f .ensures) (f .kept .1 .1 .0) u (d .result) (d .last .1 .1 .1 .0) (c .before .before .before .before .before .before .before .whole-blocks .result) (n .result) (c .before .before .before .before .before .before .before .before .before .before .before .before .before .before .before .before .before .standard .result)
           (c .before .before .before .before .before .before .before .whole-blocks .ensures) (d .ensures) (n .ensures) (o .failed) (nothing-written (n .result) (d .last .1 .1 .1 .0) (c .before .before .before .before .before .before .before .before .before .before .before .before .before .before .before .before .before .standard .result) o (c .if2 .taken)),
       o .file,
+      c .before .before .before .before .before .before .before .before .before .before .before .before .before .before .before .before .errors .ensures,
     )
 
 returns-2 : tie.Need-returns-2
@@ -114,6 +115,7 @@ finish-requires-2 c κs =
           (c .before .before .before .before .before .before .before .before .before .before .before .before .whole-blocks .ensures) (d .ensures) (n .ensures) v
           (block-written (n .result) (d .last .1 .1 .1 .0) _ (w .whole v ∙ ap (λ (x : Trace). traced x (d .last .1 .1 .1 .0)) (o .trace)) (c .before .before .before .before .before .if2 .left)),
       w .file ∙ o .file,
+      c .before .before .before .before .before .before .before .before .before .before .before .before .before .before .before .before .before .before .before .before .before .errors .ensures,
     )
 
 returns-4 : tie.Need-returns-4
