@@ -4,7 +4,7 @@
  * A buffer is a pointer and its length. The functions test what they are lent,
  * so any length and any bytes may come; what the caller owes is that lengths are
  * true and that buffers of one call do not overlap. Nothing is kept between
- * calls: a sender or a receiver that goes on is bytes that the caller keeps. After
+ * calls: a sender, a reader or a receiver that goes on is bytes that the caller keeps. After
  * a refusal the buffers are as they were, but for a byte lent to take the answer or
  * the result, and output beyond what is given is never written.
  *
@@ -28,9 +28,9 @@
  * read, and are given by no function here.
  *  20  not a mark for each byte, or a mark above 1
  *  22  a state of another length
- *  24  the lists of a soft run are not of one length, or a mark is above 1
+ *  24  the lists of points are not of one length, or a mark is above 1
  * Where several are due, the first in the order 6, 5, 24, 16, 1 or 3, 2, 12, 13,
- * 14, 20, 4, 7 is given, and with a state in the order 22, 5, 6, 1, 20, 4, 7. */
+ * 14, 20, 4, 7 is given, and with a state in the order 22, 5, 6, 1, 14, 20, 24, 4, 7. */
 #ifndef DVBS_H
 #define DVBS_H
 
@@ -42,7 +42,7 @@ extern "C" {
 #endif
 
 enum { DVBS_PACKET = 188, DVBS_BLOCK = 204, DVBS_COUNTS = 64, DVBS_RESULT = 6, DVBS_SYMBOLS = 1632, DVBS_REPORT = 310 };
-enum { DVBS_SENDER_STATE = 1139, DVBS_RECEIVER_STATE = 2731 };
+enum { DVBS_SENDER_STATE = 1139, DVBS_READER_STATE = 1638, DVBS_RECEIVER_STATE = 2731 };
 
 /* Energy dispersal: the packet at this place (0 to 7) of its group of eight, as
  * it is sent, 188 bytes; and the packet that was sent so. The second takes any
@@ -145,6 +145,51 @@ uint64_t dvbs_read_soft_run(uint8_t rate, uint8_t memory,
                             const uint8_t *lost, size_t lost_len,
                             uint8_t *output, size_t output_len,
                             uint8_t *result, size_t result_len);
+
+/* A reader whose state is bytes that the caller keeps, as those of a sender, and
+ * which takes any number of received symbols a call. The state of a reader:
+ *   offset  bytes  holds        range
+ *        0   1632  pairs        0 to 80 each: the symbols that are held; zeros behind them
+ *     1632      2  count        how many they are, low byte first: below 1632, 1224, 1088, 978, 932 by the rate
+ *     1634      1  rate         0 to 4, as the rate of dvbs_read_run
+ *     1635      1  memory       0 to 63: the coder's before the first of them
+ *     1636      1  carry        below 1 << held: the bits that fill no byte yet
+ *     1637      1  held         0 to 7: how many they are
+ * docs/STATES.md says what a pair is.
+ *
+ * Makes the state of a fresh reader of a rate: 22, then 6, or 0. */
+uint8_t dvbs_reader_fresh(uint8_t *state, size_t state_len, uint8_t rate);
+
+/* Reads symbols, 2 I + Q each, the first of all being the first of a puncturing
+ * pattern: the bits of runs that overlap, packed into bytes, the first bit on top.
+ * Symbols of any number, call after call, give what all of them give at once.
+ * Returns how many bytes were written; answer[0] is 22, 5, 14 or 4, after which
+ * every byte of the state and of the output is as it was, or else 0. Lend
+ * symbols_len / 4 + 409 bytes. Where no byte is lent for the answer: returns 0,
+ * writes nothing. */
+uint64_t dvbs_reader_feed(uint8_t *state, size_t state_len,
+                          const uint8_t *symbols, size_t symbols_len,
+                          uint8_t *output, size_t output_len,
+                          uint8_t *answer, size_t answer_len);
+
+/* The same by soft decisions, from the lists of dvbs_read_soft_run: 22, 5, 24 or 4,
+ * else 0. Lend i_len / 4 + 409 bytes. One reader may be fed with both. */
+uint64_t dvbs_reader_feed_soft(uint8_t *state, size_t state_len,
+                               const float *i, size_t i_len,
+                               const float *q, size_t q_len,
+                               const uint8_t *lost, size_t lost_len,
+                               uint8_t *output, size_t output_len,
+                               uint8_t *answer, size_t answer_len);
+
+/* Writes the bytes of what is held, where no more symbols come. left[0] is how many
+ * symbols are in no whole pattern, and left[1] how many bits fill no byte. The state
+ * is left as it is, and more may come instead. Returns how many bytes were written;
+ * answer[0] is 22, 5, 4 or 0. Lend 204 bytes of output and two for left. Where no
+ * byte is lent for the answer: returns 0, writes nothing. */
+uint64_t dvbs_reader_end(const uint8_t *state, size_t state_len,
+                         uint8_t *output, size_t output_len,
+                         uint8_t *left, size_t left_len,
+                         uint8_t *answer, size_t answer_len);
 
 /* What a fresh receiver gives for the whole blocks of a recording; bytes after
  * the last of them are left alone. The blocks must follow each other without gap

@@ -1,0 +1,167 @@
+// The state of a reader as bytes: where each field begins, the reading and writing of all of them, and whether they are in range.
+// specs/State.antt has the layout as a table, and docs/STATES.md lists it with the range of each field.
+ghost use mathlib.Core.Path.{_≡_};
+ghost use mathlib.Core.List.{_++_};
+ghost use Prim.Native.Nat.{_%_, _<_, _≤_};
+ghost use lib.ListN.{length, take, drop};
+ghost use Rattle.common.specs.Lists.{padded};
+ghost use Rattle.reader_stream.specs.Runs.{heldOf};
+ghost use Rattle.reader_stream.specs.Stream.{ReaderReady};
+ghost use Rattle.dvbs_reader_stream.specs.State.{powerOf, runsInRange, inRange, cleared, stateBytes};
+ghost use Rattle.dvbs_reader_stream.specs.Reading.{stateOf};
+use code_tables::QPSK_MODES;
+use common::largest_of;
+use common::put;
+use reader_stream::ReaderStream;
+use reader_stream::symbol_runs::SymbolRuns;
+use reader_stream::symbol_runs::full_symbols;
+
+// The first byte of each field, and the length of all of them.
+const PAIRS: usize = 0;
+
+const COUNT: usize = 1632;
+
+const RATE: usize = 1634;
+
+const MEMORY: usize = 1635;
+
+const CARRY: usize = 1636;
+
+const HELD: usize = 1637;
+
+pub const STATE_LENGTH: usize = 1638;
+
+// The bytes of so many bits are below it.
+const POWERS: [u8; 8] = [1, 2, 4, 8, 16, 32, 64, 128];
+
+fn power_of(bits: usize) -> u8
+    requires { ⌜ bits < 8 ⌝ }
+    ensures { λ r. ⌜ (r ≡ powerOf bits) × (0 < r) ⌝ }
+{
+    POWERS[bits]
+}
+
+// A byte for each cell.
+fn pairs_at(bytes: &[u8]) -> [u8; 1632]
+    requires { ⌜ 1632 ≤ length (now bytes) ⌝ }
+    ensures { λ r. ⌜ r ≡ take 1632 (drop 0 (now (bytes .entry))) ⌝ }
+{
+    let mut pairs = [0u8; 1632];
+    put(&bytes[PAIRS..COUNT], 0, &mut pairs);
+    pairs
+}
+
+// The reader that bytes stand for, in range or not.
+pub fn read_state(bytes: &[u8]) -> ReaderStream
+    requires { ⌜ length (now bytes) ≡ 1638 ⌝ }
+    ensures { λ r. ⌜ r ≡ stateOf (now (bytes .entry)) ⌝ }
+{
+    let held = pairs_at(bytes);
+    let count = bytes[COUNT] as usize + 256 * bytes[COUNT + 1] as usize;
+    let rate = bytes[RATE];
+    let memory = bytes[MEMORY];
+    let carry = bytes[CARRY];
+    let bits = bytes[HELD] as usize;
+    let runs = SymbolRuns {
+        rate,
+        memory,
+        held,
+        count,
+    };
+    ReaderStream {
+        runs,
+        carry,
+        held: bits,
+    }
+}
+
+// Whether the numbers of the runs are in range, and cells that hold nothing 0.
+fn are_in_range(runs: SymbolRuns) -> bool
+    requires { ⌜ length (runs .held) ≡ 1632 ⌝ }
+    ensures { λ r. ⌜ r ≡ runsInRange runs ⌝ }
+{
+    let rate = runs.rate;
+    let memory = runs.memory;
+    let held = runs.held;
+    let count = runs.count;
+    if rate as usize >= QPSK_MODES {
+        return false;
+    }
+    if memory >= 64 {
+        return false;
+    }
+    if count >= full_symbols(rate) {
+        return false;
+    }
+    if largest_of(&held[count..]) != 0 {
+        return false;
+    }
+    largest_of(&held) < 81
+}
+
+// Whether the numbers of a reader are in range, and cells and bits that hold nothing 0.
+pub fn is_in_range(stream: ReaderStream) -> bool
+    requires { ⌜ length (stream .runs .held) ≡ 1632 ⌝ }
+    ensures { λ r. ⌜ r ≡ inRange stream ⌝ }
+{
+    let runs = stream.runs;
+    let carry = stream.carry;
+    let held = stream.held;
+    if !are_in_range(runs) {
+        return false;
+    }
+    if held >= 8 {
+        return false;
+    }
+    carry < power_of(held)
+}
+
+// The cells of the runs, with 0 where nothing is held.
+fn cleared_pairs(runs: SymbolRuns) -> [u8; 1632]
+    requires { ⌜ (length (runs .held) ≡ 1632) × (runs .count ≤ 1632) ⌝ }
+    ensures { λ r. ⌜ r ≡ padded 1632 (heldOf runs) ⌝ }
+{
+    let held = runs.held;
+    let count = runs.count;
+    let mut pairs = [0u8; 1632];
+    put(&held[..count], 0, &mut pairs);
+    pairs
+}
+
+// The bits that are carried, with 0 above them.
+fn cleared_carry(carry: u8, held: usize) -> u8
+    requires { ⌜ held < 8 ⌝ }
+    ensures { λ r. ⌜ r ≡ carry % powerOf held ⌝ }
+{
+    carry % power_of(held)
+}
+
+// Writes the fields to their places. The numbers are side by side.
+fn put_fields(pairs: &[u8], numbers: &[u8], bytes: &mut [u8])
+    requires { ⌜ (length (now pairs) ≡ 1632) × (length (now numbers) ≡ 6) × (length (now bytes) ≡ 1638) ⌝ }
+    ensures { λ _. ⌜ now (bytes .exit) ≡ now (pairs .entry) ++ now (numbers .entry) ⌝ }
+{
+    put(pairs, PAIRS, bytes);
+    put(numbers, COUNT, bytes);
+}
+
+// The bytes that stand for a reader, with 0 where it holds nothing.
+pub fn write_state(stream: ReaderStream, bytes: &mut [u8])
+    requires { ⌜ (ReaderReady stream) × (length (now bytes) ≡ 1638) ⌝ }
+    ensures { λ _. ⌜ now (bytes .exit) ≡ stateBytes (cleared stream) ⌝ }
+{
+    let runs = stream.runs;
+    let count = runs.count;
+    let bits = stream.held;
+    let pairs = cleared_pairs(runs);
+    let carry = cleared_carry(stream.carry, bits);
+    let numbers = [
+        (count % 256) as u8,
+        (count / 256) as u8,
+        runs.rate,
+        runs.memory,
+        carry,
+        bits as u8,
+    ];
+    put_fields(&pairs, &numbers, bytes);
+}
