@@ -17,9 +17,6 @@ use Rattle.acquisition.specs.declared.bit_source.BitSource.{BitSource}
 use Rattle.acquisition.specs.declared.bit_source.BitStep.{BitStep}
 use Rattle.acquisition.specs.declared.bit_source.BitEnd.{BitEnd}
 
-unfoldable pub freshBits : BitSource
-freshBits = record { sync = freshBlockSync; used = 0; came = 0 }
-
 -- each number is in its range
 pub record BitsReady (s : BitSource) : Type 0 where
   pub sync-sized : length (s .sync .bits) ≡ 8168

@@ -2,7 +2,7 @@
 ghost use mathlib.Core.Path.{_≡_};
 ghost use Prim.Native.Nat.{_+_, _<_, _≤_};
 ghost use lib.ListN.{length};
-ghost use Rattle.acquisition.specs.Bits.{freshBits, BitsReady, bitsFound, StepsBits, BitCounts, EndsBits, BitEndCounts};
+ghost use Rattle.acquisition.specs.Bits.{BitsReady, bitsFound, StepsBits, BitCounts, EndsBits, BitEndCounts};
 use crate::Event;
 use crate::FoundBlock;
 use crate::event_of;
@@ -59,18 +59,6 @@ fn bits_found(used: u64, decided: SyncStep) -> FoundBlock
 }
 
 impl BitSource {
-    // Nothing has come.
-    pub fn new() -> BitSource
-        ensures { λ r. ⌜ (r ≡ freshBits) × (BitsReady r) ⌝ }
-    {
-        let sync = BlockSync::new();
-        BitSource {
-            sync,
-            used: 0,
-            came: 0,
-        }
-    }
-
     // Takes bits of a piece: as many as one decision needs, or all.
     pub fn step(self, piece: &[u8]) -> BitStep
         requires { ⌜ (BitsReady self) × (self .came + length (now piece) < 1152921504606846976) ⌝ }

@@ -1,25 +1,20 @@
 -- Bits straight or inverted, and the block that they make.
 -- Assumes nothing.
-use mathlib.Core.Path.{_≡_, refl, sym, _∙_, ap, ap₂}
+use mathlib.Core.Path.{_≡_, refl, _∙_, ap}
 use mathlib.Core.Bool.{Bool, true, false}
-use mathlib.Core.List.{List, [], _∷_, _++_, map, append-nil}
+use mathlib.Core.List.{List, [], _∷_, map}
 use Prim.Native.Nat.{ℕ, zero, suc, _+_, _*_, _/_, _%_, _<_}
 use native.Mathlib.Omega.{arith}
-use lib.ListN.{length, getD, length-map, drop-of-length-le}
+use lib.ListN.{length, length-map}
 use Rattle.common.specs.Lists.{chunksOf}
-use Rattle.common.proofs.Lists.{getD-map-in}
 use Rattle.common.proofs.Chunks.{chunks-few, chunks-more}
 use Rattle.convolutional_code.specs.Bits.{bitsOf, Bits, none, more}
-use Rattle.bit_packing.specs.Packing.{byteOf, carriedBits, packedBytes, Packs}
+use Rattle.bit_packing.specs.Packing.{byteOf, packedBytes}
 use Rattle.block_sync.specs.Decision.{turnedBit, turnedBits, blockOf}
 
 pub turned-length : (inverted : Bool) (l : List ℕ) → length (turnedBits inverted l) ≡ length l
 unfolding turnedBits
 turned-length inverted l = length-map l (turnedBit inverted)
-
-pub turned-at : (inverted : Bool) (l : List ℕ) (i : ℕ) → i < length l → turnedBit inverted (getD l i 0) ≡ getD (turnedBits inverted l) i 0
-unfolding turnedBits
-turned-at inverted l i h = sym (getD-map-in (turnedBit inverted) l 0 0 i h)
 
 bit : (inverted : Bool) (b : ℕ) → turnedBit inverted b < 2
 bit true b = omega arith
@@ -29,20 +24,6 @@ pub turned-bits : (inverted : Bool) (l : List ℕ) → Bits (turnedBits inverted
 unfolding turnedBits
 turned-bits inverted [] = none
 turned-bits inverted (b ∷ l) = more (bit inverted b) (turned-bits inverted l)
-
--- nothing is carried
-carried-none : (carry : ℕ) → carriedBits carry 0 ≡ []
-unfolding carriedBits
-carried-none carry = refl
-
--- the bits of a block packed into an array for it
-pub block-packed : (inverted : Bool) (l turned output : List ℕ) (carry held count : ℕ) (exit : List ℕ) → length l ≡ 1632 → turned ≡ turnedBits inverted l → length output ≡ 204
-    → Packs (carriedBits 0 0) turned output carry held count exit → exit ≡ blockOf inverted l
-unfolding blockOf
-block-packed inverted l turned output carry held count exit e t n p =
-    let s : carriedBits 0 0 ++ turned ≡ turnedBits inverted l = ap (λ (x : List ℕ). x ++ turned) (carried-none 0) ∙ t in
-    let k : count ≡ 204 = p .counted ∙ ap (λ (x : List ℕ). length x / 8) s ∙ ap (λ (m : ℕ). m / 8) (turned-length inverted l ∙ e) in
-    p .written ∙ ap₂ (λ (x y : List ℕ). packedBytes x ++ y) s (drop-of-length-le output {i = count} (omega arith)) ∙ append-nil (packedBytes (turnedBits inverted l))
 
 -- ---- a block's bits are these bits
 

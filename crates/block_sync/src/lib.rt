@@ -5,7 +5,8 @@ ghost use mathlib.Core.List.{_++_};
 ghost use Prim.Native.Nat.{_+_, _-_, _≤_};
 ghost use lib.ListN.{length, take};
 ghost use Rattle.common.specs.Lists.{padded};
-ghost use Rattle.block_sync.specs.Decision.{isSync, syncOrEnd, inStep, polarityAt, keeps, turnedBit, turnedBits, blockOf, Decides, usedBits, blockGiven};
+ghost use Rattle.block_sync.specs.Decision.{isSync, syncOrEnd, inStep, polarityAt, keeps, blockOf, Decides, usedBits, blockGiven};
+ghost use Rattle.block_sync.specs.Grid.{turnedByte};
 ghost use Rattle.block_sync.specs.Feed.{freshBlockSync, idleStep, TurnsBuffer, FeedsSync, FinishesSync};
 use answer::Answer;
 use common::put;
@@ -166,25 +167,25 @@ fn decide(lock: Lock, bits: &[u8]) -> Decision
     }
 }
 
-// A bit, inverted or not.
-fn turned_bit(inverted: bool, bit: u8) -> u8
-    ensures { λ r. ⌜ r ≡ turnedBit inverted bit ⌝ }
+// A byte, inverted or not.
+fn turned_byte(inverted: bool, byte: u8) -> u8
+    ensures { λ r. ⌜ r ≡ turnedByte inverted byte ⌝ }
 {
     if inverted {
-        return 1 - bit % 2;
+        return 255 - byte;
     }
-    bit % 2
+    byte
 }
 
-// Bits, inverted or not, into an output of as many.
-fn put_turned(inverted: bool, bits: &[u8], output: &mut [u8])
-    requires { ⌜ length (now output) ≡ length (now bits) ⌝ }
-    ensures { λ _. ⌜ now (output .exit) ≡ turnedBits inverted (now (bits .entry)) ⌝ }
+// The bytes of a block's bits, inverted or not, into an output of as many.
+fn put_block(inverted: bool, bits: &[u8], output: &mut [u8])
+    requires { ⌜ (length (now bits) ≡ 1632) × (length (now output) ≡ 204) ⌝ }
+    ensures { λ _. ⌜ now (output .exit) ≡ blockOf inverted (now (bits .entry)) ⌝ }
 {
-    let mut i: usize = 0;
-    while i < bits.len() {
-        output[i] = turned_bit(inverted, bits[i]);
-        i += 1;
+    let mut k: usize = 0;
+    while k < 204 {
+        output[k] = turned_byte(inverted, sync_search::byte_at(bits, 8 * k));
+        k += 1;
     }
 }
 
@@ -193,10 +194,8 @@ fn block_of(inverted: bool, bits: &[u8]) -> [u8; 204]
     requires { ⌜ length (now bits) ≡ 1632 ⌝ }
     ensures { λ r. ⌜ r ≡ blockOf inverted (now (bits .entry)) ⌝ }
 {
-    let mut turned = [0u8; 1632];
-    put_turned(inverted, bits, &mut turned);
     let mut block = [0u8; 204];
-    bit_packing::pack(0, 0, &turned, &mut block);
+    put_block(inverted, bits, &mut block);
     block
 }
 

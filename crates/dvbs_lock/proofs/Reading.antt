@@ -9,7 +9,6 @@ use lib.IntN.{pos}
 use lib.ListN.{length, take, length-append}
 use Rattle.common.specs.Lists.{All}
 use Rattle.acquisition.specs.Step.{freshAcquisition}
-use Rattle.acquisition.specs.Bits.{freshBits}
 use Rattle.program_io.specs.Checksum.{noBytes, traced}
 use Rattle.program_io.specs.Files.{StandardFiles, inputTrace, inputOver, StandardInput, FreshOutput}
 use Rattle.program_io.specs.declared.input.Input.{Input}
@@ -18,12 +17,12 @@ use Rattle.program_io.proofs.Traces.{traced-on}
 use Rattle.lock_stream.specs.Source.{freshSource, cameOf}
 use Rattle.lock_stream.specs.Stream.{freshStream, StreamReady, LockSteps, fresh}
 use Rattle.lock_stream.specs.declared.LockStream.{LockStream}
-use Rattle.dvbs_lock.specs.Numbers.{numbersOf, restBytes, ReadsNumbers}
+use Rattle.dvbs_lock.specs.Numbers.{numbersOf, restBytes, readSize, ReadsNumbers}
 use Rattle.dvbs_lock.specs.Ends.{Going, Takes, AllRead, TooMuch}
 use Rattle.dvbs_lock.specs.declared.NumbersTaken.{NumbersTaken}
 use Rattle.dvbs_lock.specs.declared.numbers.NumbersRead.{NumbersRead}
 use Rattle.dvbs_lock.proofs.Endings.{files-none, files-on}
-use Rattle.dvbs_lock.proofs.NumberLaws.{numbers-small, numbers-append, numbers-none, numbers-some}
+use Rattle.dvbs_lock.proofs.NumberLaws.{numbers-small, numbers-append, numbers-none, size-whole, numbers-some}
 
 -- The last read brought so many bytes, and those before it whole points.
 pub record Reading (bits : Bool) (rate : ℕ) (input : Input) (output errors : Output) (s : LockStream) (came last : ℕ) : Type 0 where
@@ -37,9 +36,8 @@ pub record Reading (bits : Bool) (rate : ℕ) (input : Input) (output errors : O
   pub files : StandardFiles input output errors
 
 fresh-came : (bits : Bool) (rate : ℕ) → cameOf (freshStream bits rate .source) ≡ 0
-unfolding freshStream freshSource freshAcquisition freshBits
-fresh-came true rate = refl
-fresh-came false rate = refl
+unfolding freshStream freshSource freshAcquisition
+fresh-came bits rate = refl
 
 pub reading-none : (bits : Bool) (rate : ℕ) {input : Input} {output errors : Output} {s : LockStream} → StandardInput input → FreshOutput (pos 1) output → FreshOutput (pos 2) errors
     → s ≡ freshStream bits rate → StreamReady s → Reading bits rate input output errors s 0 0
@@ -64,7 +62,7 @@ module _ {bits : Bool} {input : Input} {r : NumbersRead} {numbers : List ℕ} (n
   pub part-count : length (take (r .count) numbers) ≡ r .count
   part-count = ap length (n .numbers .numbers-are) ∙ sym (n .numbers .counted)
 
-  pub some-read : 13056 ≤ r .length → 0 < r .count
+  pub some-read : readSize bits ≤ r .length → 0 < r .count
   some-read h = omega (arith, n .numbers .counted, numbers-some bits (n .bytes) (omega (arith, n .size, n .within)))
 
   pub reading-more : {rate came : ℕ} {output errors : Output} {s : LockStream} {t : NumbersTaken} → Reading bits rate input output errors s came 0 → Takes output errors s (take (r .count) numbers) t
@@ -85,11 +83,11 @@ module _ {bits : Bool} {input : Input} {r : NumbersRead} {numbers : List ℕ} (n
         files = files-on (g .files) (n .origin) (k .output-is) (k .errors-are);
       }
 
-pub reading-whole : {bits : Bool} {rate came last : ℕ} {input : Input} {output errors : Output} {s : LockStream} → Reading bits rate input output errors s came last → last ≡ 13056
+pub reading-whole : {bits : Bool} {rate came last : ℕ} {input : Input} {output errors : Output} {s : LockStream} → Reading bits rate input output errors s came last → last ≡ readSize bits
     → Reading bits rate input output errors s came 0
-reading-whole g e = record {
+reading-whole {bits} g e = record {
   bytes = g .bytes;
-  behind = g .behind ∙ ap (λ (k : ℕ). k % 8) e;
+  behind = g .behind ∙ ap (λ (k : ℕ). k % 8) e ∙ size-whole bits;
   going = g .going;
   ready = g .ready;
   read = g .read;

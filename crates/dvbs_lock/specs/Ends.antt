@@ -158,6 +158,12 @@ pub record Ends (bits : Bool) (rate : ℕ) (r : Ended) : Type 0 where
   pub files : StandardFiles (r .input) (r .output) (r .errors)
   pub status : Status bits rate r
 
+-- the status of a run
+pub record Runs (bits : Bool) (rate : ℕ) (status : ℤ) : Type 0 where
+  pub ended : Ended
+  pub ends : Ends bits rate ended
+  pub status-is : status ≡ ended .status
+
 -- The status of the program: what every program answers where it is asked for its usage or its version; 2 for a wrong call; or how the run ended.
 pub data Exits (status : ℤ) : Type 0 where
   answered : AnswersCall programName usageText (λ a w. 7 ≤ sourceAsked (argumentCount a) (wordBytes w)) status → Exits status

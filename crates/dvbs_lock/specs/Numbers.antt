@@ -25,14 +25,18 @@ restBytes bits n = pick bits 0 (n % 8)
 pub record NumbersAt (bits : Bool) (bytes : List ℕ) (count : ℕ) (output : List ℕ) : Type 0 where
   pub numbers-are : take count output ≡ numbersOf bits bytes
   pub counted : count ≡ length (numbersOf bits bytes)
-  pub few : count ≤ 104448
+  pub few : count ≤ 13056
 
--- The next 13,056 bytes of an input are read, and their numbers written. Fewer came only where the input is over.
+-- how many bytes are read at once: those of 13,056 points, or of as many bits
+abbrev pub readSize : Bool → ℕ
+readSize bits = pick bits 1632 104448
+
+-- The next bytes of an input are read, and their numbers written. Fewer came only where the input is over.
 pub record ReadsNumbers (bits : Bool) (i : Input) (r : NumbersRead) (output : List ℕ) : Type 0 where
   pub bytes : List ℕ
   pub size : length bytes ≡ r .length
   pub origin : inputOrigin (r .input) ≡ inputOrigin i
   pub trace : inputTrace (r .input) ≡ traced (inputTrace i) bytes
-  pub within : r .length ≤ 13056
-  pub short : r .length < 13056 → inputOver (r .input) ≡ true
+  pub within : r .length ≤ readSize bits
+  pub short : r .length < readSize bits → inputOver (r .input) ≡ true
   pub numbers : NumbersAt bits bytes (r .count) output

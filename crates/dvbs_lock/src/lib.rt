@@ -13,7 +13,7 @@ ghost use Rattle.lock_stream.specs.Stream.{StreamReady};
 ghost use Rattle.program_io.specs.Files.{StandardFiles, StandardInput, FreshOutput};
 ghost use Rattle.program_io.specs.Words.{argumentCount, wordBytes};
 ghost use Rattle.dvbs_lock.specs.Numbers.{restBytes};
-ghost use Rattle.dvbs_lock.specs.Ends.{sourceAsked, statusOf, Takes, Finishes, AllRead, TooMuch, Ends, Exits};
+ghost use Rattle.dvbs_lock.specs.Ends.{sourceAsked, statusOf, Takes, Finishes, AllRead, TooMuch, Ends, Runs, Exits};
 use lock_stream::LockStream;
 use lock_stream::progress::LockProgress;
 use program_io::Arguments;
@@ -256,8 +256,9 @@ fn lock_all(bits: bool, rate: u8, input: Input, output: Output, errors: Output) 
     requires { ⌜ (rate < 6) × (StandardInput input) × (FreshOutput (pos 1) output) × (FreshOutput (pos 2) errors) ⌝ }
     ensures { λ r. ⌜ Ends bits rate r ⌝ }
 {
-    let mut buffer = [0u8; 13056];
-    let mut numbers = [0u8; 104448];
+    let size = crate::numbers::read_size(bits);
+    let mut buffer = [0u8; 104448];
+    let mut numbers = [0u8; 13056];
     let mut packets = [0u8; 1504];
     let mut text = [0u8; 2048];
     let mut input = input;
@@ -266,7 +267,7 @@ fn lock_all(bits: bool, rate: u8, input: Input, output: Output, errors: Output) 
     let mut stream = LockStream::new(bits, rate);
     let mut came: u64 = 0;
     while came <= MOST {
-        let read = crate::numbers::read_numbers(bits, input, &mut buffer, &mut numbers);
+        let read = crate::numbers::read_numbers(bits, input, &mut buffer[..size], &mut numbers);
         let length = read.length;
         let count = read.count;
         input = read.input;
@@ -291,7 +292,7 @@ fn lock_all(bits: bool, rate: u8, input: Input, output: Output, errors: Output) 
             };
         }
         came += count as u64;
-        if length < 13056 {
+        if length < size {
             let rest = rest_of(bits, length);
             return finish(
                 bits,
@@ -309,15 +310,16 @@ fn lock_all(bits: bool, rate: u8, input: Input, output: Output, errors: Output) 
     stop(bits, rate, input, output, errors)
 }
 
-// Takes standard input.
-fn run(bits: bool, rate: u8) -> Ended
+// Takes standard input. It hands on the status alone: what is kept of the files to prove what they hold is then no work for the program.
+fn run(bits: bool, rate: u8) -> i32
     requires { ⌜ rate < 6 ⌝ }
-    ensures { λ r. ⌜ Ends bits rate r ⌝ }
+    ensures { λ r. ⌜ Runs bits rate r ⌝ }
 {
     let input = Input::standard();
     let output = Output::standard();
     let errors = Output::errors();
-    lock_all(bits, rate, input, output, errors)
+    let ended = lock_all(bits, rate, input, output, errors);
+    ended.status
 }
 
 // What the only argument asks for: a rate, 0 to 4, or 5 for any, or 6 for bits; 7 where it is none of these.
@@ -359,12 +361,10 @@ pub extern "C" fn dvbs_lock_main() -> i32
         Asked::Work => {
             let source = source_asked(arguments, word);
             if source < 6 {
-                let ended = run(false, source);
-                return ended.status;
+                return run(false, source);
             }
             if source == 6 {
-                let ended = run(true, 5);
-                return ended.status;
+                return run(true, 5);
             }
             let answered = program_io::wrong(b"usage: dvbs_lock RATE < points > packets\n");
             answered.status

@@ -4,7 +4,7 @@ ghost use mathlib.Core.List.{[], _∷_, _++_};
 ghost use Prim.Native.Nat.{_+_, _*_, _≤_};
 ghost use lib.ListN.{length, take, drop};
 ghost use Rattle.convolutional_code.specs.Bits.{bitsOf};
-ghost use Rattle.dvbs_lock.specs.Numbers.{NumbersAt, ReadsNumbers};
+ghost use Rattle.dvbs_lock.specs.Numbers.{readSize, NumbersAt, ReadsNumbers};
 use common::put;
 use program_io::Input;
 use received_symbols::point_pairs;
@@ -14,6 +14,16 @@ pub struct NumbersRead {
     pub input: Input,
     pub length: usize,
     pub count: usize,
+}
+
+// How many bytes are read at once: those of 13,056 points, eight windows of a search, or of as many bits.
+pub fn read_size(bits: bool) -> usize
+    ensures { λ r. ⌜ r ≡ readSize bits ⌝ }
+{
+    if bits {
+        return 1632;
+    }
+    104448
 }
 
 // Writes the bits of a byte at a place.
@@ -48,7 +58,7 @@ fn put_bits(bytes: &[u8], output: &mut [u8])
 
 // Writes the numbers of bytes. Gives how many they are.
 fn put_numbers(bits: bool, bytes: &[u8], output: &mut [u8]) -> usize
-    requires { ⌜ (length (now bytes) ≤ 13056) × (length (now output) ≡ 104448) ⌝ }
+    requires { ⌜ (length (now bytes) ≤ readSize bits) × (length (now output) ≡ 13056) ⌝ }
     ensures { λ r. ⌜ NumbersAt bits (now (bytes .entry)) r (now (output .exit)) ⌝ }
 {
     if bits {
@@ -60,9 +70,9 @@ fn put_numbers(bits: bool, bytes: &[u8], output: &mut [u8]) -> usize
     count
 }
 
-// Reads the next bytes, those of 1,632 points, the window of a search, unless the input ends before, and writes their numbers.
+// Reads the next bytes, as many as the buffer has unless the input ends before, and writes their numbers.
 pub fn read_numbers(bits: bool, input: Input, buffer: &mut [u8], output: &mut [u8]) -> NumbersRead
-    requires { ⌜ (length (now buffer) ≡ 13056) × (length (now output) ≡ 104448) ⌝ }
+    requires { ⌜ (length (now buffer) ≡ readSize bits) × (length (now output) ≡ 13056) ⌝ }
     ensures { λ r. ⌜ ReadsNumbers bits input r (now (output .exit)) ⌝ }
 {
     let filled = input.fill(b"standard input", buffer);

@@ -1,14 +1,16 @@
 -- A step of the source that is used is one of the source.
 -- Assumes nothing.
-use mathlib.Core.Path.{_≡_, refl, ap, _∙_}
+use mathlib.Core.Path.{_≡_, refl, sym, ap, subst}
 use mathlib.Core.Bool.{Bool, true, false}
 use mathlib.Core.List.{List}
 use Prim.Native.Nat.{ℕ, _+_, _*_, _<_, _≤_}
 use native.Mathlib.Decide.{ℕ-discrete}
 use native.Mathlib.Omega.{arith}
-use lib.ListN.{length}
+use lib.ListN.{length, length-replicate}
 use Rattle.common.specs.Choice.{pick}
-use Rattle.acquisition.specs.Step.{AcquisitionReady, PhaseReady, StepsAcquisition, StepCounts}
+use Rattle.block_sync.specs.Feed.{freshBlockSync}
+use Rattle.acquisition.specs.Reading.{idleReading}
+use Rattle.acquisition.specs.Step.{freshAcquisition, AcquisitionReady, PhaseReady, StepsAcquisition, StepCounts}
 use Rattle.acquisition.specs.End.{EndsAcquisition, endMeasure, EndCounts}
 use Rattle.acquisition.specs.Bits.{BitsReady, StepsBits, BitCounts, EndsBits, BitEndCounts}
 use Rattle.acquisition.specs.declared.Acquisition.{Acquisition}
@@ -16,9 +18,10 @@ use Rattle.acquisition.specs.declared.Phase.{Phase}
 use Rattle.acquisition.specs.declared.Phase.the-variants.{Searches, Reads}
 use Rattle.acquisition.specs.declared.Step.{Step}
 use Rattle.acquisition.specs.declared.EndStep.{EndStep}
+use Rattle.acquisition.specs.declared.bit_source.BitSource.{BitSource}
 use Rattle.acquisition.specs.declared.bit_source.BitStep.{BitStep}
 use Rattle.acquisition.specs.declared.bit_source.BitEnd.{BitEnd}
-use Rattle.lock_stream.specs.Source.{cameOf, SourceReady, withBits, withSymbols, symbols-step, bits-step, symbols-end, bits-end, StepsSource, EndsSource}
+use Rattle.lock_stream.specs.Source.{decodedOf, holdingBits, freshSource, UsedReady, SourceReady, withBits, withSymbols, symbols-step, bits-step, symbols-end, bits-end, StepsSource, EndsSource}
 use Rattle.lock_stream.specs.declared.source.LockSource.{LockSource}
 
 -- no more symbols are pending than a window has
@@ -29,33 +32,58 @@ held-few {s} r = by (s .phase) (r .phase-ready)
     by Searches x = omega (arith, x .window-few)
     by Reads x = x .pending-few
 
-pub came-bits : (s : LockSource) → s .bits ≡ true → cameOf s ≡ s .decoded .came
-came-bits s e = ap (λ (t : Bool). pick t (s .decoded .came) (s .symbols .came)) e
+-- ---- what is used is in its range
 
-pub came-symbols : (s : LockSource) → s .bits ≡ false → cameOf s ≡ s .symbols .came
-came-symbols s e = ap (λ (t : Bool). pick t (s .decoded .came) (s .symbols .came)) e
+pub bits-ready : {s : LockSource} → SourceReady s → s .bits ≡ true → BitsReady (decodedOf (s .symbols))
+bits-ready {s} r e = subst (UsedReady s) e (r .used)
 
-pub bits-stepped : (s : LockSource) (piece : List ℕ) (t : BitStep) → s .bits ≡ true → SourceReady s → 0 < length piece → StepsBits (s .decoded) piece t → BitsReady (t .source)
-    → BitCounts (s .decoded) piece t → StepsSource s piece (record { source = withBits s (t .source); taken = t .taken; event = t .event; block = t .block })
-bits-stepped s piece t e r l d b n = record {
+pub symbols-ready : {s : LockSource} → SourceReady s → s .bits ≡ false → AcquisitionReady (s .symbols)
+symbols-ready {s} r e = subst (UsedReady s) e (r .used)
+
+ready-bits : (s : LockSource) → s .bits ≡ true → BitsReady (decodedOf (s .symbols)) → SourceReady s
+ready-bits s e b = record { used = subst (UsedReady s) (sym e) b }
+
+ready-symbols : (s : LockSource) → s .bits ≡ false → AcquisitionReady (s .symbols) → SourceReady s
+ready-symbols s e b = record { used = subst (UsedReady s) (sym e) b }
+
+fresh-bits : (rate : ℕ) → BitsReady (decodedOf (freshAcquisition rate))
+unfolding freshAcquisition idleReading freshBlockSync
+fresh-bits rate = record { sync-sized = length-replicate {A = ℕ} 8168 0; sync-small = omega arith; bits-counted = omega arith; counts = omega arith }
+
+pub fresh-ready : (bits : Bool) (rate : ℕ) → AcquisitionReady (freshAcquisition rate) → SourceReady (freshSource bits rate)
+unfolding freshSource
+fresh-ready true rate a = record { used = fresh-bits rate }
+fresh-ready false rate a = record { used = a }
+
+-- ---- a step
+
+bits-steps : (s : LockSource) (piece : List ℕ) (t : BitStep) → s .bits ≡ true → 0 < length piece → StepsBits (decodedOf (s .symbols)) piece t → BitsReady (t .source)
+    → BitCounts (decodedOf (s .symbols)) piece t → StepsSource s piece (record { source = withBits s (t .source); taken = t .taken; event = t .event; block = t .block })
+bits-steps s piece t e l d b n = record {
   steps = bits-step e t d refl;
-  ready = record { symbols = r .symbols; decoded = b };
+  ready = ready-bits (withBits s (t .source)) e b;
   same = refl;
   within = n .taken-most;
-  counted = omega (arith, came-bits s e, came-bits (withBits s (t .source)) e, n .came-is);
+  counted = n .came-is;
   known = n .rate-known;
   goes = λ left. let g = n .goes l in omega arith;
 }
 
-pub symbols-stepped : (s : LockSource) (piece : List ℕ) (t : Step) → s .bits ≡ false → SourceReady s → 0 < length piece → StepsAcquisition (s .symbols) piece t
+-- of the bits that were taken out of an acquisition, and of the acquisition into which they were put back
+pub bits-stepped : (s : LockSource) (piece : List ℕ) (d : BitSource) (t : BitStep) (next : Acquisition) → s .bits ≡ true → d ≡ decodedOf (s .symbols) → next ≡ holdingBits (s .symbols) (t .source)
+    → 0 < length piece → StepsBits d piece t → BitsReady (t .source) → BitCounts d piece t
+    → StepsSource s piece (record { source = record { bits = s .bits; symbols = next }; taken = t .taken; event = t .event; block = t .block })
+bits-stepped s piece d t next e u v l x b n = rw v (bits-steps s piece t e l (rw u at x) b (rw u at n))
+
+pub symbols-stepped : (s : LockSource) (piece : List ℕ) (t : Step) → s .bits ≡ false → 0 < length piece → StepsAcquisition (s .symbols) piece t
     → AcquisitionReady (t .acquisition) → StepCounts (s .symbols) piece t
     → StepsSource s piece (record { source = withSymbols s (t .acquisition); taken = t .taken; event = t .event; block = t .block })
-symbols-stepped s piece t e r l d b n = record {
+symbols-stepped s piece t e l d b n = record {
   steps = symbols-step e t d refl;
-  ready = record { symbols = b; decoded = r .decoded };
+  ready = ready-symbols (withSymbols s (t .acquisition)) e b;
   same = refl;
   within = n .taken-most;
-  counted = omega (arith, came-symbols s e, came-symbols (withSymbols s (t .acquisition)) e, n .came-is);
+  counted = n .came-is;
   known = n .rate-known;
   goes = λ left. goes left (ℕ-discrete (t .taken) 0);
 }
@@ -67,31 +95,38 @@ symbols-stepped s piece t e r l d b n = record {
     goes left (yes z) = let g = n .goes l z in omega (arith, held (t .acquisition .held), held (s .symbols .held))
     goes left (no z) = omega (arith, held (t .acquisition .held), held-few b)
 
-pub bits-ended : (s : LockSource) (t : BitEnd) → s .bits ≡ true → SourceReady s → EndsBits (s .decoded) t → BitsReady (t .source) → BitEndCounts (s .decoded) t
+-- ---- a step of the end
+
+bits-ends : (s : LockSource) (t : BitEnd) → s .bits ≡ true → EndsBits (decodedOf (s .symbols)) t → BitsReady (t .source) → BitEndCounts (decodedOf (s .symbols)) t
     → EndsSource s (record { source = withBits s (t .source); event = t .event; block = t .block; over = t .over; left = t .left })
-bits-ended s t e r d b n = record {
+bits-ends s t e d b n = record {
   ends = bits-end e t d refl;
-  ready = record { symbols = r .symbols; decoded = b };
+  ready = ready-bits (withBits s (t .source)) e b;
   same = refl;
-  counted = came-bits (withBits s (t .source)) e ∙ n .came-is ∙ omega (arith, came-bits s e);
+  counted = n .came-is;
   known = n .rate-known;
   few = n .left-few;
-  goes = λ o. let g = n .goes o in omega (arith, measured (t .source .sync .held) (endMeasure (s .symbols)), measured (s .decoded .sync .held) (endMeasure (s .symbols)));
+  goes = λ o. let g = n .goes o in omega (arith, measured (t .source .sync .held) (endMeasure (withBits s (t .source) .symbols)), measured (s .symbols .reading .sync .held) (endMeasure (s .symbols)));
 }
   where
     measured : (m n : ℕ) → pick (s .bits) m n ≡ m
     measured m n = ap (λ (b : Bool). pick b m n) e
 
-pub symbols-ended : (s : LockSource) (t : EndStep) → s .bits ≡ false → SourceReady s → EndsAcquisition (s .symbols) t → AcquisitionReady (t .acquisition) → EndCounts (s .symbols) t
+pub bits-ended : (s : LockSource) (d : BitSource) (t : BitEnd) (next : Acquisition) → s .bits ≡ true → d ≡ decodedOf (s .symbols) → next ≡ holdingBits (s .symbols) (t .source)
+    → EndsBits d t → BitsReady (t .source) → BitEndCounts d t
+    → EndsSource s (record { source = record { bits = s .bits; symbols = next }; event = t .event; block = t .block; over = t .over; left = t .left })
+bits-ended s d t next e u v x b n = rw v (bits-ends s t e (rw u at x) b (rw u at n))
+
+pub symbols-ended : (s : LockSource) (t : EndStep) → s .bits ≡ false → EndsAcquisition (s .symbols) t → AcquisitionReady (t .acquisition) → EndCounts (s .symbols) t
     → EndsSource s (record { source = withSymbols s (t .acquisition); event = t .event; block = t .block; over = t .over; left = t .left })
-symbols-ended s t e r d b n = record {
+symbols-ended s t e d b n = record {
   ends = symbols-end e t d refl;
-  ready = record { symbols = b; decoded = r .decoded };
+  ready = ready-symbols (withSymbols s (t .acquisition)) e b;
   same = refl;
-  counted = came-symbols (withSymbols s (t .acquisition)) e ∙ n .came-is ∙ omega (arith, came-symbols s e);
+  counted = n .came-is;
   known = n .rate-known;
   few = n .left-few;
-  goes = λ o. let g = n .goes o in omega (arith, measured (s .decoded .sync .held) (endMeasure (t .acquisition)), measured (s .decoded .sync .held) (endMeasure (s .symbols)));
+  goes = λ o. let g = n .goes o in omega (arith, measured (t .acquisition .reading .sync .held) (endMeasure (t .acquisition)), measured (s .symbols .reading .sync .held) (endMeasure (s .symbols)));
 }
   where
     measured : (m n : ℕ) → pick (s .bits) m n ≡ n

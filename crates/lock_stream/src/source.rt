@@ -1,19 +1,20 @@
-// Where blocks come from: received symbols, by an acquisition, or decoded bits. Both stand side by side, and a flag tells which is used.
+// Where blocks come from: received symbols, by an acquisition, or decoded bits, which the reading of an acquisition holds that reads no symbols. A flag tells
+// which come, so that there is one buffer of bits alone to hand on.
 ghost use mathlib.Core.Path.{_≡_};
 ghost use Prim.Native.Nat.{_+_, _<_};
 ghost use lib.ListN.{length};
 ghost use Rattle.common.specs.Lists.{All};
-ghost use Rattle.lock_stream.specs.Source.{freshSource, cameOf, SourceReady, StepsSource, EndsSource};
+ghost use Rattle.lock_stream.specs.Source.{freshSource, cameOf, decodedOf, holdingBits, SourceReady, StepsSource, EndsSource};
 use acquisition::Acquisition;
 use acquisition::Event;
 use acquisition::FoundBlock;
+use acquisition::Reading;
 use acquisition::bit_source::BitSource;
 
-// Whether bits come, and both sources.
+// Whether bits come, and the acquisition that takes the symbols or holds the bits.
 pub struct LockSource {
     pub bits: bool,
     pub symbols: Acquisition,
-    pub decoded: BitSource,
 }
 
 // The source after a step, how many symbols or bits were taken, what happened, and the block where one was found.
@@ -33,6 +34,45 @@ pub struct SourceEnd {
     pub left: usize,
 }
 
+// The bits that an acquisition holds.
+fn decoded_of(symbols: Acquisition) -> BitSource
+    ensures { λ r. ⌜ r ≡ decodedOf symbols ⌝ }
+{
+    let reading = symbols.reading;
+    let sync = reading.sync;
+    BitSource {
+        sync,
+        used: reading.used,
+        came: symbols.came,
+    }
+}
+
+// The same acquisition with other bits.
+fn holding_bits(symbols: Acquisition, decoded: BitSource) -> Acquisition
+    ensures { λ r. ⌜ r ≡ holdingBits symbols decoded ⌝ }
+{
+    let reading = symbols.reading;
+    let runs = reading.runs;
+    let sync = decoded.sync;
+    let phase = symbols.phase;
+    let pending = symbols.pending;
+    Acquisition {
+        rate: symbols.rate,
+        mirrored: symbols.mirrored,
+        phase,
+        reading: Reading {
+            turn: reading.turn,
+            runs,
+            sync,
+            first: reading.first,
+            used: decoded.used,
+        },
+        pending,
+        held: symbols.held,
+        came: decoded.came,
+    }
+}
+
 impl LockSource {
     // Nothing has come: bits, or symbols of a rate, 5 being any.
     pub fn new(bits: bool, rate: u8) -> LockSource
@@ -40,24 +80,14 @@ impl LockSource {
         ensures { λ r. ⌜ (r ≡ freshSource bits rate) × (SourceReady r) ⌝ }
     {
         let symbols = Acquisition::new(rate);
-        let decoded = BitSource::new();
-        LockSource {
-            bits,
-            symbols,
-            decoded,
-        }
+        LockSource { bits, symbols }
     }
 
     // How many symbols or bits came.
     pub fn came(self) -> u64
         ensures { λ r. ⌜ r ≡ cameOf self ⌝ }
     {
-        let bits = self.bits;
         let symbols = self.symbols;
-        let decoded = self.decoded;
-        if bits {
-            return decoded.came;
-        }
         symbols.came
     }
 
@@ -68,17 +98,17 @@ impl LockSource {
     {
         let bits = self.bits;
         let symbols = self.symbols;
-        let decoded = self.decoded;
         if bits {
-            let step = decoded.step(piece);
-            let next = step.source;
+            let source = decoded_of(symbols);
+            let step = source.step(piece);
+            let after = step.source;
+            let next = holding_bits(symbols, after);
             let event = step.event;
             let block = step.block;
             return SourceStep {
                 source: LockSource {
                     bits,
-                    symbols,
-                    decoded: next,
+                    symbols: next,
                 },
                 taken: step.taken,
                 event,
@@ -93,7 +123,6 @@ impl LockSource {
             source: LockSource {
                 bits,
                 symbols: next,
-                decoded,
             },
             taken: step.taken,
             event,
@@ -108,17 +137,17 @@ impl LockSource {
     {
         let bits = self.bits;
         let symbols = self.symbols;
-        let decoded = self.decoded;
         if bits {
-            let step = decoded.end_step();
-            let next = step.source;
+            let source = decoded_of(symbols);
+            let step = source.end_step();
+            let after = step.source;
+            let next = holding_bits(symbols, after);
             let event = step.event;
             let block = step.block;
             return SourceEnd {
                 source: LockSource {
                     bits,
-                    symbols,
-                    decoded: next,
+                    symbols: next,
                 },
                 event,
                 block,
@@ -134,7 +163,6 @@ impl LockSource {
             source: LockSource {
                 bits,
                 symbols: next,
-                decoded,
             },
             event,
             block,

@@ -1,25 +1,23 @@
--- Bits of bytes, straight or inverted: the byte at a place of them, and the blocks that they make again.
+-- Bits of bytes: the byte at a place of them; straight or inverted, the blocks that they make again.
 -- Assumes nothing.
 use mathlib.Core.Path.{_≡_, refl, sym, _∙_, ap, ap₂}
 use mathlib.Core.Bool.{Bool, true, false}
 use mathlib.Core.List.{List, [], _∷_, _++_, map, flatten, map-append}
-use Prim.Native.Nat.{ℕ, zero, suc, _+_, _-_, _*_, _/_, _%_, _≤_, _<_}
+use Prim.Native.Nat.{ℕ, zero, suc, _+_, _*_, _/_, _%_, _<_}
 use Prim.{tt}
 use native.Mathlib.Nat.{not-suc-le-zero, le-of-suc-le-suc}
 use native.Mathlib.Omega.{arith}
 use lib.ListN.{length, getD, take, drop, length-map}
 use lib.Seq.{take-length}
 use Rattle.common.specs.Lists.{All, Bytes, Length, chunksOf}
-use Rattle.common.proofs.Lists.{getD-map-in}
 use Rattle.common.proofs.Chunks.{chunks-joined}
 use Rattle.convolutional_code.specs.Bits.{bitsOf, Bits, none, more}
 use Rattle.convolutional_code.proofs.Bits.{length-bits, bits-bits, bits-split}
 use Rattle.bit_packing.specs.Packing.{packedBytes}
 use Rattle.bit_packing.proofs.Bytes.{digits, bytes-back}
 use Rattle.sync_search.specs.Sync.{byteAt}
-use Rattle.sync_search.proofs.Syncs.{byte-inverted}
 use Rattle.block_sync.specs.Decision.{turnedBit, turnedBits, blockOf}
-use Rattle.block_sync.specs.Grid.{turnedByte, gridBlocks}
+use Rattle.block_sync.specs.Grid.{gridBlocks}
 use Rattle.block_sync.proofs.Majority.{byte-drop}
 
 -- ---- the byte at a place
@@ -41,30 +39,6 @@ byte-of (b ∷ bs) g zero h = byte-first b bs (g .0)
 byte-of (b ∷ bs) g (suc n) h =
     let e : 8 * suc n ≡ 8 + 8 * n = omega arith in
     ap (byteAt (bitsOf (b ∷ bs))) e ∙ sym (byte-drop 8 (bitsOf (b ∷ bs)) (8 * n)) ∙ ap (λ (l : List ℕ). byteAt l (8 * n)) (bits-rest b bs) ∙ byte-of bs (g .1) n (le-of-suc-le-suc h)
-
--- straight or inverted
-bit-straight : (l : List ℕ) (i : ℕ) → i < length l → getD (turnedBits false l) i 0 % 2 ≡ getD l i 0 % 2
-unfolding turnedBits
-bit-straight l i h = ap (λ (b : ℕ). b % 2) (getD-map-in (turnedBit false) l 0 0 i h) ∙ m (getD l i 0)
-  where
-    m : (x : ℕ) → x % 2 % 2 ≡ x % 2
-    m x = omega arith
-
-byte-straight : (l : List ℕ) (at : ℕ) → at + 8 ≤ length l → byteAt (turnedBits false l) at ≡ byteAt l at
-unfolding byteAt
-byte-straight l at h =
-    rw (bit-straight l at (omega arith), g 1 (omega arith), g 2 (omega arith), g 3 (omega arith), g 4 (omega arith), g 5 (omega arith), g 6 (omega arith), g 7 (omega arith)) refl
-  where
-    g : (i : ℕ) → i < 8 → getD (turnedBits false l) (at + i) 0 % 2 ≡ getD l (at + i) 0 % 2
-    g i k = bit-straight l (at + i) (omega arith)
-
-byte-other : (l : List ℕ) (at : ℕ) → at + 8 ≤ length l → byteAt (turnedBits true l) at ≡ 255 - byteAt l at
-unfolding turnedBits
-byte-other l at h = let e = byte-inverted l at h in omega arith
-
-pub byte-turned : (i : Bool) (l : List ℕ) (at : ℕ) → at + 8 ≤ length l → byteAt (turnedBits i l) at ≡ turnedByte i (byteAt l at)
-byte-turned true l at h = byte-other l at h
-byte-turned false l at h = byte-straight l at h
 
 -- ---- the blocks again
 

@@ -26,10 +26,11 @@ use Rattle.block_sync.specs.Grid.{syncByte, turnedByte, SyncGrid, begun, Draine
 use Rattle.block_sync.specs.History.{GivenBlock, SyncFeedings}
 use Rattle.block_sync.specs.declared.BlockSync.{BlockSync}
 use Rattle.block_sync.proofs.Majority.{SyncHere, majority}
+use Rattle.block_sync.proofs.Packed.{byte-turned}
 use Rattle.block_sync.proofs.Grids.{here, grid-given}
 use Rattle.block_sync.proofs.Anywhere.{anywhere-given}
 use Rattle.sent_sync.specs.Sent.{bitsFrom, GivesSent, GivesSentAfter, GivesSentSoFar}
-use Rattle.sent_sync.proofs.Bytes.{byte-of, byte-turned, blocks-back, bits-size}
+use Rattle.sent_sync.proofs.Bytes.{byte-of, blocks-back, bits-size}
 use Rattle.sent_sync.proofs.Fronts.{front-given}
 
 -- ---- the first byte of a block

@@ -61,10 +61,11 @@ run-requires c κs =
 
 returns : tie.Need-returns
 returns c =
-    let z = c .before .run .result .status in
+    let z = c .run .result in
     let e : toZ w32 (ofZ w32 z) ≡ z = search needs in
-    let k = c .before .before .before .source-asked .ensures in
-    of-symbols (c .before .before .before .before .before .before .before .before .new .result) (c .before .before .before .before .before .before .before .new2 .result) (c .before .run .result) (c .before .before .before .before .before .before .before .new2 .ensures) (sym (c .before .before .before .before .before .before .asked-for .ensures) ∙ c .before .before .before .before .enum-told3 .given .1) (subst (λ (n : ℕ). n < 6) k (c .before .before .if1 .taken)) (subst (λ (n : ℕ). Ends _ n (c .before .run .result)) k (c .before .run .ensures)) e
+    let k = c .before .before .source-asked .ensures in
+    let r = c .run .ensures in
+    of-symbols (c .before .before .before .before .before .before .before .new .result) (c .before .before .before .before .before .before .new2 .result) (r .ended) (c .before .before .before .before .before .before .new2 .ensures) (sym (c .before .before .before .before .before .asked-for .ensures) ∙ c .before .before .before .enum-told3 .given .1) (subst (λ (n : ℕ). n < 6) k (c .before .if1 .taken)) (subst (λ (n : ℕ). Ends _ n (r .ended)) k (r .ends)) (e ∙ r .status-is)
 
 run-requires-2 : tie.Need-run-requires-2
 run-requires-2 c κs =
@@ -72,10 +73,11 @@ run-requires-2 c κs =
 
 returns-2 : tie.Need-returns-2
 returns-2 c =
-    let z = c .before .run2 .result .status in
+    let z = c .run2 .result in
     let e : toZ w32 (ofZ w32 z) ≡ z = search needs in
-    let k = c .before .before .before .before .source-asked .ensures in
-    of-bits (c .before .before .before .before .before .before .before .before .before .new .result) (c .before .before .before .before .before .before .before .before .new2 .result) (c .before .run2 .result) (c .before .before .before .before .before .before .before .before .new2 .ensures) (sym (c .before .before .before .before .before .before .before .asked-for .ensures) ∙ c .before .before .before .before .before .enum-told3 .given .1) (sym k ∙ c .before .before .if2 .taken) (c .before .run2 .ensures) e
+    let k = c .before .before .before .source-asked .ensures in
+    let r = c .run2 .ensures in
+    of-bits (c .before .before .before .before .before .before .before .before .new .result) (c .before .before .before .before .before .before .before .new2 .result) (r .ended) (c .before .before .before .before .before .before .before .new2 .ensures) (sym (c .before .before .before .before .before .before .asked-for .ensures) ∙ c .before .before .before .before .enum-told3 .given .1) (sym k ∙ c .before .if2 .taken) (r .ends) (e ∙ r .status-is)
 
 slice-aggregate-wrong : tie.Need-slice-aggregate-wrong
 slice-aggregate-wrong c =

@@ -1,40 +1,59 @@
 -- `dvbs_lock::lock_all` meets its contract.
 -- Assumes nothing.
 use mathlib.Core.Path.{_≡_, refl, sym, _∙_}
+use mathlib.Core.List.{List, _++_}
 use Prim.Native.Nat.{ℕ, _-_, _≤_}
 use native.Mathlib.Omega.{arith}
-use lib.ListN.{length, length-replicate}
+use lib.ListN.{length, take, drop, length-replicate, length-append, length-drop}
 use lib.Seq.{length-take-le}
+use Rattle.dvbs_lock.specs.Numbers.{readSize}
 use Rattle.dvbs_lock.specs.Ends.{part}
 use Rattle.dvbs_lock.proofs.Endings.{files-on, stopped}
+use Rattle.dvbs_lock.proofs.NumberLaws.{size-fits}
 use Rattle.dvbs_lock.proofs.Reading.{Reading, reading-none, part-small, part-count, some-read, reading-more, reading-whole, reading-over, reading-long}
 use borrow.Author.Needs.{needs}
 use Rattle.dvbs_lock.proofs.lock_all.Statement.{statement}
 use Rattle.dvbs_lock.proofs.lock_all.Tie as tie
 
+-- a buffer whose front was written is as long as before
+rest-kept : (n : ℕ) (buffer front : List ℕ) → n ≤ length buffer → length front ≡ length (take n buffer) → length (front ++ drop n buffer) ≡ length buffer
+rest-kept n buffer front h e = omega (arith, length-append front (drop n buffer), length-drop n buffer, length-take-le n buffer h, e)
+
 abbrev Inv-loop : tie.InvT-loop
-Inv-loop bits rate buffer₀ numbers₀ packets₀ text₀ input₀ output₀ errors₀ stream₀ came₀ buffer numbers packets text input output errors stream came =
-    (Reading bits rate input output errors stream came 0) × (length buffer ≡ 13056) × (length numbers ≡ 104448) × (length packets ≡ 1504) × (length text ≡ 2048)
-    × (came ≤ 1152921504606844448)
+Inv-loop bits rate size buffer₀ numbers₀ packets₀ text₀ input₀ output₀ errors₀ stream₀ came₀ buffer numbers packets text input output errors stream came =
+    (Reading bits rate input output errors stream came 0) × (length buffer ≡ 104448) × (length numbers ≡ 13056) × (length packets ≡ 1504) × (length text ≡ 2048)
+    × (came ≤ 1152921504606844448) × (size ≡ readSize bits)
 
 abbrev μ-loop : tie.MeasureT-loop
-μ-loop bits rate buffer₀ numbers₀ packets₀ text₀ input₀ output₀ errors₀ stream₀ came₀ buffer numbers packets text input output errors stream came = 1152921504606844449 - came
+μ-loop bits rate size buffer₀ numbers₀ packets₀ text₀ input₀ output₀ errors₀ stream₀ came₀ buffer numbers packets text input output errors stream came = 1152921504606844449 - came
+
+-- the part of the buffer that a read is asked for is there
+size-in : (c : tie.At-loop Inv-loop μ-loop) → c .before .before .read-size .result ≤ length (c .loop .buffer)
+size-in c = omega (arith, c .loop .inv .1, c .loop .inv .6, size-fits (c .before .before .before .args .bits))
 
 count-fits : (c : tie.After-read-numbers Inv-loop μ-loop) → c .read-numbers .result .count ≤ length (c .read-numbers .last .1 .1 .1 .0)
 count-fits c = omega (arith, c .read-numbers .ensures .numbers .few, c .read-numbers .kept .1 .1 .1 .0, c .before .before .before .before .loop .inv .2)
 
+read-size-requires : tie.Need-read-size-requires Inv-loop μ-loop
+read-size-requires c κs =
+    search needs
+
 new-requires : tie.Need-new-requires Inv-loop μ-loop
 new-requires c κs =
-    c .pre .0
+    c .before .pre .0
 
 loop-holds : tie.Need-loop-holds Inv-loop μ-loop
 loop-holds c =
-    let p = c .before .pre in
-    (reading-none _ _ (p .1) (p .2) (p .3) (c .new .ensures .0) (c .new .ensures .1), length-replicate {A = ℕ} 13056 0, length-replicate {A = ℕ} 104448 0, length-replicate {A = ℕ} 1504 0, length-replicate {A = ℕ} 2048 0, omega arith)
+    let p = c .before .before .pre in
+    (reading-none _ _ (p .1) (p .2) (p .3) (c .new .ensures .0) (c .new .ensures .1), length-replicate {A = ℕ} 104448 0, length-replicate {A = ℕ} 13056 0, length-replicate {A = ℕ} 1504 0, length-replicate {A = ℕ} 2048 0, omega arith, c .before .read-size .ensures)
+
+array-borrow-prefix-buffer : tie.Need-array-borrow-prefix-buffer Inv-loop μ-loop
+array-borrow-prefix-buffer c =
+    size-in (c .before)
 
 slice-aggregate-read-numbers : tie.Need-slice-aggregate-read-numbers Inv-loop μ-loop
 slice-aggregate-read-numbers c =
-    search needs
+    sym (length-take-le _ _ (size-in (c .before .before)))
 
 slice-aggregate-read-numbers-2 : tie.Need-slice-aggregate-read-numbers-2 Inv-loop μ-loop
 slice-aggregate-read-numbers-2 c =
@@ -43,7 +62,7 @@ slice-aggregate-read-numbers-2 c =
 read-numbers-requires : tie.Need-read-numbers-requires Inv-loop μ-loop
 read-numbers-requires c κs =
     let l = c .before .before .before .loop .inv in
-    (l .1, l .2)
+    (length-take-le _ _ (size-in (c .before .before .before)) ∙ l .6, l .2)
 
 array-share-prefix-numbers : tie.Need-array-share-prefix-numbers Inv-loop μ-loop
 array-share-prefix-numbers c =
@@ -96,7 +115,7 @@ finish-requires c κs =
     let r = c .before .before .before .before .before .before .before .before .before .before .before .before .before .before .before .before .before .read-numbers in
     let t = c .before .before .before .before .before .before .before .before .before .before .take-numbers in
     let g = reading-more (r .ensures) (l .inv .0) (t .ensures) (c .before .before .before .before .if1 .left) in
-    (g .files, reading-over g (r .ensures .short (c .before .before .before .if2 .taken)) (c .before .before .rest-of .ensures), omega (arith, t .kept .1 .1 .1 .1 .0, l .inv .3), omega (arith, t .kept .1 .1 .1 .1 .1 .0, l .inv .4))
+    (g .files, reading-over g (r .ensures .short (omega (arith, c .before .before .before .if2 .taken, l .inv .6))) (c .before .before .rest-of .ensures), omega (arith, t .kept .1 .1 .1 .1 .0, l .inv .3), omega (arith, t .kept .1 .1 .1 .1 .1 .0, l .inv .4))
 
 returns-2 : tie.Need-returns-2 Inv-loop μ-loop
 returns-2 c =
@@ -104,7 +123,8 @@ returns-2 c =
 
 loop-less : tie.Need-loop-less Inv-loop μ-loop
 loop-less c =
-    omega (arith, some-read (c .before .before .before .before .before .before .before .before .before .before .before .before .before .before .read-numbers .ensures) (c .if2 .left), c .before .before .before .before .before .before .before .before .before .before .before .before .before .before .read-numbers .ensures .numbers .few, c .before .before .before .before .before .before .before .before .before .before .before .before .before .before .before .before .before .loop-test .taken)
+    let l = c .before .before .before .before .before .before .before .before .before .before .before .before .before .before .before .before .before .before .loop in
+    omega (arith, some-read (c .before .before .before .before .before .before .before .before .before .before .before .before .before .before .read-numbers .ensures) (omega (arith, c .if2 .left, l .inv .6)), c .before .before .before .before .before .before .before .before .before .before .before .before .before .before .read-numbers .ensures .numbers .few, c .before .before .before .before .before .before .before .before .before .before .before .before .before .before .before .before .before .loop-test .taken)
 
 loop-again : tie.Need-loop-again Inv-loop μ-loop
 loop-again c =
@@ -112,7 +132,9 @@ loop-again c =
     let r = c .before .before .before .before .before .before .before .before .before .before .before .before .before .before .read-numbers in
     let t = c .before .before .before .before .before .before .before .take-numbers in
     let g = reading-more (r .ensures) (l .inv .0) (t .ensures) (c .before .if1 .left) in
-    (reading-whole g (omega (arith, c .if2 .left, r .ensures .within)), r .kept .1 .1 .0 ∙ l .inv .1, r .kept .1 .1 .1 .0 ∙ l .inv .2, t .kept .1 .1 .1 .1 .0 ∙ l .inv .3, t .kept .1 .1 .1 .1 .1 .0 ∙ l .inv .4, omega (arith, r .ensures .numbers .few, c .before .before .before .before .before .before .before .before .before .before .before .before .before .before .before .before .before .loop-test .taken))
+    let n = c .before .before .before .before .before .before .before .before .before .before .before .before .before .before .before .before .before .before .before .before .read-size .result in
+    let whole = rest-kept n (l .buffer) (r .last .1 .1 .0) (size-in (c .before .before .before .before .before .before .before .before .before .before .before .before .before .before .before .before .before .before)) (r .kept .1 .1 .0) ∙ l .inv .1 in
+    (reading-whole g (omega (arith, c .if2 .left, r .ensures .within, l .inv .6)), whole, r .kept .1 .1 .1 .0 ∙ l .inv .2, t .kept .1 .1 .1 .1 .0 ∙ l .inv .3, t .kept .1 .1 .1 .1 .1 .0 ∙ l .inv .4, omega (arith, r .ensures .numbers .few, c .before .before .before .before .before .before .before .before .before .before .before .before .before .before .before .before .before .loop-test .taken), l .inv .6)
 
 stop-requires : tie.Need-stop-requires Inv-loop μ-loop
 stop-requires c κs =
@@ -129,8 +151,10 @@ lock-all-spec =
     (tie.spec
     Inv-loop
     μ-loop
+    read-size-requires
     new-requires
     loop-holds
+    array-borrow-prefix-buffer
     slice-aggregate-read-numbers
     slice-aggregate-read-numbers-2
     read-numbers-requires

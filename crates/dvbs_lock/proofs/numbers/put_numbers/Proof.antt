@@ -8,17 +8,19 @@ use lib.ListN.{length}
 use Rattle.convolutional_code.proofs.Bits.{length-bits}
 use Rattle.received_symbols.proofs.SoftInput.{pairs-are, pairs-length}
 use Rattle.dvbs_lock.specs.Numbers.{numbersOf}
+use Rattle.dvbs_lock.proofs.NumberLaws.{size-fits, size-bits}
 use borrow.Author.Needs.{needs}
 use Rattle.dvbs_lock.proofs.numbers.put_numbers.Statement.{statement}
 use Rattle.dvbs_lock.proofs.numbers.put_numbers.Tie as tie
 
 put-bits-requires : tie.Need-put-bits-requires
 put-bits-requires c κs =
-    omega (arith, c .before .before .before .before .pre .0, c .before .before .before .before .pre .1)
+    let s = c .before .before .before .before in
+    omega (arith, s .pre .0, s .pre .1, size-bits (c .before .if1 .taken))
 
 mul-result : tie.Need-mul-result
 mul-result c =
-    omega (arith, c .before .before .before .before .before .before .before .pre .0)
+    omega (arith, c .before .before .before .before .before .before .before .pre .0, size-bits (c .before .before .before .before .if1 .taken))
 
 same-length : tie.Need-same-length
 same-length c =
@@ -32,13 +34,13 @@ returns c =
     record {
       numbers-are = c .before .before .put-bits .ensures ∙ e;
       counted = sym (length-bits n) ∙ ap length e;
-      few = omega (arith, s .pre .0);
+      few = omega (arith, s .pre .0, size-bits (c .before .before .before .before .if1 .taken));
     }
 
 point-pairs-requires : tie.Need-point-pairs-requires
 point-pairs-requires c κs =
     let s = c .before .before .before .before in
-    (omega arith, omega (arith, s .pre .0, s .pre .1))
+    (omega arith, omega (arith, s .pre .0, s .pre .1, size-fits (s .args .bits)))
 
 same-length-2 : tie.Need-same-length-2
 same-length-2 c =
@@ -50,11 +52,11 @@ returns-2 c =
     let n = s .args .bytes .now in
     let p = c .before .before .point-pairs in
     let e = ap (λ (t : Bool). numbersOf t n) (sym (c .before .before .before .before .if1 .left)) in
-    let long : length n / 8 ≤ length (p .last .1 .1 .0) = omega (arith, s .pre .0, s .pre .1, p .kept .1 .1 .0) in
+    let long : length n / 8 ≤ length (p .last .1 .1 .0) = omega (arith, s .pre .0, s .pre .1, p .kept .1 .1 .0, size-fits (s .args .bits)) in
     record {
       numbers-are = pairs-are n (p .last .1 .1 .0) (p .ensures) long ∙ e;
       counted = sym (pairs-length n) ∙ ap length e;
-      few = omega (arith, s .pre .0);
+      few = omega (arith, s .pre .0, size-fits (s .args .bits));
     }
 
 pub put-numbers-spec : {M : Type 1} → statement M
