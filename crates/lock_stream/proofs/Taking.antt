@@ -12,7 +12,8 @@ use lib.Seq.{take-at}
 use Rattle.common.specs.Choice.{pick}
 use Rattle.common.proofs.Chunks.{length-first}
 use Rattle.reception_counts.specs.Counts.{countsInRange}
-use Rattle.receiver.specs.Receive.{freshReceiver}
+use Rattle.reception_counts.proofs.Ranges.{counts-range}
+use Rattle.receiver.specs.Receive.{freshReceiver, receiverInRange}
 use Rattle.receiver.specs.Run.{answerOf, afterCall, outputOf}
 use Rattle.receiver.specs.declared.Receiver.{Receiver}
 use Rattle.receiver.proofs.Calls.{state-range}
@@ -26,40 +27,49 @@ use Rattle.lock_receiver.specs.Take.{freshLock, lockInRange, waitingPackets, gi
 use Rattle.lock_receiver.specs.declared.LockReceiver.{LockReceiver}
 use Rattle.lock_receiver.specs.declared.LockStep.{LockStep}
 use Rattle.lock_receiver.proofs.Ranges.{lock-range}
-use Rattle.lock_stream.specs.Progress.{begunAnew, Takes, Reached, reached-fresh, reached-on}
+use Rattle.lock_stream.specs.Progress.{begunAnew, Takes}
 use Rattle.lock_stream.specs.declared.progress.LockProgress.{LockProgress}
 
--- ---- every receiver that is reached is in range
+-- ---- a receiver in range is in range after a block too
 
-record Held (v : LockReceiver) : Type 0 where
-  pub sound : Sound (v .receiver)
-  pub certain : certaintyInRange (v .certainty) (v .receiver .sync .place) (v .receiver .counts .taken) ≡ true
-
-held-range : (v : LockReceiver) → Held v → lockInRange v ≡ true
-held-range v h = simp (sound-range (v .receiver) (h .sound), h .certain)
-
-held-fresh : Held freshLock
+pub fresh-range : lockInRange freshLock ≡ true
 unfolding freshLock freshReceiver
-held-fresh = record { sound = sound-fresh; certain = refl }
+fresh-range =
+    ap (λ (t : Bool). pick t (certaintyInRange (freshLock .certainty) (freshLock .receiver .sync .place) (freshLock .receiver .counts .taken)) false)
+    (sound-range freshReceiver sound-fresh)
 
-held-on : {v next : LockReceiver} {block given lines : List ℕ} → Held v → Takes v block given lines next → Held next
-held-on {v} {next} h t =
+-- its arrays have their lengths, which every value in the code has
+pub record Sized (v : LockReceiver) : Type 0 where
+  pub cells : length (v .receiver .deinterleaver .branches .cells) ≡ 1122
+  pub positions : length (v .receiver .deinterleaver .branches .positions) ≡ 12
+  pub marks : length (v .receiver .marks) ≡ 1122
+
+range-sound : (v : LockReceiver) → Sized v → lockInRange v ≡ true → Sound (v .receiver)
+range-sound v z e =
+    let r = state-range (v .receiver) (lock-range v e .receiver) in
+    record {
+      branches = record { cells = z .cells; positions = z .positions; range = r .branches };
+      marks = z .marks;
+      small = r .marks;
+      sync = r .sync;
+      counts = counts-range (v .receiver .counts) (r .counts);
+    }
+
+pub range-on : {v next : LockReceiver} {block given lines : List ℕ} → Sized v → lockInRange v ≡ true → Takes v block given lines next → lockInRange next ≡ true
+range-on {v} {next} z e t =
     let o = t .takes in
-    let w = watched-call (v .receiver) (v .certainty) (o .call) (lock-range v (held-range v h) .watched) in
-    subst Held (sym (t .next-is)) (record {
-      sound = subst Sound (sym (o .state)) (sound-call (v .receiver) (o .call) (h .sound) (o .decodes));
-      certain = subst₂ (λ (s : Receiver) (k : Certainty). certaintyInRange k (s .sync .place) (s .counts .taken) ≡ true) (sym (o .state)) (sym (o .certainty)) (w .range);
-    })
+    let w = watched-call (v .receiver) (v .certainty) (o .call) (lock-range v e .watched) in
+    let s : Receiver = t .step .lock .receiver in
+    let g : Sound s = subst Sound (sym (o .state)) (sound-call (v .receiver) (o .call) (range-sound v z e) (o .decodes)) in
+    let k : certaintyInRange (t .step .lock .certainty) (s .sync .place) (s .counts .taken) ≡ true
+    = subst₂ (λ (x : Receiver) (k : Certainty). certaintyInRange k (x .sync .place) (x .counts .taken) ≡ true) (sym (o .state)) (sym (o .certainty)) (w .range) in
+    subst (λ (x : LockReceiver). lockInRange x ≡ true) (sym (t .next-is)) (in-range (t .step .lock) (sound-range s g) k)
+  where
+    in-range : (x : LockReceiver) → receiverInRange (x .receiver) ≡ true → certaintyInRange (x .certainty) (x .receiver .sync .place) (x .receiver .counts .taken) ≡ true → lockInRange x ≡ true
+    in-range x a b = simp (a, b)
 
-reached-held : {v : LockReceiver} → Reached v → Held v
-reached-held reached-fresh = held-fresh
-reached-held (reached-on block given lines r t) = held-on (reached-held r) t
-
-pub reached-range : {v : LockReceiver} → Reached v → lockInRange v ≡ true
-reached-range {v} r = held-range v (reached-held r)
-
-pub range-counts : {v : LockReceiver} → Reached v → countsInRange (v .receiver .counts) ≡ true
-range-counts {v} r = state-range (v .receiver) (sound-range (v .receiver) (reached-held r .sound)) .counts
+pub range-counts : (v : LockReceiver) → lockInRange v ≡ true → countsInRange (v .receiver .counts) ≡ true
+range-counts v e = state-range (v .receiver) (lock-range v e .receiver) .counts
 
 -- ---- a block is taken
 
@@ -81,13 +91,13 @@ unrefused : (v : LockReceiver) (block output lines : List ℕ) → lockInRange v
 unrefused v block output lines r s o l m = simp (r, eq-eqb _ _ s, le-ltb _ _ o, le-ltb _ _ l, lt-ltb _ _ m) refl
 
 -- no test refuses it
-pub taken-one : {v : LockReceiver} {block output lines exit linesExit : List ℕ} {r : LockStep} → Reached v → length block ≡ 204 → 1504 ≤ length output → 8 ≤ length lines
+pub taken-one : {v : LockReceiver} {block output lines exit linesExit : List ℕ} {r : LockStep} → lockInRange v ≡ true → length block ≡ 204 → 1504 ≤ length output → 8 ≤ length lines
     → v .receiver .counts .taken < 4294967295 → TakesBlock v block output lines r exit linesExit → TakesOne v block output lines r exit linesExit
-taken-one {v} {block} {output} {lines} a s o l m (refused answer n p r e x) = let z = unrefused v block output lines (reached-range a) s o l m in absurd (omega arith)
+taken-one {v} {block} {output} {lines} a s o l m (refused answer n p r e x) = let z = unrefused v block output lines a s o l m in absurd (omega arith)
 taken-one a s o l m (taken z t) = t
 
-waiting-few : {v : LockReceiver} → Reached v → waitingOf (v .certainty) ≤ 7
-waiting-few {v} r = omega (arith, lock-range v (reached-range r) .waiting .0, most-seven (v .receiver .sync .place))
+waiting-few : (v : LockReceiver) → lockInRange v ≡ true → waitingOf (v .certainty) ≤ 7
+waiting-few v r = omega (arith, lock-range v r .waiting .0, most-seven (v .receiver .sync .place))
 
 -- at most those that wait, and its own
 given-most : (k : Certainty) (number : ℕ) (due started : Bool) (held : List (List ℕ)) (packet : List ℕ) → length (givenNow k number due started held packet) ≤ suc (length held)
@@ -100,11 +110,11 @@ given-most k number due started held packet = by (eqb number 0) started due (isS
     by true true true u = omega (arith, length-append held (packet ∷ []))
     by true true false u = omega arith
 
-pub given-few : {v : LockReceiver} {block output lines exit linesExit : List ℕ} {r : LockStep} → Reached v → TakesOne v block output lines r exit linesExit → r .given ≤ 8
+pub given-few : {v : LockReceiver} {block output lines exit linesExit : List ℕ} {r : LockStep} → lockInRange v ≡ true → TakesOne v block output lines r exit linesExit → r .given ≤ 8
 given-few {v} a t =
     let c = t .call in
     let m = given-most (v .certainty) (answerOf (v .receiver) c) (startDueAt (v .receiver .sync .place)) (startedAt (afterCall (v .receiver) c .sync .place)) (waitingPackets v) (take 188 (outputOf (v .receiver) c)) in
-    omega (arith, t .gives .counted, m, length-first 188 (waitingOf (v .certainty)) (v .packets), waiting-few a)
+    omega (arith, t .gives .counted, m, length-first 188 (waitingOf (v .certainty)) (v .packets), waiting-few v a)
 
 -- ---- lines that are written
 
@@ -114,8 +124,8 @@ lines-written {lines} {output} {exit} {count} w = ap (take count) (w .written) �
 pub lines-few : {lines output exit : List ℕ} {count : ℕ} → WritesLines lines output count exit → length exit ≡ length output → count ≤ length output
 lines-few {lines} {output} {count = count} w l = omega (arith, w .counted, ap length (w .written), length-append lines (drop count output))
 
-pub end-lines : {v : LockReceiver} (output : List ℕ) → Reached v → 8 ≤ length output → lockEndLines v output ≡ waitingTold v
-end-lines {v} output r l =
-    let f : waitingOf (v .certainty) ≤ length output = omega (arith, waiting-few r) in
-    let z : lockEndNumber v output ≡ 0 = simp (reached-range r, le-ltb (length output) (waitingOf (v .certainty)) f) refl in
+pub end-lines : (v : LockReceiver) (output : List ℕ) → lockInRange v ≡ true → 8 ≤ length output → lockEndLines v output ≡ waitingTold v
+end-lines v output r l =
+    let f : waitingOf (v .certainty) ≤ length output = omega (arith, waiting-few v r) in
+    let z : lockEndNumber v output ≡ 0 = simp (r, le-ltb (length output) (waitingOf (v .certainty)) f) refl in
     ap (λ (n : ℕ). pick (eqb n 0) (waitingTold v) []) z

@@ -15,7 +15,7 @@ use Rattle.report.specs.Text.{reportText}
 use Rattle.receiver_stream.specs.Reporting.{reportOf}
 use Rattle.reader.specs.Read.{symbolsPerPattern}
 use Rattle.lock_lines.specs.Lines.{lockText, lostText, endText}
-use Rattle.lock_receiver.specs.Take.{freshLock, waitingTold, TakesOne}
+use Rattle.lock_receiver.specs.Take.{freshLock, lockInRange, waitingTold, TakesOne}
 use Rattle.lock_receiver.specs.declared.LockReceiver.{LockReceiver}
 use Rattle.lock_receiver.specs.declared.LockStep.{LockStep}
 use Rattle.acquisition.specs.declared.FoundBlock.{FoundBlock}
@@ -40,17 +40,12 @@ pub record Takes (s : LockReceiver) (block given lines : List ℕ) (next : LockR
   pub lines-are : lines ≡ take (step .told) lines-exit
   pub next-is : next ≡ step .lock
 
--- a receiver that took blocks, one after the other, from a fresh one on
-pub data Reached : LockReceiver → Type 0 where
-  reached-fresh : Reached freshLock
-  reached-on : {s next : LockReceiver} (block given lines : List ℕ) → Reached s → Takes s block given lines next → Reached next
-
 -- The packets stand at the front of their room, and the lines as text from a place on.
 pub record TakesText (s : LockReceiver) (block : List ℕ) (at : ℕ) (text : List ℕ) (r : BlockTaken) (packets exit : List ℕ) : Type 0 where
   pub lines : List ℕ
   pub takes : Takes s block (take (r .packets) packets) lines (r .receiver)
   pub fits : r .packets ≤ 1504
-  pub ready : Reached (r .receiver)
+  pub ready : lockInRange (r .receiver) ≡ true
   pub told : Appended (listText lines) text exit at (r .text) (at + 512)
 
 -- ---- the lines
@@ -113,4 +108,4 @@ pub record TellsEvent (bits : Bool) (p : LockProgress) (e : Event) (r : Told) (p
   pub tells : Tells bits p (take (r .packets) packets) (take (r .text) text) (r .progress) e
   pub packets-fit : r .packets ≤ 1504
   pub text-fits : r .text ≤ 2048
-  pub ready : Reached (r .progress .receiver)
+  pub ready : lockInRange (r .progress .receiver) ≡ true

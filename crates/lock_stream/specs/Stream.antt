@@ -1,14 +1,15 @@
 -- A stream of locks: what a step of it gives and tells, step after step, and its end.
 -- Assumes nothing.
 use mathlib.Core.Path.{_≡_}
-use mathlib.Core.Bool.{Bool, false}
+use mathlib.Core.Bool.{Bool, true, false}
 use mathlib.Core.List.{List, [], _++_}
 use Prim.Native.Nat.{ℕ, _≤_}
 use lib.ListN.{take}
+use Rattle.lock_receiver.specs.Take.{lockInRange}
 use Rattle.acquisition.specs.declared.FoundBlock.{FoundBlock}
 use Rattle.acquisition.specs.declared.Event.the-variants.{Waits, Block, Lost}
 use Rattle.acquisition.specs.declared.Event as acquisition
-use Rattle.lock_stream.specs.Progress.{freshProgress, Event, waits, found, lost, Reached, Tells}
+use Rattle.lock_stream.specs.Progress.{freshProgress, Event, waits, found, lost, Tells}
 use Rattle.lock_stream.specs.Source.{freshSource, SourceReady, StepsSource, EndsSource}
 use Rattle.lock_stream.specs.declared.LockStream.{LockStream}
 use Rattle.lock_stream.specs.declared.StreamStep.{StreamStep}
@@ -27,7 +28,7 @@ freshStream bits rate = record { source = freshSource bits rate; progress = fres
 
 pub record StreamReady (s : LockStream) : Type 0 where
   pub source : SourceReady (s .source)
-  pub receiver : Reached (s .progress .receiver)
+  pub receiver : lockInRange (s .progress .receiver) ≡ true
 
 -- ---- a step
 

@@ -2,11 +2,13 @@
 // after step. docs/ACQUISITION.md says what is decided and told.
 // Inner: its functions may require what the crates above have tested. docs/ARCHITECTURE.md names the public surface.
 ghost use mathlib.Core.Path.{_≡_};
+ghost use mathlib.Core.Bool.{true};
 ghost use Prim.Native.Nat.{_+_, _<_, _≤_};
 ghost use lib.ListN.{length};
 ghost use Rattle.common.specs.Lists.{All};
 ghost use Rattle.report_lines.specs.Line.{Appended};
-ghost use Rattle.lock_stream.specs.Progress.{closingText, Reached, TellsEvent};
+ghost use Rattle.lock_receiver.specs.Take.{lockInRange};
+ghost use Rattle.lock_stream.specs.Progress.{closingText, TellsEvent};
 ghost use Rattle.lock_stream.specs.Source.{cameOf};
 ghost use Rattle.lock_stream.specs.Stream.{eventOf, freshStream, StreamReady, StepsStream, EndsStream};
 use acquisition::Event;
@@ -52,7 +54,7 @@ fn tell(
     packets: &mut [u8],
     text: &mut [u8],
 ) -> Told
-    requires { ⌜ (Reached (progress .receiver)) × (block .rate < 5) × (1504 ≤ length (now packets)) × (2048 ≤ length (now text)) ⌝ }
+    requires { ⌜ (lockInRange (progress .receiver) ≡ true) × (block .rate < 5) × (1504 ≤ length (now packets)) × (2048 ≤ length (now text)) ⌝ }
     ensures { λ r. ⌜ TellsEvent bits progress (eventOf event block) r (now (packets .exit)) (now (text .exit)) ⌝ }
 {
     match event {

@@ -8,7 +8,8 @@ ghost use Rattle.receiver_stream.specs.Reporting.{reportOf};
 ghost use Rattle.reception_counts.specs.Counts.{countsInRange};
 ghost use Rattle.report.specs.Text.{reportText};
 ghost use Rattle.report_lines.specs.Line.{Appended};
-ghost use Rattle.lock_stream.specs.Progress.{freshProgress, foundLine, waitingText, lostLines, endingText, closingText, begunAnew, Reached, TakesText, found, lost, TellsEvent};
+ghost use Rattle.lock_receiver.specs.Take.{lockInRange};
+ghost use Rattle.lock_stream.specs.Progress.{freshProgress, foundLine, waitingText, lostLines, endingText, closingText, begunAnew, TakesText, found, lost, TellsEvent};
 use acquisition::FoundBlock;
 use answer_lines::put_list;
 use common::put;
@@ -56,7 +57,7 @@ fn put_report(counts: Counts, rest: u64, at: usize, text: &mut [u8]) -> usize
 
 // Writes the lines of the packets that wait: the lock ends, and they are in doubt.
 fn put_waiting(receiver: LockReceiver, at: usize, text: &mut [u8]) -> usize
-    requires { ⌜ (Reached receiver) × (at + 512 ≤ length (now text)) ⌝ }
+    requires { ⌜ (lockInRange receiver ≡ true) × (at + 512 ≤ length (now text)) ⌝ }
     ensures { λ r. ⌜ Appended (waitingText receiver) (now (text .entry)) (now (text .exit)) at r (at + 512) ⌝ }
 {
     let mut lines = [0u64; 8];
@@ -67,7 +68,7 @@ fn put_waiting(receiver: LockReceiver, at: usize, text: &mut [u8]) -> usize
 
 // Writes where a lock ended, and its report.
 fn put_lost_lock(bits: bool, progress: LockProgress, rest: u64, at: usize, text: &mut [u8]) -> usize
-    requires { ⌜ (Reached (progress .receiver)) × (rest < 204) × (at + 384 ≤ length (now text)) ⌝ }
+    requires { ⌜ (lockInRange (progress .receiver) ≡ true) × (rest < 204) × (at + 384 ≤ length (now text)) ⌝ }
     ensures { λ r. ⌜ Appended (lostLines bits progress rest) (now (text .entry)) (now (text .exit)) at r (at + 384) ⌝ }
 {
     let lock = progress.receiver;
@@ -79,7 +80,7 @@ fn put_lost_lock(bits: bool, progress: LockProgress, rest: u64, at: usize, text:
 
 // Writes what is told where a lock ends before the end of the input.
 fn put_ending(bits: bool, progress: LockProgress, text: &mut [u8]) -> usize
-    requires { ⌜ (Reached (progress .receiver)) × (896 ≤ length (now text)) ⌝ }
+    requires { ⌜ (lockInRange (progress .receiver) ≡ true) × (896 ≤ length (now text)) ⌝ }
     ensures { λ r. ⌜ Appended (endingText bits progress) (now (text .entry)) (now (text .exit)) 0 r 896 ⌝ }
 {
     let receiver = progress.receiver;
@@ -101,7 +102,7 @@ pub fn put_closing(
     bytes: u64,
     text: &mut [u8],
 ) -> usize
-    requires { ⌜ (Reached (progress .receiver)) × (left < 1632) × (1024 ≤ length (now text)) ⌝ }
+    requires { ⌜ (lockInRange (progress .receiver) ≡ true) × (left < 1632) × (1024 ≤ length (now text)) ⌝ }
     ensures { λ r. ⌜ Appended (closingText bits progress came left bytes) (now (text .entry)) (now (text .exit)) 0 r 1024 ⌝ }
 {
     let receiver = progress.receiver;
@@ -132,7 +133,7 @@ fn take_block(
     text: &mut [u8],
 ) -> BlockTaken
     requires { ⌜
-        (Reached receiver) × (receiver .receiver .counts .taken < 4294967295) × (1504 ≤ length (now packets)) × (at + 512 ≤ length (now text)) ⌝ }
+        (lockInRange receiver ≡ true) × (receiver .receiver .counts .taken < 4294967295) × (1504 ≤ length (now packets)) × (at + 512 ≤ length (now text)) ⌝ }
     ensures { λ r. ⌜ TakesText receiver block at (now (text .entry)) r (now (packets .exit)) (now (text .exit)) ⌝ }
 {
     let mut lines = [0u64; 8];
@@ -185,7 +186,7 @@ fn begin_lock(
     text: &mut [u8],
 ) -> Told
     requires { ⌜
-        (Reached (progress .receiver)) × (begunAnew progress (block .begins) ≡ true) × (block .rate < 5) × (1504 ≤ length (now packets)) × (2048 ≤ length (now text)) ⌝ }
+        (lockInRange (progress .receiver) ≡ true) × (begunAnew progress (block .begins) ≡ true) × (block .rate < 5) × (1504 ≤ length (now packets)) × (2048 ≤ length (now text)) ⌝ }
     ensures { λ r. ⌜ TellsEvent bits progress (found block) r (now (packets .exit)) (now (text .exit)) ⌝ }
 {
     let start = block.start;
@@ -218,7 +219,7 @@ fn follow_lock(
     text: &mut [u8],
 ) -> Told
     requires { ⌜
-        (Reached (progress .receiver)) × (begunAnew progress (block .begins) ≡ false) × (1504 ≤ length (now packets)) × (2048 ≤ length (now text)) ⌝ }
+        (lockInRange (progress .receiver) ≡ true) × (begunAnew progress (block .begins) ≡ false) × (1504 ≤ length (now packets)) × (2048 ≤ length (now text)) ⌝ }
     ensures { λ r. ⌜ TellsEvent bits progress (found block) r (now (packets .exit)) (now (text .exit)) ⌝ }
 {
     let lock = progress.receiver;
@@ -247,7 +248,7 @@ pub fn tell_block(
     packets: &mut [u8],
     text: &mut [u8],
 ) -> Told
-    requires { ⌜ (Reached (progress .receiver)) × (block .rate < 5) × (1504 ≤ length (now packets)) × (2048 ≤ length (now text)) ⌝ }
+    requires { ⌜ (lockInRange (progress .receiver) ≡ true) × (block .rate < 5) × (1504 ≤ length (now packets)) × (2048 ≤ length (now text)) ⌝ }
     ensures { λ r. ⌜ TellsEvent bits progress (found block) r (now (packets .exit)) (now (text .exit)) ⌝ }
 {
     if begun_anew(progress, block.begins) {
@@ -258,7 +259,7 @@ pub fn tell_block(
 
 // Writes the lines where no block follows: a lock that lasts ends.
 pub fn tell_lost(bits: bool, progress: LockProgress, text: &mut [u8]) -> Told
-    requires { ⌜ (Reached (progress .receiver)) × (2048 ≤ length (now text)) ⌝ }
+    requires { ⌜ (lockInRange (progress .receiver) ≡ true) × (2048 ≤ length (now text)) ⌝ }
     ensures { λ r. ⌜ ((packets : List ℕ) → TellsEvent bits progress lost r packets (now (text .exit))) ⌝ }
 {
     let receiver = progress.receiver;
@@ -279,7 +280,7 @@ pub fn tell_lost(bits: bool, progress: LockProgress, text: &mut [u8]) -> Told
 impl LockProgress {
     // No lock yet.
     pub fn new() -> LockProgress
-        ensures { λ r. ⌜ (r ≡ freshProgress) × (Reached (r .receiver)) ⌝ }
+        ensures { λ r. ⌜ (r ≡ freshProgress) × (lockInRange (r .receiver) ≡ true) ⌝ }
     {
         let receiver = LockReceiver::new();
         LockProgress {

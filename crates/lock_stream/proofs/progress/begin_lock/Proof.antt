@@ -1,15 +1,16 @@
 -- `lock_stream::progress::begin_lock` meets its contract.
 -- Assumes nothing.
-use mathlib.Core.Path.{sym, ap, subst}
+use mathlib.Core.Path.{_≡_, sym, ap, subst}
 use mathlib.Core.Bool.{true}
 use Prim.Native.Nat.{ℕ, _<_}
 use native.Mathlib.Omega.{arith}
 use lib.ListN.{take}
+use Rattle.lock_receiver.specs.Take.{lockInRange}
 use Rattle.lock_receiver.specs.declared.LockReceiver.{LockReceiver}
 use Rattle.report_lines.proofs.Lines.{joined-appended}
-use Rattle.lock_stream.specs.Progress.{Takes, Reached, reached-fresh, lock-begins}
+use Rattle.lock_stream.specs.Progress.{Takes, lock-begins}
 use Rattle.lock_stream.specs.declared.progress.LockProgress.{LockProgress}
-use Rattle.lock_stream.proofs.Taking.{fresh-more}
+use Rattle.lock_stream.proofs.Taking.{fresh-range, fresh-more}
 use borrow.Author.Needs.{needs}
 use Rattle.lock_stream.proofs.progress.begin_lock.Statement.{statement}
 use Rattle.lock_stream.proofs.progress.begin_lock.Tie as tie
@@ -29,7 +30,7 @@ take-block-requires c κs =
     let n = c .before .before .before .before .before .before .before .before .before .before .new .ensures in
     let e = c .before .before .before .before .before .before .before .before .put-ending .ensures in
     let f = c .before .before .before .before .put-found-lock .ensures in
-    (subst Reached (sym n) reached-fresh, subst (λ (v : LockReceiver). v .receiver .counts .taken < 4294967295) (sym n) fresh-more, s .pre .3, omega (arith, e .bound, e .same, f .bound, f .same, s .pre .4))
+    (subst (λ (v : LockReceiver). lockInRange v ≡ true) (sym n) fresh-range, subst (λ (v : LockReceiver). v .receiver .counts .taken < 4294967295) (sym n) fresh-more, s .pre .3, omega (arith, e .bound, e .same, f .bound, f .same, s .pre .4))
 
 between-requires : tie.Need-between-requires
 between-requires c κs = search needs

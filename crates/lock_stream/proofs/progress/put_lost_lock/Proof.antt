@@ -16,7 +16,7 @@ put-report-requires : tie.Need-put-report-requires
 put-report-requires c κs =
     let s = c .before .before .before .before .before .before .before .before .before in
     let f = c .before .before .before .put-lost .ensures in
-    (range-counts (s .pre .0), s .pre .1, omega (arith, f .bound, f .same, s .pre .2))
+    (range-counts (s .args .progress .receiver) (s .pre .0), s .pre .1, omega (arith, f .bound, f .same, s .pre .2))
 
 same-length : tie.Need-same-length
 same-length c = search needs

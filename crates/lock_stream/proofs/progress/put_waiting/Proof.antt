@@ -39,7 +39,7 @@ returns c =
     let s = c .before .before .before .before .before .before .before .before .before in
     let e = c .before .before .before .before .before .before in
     let p = c .before .before .put-list .ensures in
-    restated (s .args .at + 512) p (ap listText (lines-written (e .end .ensures .1) ∙ end-lines (replicate 8 0) (s .pre .0) (omega (arith, length-replicate {A = ℕ} 8 0)))) (omega (arith, p .bound, few e))
+    restated (s .args .at + 512) p (ap listText (lines-written (e .end .ensures .1) ∙ end-lines (s .args .receiver) (replicate 8 0) (s .pre .0) (omega (arith, length-replicate {A = ℕ} 8 0)))) (omega (arith, p .bound, few e))
 
 pub put-waiting-spec : {M : Type 1} → statement M
 put-waiting-spec =

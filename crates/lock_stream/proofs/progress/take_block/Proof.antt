@@ -7,11 +7,14 @@ use native.Mathlib.Omega.{arith}
 use lib.ListN.{length, take, replicate, length-replicate}
 use Rattle.lock_receiver.specs.Take.{TakesOne}
 use Rattle.report_lines.proofs.Lines.{restated}
-use Rattle.lock_stream.specs.Progress.{Takes, reached-on}
-use Rattle.lock_stream.proofs.Taking.{taken-one, given-few, lines-few}
+use Rattle.lock_stream.specs.Progress.{Takes}
+use Rattle.lock_stream.proofs.Taking.{Sized, range-on, taken-one, given-few, lines-few}
 use borrow.Author.Needs.{needs}
 use Rattle.lock_stream.proofs.progress.take_block.Statement.{statement}
 use Rattle.lock_stream.proofs.progress.take_block.Tie as tie
+
+sized : (c : tie.Start) → Sized (c .args .receiver)
+sized c = record { cells = search needs; positions = search needs; marks = search needs }
 
 one : (c : tie.After-take)
     → let a = c .before .before .before .before .before .before .args in
@@ -76,7 +79,7 @@ returns c =
       lines = lines;
       takes = taken-block;
       fits = omega (arith, given-few (s .pre .0) o);
-      ready = reached-on _ _ _ (s .pre .0) taken-block;
+      ready = range-on (sized s) (s .pre .0) taken-block;
       told = restated (s .args .at + 512) p refl (omega (arith, p .bound, few (c .before .before .before .before .before .before .before .before .before .before)));
     }
 
