@@ -3,22 +3,17 @@
 -- Assumes nothing.
 use mathlib.Core.Path.{_≡_, refl, sym, ap, ap₂, subst, _∙_}
 use mathlib.Core.Bool.{true, false}
-use mathlib.Core.List.{List, [], _∷_, _++_, append-nil}
-use Prim.Native.Nat.{ℕ, zero, suc, _+_, _-_, _*_, _/_, _%_, _≤_, _<_}
+use mathlib.Core.List.{List, [], _∷_, _++_}
+use Prim.Native.Nat.{ℕ, zero, suc, _/_, _%_, _<_}
 use Prim.{tt}
 use native.Mathlib.Nat.{mod-lt}
 use native.Mathlib.Omega.{arith}
-use borrow.Author.Tests.{eq-eqb, lt-ltb, ltb-true}
-use lib.Dec.{eqb, ltb}
-use lib.ListN.{length, getD, take, drop, replicate, length-append, length-replicate, length-take, take-append-drop}
-use lib.Seq.{drop-cons, drop-at, take-at, getD-take, getD-drop}
+use borrow.Author.Tests.{lt-ltb, ltb-true}
+use lib.Dec.{ltb}
+use lib.ListN.{length}
 use Rattle.common.specs.Choice.{pick}
-use Rattle.common.specs.Lists.{All, largest, padded, placed}
+use Rattle.common.specs.Lists.{padded, placed}
 use Rattle.common.proofs.Choice.{both-true}
-use Rattle.common.proofs.Entries.{entries-below, entries-append}
-use Rattle.common.proofs.Largest.{largest-least, largest-most, largest-zeros}
-use Rattle.common.proofs.Lists.{All-of, All-at}
-use Rattle.common.proofs.Padded.{padded-two}
 use Rattle.convolutional_code.specs.Bits.{bitsOf}
 use Rattle.bit_packing.specs.Packing.{carriedBits}
 use Rattle.state_bytes.specs.Table.{contiguous, fieldsOf}
@@ -26,36 +21,19 @@ use Rattle.state_bytes.proofs.Copies.{next, last, byte-part, part-byte}
 use Rattle.state_bytes.proofs.Fields.{_&_}
 use Rattle.state_bytes.proofs.States.{Reads}
 use Rattle.puncturing.specs.Mode.{qpskCount}
-use Rattle.reader_stream.specs.Runs.{fullSymbols, heldOf, DecidedPairs}
+use Rattle.reader_stream.specs.Runs.{heldOf, DecidedPairs}
 use Rattle.reader_stream.specs.Stream.{heldPairs, heldBits, ReaderReady, FreshReader, FeedsReader}
 use Rattle.reader_stream.specs.declared.ReaderStream.{ReaderStream}
 use Rattle.reader_stream.proofs.Runs.{numbers, held-length}
-use Rattle.dvbs_reader_stream.specs.State.{layout, stateLength, stateBytes, powerOf, runsInRange, inRange, StandsFor, cleared, freshReader}
+use Rattle.reader_state.specs.Runs.{runsInRange}
+use Rattle.reader_state.proofs.Cleared as runs
+use Rattle.reader_state.proofs.Cleared.{runs-ready, cleared-held, cleared-in-range}
+use Rattle.reader_state.proofs.Numbers.{two-part, part-two}
+use Rattle.dvbs_reader_stream.specs.State.{layout, stateLength, stateBytes, powerOf, inRange, StandsFor, cleared, freshReader}
 use Rattle.dvbs_reader_stream.specs.Reading.{stateOf}
 
 pub layout-contiguous : contiguous 0 layout stateLength ≡ true
 layout-contiguous = refl
-
--- ---- a field of two bytes
-
-two-part : (bytes : List ℕ) (at : ℕ) → at + 1 < length bytes → getD bytes at 0 < 256
-    → (getD bytes at 0 + 256 * getD bytes (at + 1) 0) % 256 ∷ (getD bytes at 0 + 256 * getD bytes (at + 1) 0) / 256 ∷ [] ≡ take 2 (drop at bytes)
-two-part bytes at h b =
-    let e : at + 1 ≡ suc at = omega arith in
-    let l : (getD bytes at 0 + 256 * getD bytes (at + 1) 0) % 256 ≡ getD bytes at 0 = omega arith in
-    let u : (getD bytes at 0 + 256 * getD bytes (at + 1) 0) / 256 ≡ getD bytes (at + 1) 0 = omega arith in
-    let d : drop at bytes ≡ getD bytes at 0 ∷ getD bytes (at + 1) 0 ∷ drop (suc (at + 1)) bytes =
-    drop-cons bytes at 0 (omega arith) ∙ ap (λ (x : List ℕ). getD bytes at 0 ∷ x) (ap (λ (k : ℕ). drop k bytes) (sym e) ∙ drop-cons bytes (at + 1) 0 h) in
-    ap₂ (λ (x y : ℕ). x ∷ y ∷ []) l u ∙ sym (ap (take 2) d)
-
-part-two : (bytes : List ℕ) (at n : ℕ) → take 2 (drop at bytes) ≡ n % 256 ∷ n / 256 ∷ [] → getD bytes at 0 + 256 * getD bytes (at + 1) 0 ≡ n
-part-two bytes at n e =
-    let z : at ≡ at + 0 = omega arith in
-    let l : getD bytes at 0 ≡ n % 256 =
-    ap (λ (k : ℕ). getD bytes k 0) z ∙ sym (getD-take 2 (drop at bytes) 0 0 (omega arith) ∙ getD-drop at bytes 0 0) ∙ ap (λ (x : List ℕ). getD x 0 0) e in
-    let u : getD bytes (at + 1) 0 ≡ n / 256 =
-    sym (getD-take 2 (drop at bytes) 1 0 (omega arith) ∙ getD-drop at bytes 1 0) ∙ ap (λ (x : List ℕ). getD x 1 0) e in
-    omega arith
 
 pub reads : Reads layout stateLength inRange stateOf
 unfolding stateOf
@@ -84,24 +62,8 @@ module _ (bytes : List ℕ) (s : ReaderStream) (h : StandsFor bytes s) where
   pub stands-ready : ReaderReady s
   stands-ready =
       let both = both-true (runsInRange (s .runs)) (pick (ltb (s .held) 8) (ltb (s .carry) (powerOf (s .held))) false) (h .range) in
-      let rate = both-true (ltb (s .runs .rate) qpskCount) _ (both .0) in
-      let memory = both-true (ltb (s .runs .memory) 64) _ (rate .1) in
-      let few = both-true (ltb (s .runs .count) (fullSymbols (s .runs .rate))) _ (memory .1) in
-      let cells = both-true (eqb (largest (drop (s .runs .count) (s .runs .held))) 0) (ltb (largest (s .runs .held)) 81) (few .1) in
-      let small = ltb-true (largest (s .runs .held)) 81 (cells .1) in
       record {
-        runs-ready =
-            record {
-              known = ltb-true (s .runs .rate) qpskCount (rate .0);
-              in-range = ltb-true (s .runs .memory) 64 (memory .0);
-              size = h .sized .0;
-              below = ltb-true (s .runs .count) (fullSymbols (s .runs .rate)) (few .0);
-              small =
-                  All-of (λ c. c < 81) (heldOf (s .runs)) 0
-                  (λ i k.
-                  let e = getD-take (s .runs .count) (s .runs .held) i 0 (omega (arith, length-take (s .runs .count) (s .runs .held))) in
-                  omega (arith, largest-least (s .runs .held) i));
-            };
+        runs-ready = runs-ready (s .runs) (h .sized .0) (both .0) .0;
         few = ltb-true (s .held) 8 (both-true (ltb (s .held) 8) (ltb (s .carry) (powerOf (s .held))) (both .1) .0);
       }
 
@@ -216,71 +178,23 @@ carried-cleared c (suc (suc (suc (suc (suc (suc (suc zero))))))) h = rw (at6, at
     at0 = omega arith
 carried-cleared c (suc (suc (suc (suc (suc (suc (suc (suc n)))))))) h = absurd (omega arith)
 
--- bytes put into zeros
-pub put-zeros : (l exit : List ℕ) → length l ≤ 1632 → exit ≡ placed (replicate 1632 0) 0 l → exit ≡ padded 1632 l
-put-zeros l exit h e =
-    let n : length l ≡ length l + 0 = omega arith in
-    padded-two 1632 l [] exit exit (length l) refl (omega arith) e
-    (sym (ap (λ (k : ℕ). take (length l) exit ++ drop k exit) (sym n) ∙ take-append-drop (length l) exit) ∙ ap (λ (x : List ℕ). x ++ drop (length l + 0) exit) (sym (append-nil (take (length l) exit))))
-    ∙ ap (padded 1632) (append-nil l)
-
 -- a reader with zeros where it holds nothing
 module _ (s : ReaderStream) (g : ReaderReady s) where
-  few-held : length (heldOf (s .runs)) ≤ 1632
-  few-held = omega (arith, held-length (s .runs) (g .runs-ready), g .runs-ready .below, numbers (s .runs .rate) (g .runs-ready .known) .full-most)
-
-  cells-length : length (padded 1632 (heldOf (s .runs))) ≡ 1632
-  cells-length =
-      let n = 1632 - length (heldOf (s .runs)) in
-      length-append (heldOf (s .runs)) (replicate n 0) ∙ omega (arith, length-replicate {A = ℕ} n 0, few-held)
-
-  -- holds the same symbols
-  pub same-pairs : heldPairs (cleared s) ≡ heldPairs s
-  same-pairs = take-at (heldOf (s .runs)) (replicate (1632 - length (heldOf (s .runs))) 0) (s .runs .count) (held-length (s .runs) (g .runs-ready))
-
-  -- and the same bits
+  -- holds the same bits
   pub same-bits : heldBits (cleared s) ≡ heldBits s
   same-bits = carried-cleared (s .carry) (s .held) (g .few)
 
   pub cleared-ready : ReaderReady (cleared s)
-  cleared-ready = record {
-    runs-ready =
-        record {
-          known = g .runs-ready .known;
-          in-range = g .runs-ready .in-range;
-          size = cells-length;
-          below = g .runs-ready .below;
-          small = subst (All (λ c. c < 81)) (sym same-pairs) (g .runs-ready .small);
-        };
-    few = g .few;
-  }
-
-  behind-zero : largest (drop (s .runs .count) (padded 1632 (heldOf (s .runs)))) ≡ 0
-  behind-zero =
-      let n = 1632 - length (heldOf (s .runs)) in
-      ap largest (drop-at (heldOf (s .runs)) (replicate n 0) (s .runs .count) (held-length (s .runs) (g .runs-ready))) ∙ largest-zeros n
-
-  cells-small : largest (padded 1632 (heldOf (s .runs))) < 81
-  cells-small =
-      let n = 1632 - length (heldOf (s .runs)) in
-      let own : (i : ℕ) → getD (heldOf (s .runs)) i 0 < 81
-      = entries-below (λ c. c < 81) (omega arith) (heldOf (s .runs)) (λ i k. All-at (λ c. c < 81) (heldOf (s .runs)) 0 i (g .runs-ready .small) k) in
-      let zeros : (i : ℕ) → getD (replicate n 0) i 0 < 81 = λ i. omega (arith, largest-least (replicate n 0) i, largest-zeros n) in
-      let h = largest-most (padded 1632 (heldOf (s .runs))) 80 (λ i l. let k = entries-append (λ c. c < 81) (omega arith) (heldOf (s .runs)) (replicate n 0) own zeros i in omega arith) in
-      omega arith
+  cleared-ready = record { runs-ready = runs.cleared-ready (s .runs) (g .runs-ready); few = g .few }
 
   -- its bytes stand for it
   pub stands-cleared : StandsFor (stateBytes (cleared s)) (cleared s)
   stands-cleared = record {
     written = refl;
-    sized = cells-length & refl & refl & refl & refl & refl & tt;
+    sized = runs.cleared-ready (s .runs) (g .runs-ready) .size & refl & refl & refl & refl & refl & tt;
     range =
         simp (
-          lt-ltb _ _ (g .runs-ready .known),
-          lt-ltb _ _ (g .runs-ready .in-range),
-          lt-ltb _ _ (g .runs-ready .below),
-          eq-eqb _ _ behind-zero,
-          lt-ltb _ _ cells-small,
+          cleared-in-range (s .runs) (g .runs-ready),
           lt-ltb _ _ (g .few),
           lt-ltb _ _ (mod-lt (s .carry) (some-power (s .held) (g .few))),
         );
@@ -292,7 +206,7 @@ feeds-cleared {s} {next} {pairs} f = record {
   ready = cleared-ready next (f .ready);
   rate-is = f .rate-is;
   bits = f .bits;
-  decided = subst (λ (l : List ℕ). DecidedPairs (s .runs .rate) (s .runs .memory) (heldPairs s ++ pairs) (f .bits) (next .runs .memory) l) (sym (same-pairs next (f .ready))) (f .decided);
+  decided = subst (λ (l : List ℕ). DecidedPairs (s .runs .rate) (s .runs .memory) (heldPairs s ++ pairs) (f .bits) (next .runs .memory) l) (sym (cleared-held (next .runs) (f .ready .runs-ready))) (f .decided);
   packed = record { counted = f .packed .counted; written = f .packed .written; few = f .packed .few; carries = same-bits next (f .ready) ∙ f .packed .carries };
 }
 

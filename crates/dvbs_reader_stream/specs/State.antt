@@ -4,15 +4,13 @@
 use mathlib.Core.Bool.{Bool, false}
 use mathlib.Core.List.{List, [], _∷_}
 use Prim.Native.Nat.{ℕ, _%_, _/_}
-use lib.Dec.{eqb, ltb}
-use lib.ListN.{getD, drop}
+use lib.Dec.{ltb}
+use lib.ListN.{getD}
 use Rattle.common.specs.Choice.{pick}
-use Rattle.common.specs.Lists.{largest, padded}
+use Rattle.common.specs.Lists.{padded}
 use Rattle.state_bytes.specs.Table as table
 use Rattle.state_bytes.specs.Table.{Field, field, fieldsOf}
-use Rattle.puncturing.specs.Mode.{qpskCount}
-use Rattle.reader_stream.specs.Runs.{fullSymbols, heldOf}
-use Rattle.reader_stream.specs.declared.symbol_runs.SymbolRuns.{SymbolRuns}
+use Rattle.reader_state.specs.Runs.{runsInRange, clearedRuns}
 use Rattle.reader_stream.specs.declared.ReaderStream.{ReaderStream}
 
 -- ---- the table
@@ -54,12 +52,7 @@ stateLength = 1638
 unfoldable pub powerOf : ℕ → ℕ
 powerOf bits = getD (1 ∷ 2 ∷ 4 ∷ 8 ∷ 16 ∷ 32 ∷ 64 ∷ 128 ∷ []) bits 0
 
--- the numbers of the runs, with zeros in cells that hold nothing
-abbrev pub runsInRange : SymbolRuns → Bool
-runsInRange s =
-    pick (ltb (s .rate) qpskCount) (pick (ltb (s .memory) 64) (pick (ltb (s .count) (fullSymbols (s .rate))) (pick (eqb (largest (drop (s .count) (s .held))) 0) (ltb (largest (s .held)) 81) false) false) false) false
-
--- and the bits that are held, with zeros above them: no bit is spare
+-- the runs (reader_state/specs/Runs.antt), and the bits that are held, with zeros above them: no bit is spare
 abbrev pub inRange : ReaderStream → Bool
 inRange s = pick (runsInRange (s .runs)) (pick (ltb (s .held) 8) (ltb (s .carry) (powerOf (s .held))) false) false
 
@@ -74,7 +67,7 @@ StandsFor bytes s = table.StandsFor layout inRange bytes s
 -- the same reader: the stream reader says nothing of cells and bits that hold nothing
 abbrev pub cleared : ReaderStream → ReaderStream
 cleared s = record {
-  runs = record { rate = s .runs .rate; memory = s .runs .memory; held = padded 1632 (heldOf (s .runs)); count = s .runs .count };
+  runs = clearedRuns (s .runs);
   carry = s .carry % powerOf (s .held);
   held = s .held;
 }

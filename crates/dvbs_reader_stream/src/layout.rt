@@ -2,19 +2,18 @@
 // specs/State.antt has the layout as a table, and docs/STATES.md lists it with the range of each field.
 ghost use mathlib.Core.Path.{_≡_};
 ghost use mathlib.Core.List.{_++_};
-ghost use Prim.Native.Nat.{_%_, _<_, _≤_};
-ghost use lib.ListN.{length, take, drop};
-ghost use Rattle.common.specs.Lists.{padded};
-ghost use Rattle.reader_stream.specs.Runs.{heldOf};
+ghost use Prim.Native.Nat.{_%_, _<_};
+ghost use lib.ListN.{length};
 ghost use Rattle.reader_stream.specs.Stream.{ReaderReady};
-ghost use Rattle.dvbs_reader_stream.specs.State.{powerOf, runsInRange, inRange, cleared, stateBytes};
+ghost use Rattle.dvbs_reader_stream.specs.State.{powerOf, inRange, cleared, stateBytes};
 ghost use Rattle.dvbs_reader_stream.specs.Reading.{stateOf};
-use code_tables::QPSK_MODES;
-use common::largest_of;
 use common::put;
+use reader_state::are_in_range;
+use reader_state::cleared_pairs;
+use reader_state::number_at;
+use reader_state::pairs_at;
 use reader_stream::ReaderStream;
 use reader_stream::symbol_runs::SymbolRuns;
-use reader_stream::symbol_runs::full_symbols;
 
 // The first byte of each field, and the length of all of them.
 const PAIRS: usize = 0;
@@ -41,23 +40,13 @@ fn power_of(bits: usize) -> u8
     POWERS[bits]
 }
 
-// A byte for each cell.
-fn pairs_at(bytes: &[u8]) -> [u8; 1632]
-    requires { ⌜ 1632 ≤ length (now bytes) ⌝ }
-    ensures { λ r. ⌜ r ≡ take 1632 (drop 0 (now (bytes .entry))) ⌝ }
-{
-    let mut pairs = [0u8; 1632];
-    put(&bytes[PAIRS..COUNT], 0, &mut pairs);
-    pairs
-}
-
 // The reader that bytes stand for, in range or not.
 pub fn read_state(bytes: &[u8]) -> ReaderStream
     requires { ⌜ length (now bytes) ≡ 1638 ⌝ }
     ensures { λ r. ⌜ r ≡ stateOf (now (bytes .entry)) ⌝ }
 {
-    let held = pairs_at(bytes);
-    let count = bytes[COUNT] as usize + 256 * bytes[COUNT + 1] as usize;
+    let held = pairs_at(bytes, PAIRS);
+    let count = number_at(bytes, COUNT);
     let rate = bytes[RATE];
     let memory = bytes[MEMORY];
     let carry = bytes[CARRY];
@@ -75,30 +64,6 @@ pub fn read_state(bytes: &[u8]) -> ReaderStream
     }
 }
 
-// Whether the numbers of the runs are in range, and cells that hold nothing 0.
-fn are_in_range(runs: SymbolRuns) -> bool
-    requires { ⌜ length (runs .held) ≡ 1632 ⌝ }
-    ensures { λ r. ⌜ r ≡ runsInRange runs ⌝ }
-{
-    let rate = runs.rate;
-    let memory = runs.memory;
-    let held = runs.held;
-    let count = runs.count;
-    if rate as usize >= QPSK_MODES {
-        return false;
-    }
-    if memory >= 64 {
-        return false;
-    }
-    if count >= full_symbols(rate) {
-        return false;
-    }
-    if largest_of(&held[count..]) != 0 {
-        return false;
-    }
-    largest_of(&held) < 81
-}
-
 // Whether the numbers of a reader are in range, and cells and bits that hold nothing 0.
 pub fn is_in_range(stream: ReaderStream) -> bool
     requires { ⌜ length (stream .runs .held) ≡ 1632 ⌝ }
@@ -114,18 +79,6 @@ pub fn is_in_range(stream: ReaderStream) -> bool
         return false;
     }
     carry < power_of(held)
-}
-
-// The cells of the runs, with 0 where nothing is held.
-fn cleared_pairs(runs: SymbolRuns) -> [u8; 1632]
-    requires { ⌜ (length (runs .held) ≡ 1632) × (runs .count ≤ 1632) ⌝ }
-    ensures { λ r. ⌜ r ≡ padded 1632 (heldOf runs) ⌝ }
-{
-    let held = runs.held;
-    let count = runs.count;
-    let mut pairs = [0u8; 1632];
-    put(&held[..count], 0, &mut pairs);
-    pairs
 }
 
 // The bits that are carried, with 0 above them.

@@ -1,12 +1,13 @@
--- `dvbs_reader_stream::layout::pairs_at` meets its contract.
+-- `dvbs_lock_stream::layout::packets_at` meets its contract.
 -- Assumes nothing.
 use mathlib.Core.Path.{refl, _∙_}
 use Prim.Native.Nat.{ℕ}
+use native.Mathlib.Omega.{arith}
 use lib.ListN.{replicate, length-replicate}
 use Rattle.state_bytes.proofs.Copies.{whole}
 use borrow.Author.Needs.{needs}
-use Rattle.dvbs_reader_stream.proofs.layout.pairs_at.Statement.{statement}
-use Rattle.dvbs_reader_stream.proofs.layout.pairs_at.Tie as tie
+use Rattle.dvbs_lock_stream.proofs.layout.packets_at.Statement.{statement}
+use Rattle.dvbs_lock_stream.proofs.layout.packets_at.Tie as tie
 
 sub-put : tie.Need-sub-put
 sub-put c = search needs
@@ -24,11 +25,9 @@ put-requires : tie.Need-put-requires
 put-requires c κs = search needs
 
 returns : tie.Need-returns
-returns c =
-    let s = c .before .before .before .before .before in
-    c .before .put .ensures ∙ whole (s .args .bytes .now) (replicate 1632 0) 0 1632 1632 refl (s .pre) (length-replicate {A = ℕ} 1632 0)
+returns c = let s = (c .before .before .before .before .before) in c .before .put .ensures ∙ whole (s .args .bytes .now) (replicate 1316 0) 13805 15121 1316 refl (omega (arith, s .pre)) (length-replicate {A = ℕ} 1316 0)
 
-pub pairs-at-spec : {M : Type 1} → statement M
-pairs-at-spec =
+pub packets-at-spec : {M : Type 1} → statement M
+packets-at-spec =
     tie.close
     (tie.spec sub-put part-put-start part-put-end slice-aggregate-put put-requires returns)

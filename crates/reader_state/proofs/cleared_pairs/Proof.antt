@@ -1,13 +1,13 @@
--- `dvbs_reader_stream::layout::cleared_pairs` meets its contract.
+-- `reader_state::cleared_pairs` meets its contract.
 -- Assumes nothing.
 use mathlib.Core.Path.{_≡_, sym}
 use native.Mathlib.Omega.{arith}
 use lib.ListN.{length, take}
 use lib.Seq.{length-take-le}
-use Rattle.dvbs_reader_stream.proofs.States.{put-zeros}
+use Rattle.reader_state.proofs.Cleared.{put-zeros}
 use borrow.Author.Needs.{needs}
-use Rattle.dvbs_reader_stream.proofs.layout.cleared_pairs.Statement.{statement}
-use Rattle.dvbs_reader_stream.proofs.layout.cleared_pairs.Tie as tie
+use Rattle.reader_state.proofs.cleared_pairs.Statement.{statement}
+use Rattle.reader_state.proofs.cleared_pairs.Tie as tie
 
 -- as many cells hold something as are counted
 held-size : (s : tie.Start) → length (take (s .args .runs .count) (s .args .runs .held)) ≡ s .args .runs .count
@@ -26,7 +26,7 @@ put-requires : tie.Need-put-requires
 put-requires c κs = omega (arith, held-size (c .before .before .before), c .before .before .before .pre .1)
 
 returns : tie.Need-returns
-returns c = let s = c .before .before .before .before .before in put-zeros (take (s .args .runs .count) (s .args .runs .held)) (c .before .put .last .1 .1 .0) (omega (arith, held-size s, s .pre .1)) (c .before .put .ensures)
+returns c = let s = c .before .before .before .before .before in put-zeros 1632 (take (s .args .runs .count) (s .args .runs .held)) (c .before .put .last .1 .1 .0) (omega (arith, held-size s, s .pre .1)) (c .before .put .ensures)
 
 pub cleared-pairs-spec : {M : Type 1} → statement M
 cleared-pairs-spec =

@@ -1,4 +1,4 @@
--- `dvbs_reader_stream::layout::are_in_range` meets its contract.
+-- `reader_state::are_in_range` meets its contract.
 -- Assumes nothing.
 use mathlib.Core.Path.{_≡_, sym, ap, _∙_}
 use mathlib.Core.Bool.{true}
@@ -12,8 +12,8 @@ use Rattle.common.specs.Lists.{largest}
 use Rattle.reader_stream.specs.Runs.{fullSymbols}
 use Rattle.reader_stream.proofs.Runs.{numbers}
 use borrow.Author.Needs.{needs}
-use Rattle.dvbs_reader_stream.proofs.layout.are_in_range.Statement.{statement}
-use Rattle.dvbs_reader_stream.proofs.layout.are_in_range.Tie as tie
+use Rattle.reader_state.proofs.are_in_range.Statement.{statement}
+use Rattle.reader_state.proofs.are_in_range.Tie as tie
 
 cast-if1 : tie.Need-cast-if1
 cast-if1 c = search needs
