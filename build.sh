@@ -13,7 +13,7 @@ programs=(dvbs_send dvbs_read dvbs_read_soft dvbs_lock dvbs_receive dvbs_losses 
 libdvbs() {
     local parts=target/staticlib/parts crate object
     rm -rf "$parts"
-    for crate in dvbs dvbs_reader dvbs_sender dvbs_receiver; do
+    for crate in dvbs dvbs_reader dvbs_reader_stream dvbs_sender dvbs_receiver dvbs_lock_stream; do
         rt staticlib "$crate"
         mkdir -p "$parts/$crate"
         (cd "$parts/$crate" && ar x "../../lib$crate.a")

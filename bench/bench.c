@@ -488,6 +488,21 @@ static void pieces(const struct kernel *k, int side, int n)
     sink += written + dvbs_receiver_report(kept, sizeof kept, text, sizeof text, answer, 1);
 }
 
+/* The same of a reader that is fed with as many points as a longest run has; no other side reads a stream. */
+static void points(const struct kernel *k, int side, int n)
+{
+    static uint8_t kept[DVBS_READER_STATE], left[2];
+    const int rate = k->argument;
+    const size_t symbols = (size_t)run_symbols[rate];
+    (void)side, (void)n;
+    size_t written = 0;
+    dvbs_reader_fresh(kept, sizeof kept, (uint8_t)rate);
+    for (int p = 0; p < RUN; p++)
+        written += dvbs_reader_feed_soft(kept, sizeof kept, points_i[rate], symbols, points_q[rate], symbols, lost, symbols, output + written,
+                                         sizeof output - written, answer, 1);
+    sink += written + dvbs_reader_end(kept, sizeof kept, output + written, sizeof output - written, left, sizeof left, answer, 1);
+}
+
 /* The same of a sender, packet by packet. */
 static void truck(const struct kernel *k, int side, int n)
 {
@@ -503,7 +518,7 @@ static void truck(const struct kernel *k, int side, int n)
     sink += written;
 }
 
-enum { TWO = 3, THREE = 7, ALL = 31 };
+enum { ONE = 1, TWO = 3, THREE = 7, ALL = 31 };
 static const struct kernel kernels[] = {
     {"scale", "field product, 16 lanes", FACTORS, TWO, 0, scale},
     {"rs_encode", "RS encode", 1, THREE, 0, encode},
@@ -535,6 +550,7 @@ static const struct kernel kernels[] = {
     {"read_7_8", "read 1,631 bits, 7/8", 1, TWO, 4, read_run},
     {"read_soft_1_2", "read 1,632 softly, 1/2", 1, ALL, 0, read_soft_run},
     {"read_soft_3_4", "read 1,632 softly, 3/4", 1, ALL, 2, read_soft_run},
+    {"stream_soft_3_4", "stream, 1,088 points, 3/4", RUN, ONE, 2, points},
     {"receive_clean", "receive a block, clean", RUN, TWO, 0, receive},
     {"receive_harmed", "receive a block, harmed", RUN, TWO, 1, receive},
     {"bridge_clean", "bridge, a clean block", RUN, TWO, 0, bridge},

@@ -4,7 +4,7 @@
  * A buffer is a pointer and its length. The functions test what they are lent,
  * so any length and any bytes may come; what the caller owes is that lengths are
  * true and that buffers of one call do not overlap. Nothing is kept between
- * calls: a sender or a receiver that goes on is bytes that the caller keeps. After
+ * calls: a sender, a reader or a receiver that goes on is bytes that the caller keeps. After
  * a refusal the buffers are as they were, but for a byte lent to take the answer or
  * the result, and output beyond what is given is never written.
  *
@@ -17,7 +17,7 @@
  *   5  a number is out of its range: here a place above 7, a memory above 63, a
  *      number of blocks that is not the recording's, or a field of a state
  *   6  a rate other than 0 to 3 and 5; for reading, one other than 0 to 4
- *   7  the receiver has taken 4,294,967,295 blocks
+ *   7  the receiver has taken 4,294,967,295 blocks; of a lock, no more points can be counted
  *   8  no codeword within eight bytes; with marks, none with 2 e + f at most 16
  *  12  symbols that do not make whole puncturing patterns
  *  13  a run of more than 1,632 bits
@@ -28,9 +28,9 @@
  * read, and are given by no function here.
  *  20  not a mark for each byte, or a mark above 1
  *  22  a state of another length
- *  24  the lists of a soft run are not of one length, or a mark is above 1
+ *  24  the lists of points are not of one length, or a mark is above 1
  * Where several are due, the first in the order 6, 5, 24, 16, 1 or 3, 2, 12, 13,
- * 14, 20, 4, 7 is given, and with a state in the order 22, 5, 6, 1, 20, 4, 7. */
+ * 14, 20, 4, 7 is given, and with a state in the order 22, 5, 6, 1, 14, 20, 24, 4, 7. */
 #ifndef DVBS_H
 #define DVBS_H
 
@@ -42,7 +42,8 @@ extern "C" {
 #endif
 
 enum { DVBS_PACKET = 188, DVBS_BLOCK = 204, DVBS_COUNTS = 64, DVBS_RESULT = 6, DVBS_SYMBOLS = 1632, DVBS_REPORT = 310 };
-enum { DVBS_SENDER_STATE = 1139, DVBS_RECEIVER_STATE = 2731 };
+enum { DVBS_SENDER_STATE = 1139, DVBS_READER_STATE = 1638, DVBS_RECEIVER_STATE = 2731, DVBS_LOCK_STATE = 15121 };
+enum { DVBS_LOCK_PACKETS = 1504, DVBS_LOCK_TEXT = 2048 };
 
 /* Energy dispersal: the packet at this place (0 to 7) of its group of eight, as
  * it is sent, 188 bytes; and the packet that was sent so. The second takes any
@@ -146,6 +147,51 @@ uint64_t dvbs_read_soft_run(uint8_t rate, uint8_t memory,
                             uint8_t *output, size_t output_len,
                             uint8_t *result, size_t result_len);
 
+/* A reader whose state is bytes that the caller keeps, as those of a sender, and
+ * which takes any number of received symbols a call. The state of a reader:
+ *   offset  bytes  holds        range
+ *        0   1632  pairs        0 to 80 each: the symbols that are held; zeros behind them
+ *     1632      2  count        how many they are, low byte first: below 1632, 1224, 1088, 978, 932 by the rate
+ *     1634      1  rate         0 to 4, as the rate of dvbs_read_run
+ *     1635      1  memory       0 to 63: the coder's before the first of them
+ *     1636      1  carry        below 1 << held: the bits that fill no byte yet
+ *     1637      1  held         0 to 7: how many they are
+ * docs/STATES.md says what a pair is.
+ *
+ * Makes the state of a fresh reader of a rate: 22, then 6, or 0. */
+uint8_t dvbs_reader_fresh(uint8_t *state, size_t state_len, uint8_t rate);
+
+/* Reads symbols, 2 I + Q each, the first of all being the first of a puncturing
+ * pattern: the bits of runs that overlap, packed into bytes, the first bit on top.
+ * Symbols of any number, call after call, give what all of them give at once.
+ * Returns how many bytes were written; answer[0] is 22, 5, 14 or 4, after which
+ * every byte of the state and of the output is as it was, or else 0. Lend
+ * symbols_len / 4 + 409 bytes. Where no byte is lent for the answer: returns 0,
+ * writes nothing. */
+uint64_t dvbs_reader_feed(uint8_t *state, size_t state_len,
+                          const uint8_t *symbols, size_t symbols_len,
+                          uint8_t *output, size_t output_len,
+                          uint8_t *answer, size_t answer_len);
+
+/* The same by soft decisions, from the lists of dvbs_read_soft_run: 22, 5, 24 or 4,
+ * else 0. Lend i_len / 4 + 409 bytes. One reader may be fed with both. */
+uint64_t dvbs_reader_feed_soft(uint8_t *state, size_t state_len,
+                               const float *i, size_t i_len,
+                               const float *q, size_t q_len,
+                               const uint8_t *lost, size_t lost_len,
+                               uint8_t *output, size_t output_len,
+                               uint8_t *answer, size_t answer_len);
+
+/* Writes the bytes of what is held, where no more symbols come. left[0] is how many
+ * symbols are in no whole pattern, and left[1] how many bits fill no byte. The state
+ * is left as it is, and more may come instead. Returns how many bytes were written;
+ * answer[0] is 22, 5, 4 or 0. Lend 204 bytes of output and two for left. Where no
+ * byte is lent for the answer: returns 0, writes nothing. */
+uint64_t dvbs_reader_end(const uint8_t *state, size_t state_len,
+                         uint8_t *output, size_t output_len,
+                         uint8_t *left, size_t left_len,
+                         uint8_t *answer, size_t answer_len);
+
 /* What a fresh receiver gives for the whole blocks of a recording; bytes after
  * the last of them are left alone. The blocks must follow each other without gap
  * or repeat: behind one that is missing or doubled up to six packets are given
@@ -204,6 +250,59 @@ uint64_t dvbs_receiver_feed(uint8_t *state, size_t state_len,
 uint64_t dvbs_receiver_report(const uint8_t *state, size_t state_len,
                               uint8_t *output, size_t output_len,
                               uint8_t *answer, size_t answer_len);
+
+/* Packets and lines from received points that begin anywhere, turned any way, as the
+ * program dvbs_lock takes them, by a state that is bytes which the caller keeps, as
+ * those of a sender. docs/ACQUISITION.md says what is decided and told. The state of a lock:
+ *   offset  bytes  holds        range
+ *        0   2322  receiver     as DVBS_BRIDGE_STATE bytes of dvbs_bridge.h
+ *     2322   1632  pending      0 to 80 each: the points that are not read yet; zeros behind them
+ *     3954   1632  pairs        0 to 80 each: those that the reader holds; zeros behind them
+ *     5586   8168  bits         0 or 1 each: those in which blocks are looked for; zeros behind them
+ *    13754      2  held         how many points are not read yet, low byte first
+ *    13756      2  count        how many the reader holds
+ *    13758      2  gathered     how many bits there are: 0 to 8167
+ *    13760      8  came         how many points came in all: below 1 << 60
+ *    13768      8  first        how many came before the first that the reading reads
+ *    13776      8  used         how many bits the decisions on blocks used up
+ *    13784      1  searched     the rate that is searched, 0 to 5; + 8 mirrored, + 16 reading
+ *    13785      1  turned       the turn, 0 to 7; + 8 blocks are given, + 16 inverted
+ *    13786      1  rate         0 to 4: the rate that is read
+ *    13787      1  memory       0 to 63: the coder's before the first of pairs
+ *    13788      8  skipped      how many points were skipped before the last lock
+ *    13796      8  end          how many came before the bit behind its last block
+ *    13804      1  certain      how many packets wait, 0 to 7, or 32 for none that has to; + 8 found, + 16 locked
+ *    13805   1316  packets      the packets that wait; zeros behind them
+ * While it searches there is no reading: every byte of it is 0.
+ *
+ * Makes the state of a fresh lock of a rate, 0 to 4, or 5 for any: 22, then 6, or 0. */
+uint8_t dvbs_lock_fresh(uint8_t *state, size_t state_len, uint8_t rate);
+
+/* Takes some of the points, from the lists of dvbs_read_soft_run: as many as one step
+ * takes, at most 1,632. Returns how many; call again with the others, also where it is
+ * 0 and there are some. counts[0] is how many bytes of packets stand at the front of
+ * packets, and counts[1] how many of text; what is behind them there is not kept.
+ * answer[0] is 22, 5, 24, 4 or 7, after which every byte of the state and of what else
+ * is lent is as it was, or else 0. Lend DVBS_LOCK_PACKETS bytes of packets,
+ * DVBS_LOCK_TEXT of text and two counts. Where no byte is lent for the answer: returns
+ * 0, writes nothing. */
+uint64_t dvbs_lock_feed(uint8_t *state, size_t state_len,
+                        const float *i, size_t i_len,
+                        const float *q, size_t q_len,
+                        const uint8_t *lost, size_t lost_len,
+                        uint8_t *packets, size_t packets_len,
+                        uint8_t *text, size_t text_len,
+                        uint64_t *counts, size_t counts_len,
+                        uint8_t *answer, size_t answer_len);
+
+/* After the last point, call after call until it returns 1: what the end decides, as
+ * dvbs_lock_feed writes it. The call that returns 1 writes the closing lines; rest is
+ * how many bytes are behind the last whole point, which they tell. 22, 5, 4 or 0. */
+uint64_t dvbs_lock_end(uint8_t *state, size_t state_len, uint64_t rest,
+                       uint8_t *packets, size_t packets_len,
+                       uint8_t *text, size_t text_len,
+                       uint64_t *counts, size_t counts_len,
+                       uint8_t *answer, size_t answer_len);
 
 /* Block p of a recording, corrected, p from 0: the 204 bytes, the counts and the
  * answer 8 that a fresh receiver's outer decoder has at its call p + 12. A view of the

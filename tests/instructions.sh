@@ -10,7 +10,7 @@ set -euo pipefail
 cd "$(dirname "$0")/.."
 written=tests/instructions.txt
 kernels=(rs_encode rs_decode_0 rs_decode_1 rs_decode_4 rs_decode_8 rs_decode_lost rs_decode_f8_e4 randomize interleave inner_code_3_4 send_3_4 truck_3_4
-    read_1_2 read_3_4 read_soft_1_2 read_soft_3_4 receive_clean receive_harmed bridge_clean pieces_16)
+    read_1_2 read_3_4 read_soft_1_2 read_soft_3_4 stream_soft_3_4 receive_clean receive_harmed bridge_clean pieces_16)
 
 if ! command -v valgrind > /dev/null; then
     echo "tests/instructions.sh: valgrind is missing (Debian: valgrind), so no instructions are counted"

@@ -40,4 +40,11 @@ impl Guarded {
         lent.copy_from_slice(bytes);
         lent
     }
+
+    /// The same with numbers of four bytes.
+    pub fn lend_numbers(&mut self, numbers: &[f32], at_end: bool) -> &[f32] {
+        let bytes: Vec<u8> = numbers.iter().flat_map(|x| x.to_le_bytes()).collect();
+        let lent = self.lend(&bytes, at_end);
+        unsafe { std::slice::from_raw_parts(lent.as_ptr() as *const f32, numbers.len()) }
+    }
 }

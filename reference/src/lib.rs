@@ -20,6 +20,7 @@ pub mod kernels;
 pub mod losses;
 pub mod numbered;
 pub mod randomizer;
+pub mod reader_state;
 pub mod receiver;
 pub mod receiver_state;
 pub mod recording;

@@ -89,11 +89,11 @@ pub struct EndStep {
 }
 
 // The reading after some symbols, how many of them were taken, and what happened.
-struct ReadStep {
-    reading: Reading,
-    taken: usize,
-    event: Event,
-    block: FoundBlock,
+pub struct ReadStep {
+    pub reading: Reading,
+    pub taken: usize,
+    pub event: Event,
+    pub block: FoundBlock,
 }
 
 // How many symbols came before the pattern that has a bit of a reading. The bits of the lead count as the first one behind it.

@@ -1,4 +1,4 @@
--- Soft decisions as the decoder takes them: those on I and Q of a symbol as one number. No public contract rests on it.
+-- Soft decisions as the decoder takes them, and as the state of a reader holds them: those on I and Q of a symbol as one number.
 -- Assumes nothing.
 use mathlib.Core.Bool.{cond}
 use mathlib.Core.List.{List}

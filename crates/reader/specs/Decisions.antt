@@ -1,4 +1,4 @@
--- Hard decisions as the decoder takes them. No public contract rests on it.
+-- Hard decisions as the decoder takes them, and as the state of a reader holds them.
 -- Assumes nothing.
 use Prim.Native.Nat.{ℕ, _-_, _*_, _/_, _%_}
 

@@ -39,7 +39,7 @@ pub fn symbol_count(rate: u8) -> u8
 }
 
 // Whether the lists of a soft run are of one length, and its marks 0 and 1.
-fn is_sound(is: &[f32], qs: &[f32], lost: &[u8]) -> bool
+pub fn is_sound(is: &[f32], qs: &[f32], lost: &[u8]) -> bool
     ensures { λ r. ⌜ r ≡ sound (now (is .entry)) (now (qs .entry)) (now (lost .entry)) ⌝ }
 {
     if qs.len() != is.len() {

@@ -133,7 +133,7 @@ feeding-none s g pairs output =
     }
 
 module _ {start runs : SymbolRuns} {carry₀ held₀ : ℕ} (going : RunsReady start) (few : held₀ < 8) {pairs output₀ output : List ℕ}
-    (fits : length pairs + 1632 ≤ 4 * length output) {carry held count at : ℕ} (here : at < length pairs) (g : Feeding start carry₀ held₀ pairs output₀ output runs carry held count at) where
+    (fits : held₀ + 2 * (start .count + length pairs) < 8 * length output + 8) {carry held count at : ℕ} (here : at < length pairs) (g : Feeding start carry₀ held₀ pairs output₀ output runs carry held count at) where
   abbrev piece : List ℕ
   piece = take (length pairs - at) (drop at pairs)
 
@@ -156,9 +156,8 @@ module _ {start runs : SymbolRuns} {carry₀ held₀ : ℕ} (going : RunsReady s
     fed-some = let t = taken-some (g .ready) f (omega (arith, size)) in (t .0, omega (arith, t .1, size), t .2)
 
     -- all the bits that are decided by now
-    few-bits : 2 * (length (g .bits) + decided) ≤ 16 * length output
-    few-bits =
-        omega (arith, fits, fed-some .1, g .space, fed-space (g .ready) r f, going .below, numbers (start .rate) (going .known) .full-most)
+    few-bits : held₀ + (length (g .bits) + decided) < 8 * length output + 8
+    few-bits = omega (arith, fits, fed-some .1, g .space, fed-space (g .ready) r f)
 
     pub pack-fits : (held < 8) × (Bits (take decided exit)) × (held + length (take decided exit) < 8 * length behind + 8)
     pack-fits = (
@@ -226,3 +225,9 @@ feeding-all s {runs} {pairs} {at = at} g h =
           (ap (λ (k : ℕ). take k pairs) k ∙ take-length pairs) (g .decided);
       packed = g .packed;
     }
+
+-- ---- room for any piece
+
+-- a byte for each four symbols, and those of a longest run
+pub room-enough : (s : ReaderStream) → ReaderReady s → (n room : ℕ) → n + 1632 ≤ 4 * room → s .held + 2 * (s .runs .count + n) < 8 * room + 8
+room-enough s g n room h = omega (arith, g .few, g .runs-ready .below, numbers (s .runs .rate) (g .runs-ready .known) .full-most)

@@ -46,9 +46,10 @@ impl ReaderStream {
         }
     }
 
-    // Takes the pairs of symbols. The bytes that the bits fill stand at the front of the output. A run is read into `bits`.
+    // Takes the pairs of symbols. The bytes that the bits fill stand at the front of the output, which has room for two bits of each symbol that is held or comes,
+    // behind those that are held. A run is read into `bits`.
     pub fn feed(self, pairs: &[u8], bits: &mut [u8], output: &mut [u8]) -> ReaderFed
-        requires { ⌜ (ReaderReady self) × (All (λ p. p < 81) (now pairs)) × (1632 ≤ length (now bits)) × (length (now pairs) + 1632 ≤ 4 * length (now output)) ⌝ }
+        requires { ⌜ (ReaderReady self) × (All (λ p. p < 81) (now pairs)) × (1632 ≤ length (now bits)) × (self .held + 2 * (self .runs .count + length (now pairs)) < 8 * length (now output) + 8) ⌝ }
         ensures { λ r. ⌜ FeedsReader self (now (pairs .entry)) (now (output .entry)) (r .stream) (r .count) (now (output .exit)) ⌝ }
     {
         let mut runs = self.runs;

@@ -44,7 +44,7 @@ const KEPT_SYMBOLS: [usize; QPSK_MODES] = [1531, 1146, 1020, 915, 872];
 
 const KEPT_BITS: [usize; QPSK_MODES] = [1531, 1528, 1530, 1525, 1526];
 
-fn full_symbols(rate: u8) -> usize
+pub fn full_symbols(rate: u8) -> usize
     requires { ⌜ rate < qpskCount ⌝ }
     ensures { λ r. ⌜ r ≡ fullSymbols rate ⌝ }
 {

@@ -10,7 +10,7 @@ use crate::Counts;
 use common::byte_at;
 
 // Writes a number in eight bytes, from a place on.
-fn put_number(number: u64, at: usize, output: &mut [u8])
+pub fn put_number(number: u64, at: usize, output: &mut [u8])
     requires { ⌜ at + 8 ≤ length (now output) ⌝ }
     ensures { λ _. ⌜ now (output .exit) ≡ placed (now (output .entry)) at (toBytes 8 number) ⌝ }
 {
@@ -52,7 +52,7 @@ fn join(low: u8, high: u64) -> u64
 }
 
 // The number in eight bytes, from a place on.
-fn number_at(bytes: &[u8], at: usize) -> u64
+pub fn number_at(bytes: &[u8], at: usize) -> u64
     requires { ⌜ at + 8 ≤ length (now bytes) ⌝ }
     ensures { λ r. ⌜ r ≡ fromBytes (take 8 (drop at (now (bytes .entry)))) ⌝ }
 {

@@ -7,13 +7,13 @@
 
 use reference::exports;
 use reference::guarded::Guarded;
-use reference::inner_code::SENT;
+use reference::inner_code::{InnerCoder, SENT};
 use reference::receiver::MOST_BLOCKS;
 use reference::samples::{block_receiver, stream};
 use reference::sender_state::expected::{holds, pattern_length, STATE_LENGTH};
 use reference::sender_state::{expected, library};
 use reference::xorshift::Xorshift;
-use reference::{receiver_state, BLOCK_LENGTH, PACKET_LENGTH, SYNC};
+use reference::{reader_state, receiver_state, BLOCK_LENGTH, PACKET_LENGTH, SYNC};
 
 /// Where the parts of a sender's state begin that are not its cells.
 const POSITIONS: usize = 1122;
@@ -30,7 +30,7 @@ struct Score {
     failed: u64,
     passed_all: u64,
     failed_all: u64,
-    lent: [Guarded; 5],
+    lent: [Guarded; 6],
 }
 
 impl Score {
@@ -84,7 +84,7 @@ impl Score {
         let (mut a, mut b, mut c) = (state.to_vec(), output.to_vec(), answer.to_vec());
         let want = expected::send(&mut a, packet, &mut b, &mut c);
         let at_end = r.below(2) == 0;
-        let [own, given, room, told, _] = &mut self.lent;
+        let [own, given, room, told, ..] = &mut self.lent;
         let (own, given, room, told) = (own.lend(state, at_end), given.lend(packet, at_end), room.lend(output, at_end), told.lend(answer, at_end));
         let got = library::send(own, given, room, told);
         let (own, room, told) = (own.to_vec(), room.to_vec(), told.to_vec());
@@ -227,6 +227,314 @@ fn sender_kinds(s: &mut Score) {
     }
 }
 
+/// The length of a reader's state, where its numbers begin, and those of its parts.
+const READER: usize = reader_state::expected::STATE_LENGTH;
+const COUNT: usize = 1632;
+const RATE: usize = 1634;
+
+/// What a reader is fed with: symbols, or points with marks of lost symbols.
+#[derive(Clone)]
+enum Came {
+    Hard(Vec<u8>),
+    Soft(Vec<f32>, Vec<f32>, Vec<u8>),
+}
+
+impl Came {
+    fn len(&self) -> usize {
+        match self {
+            Came::Hard(symbols) => symbols.len(),
+            Came::Soft(i, _, _) => i.len(),
+        }
+    }
+
+    fn part(&self, from: usize, end: usize) -> Came {
+        match self {
+            Came::Hard(symbols) => Came::Hard(symbols[from..end].to_vec()),
+            Came::Soft(i, q, lost) => Came::Soft(i[from..end].to_vec(), q[from..end].to_vec(), lost[from..end].to_vec()),
+        }
+    }
+}
+
+impl Score {
+    fn reader_fresh(&mut self, r: &mut Xorshift, length: usize, rate: u8) -> (u8, Vec<u8>) {
+        let before = r.bytes(length);
+        let mut a = before.clone();
+        let want = reader_state::expected::fresh(&mut a, rate);
+        let lent = self.lent[0].lend(&before, r.below(2) == 0);
+        let got = reader_state::library::fresh(lent, rate);
+        let lent = lent.to_vec();
+        self.same(&format!("fresh, state of {length}, rate {rate}"), (want as u64, &[&a]), (got as u64, &[&lent]));
+        (got, lent)
+    }
+
+    /// Feeds symbols or points on both sides: the answer where a byte was lent for it, the state, and the bytes that were written.
+    fn read(&mut self, r: &mut Xorshift, state: &[u8], came: &Came, output: &[u8], answer: &[u8]) -> (Option<u8>, Vec<u8>, Vec<u8>) {
+        let (mut a, mut b, mut c) = (state.to_vec(), output.to_vec(), answer.to_vec());
+        let want = match came {
+            Came::Hard(symbols) => reader_state::expected::feed(&mut a, symbols, &mut b, &mut c),
+            Came::Soft(i, q, lost) => reader_state::expected::feed_soft(&mut a, i, q, lost, &mut b, &mut c),
+        };
+        let at_end = r.below(2) == 0;
+        let [own, first, room, told, marked, second] = &mut self.lent;
+        let (own, room, told) = (own.lend(state, at_end), room.lend(output, at_end), told.lend(answer, at_end));
+        let got = match came {
+            Came::Hard(symbols) => reader_state::library::feed(own, first.lend(symbols, at_end), room, told),
+            Came::Soft(i, q, lost) => {
+                let (i, q) = (first.lend_numbers(i, at_end), second.lend_numbers(q, at_end));
+                reader_state::library::feed_soft(own, i, q, marked.lend(lost, at_end), room, told)
+            }
+        };
+        let (own, room, told) = (own.to_vec(), room.to_vec(), told.to_vec());
+        let inputs = format!("read, state of {}, {} symbols, output of {}, answer of {}", state.len(), came.len(), output.len(), answer.len());
+        self.same(&inputs, (want, &[&a, &b, &c]), (got, &[&own, &room, &told]));
+        (told.first().copied(), own, room[..got as usize].to_vec())
+    }
+
+    fn read_end(&mut self, r: &mut Xorshift, state: &[u8], output: &[u8], left: &[u8], answer: &[u8]) -> (Option<u8>, Vec<u8>, Vec<u8>) {
+        let (mut a, mut b, mut c) = (output.to_vec(), left.to_vec(), answer.to_vec());
+        let want = reader_state::expected::end(state, &mut a, &mut b, &mut c);
+        let at_end = r.below(2) == 0;
+        let [own, _, room, told, rest, _] = &mut self.lent;
+        let (own, room, told, rest) = (own.lend(state, at_end), room.lend(output, at_end), told.lend(answer, at_end), rest.lend(left, at_end));
+        let got = reader_state::library::end(own, room, rest, told);
+        let (own, room, told, rest) = (own.to_vec(), room.to_vec(), told.to_vec(), rest.to_vec());
+        let inputs = format!("end, state of {}, output of {}, left of {}, answer of {}", state.len(), output.len(), left.len(), answer.len());
+        self.same(&inputs, (want, &[state, &a, &b, &c]), (got, &[&own, &room, &rest, &told]));
+        (told.first().copied(), room[..got as usize].to_vec(), rest)
+    }
+}
+
+/// A reader's state in range, which symbols may reach or not.
+fn reader_in_range(r: &mut Xorshift) -> Vec<u8> {
+    let rate = r.below(5) as u8;
+    let most = reader_state::expected::full(rate);
+    let count = [0, 1, most - 1, r.below(most), r.below(40)][r.below(5)];
+    let held = r.below(8);
+    let reader = reader_state::expected::Reader {
+        rate,
+        memory: r.below(64) as u8,
+        pairs: (0..count).map(|_| r.below(81) as u8).collect(),
+        bits: (0..held).map(|_| r.byte() & 1).collect(),
+    };
+    let mut state = vec![0; READER];
+    reader_state::expected::write(&reader, &mut state);
+    assert!(reader_state::expected::read(&state).is_some());
+    state
+}
+
+/// A number as a demodulator may hand it over, or any other.
+fn some_number(r: &mut Xorshift) -> f32 {
+    match r.below(20) {
+        0 => f32::NAN,
+        1 => f32::from_bits(r.next() as u32),
+        2 => [-0.75, -0.5, -0.25, 0.0, 0.25, 0.5, 0.75, -0.0, f32::INFINITY, f32::NEG_INFINITY][r.below(10)],
+        _ => r.below(4001) as f32 / 1000.0 - 2.0,
+    }
+}
+
+fn some_came(r: &mut Xorshift, count: usize) -> Came {
+    if r.below(2) == 0 {
+        return Came::Hard((0..count).map(|_| r.below(4) as u8).collect());
+    }
+    let numbers = |r: &mut Xorshift| (0..count).map(|_| some_number(r)).collect();
+    Came::Soft(numbers(r), numbers(r), (0..count).map(|_| (r.below(30) == 0) as u8).collect())
+}
+
+/// What was sent, with some of it harmed: symbols, or points around them.
+fn received(r: &mut Xorshift, symbols: &[u8], soft: bool) -> Came {
+    let one_in = [0, 40][r.below(2)];
+    if !soft {
+        return Came::Hard(symbols.iter().map(|s| if one_in > 0 && r.below(one_in) == 0 { r.below(4) as u8 } else { *s }).collect());
+    }
+    let mut number = |bit: u8| if one_in > 0 && r.below(one_in) == 0 { some_number(r) } else { [1.0, -1.0][bit as usize] + r.below(801) as f32 / 1000.0 - 0.4 };
+    let (i, q) = symbols.iter().map(|s| (number(s / 2), number(s % 2))).unzip();
+    Came::Soft(i, q, symbols.iter().map(|_| (one_in > 0 && r.below(3 * one_in) == 0) as u8).collect())
+}
+
+/// All of it by the library's own runs, which overlap: the bytes, and how many symbols and bits are left.
+fn by_runs(rate: u8, came: &Came) -> (Vec<u8>, usize, usize) {
+    let (length, symbols) = reader_state::expected::pattern(rate);
+    let full = 1632 / length;
+    let (mut from, mut memory, mut bits) = (0, 0, Vec::new());
+    loop {
+        let whole = ((came.len() - from) / symbols).min(full);
+        let kept = if whole == full { full - (100 / length + 1) } else { whole };
+        let (mut room, mut result) = (vec![0; 1632], [0xA5; 6]);
+        let count = match came.part(from, from + whole * symbols) {
+            Came::Hard(run) => exports::library::read_run(rate, memory, &run, &mut room, &mut result),
+            Came::Soft(i, q, lost) => exports::library::read_soft_run(rate, memory, &i, &q, &lost, &mut room, &mut result),
+        };
+        assert_eq!((result[0], count as usize), (0, whole * length));
+        bits.extend(&room[..kept * length]);
+        if whole < full {
+            let bytes = bits.chunks_exact(8).map(|bits| bits.iter().fold(0, |byte, bit| byte << 1 | bit)).collect();
+            return (bytes, came.len() - from - whole * symbols, bits.len() % 8);
+        }
+        // The memory is the last six bits, the newest counting 32.
+        memory = bits[bits.len() - 6..].iter().fold(0, |memory, bit| memory >> 1 | bit << 5);
+        from += kept * symbols;
+    }
+}
+
+fn reader_kinds(s: &mut Score) {
+    // Beside the reference after every call, with the state moved to other memory between every two; at the end beside the library's own runs.
+    s.kind("a reader's symbols", 200, |s, r, case| {
+        let rate = (case % 5) as u8;
+        let soft = case / 5 % 2 == 1;
+        let bits: Vec<u8> = (0..if case < 40 { r.below(60) } else { r.below(9_000) }).map(|_| r.byte() & 1).collect();
+        let sent = InnerCoder::after(rate, 0).code_bits(&bits);
+        let all = received(r, &sent, soft);
+        let longest = [1, 30, 500, 1632, 5000][r.below(5)].max(all.len() / 40);
+        let (answer, mut state) = s.reader_fresh(r, READER, rate);
+        assert_eq!(answer, 0);
+        let (mut at, mut given) = (0, Vec::new());
+        while at < all.len() {
+            let end = (at + r.below(longest + 1)).min(all.len());
+            let part = all.part(at, end);
+            let more = r.below(3);
+            let room = part.len() / 4 + 409;
+            let output = r.bytes(room + more);
+            let (answer, after, bytes) = s.read(r, &state, &part, &output, &[0xA5]);
+            assert_eq!(answer, Some(0));
+            given.extend(bytes);
+            // A call that is refused in between changes nothing.
+            if r.below(4) == 0 {
+                assert_eq!(s.read(r, &state, &part, &output[..room - 1], &[0xA5]).0, Some(4));
+                if part.len() > 0 {
+                    let place = r.below(part.len());
+                    let (wrong, due) = match part {
+                        Came::Hard(mut symbols) => {
+                            symbols[place] = 4 + r.below(252) as u8;
+                            (Came::Hard(symbols), 14)
+                        }
+                        Came::Soft(i, q, mut lost) => {
+                            lost[place] = 2 + r.below(254) as u8;
+                            (Came::Soft(i, q, lost), 24)
+                        }
+                    };
+                    assert_eq!(s.read(r, &state, &wrong, &output, &[0xA5]).0, Some(due));
+                }
+            }
+            state = after;
+            at = end;
+        }
+        let output = r.bytes(204);
+        let (answer, bytes, left) = s.read_end(r, &state, &output, &[0xA5; 3], &[0xA5]);
+        assert_eq!(answer, Some(0));
+        given.extend(bytes);
+        let (want, symbols, behind) = by_runs(rate, &all);
+        s.same("the library's runs", (0, &[&want, &[symbols as u8, behind as u8, 0xA5]]), (0, &[&given, &left]));
+    });
+    // One reader fed with both kinds.
+    s.kind("a reader's symbols and points", 40, |s, r, case| {
+        let mut state = s.reader_fresh(r, READER, (case % 5) as u8).1;
+        for _ in 0..8 {
+            let count = r.below(900);
+            let came = some_came(r, count);
+            let output = r.bytes(count / 4 + 409);
+            state = s.read(r, &state, &came, &output, &[0xA5]).1;
+        }
+        s.read_end(r, &state, &[0; 204], &[0; 2], &[0xA5]);
+    });
+    let (mut accepted, mut refused) = (0u64, 0u64);
+    let mut tell = |answer: Option<u8>| if answer == Some(5) { refused += 1 } else { accepted += 1 };
+    s.kind("a reader's random states", 30_000, |s, r, case| {
+        // All bytes at random; only the numbers; all in range; all but one byte.
+        let mut state = reader_in_range(r);
+        match case % 4 {
+            0 => state = r.bytes(READER),
+            1 => {
+                let few = r.bytes(READER - COUNT);
+                state[COUNT..].copy_from_slice(&few);
+            }
+            2 => (),
+            _ => {
+                let low = [0, COUNT][r.below(2)];
+                state[low + r.below(READER - low)] = r.byte();
+            }
+        }
+        let count = [0, 1, 7, r.below(100), 700][r.below(5)];
+        let came = some_came(r, count);
+        let room = [0, 408, 409, 434, 600][r.below(5)];
+        let output = r.bytes(room);
+        tell(s.read(r, &state, &came, &output, &[0xA5]).0);
+        if case % 8 < 4 {
+            s.read_end(r, &state, &output, &[0; 2], &[0xA5]);
+        }
+    });
+    // Every bit that is no cell's, and some of those.
+    const BITS: usize = 8 * (READER - COUNT);
+    s.kind("single bits of a reader's states", 300, |s, r, _| {
+        let state = reader_in_range(r);
+        let came = some_came(r, 3);
+        for bit in 0..BITS + 60 {
+            let bit = if bit < BITS { 8 * COUNT + bit } else { r.below(8 * COUNT) };
+            let mut other = state.clone();
+            other[bit / 8] ^= 1 << (bit % 8);
+            tell(s.read(r, &other, &came, &[0; 409], &[0xA5]).0);
+        }
+    });
+    // Each value of each number; the bits that are held with each number of them; each number of symbols at its limit.
+    s.kind("every number of a reader's state", 256, |s, r, value| {
+        let came = some_came(r, 3);
+        for field in COUNT..READER {
+            let mut state = reader_in_range(r);
+            state[field] = value as u8;
+            s.read(r, &state, &came, &[0; 409], &[0xA5]);
+        }
+        for held in 0..9 {
+            let mut state = reader_in_range(r);
+            state[RATE + 2..].copy_from_slice(&[value as u8, held]);
+            s.read(r, &state, &came, &[0; 409], &[0xA5]);
+            s.read_end(r, &state, &[0; 204], &[0; 2], &[0xA5]);
+        }
+        for rate in 0..7 {
+            let mut state = vec![0; READER];
+            let count = 1640 - 3 * value as u16;
+            state[COUNT..RATE].copy_from_slice(&count.to_le_bytes());
+            state[RATE] = rate;
+            s.read(r, &state, &came, &[0; 409], &[0xA5]);
+            // A cell that holds something at the end of those that may, and one behind.
+            for cell in [count as usize - 1, count as usize] {
+                if cell < COUNT {
+                    let mut other = state.clone();
+                    other[cell] = 1 + value as u8 % 81;
+                    s.read(r, &other, &came, &[0; 409], &[0xA5]);
+                }
+            }
+            s.reader_fresh(r, READER, value as u8);
+        }
+    });
+    s.kind("a reader's refusals", 24, |s, r, case| {
+        for state in [reader_in_range(r), r.bytes(READER)] {
+            let mut long = state.clone();
+            long.extend(r.bytes(3));
+            for length in [0, 1, 60 * case as usize, READER - 1, READER, READER + 1, READER + 3] {
+                for count in [0, 1, 5] {
+                    for came in [Came::Hard(vec![3; count]), Came::Hard(vec![4; count]), some_came(r, count), Came::Soft(vec![0.5; count], vec![0.5; count + 1], vec![0; count])] {
+                        for output in [0, 203, 204, 408, 409, 410] {
+                            for answer in [0, 1, 2] {
+                                let (output, answer) = (r.bytes(output), r.bytes(answer));
+                                s.read(r, &long[..length], &came, &output, &answer);
+                                if count == 0 {
+                                    let left = r.below(4);
+                                    let left = r.bytes(left);
+                                    s.read_end(r, &long[..length], &output, &left, &answer);
+                                }
+                            }
+                        }
+                    }
+                }
+                s.reader_fresh(r, length, case as u8 % 8);
+            }
+        }
+    });
+    if s.only_kind.is_none() {
+        println!("states of a reader: {accepted} stood for one, {refused} for none");
+        assert!(accepted > 10_000 && refused > 10_000);
+    }
+}
+
 /// The length of a receiver's state, where its bytes begin that are held, and where its counts begin.
 const RECEIVER: usize = receiver_state::expected::STATE_LENGTH;
 const PENDING: usize = 2322;
@@ -252,7 +560,7 @@ impl Score {
         let (mut a, mut b, mut c) = (state.to_vec(), output.to_vec(), answer.to_vec());
         let want = receiver_state::expected::feed(&mut a, piece, marks, &mut b, &mut c);
         let at_end = r.below(2) == 0;
-        let [own, given, room, told, marked] = &mut self.lent;
+        let [own, given, room, told, marked, _] = &mut self.lent;
         let (own, given, room, told) = (own.lend(state, at_end), given.lend(piece, at_end), room.lend(output, at_end), told.lend(answer, at_end));
         let got = receiver_state::library::feed(own, given, marked.lend(marks, at_end), room, told);
         let (own, room, told) = (own.to_vec(), room.to_vec(), told.to_vec());
@@ -272,7 +580,7 @@ impl Score {
         let (mut b, mut c) = (output.to_vec(), answer.to_vec());
         let want = receiver_state::expected::report(state, &mut b, &mut c);
         let at_end = r.below(2) == 0;
-        let [own, _, room, told, _] = &mut self.lent;
+        let [own, _, room, told, ..] = &mut self.lent;
         let (own, room, told) = (own.lend(state, at_end), room.lend(output, at_end), told.lend(answer, at_end));
         let got = receiver_state::library::report(own, room, told);
         let (own, room, told) = (own.to_vec(), room.to_vec(), told.to_vec());
@@ -449,9 +757,10 @@ fn main() {
     let mut arguments = std::env::args().skip(1);
     let only_kind = arguments.next();
     let only_case = arguments.next().map(|case| case.parse().expect("a case"));
-    let lent = [RECEIVER + 3, 1600, 1700, 2, 1600].map(Guarded::new);
+    let lent = [RECEIVER + 3, 24_000, 6_000, 2, 6_000, 24_000].map(Guarded::new);
     let mut s = Score { only_kind, only_case, kind: "", case: 0, passed: 0, failed: 0, passed_all: 0, failed_all: 0, lent };
     sender_kinds(&mut s);
+    reader_kinds(&mut s);
     receiver_kinds(&mut s);
     println!("comparisons of states: {} passed, {} failed", s.passed_all, s.failed_all);
     if s.failed_all > 0 {

@@ -22,7 +22,8 @@ abbrev μ-loop : tie.MeasureT-loop
 
 -- the output has the room that it had
 enough : (c : tie.In-loop Inv-loop μ-loop)
-    → length (c .before .before .before .before .before .before .args .pairs .now) + 1632 ≤ 4 * length (c .before .loop .output)
+    → let a = c .before .before .before .before .before .before .args in
+    a .self .held + 2 * (a .self .runs .count + length (a .pairs .now)) < 8 * length (c .before .loop .output) + 8
 enough c = omega (arith, c .before .loop .inv .2, c .before .before .before .before .before .before .pre .3)
 
 -- what was fed is some of the pairs

@@ -3,8 +3,9 @@
 use mathlib.Core.Path.{refl, sym}
 use Prim.Native.Nat.{_/_, _%_, _≤_}
 use native.Mathlib.Omega.{arith}
-use lib.ListN.{length}
+use lib.ListN.{length, take}
 use lib.Seq.{length-take-le}
+use Rattle.reader_stream.proofs.Feeding.{room-enough}
 use Rattle.received_symbols.proofs.SoftInput.{points-small, points-costed, points-taken, tail-length, tail-is}
 use Rattle.received_symbols.specs.declared.SymbolPass.{SymbolPass}
 use borrow.Author.Needs.{needs}
@@ -34,7 +35,7 @@ feed-requires c κs =
       s .pre .0,
       points-small bytes pairs w (long d),
       s .pre .2,
-      omega (arith, length-take-le (length bytes / 8) pairs (long d), s .pre .3),
+      room-enough (s .args .stream) (s .pre .0) (length (take (length bytes / 8) pairs)) (length (s .args .output .now)) (omega (arith, length-take-le (length bytes / 8) pairs (long d), s .pre .3)),
     )
 
 mul-whole : tie.Need-mul-whole

@@ -6,6 +6,7 @@ use native.Mathlib.Omega.{arith}
 use lib.ListN.{length, take, replicate}
 use lib.Seq.{length-take-le}
 use Rattle.received_symbols.specs.declared.SymbolPass.{SymbolPass}
+use Rattle.reader_stream.proofs.Feeding.{room-enough}
 use Rattle.received_symbols.proofs.HardInput.{pairs-length, pairs-small, pairs-costed, symbols-taken}
 use borrow.Author.Needs.{needs}
 use Rattle.received_symbols.proofs.symbols.take_symbols.Statement.{statement}
@@ -50,7 +51,7 @@ feed-requires c κs =
       a .pre .0,
       pairs-small symbols pairs (s .symbols-in .ensures .symbols) w n (front-length s) (long d),
       a .pre .2,
-      omega (arith, pairs-length symbols pairs (s .symbols-in .ensures .symbols) w n (front-length s) (long d), s .symbols-in .ensures .most, a .pre .3),
+      room-enough (a .args .stream) (a .pre .0) (length (take n pairs)) (length (a .args .output .now)) (omega (arith, pairs-length symbols pairs (s .symbols-in .ensures .symbols) w n (front-length s) (long d), s .symbols-in .ensures .most, a .pre .3)),
     )
 
 same-length : tie.Need-same-length

@@ -1,0 +1,4 @@
+pub mod Table
+mod Locks
+mod Feeding
+pub mod Laws

@@ -1,0 +1,5 @@
+pub mod States
+mod Parts
+mod Feeding
+pub mod Laws
+pub mod Passes

@@ -1,0 +1,314 @@
+//! A reader of received symbols whose state is bytes, by the table of docs/STATES.md,
+//! and the library's C functions for it.
+
+/// What the reference gives.
+pub mod expected {
+    use crate::answer::Answer;
+    use crate::inner_code::{InnerCoder, RATES};
+    use crate::inner_decoder::{by_choices, level, BitCosts, LONGEST};
+    use crate::states::{place_of, Row};
+
+    pub const STATE_LENGTH: usize = 1638;
+
+    /// The fields: name, offset, bytes.
+    pub const LAYOUT: [Row; 6] =
+        [("pairs", 0, 1632), ("count", 1632, 2), ("rate", 1634, 1), ("memory", 1635, 1), ("carry", 1636, 1), ("held", 1637, 1)];
+
+    fn field<'a>(state: &'a [u8], name: &str) -> &'a [u8] {
+        &state[place_of(&LAYOUT, name)]
+    }
+
+    /// A reader: its pairs are those of the symbols that are held, and its bits those that fill no byte yet.
+    pub struct Reader {
+        pub rate: u8,
+        pub memory: u8,
+        pub pairs: Vec<u8>,
+        pub bits: Vec<u8>,
+    }
+
+    /// The bits and the symbols of a pattern.
+    pub fn pattern(rate: u8) -> (usize, usize) {
+        let bits = InnerCoder::pattern_length(rate);
+        (bits, InnerCoder::after(rate, 0).symbols_due(bits))
+    }
+
+    /// The symbols of a longest run.
+    pub fn full(rate: u8) -> usize {
+        let (bits, symbols) = pattern(rate);
+        LONGEST / bits * symbols
+    }
+
+    /// What deciding I and Q of a symbol costs, by its pair: of I first.
+    fn costs(pairs: &[u8]) -> Vec<BitCosts> {
+        let cost = |decision: u32| if decision == 8 { [0, 0] } else { [7 - decision, decision] };
+        pairs.iter().flat_map(|pair| [cost(*pair as u32 / 9), cost(*pair as u32 % 9)]).collect()
+    }
+
+    pub fn hard_pairs(symbols: &[u8]) -> Vec<u8> {
+        let decision = |bit: u8| if bit == 0 { 4 } else { 3 };
+        symbols.iter().map(|symbol| 9 * decision(symbol / 2) + decision(symbol % 2)).collect()
+    }
+
+    pub fn soft_pairs(i: &[f32], q: &[f32], lost: &[u8]) -> Vec<u8> {
+        let decision = |x: f32, lost: u8| if lost == 1 || x.is_nan() { 8 } else { level(x) as u8 };
+        (0..i.len()).map(|k| 9 * decision(i[k], lost[k]) + decision(q[k], lost[k])).collect()
+    }
+
+    impl Reader {
+        /// Decides what makes longest runs, and packs it: the bytes that are filled.
+        fn take(&mut self, pairs: &[u8]) -> Vec<u8> {
+            self.pairs.extend(pairs);
+            let (length, symbols) = pattern(self.rate);
+            let kept = LONGEST / length - (100 / length + 1);
+            while self.pairs.len() >= full(self.rate) {
+                let run = by_choices(self.rate, self.memory, &costs(&self.pairs[..full(self.rate)]), LONGEST / length * length);
+                let bits = &run.bits[..kept * length];
+                let mut coder = InnerCoder::after(self.rate, self.memory);
+                coder.code_bits(bits);
+                self.memory = coder.memory();
+                self.bits.extend(bits);
+                self.pairs.drain(..kept * symbols);
+            }
+            self.packed()
+        }
+
+        fn packed(&mut self) -> Vec<u8> {
+            let whole = self.bits.len() / 8 * 8;
+            self.bits.drain(..whole).collect::<Vec<u8>>().chunks(8).map(|bits| bits.iter().fold(0, |byte, bit| byte << 1 | bit)).collect()
+        }
+
+        /// The bytes of the whole patterns that are held, and how many symbols and bits are left.
+        fn end(&mut self) -> (Vec<u8>, u8, u8) {
+            let (length, symbols) = pattern(self.rate);
+            let patterns = self.pairs.len() / symbols;
+            let run = by_choices(self.rate, self.memory, &costs(&self.pairs[..patterns * symbols]), patterns * length);
+            self.bits.extend(run.bits);
+            let bytes = self.packed();
+            (bytes, (self.pairs.len() - patterns * symbols) as u8, self.bits.len() as u8)
+        }
+    }
+
+    /// The reader that bytes stand for.
+    pub fn read(state: &[u8]) -> Option<Reader> {
+        let (rate, memory, carry, held) = (field(state, "rate")[0], field(state, "memory")[0], field(state, "carry")[0], field(state, "held")[0]);
+        let count = field(state, "count");
+        let count = count[0] as usize + 256 * count[1] as usize;
+        if rate >= RATES || memory > 63 || held > 7 || carry as u32 >= 1 << held || count >= full(rate) {
+            return None;
+        }
+        let (pairs, behind) = field(state, "pairs").split_at(count);
+        let clear = behind.iter().all(|byte| *byte == 0) && pairs.iter().all(|pair| *pair < 81);
+        let bits = (0..held).rev().map(|place| carry >> place & 1).collect();
+        clear.then_some(Reader { rate, memory, pairs: pairs.to_vec(), bits })
+    }
+
+    pub fn write(reader: &Reader, state: &mut [u8]) {
+        state.fill(0);
+        state[..reader.pairs.len()].copy_from_slice(&reader.pairs);
+        let carry = reader.bits.iter().fold(0, |byte, bit| byte << 1 | bit);
+        let count = (reader.pairs.len() as u16).to_le_bytes();
+        state[place_of(&LAYOUT, "count")].copy_from_slice(&count);
+        for (name, byte) in [("rate", reader.rate), ("memory", reader.memory), ("carry", carry), ("held", reader.bits.len() as u8)] {
+            state[place_of(&LAYOUT, name)][0] = byte;
+        }
+    }
+
+    pub fn fresh(state: &mut [u8], rate: u8) -> u8 {
+        if state.len() != STATE_LENGTH {
+            return Answer::StateLength.number();
+        }
+        if rate >= RATES {
+            return Answer::UnknownRate.number();
+        }
+        write(&Reader { rate, memory: 0, pairs: Vec::new(), bits: Vec::new() }, state);
+        Answer::Done.number()
+    }
+
+    /// Where no byte is lent for the answer, nothing is done.
+    fn answered(answer: &mut [u8], done: impl FnOnce() -> Result<usize, Answer>) -> u64 {
+        if answer.is_empty() {
+            return 0;
+        }
+        let (said, written) = match done() {
+            Ok(written) => (Answer::Done, written),
+            Err(refusal) => (refusal, 0),
+        };
+        answer[0] = said.number();
+        written as u64
+    }
+
+    fn reader_of(state: &[u8]) -> Result<Reader, Answer> {
+        if state.len() != STATE_LENGTH {
+            return Err(Answer::StateLength);
+        }
+        read(state).ok_or(Answer::StateRange)
+    }
+
+    fn take(mut reader: Reader, pairs: &[u8], state: &mut [u8], output: &mut [u8]) -> Result<usize, Answer> {
+        if output.len() < pairs.len() / 4 + 409 {
+            return Err(Answer::ShortOutput);
+        }
+        let bytes = reader.take(pairs);
+        output[..bytes.len()].copy_from_slice(&bytes);
+        write(&reader, state);
+        Ok(bytes.len())
+    }
+
+    pub fn feed(state: &mut [u8], symbols: &[u8], output: &mut [u8], answer: &mut [u8]) -> u64 {
+        answered(answer, || {
+            let reader = reader_of(state)?;
+            if symbols.iter().any(|symbol| *symbol > 3) {
+                return Err(Answer::NoSymbol);
+            }
+            take(reader, &hard_pairs(symbols), state, output)
+        })
+    }
+
+    pub fn feed_soft(state: &mut [u8], i: &[f32], q: &[f32], lost: &[u8], output: &mut [u8], answer: &mut [u8]) -> u64 {
+        answered(answer, || {
+            let reader = reader_of(state)?;
+            if i.len() != q.len() || i.len() != lost.len() || lost.iter().any(|mark| *mark > 1) {
+                return Err(Answer::SoftLists);
+            }
+            take(reader, &soft_pairs(i, q, lost), state, output)
+        })
+    }
+
+    pub fn end(state: &[u8], output: &mut [u8], left: &mut [u8], answer: &mut [u8]) -> u64 {
+        answered(answer, || {
+            let mut reader = reader_of(state)?;
+            if output.len() < 204 || left.len() < 2 {
+                return Err(Answer::ShortOutput);
+            }
+            let (bytes, symbols, bits) = reader.end();
+            output[..bytes.len()].copy_from_slice(&bytes);
+            (left[0], left[1]) = (symbols, bits);
+            Ok(bytes.len())
+        })
+    }
+}
+
+/// The linked library.
+#[cfg(exports_linked)]
+pub mod library {
+    mod c {
+        extern "C" {
+            pub fn dvbs_reader_fresh(state: *mut u8, state_len: usize, rate: u8) -> u8;
+            pub fn dvbs_reader_feed(
+                state: *mut u8,
+                state_len: usize,
+                symbols: *const u8,
+                symbols_len: usize,
+                output: *mut u8,
+                output_len: usize,
+                answer: *mut u8,
+                answer_len: usize,
+            ) -> u64;
+            pub fn dvbs_reader_feed_soft(
+                state: *mut u8,
+                state_len: usize,
+                i: *const f32,
+                i_len: usize,
+                q: *const f32,
+                q_len: usize,
+                lost: *const u8,
+                lost_len: usize,
+                output: *mut u8,
+                output_len: usize,
+                answer: *mut u8,
+                answer_len: usize,
+            ) -> u64;
+            pub fn dvbs_reader_end(
+                state: *const u8,
+                state_len: usize,
+                output: *mut u8,
+                output_len: usize,
+                left: *mut u8,
+                left_len: usize,
+                answer: *mut u8,
+                answer_len: usize,
+            ) -> u64;
+        }
+    }
+
+    // Each pointer comes from a slice and is passed with that slice's length.
+
+    pub fn fresh(state: &mut [u8], rate: u8) -> u8 {
+        unsafe { c::dvbs_reader_fresh(state.as_mut_ptr(), state.len(), rate) }
+    }
+
+    pub fn feed(state: &mut [u8], symbols: &[u8], output: &mut [u8], answer: &mut [u8]) -> u64 {
+        unsafe {
+            c::dvbs_reader_feed(
+                state.as_mut_ptr(),
+                state.len(),
+                symbols.as_ptr(),
+                symbols.len(),
+                output.as_mut_ptr(),
+                output.len(),
+                answer.as_mut_ptr(),
+                answer.len(),
+            )
+        }
+    }
+
+    pub fn feed_soft(state: &mut [u8], i: &[f32], q: &[f32], lost: &[u8], output: &mut [u8], answer: &mut [u8]) -> u64 {
+        unsafe {
+            c::dvbs_reader_feed_soft(
+                state.as_mut_ptr(),
+                state.len(),
+                i.as_ptr(),
+                i.len(),
+                q.as_ptr(),
+                q.len(),
+                lost.as_ptr(),
+                lost.len(),
+                output.as_mut_ptr(),
+                output.len(),
+                answer.as_mut_ptr(),
+                answer.len(),
+            )
+        }
+    }
+
+    pub fn end(state: &[u8], output: &mut [u8], left: &mut [u8], answer: &mut [u8]) -> u64 {
+        unsafe {
+            c::dvbs_reader_end(
+                state.as_ptr(),
+                state.len(),
+                output.as_mut_ptr(),
+                output.len(),
+                left.as_mut_ptr(),
+                left.len(),
+                answer.as_mut_ptr(),
+                answer.len(),
+            )
+        }
+    }
+}
+
+/// Without the library, the reference in its place.
+#[cfg(not(exports_linked))]
+pub mod library {
+    pub use super::expected::{end, feed, feed_soft, fresh};
+}
+
+#[cfg(test)]
+mod tests {
+    use super::expected::{full, LAYOUT, STATE_LENGTH};
+    use crate::inner_code::RATES;
+    use crate::states::tables::{fills, owned, rows_after, specified};
+
+    #[test]
+    fn document_header_and_specification_have_the_same_table() {
+        assert!(fills(&LAYOUT, STATE_LENGTH));
+        assert_eq!(rows_after("## The state of a reader", include_str!("../../docs/STATES.md")), owned(&LAYOUT));
+        assert_eq!(rows_after("The state of a reader", include_str!("../../include/dvbs.h")), owned(&LAYOUT));
+        assert_eq!(specified(include_str!("../../crates/dvbs_reader_stream/specs/State.antt")), owned(&LAYOUT));
+    }
+
+    #[test]
+    fn longest_runs() {
+        assert_eq!((0..RATES).map(full).collect::<Vec<_>>(), [1632, 1224, 1088, 978, 932]);
+    }
+}
