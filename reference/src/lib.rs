@@ -17,6 +17,7 @@ pub mod inner_code;
 pub mod inner_decoder;
 pub mod interleaver;
 pub mod kernels;
+pub mod lock_state;
 pub mod losses;
 pub mod numbered;
 pub mod randomizer;

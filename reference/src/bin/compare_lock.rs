@@ -1,5 +1,6 @@
 //! Compares `dvbs_lock` with the reference's acquisition on seeded, repeatable streams: standard output, standard error and the
-//! status, byte for byte. And of both it sees that no packet is given that was not sent, and that the streams of a kind come to
+//! status, byte for byte. Where the library is linked, the same points go through the bytes of a lock's state too, a few at a
+//! time, with the state moved to other memory between calls. And of all it sees that no packet is given that was not sent, and that the streams of a kind come to
 //! what the kind is for: locks, several locks, packets in doubt, or nothing.
 //!
 //! `compare_lock PROGRAMS` runs all, PROGRAMS being `target/bin`; `compare_lock PROGRAMS KIND` one kind; `compare_lock PROGRAMS KIND CASE` one case.
@@ -52,6 +53,45 @@ fn by_program(program: &str, case: &Case) -> Told {
     writer.join().unwrap();
     let text = String::from_utf8_lossy(&output.stderr).into_owned();
     Told { packets: output.stdout, text, status: output.status.code().unwrap_or(-1) }
+}
+
+/// The points of a case through the state of a lock, in pieces of up to so many. What is lent ends, or begins, where memory may not be touched.
+#[cfg(exports_linked)]
+fn by_states(case: &Case, r: &mut Xorshift, longest: usize) -> Told {
+    use reference::channel::from_bytes;
+    use reference::guarded::Guarded;
+    use reference::lock_state::expected::{stands, PACKETS, STATE_LENGTH, TEXT};
+    use reference::lock_state::library;
+
+    let (i, q): (Vec<f32>, Vec<f32>) = case.input.chunks_exact(8).map(from_bytes).unzip();
+    let lost: Vec<u8> = i.iter().zip(&q).map(|(i, q)| (i.is_nan() && q.is_nan()) as u8).collect();
+    let mut lent = [STATE_LENGTH, 4 * longest, 4 * longest, longest, PACKETS, TEXT].map(Guarded::new);
+    let mut state = vec![0; STATE_LENGTH];
+    assert_eq!(library::fresh(&mut state, case.word.parse().unwrap_or(5)), 0);
+    let (mut given, mut text) = (Vec::new(), Vec::new());
+    let (mut at, mut over) = (0, false);
+    while !over {
+        let end = (at + 1 + r.below(longest)).min(i.len());
+        let at_end = r.below(2) == 0;
+        let [own, is, qs, marks, packets, lines] = &mut lent;
+        let own = own.lend(&state, at_end);
+        let (packets, lines) = (packets.lend(&[0; PACKETS], at_end), lines.lend(&[0; TEXT], at_end));
+        let (mut counts, mut answer) = ([0; 2], [0xA5]);
+        if at < i.len() {
+            let (is, qs, marks) = (is.lend_numbers(&i[at..end], at_end), qs.lend_numbers(&q[at..end], at_end), marks.lend(&lost[at..end], at_end));
+            at += library::feed(own, is, qs, marks, packets, lines, &mut counts, &mut answer) as usize;
+        } else {
+            over = library::end(own, (case.input.len() % 8) as u64, packets, lines, &mut counts, &mut answer) == 1;
+        }
+        assert_eq!(answer, [0]);
+        given.extend(&packets[..counts[0] as usize]);
+        text.extend(&lines[..counts[1] as usize]);
+        state = own.to_vec();
+        assert!(stands(&state));
+    }
+    let text = String::from_utf8(text).unwrap();
+    let status = text.starts_with("nothing ") as i32;
+    Told { packets: given, text, status }
 }
 
 fn by_reference(case: &Case) -> Told {
@@ -258,6 +298,8 @@ struct Score {
     only_case: Option<u64>,
     compared_all: u64,
     failed_all: u64,
+    /// How many of them went through the bytes of a state too.
+    through_states: u64,
 }
 
 impl Score {
@@ -279,6 +321,17 @@ impl Score {
             } else {
                 None
             };
+            #[cfg(exports_linked)]
+            let wrong = wrong.or_else(|| {
+                if made.word == "bits" {
+                    return None;
+                }
+                let mut r = Xorshift::new(case);
+                let longest = [100, 1632, 5000][r.below(3)];
+                let through = by_states(&made, &mut r, longest);
+                self.through_states += 1;
+                (want != through).then(|| format!("through the state, {}", difference(&want, &through)))
+            });
             if let Some(what) = wrong {
                 failed += 1;
                 if failed <= 5 {
@@ -314,7 +367,7 @@ fn main() {
     let programs = arguments.next().expect("compare_lock PROGRAMS [KIND [CASE]]");
     let only_kind = arguments.next();
     let only_case = arguments.next().and_then(|word| word.parse().ok());
-    let mut score = Score { program: format!("{programs}/dvbs_lock"), only_kind, only_case, compared_all: 0, failed_all: 0 };
+    let mut score = Score { program: format!("{programs}/dvbs_lock"), only_kind, only_case, compared_all: 0, failed_all: 0, through_states: 0 };
     score.kind("unharmed", 40, Purpose::Locks, |r, rate| {
         let count = 40 + r.below(20);
         stream(r, rate, count, f64::INFINITY, vec![])
@@ -418,7 +471,7 @@ fn main() {
         let many = [0, 1, 816, 817, 1021, 30_000][r.below(6)];
         Case { word: "bits".to_string(), input: r.bytes(many), sent: Vec::new() }
     });
-    println!("lock: {} compared, {} different", score.compared_all, score.failed_all);
+    println!("lock: {} compared, {} of them through the state too, {} different", score.compared_all, score.through_states, score.failed_all);
     if score.failed_all > 0 || score.compared_all == 0 {
         exit(1);
     }
