@@ -142,26 +142,27 @@ done
 ! target/try/truck 2 "$work/state" < "$work/packets" > /dev/full 2> "$work/err" && [ "$(cat "$work/err")" = "symbols were not written" ] || fail "truck: a full device"
 echo "truck: as expected"
 
-# The board's loop as C and as C++, at every rate: the packets and the report of dvbs_read_soft and dvbs_receive, also with noise, lost symbols and a point that
-# is not whole.
+# The board's loop as C and as C++, at every rate and with any: the packets and the lines of dvbs_lock, where the points begin with a pattern and anywhere, with noise,
+# lost symbols and a point that is not whole.
 quietly c++ -std=c++11 -Wall -Wextra -Werror -Iinclude -x c++ examples/board.c -x none -Ltarget/staticlib -ldvbs -o "$work/board"
 for rate in 0 1 2 3 4; do
     case $rate in
         4) cat reference/tests/data/symbols_rate4.bin ;;
         *) target/bin/dvbs_send "$rate" < target/try/packets.ts 2> "$work/counts" ;;
     esac > "$work/symbols"
-    for channel in "inf 1" "4.5 7 lost=0.01"; do
+    for channel in "inf 1" "inf 3 anywhere" "5.5 7 lost=0.01 anywhere"; do
         { "$compared/channel" "$rate" $channel < "$work/symbols"; printf abc; } > "$work/points"
-        target/bin/dvbs_read_soft "$rate" < "$work/points" 2> "$work/told" | target/bin/dvbs_receive > "$work/received" 2> "$work/report"
-        cat "$work/report" >> "$work/told"
-        for side in target/try/board "$work/board"; do
-            "$side" "$rate" "$work/state" < "$work/points" 2> "$work/err" | cmp - "$work/received" || fail "$side $rate $channel"
-            cmp "$work/err" "$work/told" || fail "$side $rate $channel: its report"
+        for searched in "$rate" 5; do
+            target/bin/dvbs_lock "${searched/5/any}" < "$work/points" > "$work/received" 2> "$work/told"
+            for side in target/try/board "$work/board"; do
+                "$side" "$searched" "$work/state" < "$work/points" 2> "$work/err" | cmp - "$work/received" || fail "$side $searched $channel"
+                cmp "$work/err" "$work/told" || fail "$side $searched $channel: its lines"
+            done
         done
     done
 done
 ! target/try/board 2 "$work/none/state" < "$work/points" > "$work/received" 2> "$work/err" && grep -q "not saved" "$work/err" || fail "board: no file"
-! target/try/board 5 "$work/state" < "$work/points" > "$work/received" 2> "$work/err" && [ ! -s "$work/received" ] || fail "board: a rate that is not read"
+! target/try/board 6 "$work/state" < "$work/points" > "$work/received" 2> "$work/err" && [ ! -s "$work/received" ] || fail "board: a rate that is not read"
 echo "board: as expected"
 
 # usage PROGRAM WORD..: with these words it gives its usage line on standard error, does nothing else, and ends with 2.

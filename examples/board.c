@@ -2,41 +2,38 @@
  *
  *   board RATE FILE < points > packets
  *
- * The points begin with a puncturing pattern and are upright, two f32 each, I and then Q, the lowest byte first; both are NaN where a symbol was lost. A
- * reader decodes them to bytes, and a receiver makes packets of these. The states of both are arrays of bytes. After every fifth piece they are saved to
- * FILE, lost, and loaded again, as over a loss of power; the packets go on as if nothing had happened. At the end standard error has the symbols that make
- * no whole pattern, the bits that fill no byte, the bytes behind the last whole point, and the pass report. */
+ * The points are a demodulator's, which begin anywhere and are turned any way: two f32 each, I and then Q, the lowest byte first; both are NaN where a symbol was
+ * lost. RATE is 0 to 4, or 5 for any. The state of the lock is an array of bytes. After every fifth piece it is saved to FILE, lost, and loaded again, as over a loss
+ * of power; the packets go on as if nothing had happened. Standard error has what is told of locks, and their reports: the lines of dvbs_lock. */
 #include "dvbs.h"
 
 #include <stdio.h>
 #include <stdlib.h>
 #include <string.h>
 
-/* The points of a piece, and the room for their bytes: as many as dvbs_reader_feed_soft asks for, and no fewer than the end does. The packets are those of
- * the blocks that are whole then, one of them begun before. */
-enum { PIECE = 700, BYTES = PIECE / 4 + 409, PACKETS = (BYTES / DVBS_BLOCK + 1) * DVBS_PACKET };
+/* The points of a piece. */
+enum { PIECE = 700 };
 
-struct board {
-    uint8_t reader[DVBS_READER_STATE], receiver[DVBS_RECEIVER_STATE];
-};
+static uint8_t state[DVBS_LOCK_STATE], packets[DVBS_LOCK_PACKETS], text[DVBS_LOCK_TEXT];
+static uint64_t counts[2];
 
-static int save(const char *path, const struct board *board)
+static int save(const char *path)
 {
     FILE *file = fopen(path, "wb");
     if (!file)
         return 0;
-    size_t written = fwrite(board, sizeof *board, 1, file);
-    return fclose(file) == 0 && written == 1;
+    size_t written = fwrite(state, 1, sizeof state, file);
+    return fclose(file) == 0 && written == sizeof state;
 }
 
-static int load(const char *path, struct board *board)
+static int load(const char *path)
 {
     FILE *file = fopen(path, "rb");
     if (!file)
         return 0;
-    size_t read = fread(board, sizeof *board, 1, file);
+    size_t length = fread(state, 1, sizeof state, file);
     fclose(file);
-    return read == 1;
+    return length == sizeof state;
 }
 
 /* The f32 of four bytes. */
@@ -48,19 +45,15 @@ static float number(const uint8_t *bytes)
     return value;
 }
 
-/* Hands decoded bytes to the receiver, and writes the packets that it gives. */
-static int give(struct board *board, const uint8_t *bytes, size_t length)
+/* Writes what a call gave and told. */
+static int give(uint8_t answer)
 {
-    static uint8_t packets[PACKETS];
-    static uint8_t unmarked[BYTES];
-    uint8_t answer = 0;
-    uint64_t count =
-        dvbs_receiver_feed(board->receiver, sizeof board->receiver, bytes, length, unmarked, length, packets, sizeof packets, &answer, 1);
     if (answer != 0) {
-        fprintf(stderr, "bytes were refused: answer %u\n", answer);
+        fprintf(stderr, "points were refused: answer %u\n", answer);
         return 0;
     }
-    if (fwrite(packets, 1, (size_t)count, stdout) != count) {
+    fwrite(text, 1, (size_t)counts[1], stderr);
+    if (fwrite(packets, 1, (size_t)counts[0], stdout) != counts[0]) {
         fprintf(stderr, "packets were not written\n");
         return 0;
     }
@@ -69,58 +62,57 @@ static int give(struct board *board, const uint8_t *bytes, size_t length)
 
 int main(int argc, char **argv)
 {
-    static struct board board;
-    static uint8_t input[8 * PIECE], lost[PIECE], bytes[BYTES], report[DVBS_REPORT];
+    static uint8_t input[8 * PIECE], lost[PIECE];
     static float i[PIECE], q[PIECE];
     unsigned long pieces = 0;
     size_t length, rest = 0;
-    uint8_t answer = 0, left[2];
+    uint64_t over = 0;
+    uint8_t answer = 0;
 
     if (argc != 3) {
         fprintf(stderr, "usage: board RATE FILE < points > packets\n");
         return 2;
     }
-    if (dvbs_reader_fresh(board.reader, sizeof board.reader, (uint8_t)atoi(argv[1])) != 0) {
+    if (dvbs_lock_fresh(state, sizeof state, (uint8_t)atoi(argv[1])) != 0) {
         fprintf(stderr, "%s: no rate that is read\n", argv[1]);
         return 2;
     }
-    dvbs_receiver_fresh(board.receiver, sizeof board.receiver);
     while ((length = fread(input, 1, sizeof input, stdin)) > 0) {
-        size_t points = length / 8;
+        size_t points = length / 8, at = 0;
         rest = length % 8;
         for (size_t k = 0; k < points; k++) {
             i[k] = number(input + 8 * k);
             q[k] = number(input + 8 * k + 4);
             lost[k] = i[k] != i[k] && q[k] != q[k];
         }
-        uint64_t count =
-            dvbs_reader_feed_soft(board.reader, sizeof board.reader, i, points, q, points, lost, points, bytes, sizeof bytes, &answer, 1);
-        if (answer != 0) {
-            fprintf(stderr, "points were refused: answer %u\n", answer);
-            return 1;
+        /* A call takes some of the points, and those that are left go to the next one. */
+        while (at < points) {
+            size_t left = points - at;
+            at += (size_t)dvbs_lock_feed(state, sizeof state, i + at, left, q + at, left, lost + at, left, packets, sizeof packets, text, sizeof text,
+                                         counts, 2, &answer, 1);
+            if (!give(answer))
+                return 1;
         }
-        if (!give(&board, bytes, (size_t)count))
-            return 1;
         if (++pieces % 5 == 0) {
-            if (!save(argv[2], &board)) {
+            if (!save(argv[2])) {
                 fprintf(stderr, "%s: not saved\n", argv[2]);
                 return 1;
             }
-            memset(&board, 0xff, sizeof board);
-            if (!load(argv[2], &board)) {
+            memset(state, 0xff, sizeof state);
+            if (!load(argv[2])) {
                 fprintf(stderr, "%s: not loaded\n", argv[2]);
                 return 1;
             }
         }
     }
-    uint64_t count = dvbs_reader_end(board.reader, sizeof board.reader, bytes, sizeof bytes, left, sizeof left, &answer, 1);
-    if (answer != 0 || !give(&board, bytes, (size_t)count))
-        return 1;
+    while (!over) {
+        over = dvbs_lock_end(state, sizeof state, rest, packets, sizeof packets, text, sizeof text, counts, 2, &answer, 1);
+        if (!give(answer))
+            return 1;
+    }
     if (fflush(stdout) != 0) {
         fprintf(stderr, "packets were not written\n");
         return 1;
     }
-    count = dvbs_receiver_report(board.receiver, sizeof board.receiver, report, sizeof report, &answer, 1);
-    fprintf(stderr, "rest=%u\nbits=%u\nbytes=%zu\n%.*s", left[0], left[1], rest, (int)count, (const char *)report);
     return 0;
 }
