@@ -4,11 +4,11 @@
  *
  * The points are a demodulator's, which begin anywhere and are turned any way: two f32 each, I and then Q, the lowest byte first; both are NaN where a symbol was
  * lost. RATE is 0 to 4, or 5 for any. The state of the lock is an array of bytes. After every fifth piece it is saved to FILE, lost, and loaded again, as over a loss
- * of power; the packets go on as if nothing had happened. Standard error has what is told of locks, and their reports: the lines of dvbs_lock. */
+ * of power; the packets go on as if nothing had happened. Standard error has what is told of locks, and their reports: the lines of dvbs_lock. As that it ends with
+ * 0 only where there was a lock. */
 #include "dvbs.h"
 
 #include <stdio.h>
-#include <stdlib.h>
 #include <string.h>
 
 /* The points of a piece. */
@@ -52,7 +52,8 @@ static int give(uint8_t answer)
         fprintf(stderr, "points were refused: answer %u\n", answer);
         return 0;
     }
-    fwrite(text, 1, (size_t)counts[1], stderr);
+    if (fwrite(text, 1, (size_t)counts[1], stderr) != counts[1])
+        return 0;
     if (fwrite(packets, 1, (size_t)counts[0], stdout) != counts[0]) {
         fprintf(stderr, "packets were not written\n");
         return 0;
@@ -73,7 +74,8 @@ int main(int argc, char **argv)
         fprintf(stderr, "usage: board RATE FILE < points > packets\n");
         return 2;
     }
-    if (dvbs_lock_fresh(state, sizeof state, (uint8_t)atoi(argv[1])) != 0) {
+    /* A rate is one digit. */
+    if (strlen(argv[1]) != 1 || argv[1][0] < '0' || argv[1][0] > '9' || dvbs_lock_fresh(state, sizeof state, (uint8_t)(argv[1][0] - '0')) != 0) {
         fprintf(stderr, "%s: no rate that is read\n", argv[1]);
         return 2;
     }
@@ -105,6 +107,10 @@ int main(int argc, char **argv)
             }
         }
     }
+    if (ferror(stdin)) {
+        fprintf(stderr, "points were not read to their end\n");
+        return 1;
+    }
     while (!over) {
         over = dvbs_lock_end(state, sizeof state, rest, packets, sizeof packets, text, sizeof text, counts, 2, &answer, 1);
         if (!give(answer))
@@ -114,5 +120,6 @@ int main(int argc, char **argv)
         fprintf(stderr, "packets were not written\n");
         return 1;
     }
-    return 0;
+    /* The closing lines are those of the last lock, or the one that there was none. */
+    return counts[1] >= 7 && memcmp(text, "nothing", 7) == 0;
 }

@@ -6,7 +6,7 @@
  * true and that buffers of one call do not overlap. Nothing is kept between
  * calls: a sender, a reader or a receiver that goes on is bytes that the caller keeps. After
  * a refusal the buffers are as they were, but for a byte lent to take the answer or
- * the result, and output beyond what is given is never written.
+ * the result, and output beyond what is given is never written, but by a lock.
  *
  * Answers:
  *   0  done

@@ -119,9 +119,9 @@ pub mod expected {
         } else if i != q || i != lost.len() || lost.iter().any(|mark| *mark > 1) {
             Answer::SoftLists.number()
         } else if packets < PACKETS || text < TEXT || counts < 2 {
-            Answer::OutputLength.number()
+            Answer::ShortOutput.number()
         } else if number(state, "came") >= (1 << 60) - POINTS as u128 {
-            Answer::CountsFull.number()
+            Answer::Full.number()
         } else {
             0
         }
@@ -134,7 +134,7 @@ pub mod expected {
         } else if !stands(state) {
             Answer::StateRange.number()
         } else if packets < PACKETS || text < TEXT || counts < 2 {
-            Answer::OutputLength.number()
+            Answer::ShortOutput.number()
         } else {
             0
         }

@@ -1,3 +1,4 @@
 pub mod State
+pub mod Pass
 pub mod Reading
 pub mod Calls

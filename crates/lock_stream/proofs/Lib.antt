@@ -1,3 +1,3 @@
 pub mod Taking
 mod Reports
-mod Sources
+pub mod Sources

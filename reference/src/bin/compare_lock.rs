@@ -5,6 +5,9 @@
 //!
 //! `compare_lock PROGRAMS` runs all, PROGRAMS being `target/bin`; `compare_lock PROGRAMS KIND` one kind; `compare_lock PROGRAMS KIND CASE` one case.
 
+// build.rs sets the cfg `exports_linked`.
+#![allow(unknown_lints, unexpected_cfgs)]
+
 use reference::acquisition::{lock, lock_bits, pattern_size, Told, LEAD, THRESHOLD, WINDOW};
 use reference::channel::{demodulated, sigma, to_bytes, turned, Bursts, Channel, Demodulator, Slip};
 use reference::inner_code::InnerCoder;

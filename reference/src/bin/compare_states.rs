@@ -5,6 +5,9 @@
 //!
 //! `compare_states` runs all; `compare_states KIND` one kind; `compare_states KIND CASE` one case.
 
+// build.rs sets the cfg `exports_linked`.
+#![allow(unknown_lints, unexpected_cfgs)]
+
 use reference::exports;
 use reference::guarded::Guarded;
 use reference::inner_code::{InnerCoder, SENT};
@@ -14,6 +17,8 @@ use reference::sender_state::expected::{holds, pattern_length, STATE_LENGTH};
 use reference::sender_state::{expected, library};
 use reference::xorshift::Xorshift;
 use reference::{reader_state, receiver_state, BLOCK_LENGTH, PACKET_LENGTH, SYNC};
+#[cfg(exports_linked)]
+use reference::{channel::sent as sent_point, lock_state, numbered::{packets, symbols}};
 
 /// Where the parts of a sender's state begin that are not its cells.
 const POSITIONS: usize = 1122;
@@ -753,15 +758,199 @@ fn receiver_kinds(s: &mut Score) {
     }
 }
 
+/// The length of a lock's state, and where its numbers begin.
+#[cfg(exports_linked)]
+const LOCK: usize = lock_state::expected::STATE_LENGTH;
+#[cfg(exports_linked)]
+const LOCK_NUMBERS: usize = 13_754;
+#[cfg(exports_linked)]
+const LOCK_PACKETS: usize = 13_805;
+
+/// What a call for a lock is lent beside its state and its points.
+#[cfg(exports_linked)]
+#[derive(Clone, PartialEq)]
+struct LockRooms {
+    packets: Vec<u8>,
+    text: Vec<u8>,
+    counts: Vec<u64>,
+    answer: Vec<u8>,
+}
+
+#[cfg(exports_linked)]
+impl LockRooms {
+    fn new(r: &mut Xorshift, packets: usize, text: usize, counts: usize, answer: usize) -> Self {
+        LockRooms { packets: r.bytes(packets), text: r.bytes(text), counts: (0..counts).map(|_| r.next()).collect(), answer: r.bytes(answer) }
+    }
+
+    fn enough(r: &mut Xorshift) -> Self {
+        LockRooms::new(r, lock_state::expected::PACKETS, lock_state::expected::TEXT, 2, 1)
+    }
+}
+
+#[cfg(exports_linked)]
+impl Score {
+    /// Feeds points, or ends where there are none: the answer is the one that is due. After a refusal, and where no byte is lent for the answer, all is as
+    /// it was. After any other call the state stands for a lock again, and what is told fits its room.
+    fn lock(&mut self, r: &mut Xorshift, state: &[u8], points: Option<(&[f32], &[f32], &[u8])>, rooms: &LockRooms) -> Option<u8> {
+        use lock_state::expected::{end_due, feed_due, stands};
+        let (packets, text, counts) = (rooms.packets.len(), rooms.text.len(), rooms.counts.len());
+        let due = match points {
+            Some((i, q, lost)) => feed_due(state, i.len(), q.len(), lost, packets, text, counts),
+            None => end_due(state, packets, text, counts),
+        };
+        let at_end = r.below(2) == 0;
+        let mut after = rooms.clone();
+        let [own, first, room, told, marked, second] = &mut self.lent;
+        let (own, room, told) = (own.lend(state, at_end), room.lend(&rooms.packets, at_end), told.lend(&rooms.answer, at_end));
+        let got = match points {
+            Some((i, q, lost)) => {
+                let (i, q) = (first.lend_numbers(i, at_end), second.lend_numbers(q, at_end));
+                lock_state::library::feed(own, i, q, marked.lend(lost, at_end), room, &mut after.text, &mut after.counts, told)
+            }
+            None => lock_state::library::end(own, r.next(), room, &mut after.text, &mut after.counts, told),
+        };
+        (after.packets, after.answer) = (room.to_vec(), told.to_vec());
+        let own = own.to_vec();
+        let mut want = rooms.clone();
+        if let Some(first) = want.answer.first_mut() {
+            *first = due;
+        }
+        let right = if due > 0 || rooms.answer.is_empty() {
+            got == 0 && own == state && after == want
+        } else {
+            let most = points.map_or(1, |(i, ..)| i.len().min(lock_state::expected::POINTS));
+            got as usize <= most && stands(&own) && after.answer == want.answer && after.counts[0] as usize <= packets && after.counts[1] as usize <= text
+        };
+        let inputs = format!("lock, state of {}, {:?} points, rooms of {packets}, {text}, {counts}, {}", state.len(), points.map(|(i, ..)| i.len()), rooms.answer.len());
+        self.same(&inputs, (due as u64, &[&[1]]), (after.answer.first().copied().unwrap_or(due) as u64, &[&[right as u8]]));
+        after.answer.first().copied()
+    }
+
+    fn lock_fresh(&mut self, r: &mut Xorshift, length: usize, rate: u8) {
+        let before = r.bytes(length);
+        let mut a = before.clone();
+        let want = lock_state::expected::fresh(&mut a, rate);
+        let lent = self.lent[0].lend(&before, r.below(2) == 0);
+        let got = lock_state::library::fresh(lent, rate);
+        let lent = lent.to_vec();
+        self.same(&format!("fresh, state of {length}, rate {rate}"), (want as u64, &[&a]), (got as u64, &[&lent]));
+    }
+}
+
+/// States that points come to: before, in and behind a lock, at each rate.
+#[cfg(exports_linked)]
+fn lock_states(r: &mut Xorshift) -> Vec<Vec<u8>> {
+    let mut states = Vec::new();
+    for rate in 0..5 {
+        let sent = symbols(rate, &packets(r.next(), 44));
+        let (i, q): (Vec<f32>, Vec<f32>) = sent.iter().map(|symbol| sent_point(*symbol)).unzip();
+        let lost = vec![0; i.len()];
+        let mut state = vec![0; LOCK];
+        assert_eq!(lock_state::library::fresh(&mut state, rate), 0);
+        let (mut at, mut calls) = (0, 0);
+        while at < i.len() {
+            let end = (at + 1632).min(i.len());
+            let mut rooms = LockRooms::enough(r);
+            at += lock_state::library::feed(&mut state, &i[at..end], &q[at..end], &lost[at..end], &mut rooms.packets, &mut rooms.text, &mut rooms.counts, &mut rooms.answer) as usize;
+            assert_eq!(rooms.answer, [0]);
+            if calls % 7 == 0 {
+                states.push(state.clone());
+            }
+            calls += 1;
+        }
+        states.push(state);
+    }
+    states
+}
+
+#[cfg(exports_linked)]
+fn lock_kinds(s: &mut Score) {
+    let states = lock_states(&mut Xorshift::new(0x300_421));
+    let (mut accepted, mut refused) = (0u64, 0u64);
+    let mut tell = |answer: Option<u8>| if answer == Some(5) { refused += 1 } else { accepted += 1 };
+    let some_points = |r: &mut Xorshift, count: usize| {
+        let numbers = |r: &mut Xorshift| (0..count).map(|_| some_number(r)).collect::<Vec<f32>>();
+        (numbers(r), numbers(r), (0..count).map(|_| (r.below(30) == 0) as u8).collect::<Vec<u8>>())
+    };
+    s.kind("a lock's random states", 30_000, |s, r, case| {
+        // All bytes at random; only the numbers; a byte or two of them; a cell.
+        let mut state = states[r.below(states.len())].clone();
+        match case % 6 {
+            0 => state = r.bytes(LOCK),
+            1 => {
+                let few = r.bytes(LOCK_PACKETS - LOCK_NUMBERS);
+                state[LOCK_NUMBERS..LOCK_PACKETS].copy_from_slice(&few);
+            }
+            2 => (),
+            3 => state[r.below(LOCK)] = r.byte(),
+            4 => state[LOCK_NUMBERS + r.below(LOCK_PACKETS - LOCK_NUMBERS)] = r.byte(),
+            _ => {
+                for _ in 0..2 {
+                    state[LOCK_NUMBERS + r.below(LOCK_PACKETS - LOCK_NUMBERS)] = r.byte();
+                }
+            }
+        }
+        let count = [0, 1, 200][r.below(3)];
+        let (i, q, lost) = some_points(r, count);
+        let rooms = LockRooms::enough(r);
+        tell(s.lock(r, &state, Some((&i, &q, &lost)), &rooms));
+        tell(s.lock(r, &state, None, &rooms));
+    });
+    // Every bit of the numbers, and some of the cells.
+    const BITS: usize = 8 * (LOCK_PACKETS - LOCK_NUMBERS);
+    s.kind("single bits of a lock's states", 60, |s, r, _| {
+        let state = states[r.below(states.len())].clone();
+        let (i, q, lost) = some_points(r, 3);
+        let rooms = LockRooms::enough(r);
+        for bit in 0..BITS + 200 {
+            let bit = if bit < BITS { 8 * LOCK_NUMBERS + bit } else { r.below(8 * LOCK) };
+            let mut other = state.clone();
+            other[bit / 8] ^= 1 << (bit % 8);
+            tell(s.lock(r, &other, Some((&i, &q, &lost)), &rooms));
+        }
+    });
+    s.kind("a lock's refusals", 8, |s, r, case| {
+        let mut full = states[r.below(states.len())].clone();
+        // So many points came that no more can.
+        full[13_760..13_768].copy_from_slice(&((1u64 << 60) - 1_632 + case % 2 * 1_000).to_le_bytes());
+        for state in [states[r.below(states.len())].clone(), full, r.bytes(LOCK)] {
+            let mut long = state.clone();
+            long.extend(r.bytes(3));
+            for length in [0, case as usize, LOCK - 1, LOCK, LOCK + 1, LOCK + 3] {
+                for (i, q, lost, mark) in [(0, 0, 0, 0), (5, 5, 5, 0), (5, 5, 5, 2), (5, 4, 5, 0), (4, 5, 5, 1), (5, 5, 6, 0)] {
+                    for (packets, text, counts) in [(1504, 2048, 2), (1503, 2048, 2), (1504, 2047, 2), (1504, 2048, 1), (0, 0, 0), (1600, 2100, 3)] {
+                        for answer in [0, 1, 2] {
+                            let rooms = LockRooms::new(r, packets, text, counts, answer);
+                            let (i, q, mut lost) = (some_points(r, i).0, some_points(r, q).0, vec![0; lost]);
+                            lost.iter_mut().skip(2).take(1).for_each(|first| *first = mark);
+                            s.lock(r, &long[..length], Some((&i, &q, &lost)), &rooms);
+                            s.lock(r, &long[..length], None, &rooms);
+                        }
+                    }
+                }
+                for rate in 0..8 {
+                    s.lock_fresh(r, length, rate);
+                }
+            }
+        }
+    });
+    if s.only_kind.is_none() {
+        println!("states of a lock: {accepted} stood for one, {refused} for none");
+        assert!(accepted > 20_000 && refused > 20_000);
+    }
+}
+
 fn main() {
     let mut arguments = std::env::args().skip(1);
     let only_kind = arguments.next();
     let only_case = arguments.next().map(|case| case.parse().expect("a case"));
-    let lent = [RECEIVER + 3, 24_000, 6_000, 2, 6_000, 24_000].map(Guarded::new);
+    let lent = [15_124, 24_000, 6_000, 2, 6_000, 24_000].map(Guarded::new);
     let mut s = Score { only_kind, only_case, kind: "", case: 0, passed: 0, failed: 0, passed_all: 0, failed_all: 0, lent };
     sender_kinds(&mut s);
     reader_kinds(&mut s);
     receiver_kinds(&mut s);
+    #[cfg(exports_linked)]
+    lock_kinds(&mut s);
     println!("comparisons of states: {} passed, {} failed", s.passed_all, s.failed_all);
     if s.failed_all > 0 {
         std::process::exit(1);
