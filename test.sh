@@ -168,7 +168,7 @@ done
 ! target/try/board 2 "$work/state" < . > "$work/received" 2> "$work/err" && [ "$(cat "$work/err")" = "points were not read to their end" ] || fail "board: a directory"
 "$compared/channel" 4 inf 1 < "$work/symbols" > "$work/points"
 ! target/try/board 4 "$work/state" < "$work/points" > /dev/full 2> "$work/err" && grep -q "packets were not written" "$work/err" || fail "board: a full device"
-head -c 40003 "$work/points" | { ! target/try/board 4 "$work/state" > "$work/received" 2> "$work/err"; } && grep -q "^nothing symbol=5000 " "$work/err" || fail "board: no lock"
+head -c 16003 "$work/points" | { ! target/try/board 4 "$work/state" > "$work/received" 2> "$work/err"; } && grep -q "^nothing symbol=2000 " "$work/err" || fail "board: no lock"
 echo "board: as expected"
 
 # usage PROGRAM WORD..: with these words it gives its usage line on standard error, does nothing else, and ends with 2.
