@@ -6,7 +6,7 @@
  * true and that buffers of one call do not overlap. Nothing is kept between
  * calls: a sender, a reader or a receiver that goes on is bytes that the caller keeps. After
  * a refusal the buffers are as they were, but for a byte lent to take the answer or
- * the result, and output beyond what is given is never written, but by a lock.
+ * the result, and output beyond what is given is never written.
  *
  * Answers:
  *   0  done
@@ -281,7 +281,7 @@ uint8_t dvbs_lock_fresh(uint8_t *state, size_t state_len, uint8_t rate);
 /* Takes some of the points, from the lists of dvbs_read_soft_run: as many as one step
  * takes, at most 1,632. Returns how many; call again with the others, also where it is
  * 0 and there are some. counts[0] is how many bytes of packets stand at the front of
- * packets, and counts[1] how many of text; what is behind them there is not kept.
+ * packets, and counts[1] how many of text; what is behind them there is as it was.
  * answer[0] is 22, 5, 24, 4 or 7, after which every byte of the state and of what else
  * is lent is as it was, or else 0. Lend DVBS_LOCK_PACKETS bytes of packets,
  * DVBS_LOCK_TEXT of text and two counts. Where no byte is lent for the answer: returns

@@ -10,7 +10,7 @@ use lib.Dec.{ltb}
 use lib.Ieee.{Float, nan}
 use lib.ListN.{length, getD, set, take, length-take, length-map}
 use lib.Seq.{length-take-le, ext-getD, getD-take}
-use Rattle.common.specs.Choice.{pick}
+use Rattle.common.specs.Choice.{pick, indicator}
 use Rattle.common.specs.Lists.{All, ByteEntries}
 use Rattle.common.proofs.Choice.{false-true}
 use Rattle.common.proofs.Lists.{getD-map-in}
@@ -22,7 +22,6 @@ use Rattle.branch_metrics.specs.declared.soft_decision.ReceivedSymbol.the-varia
 use Rattle.branch_metrics.proofs.Runs.{length-received, received-at, along-small}
 use Rattle.reader.specs.Read.{sound}
 use Rattle.reader.proofs.SoftDecisions.{OneLength, sound-lists}
-use Rattle.report_lines.specs.Line.{Appended}
 use Rattle.losses.specs.Watch.{waitingOf}
 use Rattle.acquisition.specs.Step.{freshAcquisition}
 use Rattle.acquisition.specs.End.{EndsAcquisition, no-reading, pending-end, runs-end, blocks-end, endOfBlocks}
@@ -36,7 +35,7 @@ use Rattle.acquisition_state.proofs.Steps.{searching-left, searching-cleared}
 use Rattle.lock_receiver.specs.Take.{freshLock}
 use Rattle.lock_stream.specs.Progress.{closingText, freshProgress, Event, waits, Tells, nothing-told, lock-begins, lock-goes-on, lock-ends}
 use Rattle.lock_stream.specs.Source.{cameOf, freshSource, UsedReady, SourceEnds, symbols-end, bits-end}
-use Rattle.lock_stream.specs.Stream.{eventOf, freshStream, StreamReady, StepsStream, EndsStream}
+use Rattle.lock_stream.specs.Stream.{eventOf, freshStream, StreamReady, StepsStream, StreamEnds, EndsStream}
 use Rattle.lock_stream.specs.declared.LockStream.{LockStream}
 use Rattle.lock_stream.specs.declared.StreamStep.{StreamStep}
 use Rattle.lock_stream.specs.declared.StreamEnd.{StreamEnd}
@@ -45,9 +44,9 @@ use Rattle.lock_stream.specs.declared.source.LockSource.{LockSource}
 use Rattle.lock_stream.specs.declared.source.SourceEnd.{SourceEnd}
 use Rattle.dvbs_lock_stream.specs.State.{layout, stateLength, stateBytes, inRange, StandsFor, Sized, NextSized, cleared}
 use Rattle.dvbs_lock_stream.specs.Reading.{stateOf}
-use Rattle.dvbs_lock_stream.specs.Calls.{shortRoom, pointsDue, endDue, counted, refused, no-points, stepped, FeedsLock, refused-end, goes-on, ended, EndsLock}
+use Rattle.dvbs_lock_stream.specs.Calls.{shortRoom, pointsDue, endDue, counted, GivesTold, refused, no-points, stepped, FeedsLock, StepsEnd, goes-on, ended, refused-end, end-stepped, EndsLock, LeavesStep, LeavesEnd, ClosesLines, not-over, closed}
 use Rattle.dvbs_lock_stream.proofs.Table.{reads, ranges, few-waiting}
-use Rattle.dvbs_lock_stream.proofs.Locks.{range-stream, step-come, step-left, step-cleared, end-come, end-left, end-cleared, stands-cleared}
+use Rattle.dvbs_lock_stream.proofs.Locks.{step-come, step-left, step-cleared, end-come, end-left, end-cleared, stands-cleared}
 
 -- ---- a fresh lock
 
@@ -154,6 +153,50 @@ over-silent {s} {r} {packets} {text} c h room o =
     let w = source-waits c (k .source-ends .ends) (sym (k .over-is) ∙ o) in
     none-long (r .text) text (omega (arith, h .text-fits)) (tells-nothing (ap (λ (v : acquisition.Event). eventOf v (k .end .block)) w) (k .tells))
 
+-- ---- what the work of a call leaves
+
+module _ (s : LockStream) (z : Sized s) (k : inRange s ≡ true) (packets text counts : List ℕ) (front lines after given told tally : List ℕ) where
+  module _ (is qs : List Float) (lost : List ℕ) (due : pointsDue (cameOf (s .source)) is qs lost (shortRoom (length packets) (length text) (length counts)) ≡ 0) (some : 0 < length is) where
+    pub step-leaves : (r : StreamStep) → StepsStream s (take 1632 (map symbolPair (receivedOf is qs lost))) r front lines → NextSized (r .stream) → after ≡ stateBytes (cleared (r .stream))
+        → GivesTold packets text counts (take (r .packets) front) (take (r .text) lines) given told tally → LeavesStep s is qs lost packets text counts (r .taken) after given told tally
+    step-leaves r h m w g =
+        let few = few-waiting (r .stream .progress .receiver) (h .ready .receiver) in
+        record {
+          next = cleared (r .stream);
+          own = stepped due refl some (take (r .packets) front) (take (r .text) lines) (step-cleared s z k r h (m .packets) few .steps) g;
+          bytes = w;
+          stands = subst (λ (bytes : List ℕ). StandsFor bytes (cleared (r .stream))) (sym w) (stands-cleared (r .stream) (h .ready) (step-come s z k r h) (step-left s z k r h) m);
+        }
+
+  module _ (rest : ℕ) (due : endDue (shortRoom (length packets) (length text) (length counts)) ≡ 0) where
+    -- where these are the lines of the event, or the closing lines
+    pub end-leaves : (r : StreamEnd) (event : List ℕ) (size : ℕ) → EndsStream s r front event → 2048 ≤ length event → NextSized (r .stream) → after ≡ stateBytes (cleared (r .stream))
+        → ClosesLines (r .stream) (r .over) (r .left) rest (r .text) event size lines → GivesTold packets text counts (take (r .packets) front) (take size lines) given told tally
+        → LeavesEnd rest s packets text counts (indicator (r .over)) after given told tally
+    end-leaves r event size h room m w c g =
+        let few = few-waiting (r .stream .progress .receiver) (h .ready .receiver) in
+        record {
+          next = cleared (r .stream);
+          own = end-stepped due refl (take (r .packets) front) (take size lines) (by c) g;
+          bytes = w;
+          stands = subst (λ (bytes : List ℕ). StandsFor bytes (cleared (r .stream))) (sym w) (stands-cleared (r .stream) (h .ready) (end-come s z k r h) (end-left s z k r h) m);
+        }
+      where
+        own : StreamEnds s (r .over) (r .left) (take (r .packets) front) (take (r .text) event) (cleared (r .stream))
+        own = end-cleared s z k r h (m .packets) (few-waiting (r .stream .progress .receiver) (h .ready .receiver)) .ends
+
+        by : ClosesLines (r .stream) (r .over) (r .left) rest (r .text) event size lines → StepsEnd rest s (indicator (r .over)) (take (r .packets) front) (take size lines) (cleared (r .stream))
+        by (not-over o e q) =
+            goes-on (r .left) (ap indicator o)
+            (subst (λ (l : List ℕ). StreamEnds s false (r .left) (take (r .packets) front) l (cleared (r .stream))) (λ i. take (sym e i) (sym q i))
+            (subst (λ (b : Bool). StreamEnds s b (r .left) (take (r .packets) front) (take (r .text) event) (cleared (r .stream))) o own))
+        by (closed o fits long q) =
+            let silent : take (r .text) event ≡ [] = ap (λ (n : ℕ). take n event) (over-silent (ranges s k .symbols-come) h room o) in
+            ended (r .left) (ap indicator o)
+            (subst (λ (l : List ℕ). StreamEnds s true (r .left) (take (r .packets) front) l (cleared (r .stream))) silent
+            (subst (λ (b : Bool). StreamEnds s b (r .left) (take (r .packets) front) (take (r .text) event) (cleared (r .stream))) o own))
+            (q ∙ ap (λ (b : Bool). closingText b (r .stream .progress) (cameOf (r .stream .source)) (r .left) rest) (end-come s z k r h))
+
 -- ---- the calls
 
 module _ (state answer : List ℕ) (one : 1 ≤ length answer) (n : length state ≡ stateLength) where
@@ -162,56 +205,27 @@ module _ (state answer : List ℕ) (one : 1 ≤ length answer) (n : length state
       → CallsOn layout stateLength inRange Nothing Own state answer state said
   none-called said f e q = no-state one n (none-stands reads state f) e refl q
 
-  module _ (e : ByteEntries state) (k : inRange (stateOf state) ≡ true) (z : Sized (stateOf state)) where
+  module _ (e : ByteEntries state) (k : inRange (stateOf state) ≡ true) where
     stands : StandsFor state (stateOf state)
     stands = stands-read reads state n e k
 
-    pub read-ready : StreamReady (stateOf state)
-    read-ready = range-stream (stateOf state) z k
+    module _ (packets text counts : List ℕ) (number : ℕ) (said : List ℕ) (q : said ≡ set answer 0 number) where
+      module _ (is qs : List Float) (lost : List ℕ) (d : number ≡ pointsDue (cameOf (stateOf state .source)) is qs lost (shortRoom (length packets) (length text) (length counts))) where
+        pub refused-points : (number ≡ 0 → ⊥) → FeedsLock state is qs lost packets text counts answer 0 state packets text counts said
+        refused-points f = as-own one (stateOf state) stands number (stateOf state) (refused d (omega (arith, f)) refl refl refl refl refl) q (stands .written) stands
 
-    module _ (is qs : List Float) (lost packets text counts : List ℕ) (number : ℕ) (said : List ℕ)
-        (d : number ≡ pointsDue (cameOf (stateOf state .source)) is qs lost (shortRoom (length packets) (length text) (length counts))) (q : said ≡ set answer 0 number) where
-      pub refused-points : (number ≡ 0 → ⊥) → FeedsLock state is qs lost packets text counts answer 0 state packets text counts said
-      refused-points f = as-own one (stateOf state) stands number (stateOf state) (refused d (omega (arith, f)) refl refl refl refl refl) q (stands .written) stands
+        pub none-points : number ≡ 0 → length is ≡ 0 → FeedsLock state is qs lost packets text counts answer 0 state packets text (counted counts 0 0) said
+        none-points f h =
+            as-own one (stateOf state) stands number (stateOf state) (no-points (sym d ∙ f) f h refl refl (record { given-is = refl; told-is = refl; tally-is = refl })) q (stands .written) stands
 
-      pub none-points : number ≡ 0 → length is ≡ 0 → FeedsLock state is qs lost packets text counts answer 0 state packets text (counted counts 0 0) said
-      none-points f h = as-own one (stateOf state) stands number (stateOf state) (no-points (sym d ∙ f) f h refl refl refl refl refl) q (stands .written) stands
+        pub stepped-points : number ≡ 0 → (taken : ℕ) (after given told tally : List ℕ) → LeavesStep (stateOf state) is qs lost packets text counts taken after given told tally
+            → FeedsLock state is qs lost packets text counts answer taken after given told tally said
+        stepped-points f taken after given told tally l = as-own one (stateOf state) stands 0 (l .next) (l .own) (q ∙ ap (set answer 0) f) (l .bytes) (l .stands)
 
-      pub stepped-points : number ≡ 0 → 0 < length is → (r : StreamStep) (given told after : List ℕ)
-          → StepsStream (stateOf state) (take 1632 (map symbolPair (receivedOf is qs lost))) r given told → NextSized (r .stream) → after ≡ stateBytes (cleared (r .stream))
-          → FeedsLock state is qs lost packets text counts answer (r .taken) after given told (counted counts (r .packets) (r .text)) said
-      stepped-points f some r given told after h m w =
-          let few = few-waiting (r .stream .progress .receiver) (h .ready .receiver) in
-          let t : StreamStep = record { stream = cleared (r .stream); taken = r .taken; packets = r .packets; text = r .text } in
-          let own = step-cleared (stateOf state) z k r h (m .packets) few in
-          let s = stands-cleared (r .stream) (h .ready) (step-come (stateOf state) z k r h) (step-left (stateOf state) z k r h) m in
-          as-own one (stateOf state) stands number (cleared (r .stream)) (stepped (sym d ∙ f) f some t own refl refl refl) q w (subst (λ (bytes : List ℕ). StandsFor bytes (cleared (r .stream))) (sym w) s)
+      module _ (rest : ℕ) (d : number ≡ endDue (shortRoom (length packets) (length text) (length counts))) where
+        pub refused-ends : (number ≡ 0 → ⊥) → EndsLock state rest packets text counts answer 0 state packets text counts said
+        refused-ends f = as-own one (stateOf state) stands number (stateOf state) (refused-end d (omega (arith, f)) refl refl refl refl refl) q (stands .written) stands
 
-    module _ (rest : ℕ) (packets text counts : List ℕ) (number : ℕ) (said : List ℕ) (d : number ≡ endDue (shortRoom (length packets) (length text) (length counts)))
-        (q : said ≡ set answer 0 number) where
-      pub refused-ends : (number ≡ 0 → ⊥) → EndsLock state rest packets text counts answer 0 state packets text counts said
-      refused-ends f = as-own one (stateOf state) stands number (stateOf state) (refused-end d (omega (arith, f)) refl refl refl refl refl) q (stands .written) stands
-
-      module _ (f : number ≡ 0) (r : StreamEnd) (given told after : List ℕ) (h : EndsStream (stateOf state) r given told) (m : NextSized (r .stream)) (w : after ≡ stateBytes (cleared (r .stream))) where
-        few : waitingOf (r .stream .progress .receiver .certainty) ≤ 7
-        few = few-waiting (r .stream .progress .receiver) (h .ready .receiver)
-
-        next : StandsFor after (cleared (r .stream))
-        next =
-            subst (λ (bytes : List ℕ). StandsFor bytes (cleared (r .stream))) (sym w)
-            (stands-cleared (r .stream) (h .ready) (end-come (stateOf state) z k r h) (end-left (stateOf state) z k r h) m)
-
-        pub ends-on : r .over ≡ false → EndsLock state rest packets text counts answer 0 after given told (counted counts (r .packets) (r .text)) said
-        ends-on o =
-            let t : StreamEnd = record { stream = cleared (r .stream); packets = r .packets; text = r .text; over = r .over; left = r .left } in
-            as-own one (stateOf state) stands number (cleared (r .stream)) (goes-on f refl t (end-cleared (stateOf state) z k r h (m .packets) few) o refl refl) q w next
-
-        -- and the last one, with the closing lines
-        pub ends-over : r .over ≡ true → 2048 ≤ length told → (size : ℕ) (closed : List ℕ)
-            → Appended (closingText (r .stream .source .bits) (r .stream .progress) (cameOf (r .stream .source)) (r .left) rest) told closed 0 size 1024
-            → EndsLock state rest packets text counts answer 1 after given closed (counted counts (r .packets) size) said
-        ends-over o room size closed a =
-            let t : StreamEnd = record { stream = cleared (r .stream); packets = r .packets; text = r .text; over = r .over; left = r .left } in
-            let silent = over-silent (ranges (stateOf state) k .symbols-come) h room o in
-            let b = subst (λ (x : Bool). Appended (closingText x (r .stream .progress) (cameOf (r .stream .source)) (r .left) rest) told closed 0 size 1024) (end-come (stateOf state) z k r h) a in
-            as-own one (stateOf state) stands number (cleared (r .stream)) (ended f refl t told (end-cleared (stateOf state) z k r h (m .packets) few) o silent refl size b refl) q w next
+        pub stepped-end : number ≡ 0 → (over : ℕ) (after given told tally : List ℕ) → LeavesEnd rest (stateOf state) packets text counts over after given told tally
+            → EndsLock state rest packets text counts answer over after given told tally said
+        stepped-end f over after given told tally l = as-own one (stateOf state) stands 0 (l .next) (l .own) (q ∙ ap (set answer 0) f) (l .bytes) (l .stands)

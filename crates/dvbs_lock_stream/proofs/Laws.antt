@@ -7,7 +7,7 @@ use lib.Ieee.{Float}
 use lib.ListN.{length, getD}
 use Rattle.state_bytes.proofs.Calls.{call-refused}
 use Rattle.lock_stream.specs.declared.LockStream.{LockStream}
-use Rattle.dvbs_lock_stream.specs.Calls.{FeedsPairs, refused, no-points, stepped, FeedsLock, EndsPairs, refused-end, goes-on, ended, EndsLock}
+use Rattle.dvbs_lock_stream.specs.Calls.{FeedsPairs, refused, no-points, stepped, FeedsLock, EndsPairs, refused-end, end-stepped, EndsLock}
 use Rattle.dvbs_lock_stream.proofs.Table.{reads}
 
 -- After a refusal, and where no byte is lent for the answer, no point is taken, and every byte of the state and of what else is lent is as it was.
@@ -19,8 +19,8 @@ refusal-keeps state is qs lost packets text counts answer r after given told tal
     kept : {s next : LockStream} {number : ℕ} → FeedsPairs is qs lost packets text counts s number r next given told tally → (number ≡ 0 → ⊥)
         → ((r ≡ 0) × (given ≡ packets) × (told ≡ text) × (tally ≡ counts)) × (next ≡ s)
     kept (refused e p t n g u c) h = ((t, g, u, c), n)
-    kept (no-points e p l t n g u c) h = absurd (h p)
-    kept (stepped e p l x w t n c) h = absurd (h p)
+    kept (no-points e p l t n g) h = absurd (h p)
+    kept (stepped e p l f u s g) h = absurd (h p)
 
 -- the same of the end
 pub end-refusal-keeps : (state : List ℕ) (rest : ℕ) (packets text counts answer : List ℕ) (r : ℕ) (after given told tally said : List ℕ)
@@ -31,5 +31,4 @@ end-refusal-keeps state rest packets text counts answer r after given told tally
     kept : {s next : LockStream} {number : ℕ} → EndsPairs rest packets text counts s number r next given told tally → (number ≡ 0 → ⊥)
         → ((r ≡ 0) × (given ≡ packets) × (told ≡ text) × (tally ≡ counts)) × (next ≡ s)
     kept (refused-end e p o n g u c) h = ((o, g, u, c), n)
-    kept (goes-on p o x w v n c) h = absurd (h p)
-    kept (ended p o x b w v t n z a c) h = absurd (h p)
+    kept (end-stepped e p f u s g) h = absurd (h p)

@@ -4,24 +4,22 @@
 use mathlib.Core.Path.{_≡_}
 use mathlib.Core.Bool.{Bool, true, false}
 use mathlib.Core.List.{List, [], _∷_, map}
-use Prim.Native.Nat.{ℕ, _<_}
+use Prim.Native.Nat.{ℕ, _<_, _≤_}
 use lib.Dec.{eqb, ltb}
 use lib.Ieee.{Float}
 use lib.ListN.{length, take, set}
 use Rattle.common.specs.Choice.{pick}
+use Rattle.common.specs.Lists.{placed}
 use Rattle.common.specs.Refusal.{unless, when, firstDue}
 use Rattle.state_bytes.specs.Calls.{CallsOn}
 use Rattle.branch_metrics.specs.Cost.{receivedOf}
 use Rattle.branch_metrics.specs.SoftPairs.{symbolPair}
 use Rattle.reader.specs.Read.{sound}
-use Rattle.report_lines.specs.Line.{Appended}
 use Rattle.lock_stream.specs.Progress.{closingText}
 use Rattle.lock_stream.specs.Source.{cameOf}
-use Rattle.lock_stream.specs.Stream.{freshStream, StepsStream, EndsStream}
+use Rattle.lock_stream.specs.Stream.{freshStream, StreamSteps, StreamEnds}
 use Rattle.lock_stream.specs.declared.LockStream.{LockStream}
-use Rattle.lock_stream.specs.declared.StreamStep.{StreamStep}
-use Rattle.lock_stream.specs.declared.StreamEnd.{StreamEnd}
-use Rattle.dvbs_lock_stream.specs.State.{layout, stateLength, stateBytes, inRange}
+use Rattle.dvbs_lock_stream.specs.State.{layout, stateLength, stateBytes, inRange, StandsFor}
 
 -- ---- a fresh state
 
@@ -46,16 +44,22 @@ pointsDue came is qs lost short = firstDue (unless (sound is qs lost) 24 ∷ whe
 abbrev pub counted : List ℕ → ℕ → ℕ → List ℕ
 counted counts packets text = set (set counts 0 packets) 1 text
 
+-- What a step gives and tells: these bytes of packets and this text at the front of their rooms, all else there as it was, and how many bytes of each there are.
+pub record GivesTold (packets text counts front lines given told tally : List ℕ) : Type 0 where
+  pub given-is : given ≡ placed packets 0 front
+  pub told-is : told ≡ placed text 0 lines
+  pub tally-is : tally ≡ counted counts (length front) (length lines)
+
 -- What is promised of decisions, a pair as one number for each point: a refusal leaves all that is lent as it was. Else the stream takes a step by the first 1,632 of
--- them, where there are some: the packets and the text stand at the front of their rooms, and it is told how many points it took and how many bytes of each there are.
+-- them, where there are some, and it is told how many points it took.
 pub data FeedsPairs (is qs : List Float) (lost packets text counts : List ℕ) (s : LockStream) (number taken : ℕ) (next : LockStream) (given told tally : List ℕ) : Type 0 where
   refused : number ≡ pointsDue (cameOf (s .source)) is qs lost (shortRoom (length packets) (length text) (length counts)) → 0 < number → taken ≡ 0 → next ≡ s
       → given ≡ packets → told ≡ text → tally ≡ counts → FeedsPairs is qs lost packets text counts s number taken next given told tally
   no-points : pointsDue (cameOf (s .source)) is qs lost (shortRoom (length packets) (length text) (length counts)) ≡ 0 → number ≡ 0 → length is ≡ 0 → taken ≡ 0 → next ≡ s
-      → given ≡ packets → told ≡ text → tally ≡ counted counts 0 0 → FeedsPairs is qs lost packets text counts s number taken next given told tally
+      → GivesTold packets text counts [] [] given told tally → FeedsPairs is qs lost packets text counts s number taken next given told tally
   stepped : pointsDue (cameOf (s .source)) is qs lost (shortRoom (length packets) (length text) (length counts)) ≡ 0 → number ≡ 0 → 0 < length is
-      → (r : StreamStep) → StepsStream s (take 1632 (map symbolPair (receivedOf is qs lost))) r given told → taken ≡ r .taken → next ≡ r .stream
-      → tally ≡ counted counts (r .packets) (r .text) → FeedsPairs is qs lost packets text counts s number taken next given told tally
+      → (front lines : List ℕ) → StreamSteps s (take 1632 (map symbolPair (receivedOf is qs lost))) taken front lines next
+      → GivesTold packets text counts front lines given told tally → FeedsPairs is qs lost packets text counts s number taken next given told tally
 
 abbrev pub FeedsLock : List ℕ → List Float → List Float → List ℕ → List ℕ → List ℕ → List ℕ → List ℕ → ℕ → List ℕ → List ℕ → List ℕ → List ℕ → List ℕ → Type 0
 FeedsLock state is qs lost packets text counts answer r after given told tally said =
@@ -66,17 +70,39 @@ FeedsLock state is qs lost packets text counts answer r after given told tally s
 abbrev pub endDue : Bool → ℕ
 endDue short = firstDue (when short 4 ∷ [])
 
--- What is promised of the end: a step of it. Where it was the last, the closing lines stand at the front of the text, with so many bytes behind the last whole point; no
--- other line is told then.
+-- A step of the end. Where it was the last, no line of an event is told, and the closing lines are, with so many bytes behind the last whole point.
+pub data StepsEnd (rest : ℕ) (s : LockStream) (over : ℕ) (front lines : List ℕ) (next : LockStream) : Type 0 where
+  goes-on : (left : ℕ) → over ≡ 0 → StreamEnds s false left front lines next → StepsEnd rest s over front lines next
+  ended : (left : ℕ) → over ≡ 1 → StreamEnds s true left front [] next → lines ≡ closingText false (next .progress) (cameOf (next .source)) left rest
+      → StepsEnd rest s over front lines next
+
+-- What is promised of the end: a refusal leaves all that is lent as it was, else a step of it is taken.
 pub data EndsPairs (rest : ℕ) (packets text counts : List ℕ) (s : LockStream) (number over : ℕ) (next : LockStream) (given told tally : List ℕ) : Type 0 where
   refused-end : number ≡ endDue (shortRoom (length packets) (length text) (length counts)) → 0 < number → over ≡ 0 → next ≡ s → given ≡ packets → told ≡ text → tally ≡ counts
       → EndsPairs rest packets text counts s number over next given told tally
-  goes-on : number ≡ 0 → over ≡ 0 → (r : StreamEnd) → EndsStream s r given told → r .over ≡ false → next ≡ r .stream → tally ≡ counted counts (r .packets) (r .text)
-      → EndsPairs rest packets text counts s number over next given told tally
-  ended : number ≡ 0 → over ≡ 1 → (r : StreamEnd) (between : List ℕ) → EndsStream s r given between → r .over ≡ true → r .text ≡ 0 → next ≡ r .stream
-      → (size : ℕ) → Appended (closingText false (r .stream .progress) (cameOf (r .stream .source)) (r .left) rest) between told 0 size 1024 → tally ≡ counted counts (r .packets) size
-      → EndsPairs rest packets text counts s number over next given told tally
+  end-stepped : endDue (shortRoom (length packets) (length text) (length counts)) ≡ 0 → number ≡ 0 → (front lines : List ℕ) → StepsEnd rest s over front lines next
+      → GivesTold packets text counts front lines given told tally → EndsPairs rest packets text counts s number over next given told tally
 
 abbrev pub EndsLock : List ℕ → ℕ → List ℕ → List ℕ → List ℕ → List ℕ → ℕ → List ℕ → List ℕ → List ℕ → List ℕ → List ℕ → Type 0
 EndsLock state rest packets text counts answer r after given told tally said =
     CallsOn layout stateLength inRange ((r ≡ 0) × (given ≡ packets) × (told ≡ text) × (tally ≡ counts)) (λ s number next. EndsPairs rest packets text counts s number r next given told tally) state answer after said
+
+-- ---- what the work of a call leaves, where no test refused it
+
+-- the bytes of a stream for which they stand
+pub record Leaves (Own : LockStream → Type 0) (after : List ℕ) : Type 0 where
+  pub next : LockStream
+  pub own : Own next
+  pub bytes : after ≡ stateBytes next
+  pub stands : StandsFor after next
+
+abbrev pub LeavesStep : LockStream → List Float → List Float → List ℕ → List ℕ → List ℕ → List ℕ → ℕ → List ℕ → List ℕ → List ℕ → List ℕ → Type 0
+LeavesStep s is qs lost packets text counts taken after given told tally = Leaves (λ next. FeedsPairs is qs lost packets text counts s 0 taken next given told tally) after
+
+abbrev pub LeavesEnd : ℕ → LockStream → List ℕ → List ℕ → List ℕ → ℕ → List ℕ → List ℕ → List ℕ → List ℕ → Type 0
+LeavesEnd rest s packets text counts over after given told tally = Leaves (λ next. EndsPairs rest packets text counts s 0 over next given told tally) after
+
+-- The text of a step of the end: the lines of its event where it was not the last, else the closing lines alone.
+pub data ClosesLines (s : LockStream) (over : Bool) (left rest told : ℕ) (lines : List ℕ) (r : ℕ) (exit : List ℕ) : Type 0 where
+  not-over : over ≡ false → r ≡ told → exit ≡ lines → ClosesLines s over left rest told lines r exit
+  closed : over ≡ true → r ≤ 2048 → r ≤ length exit → take r exit ≡ closingText (s .source .bits) (s .progress) (cameOf (s .source)) left rest → ClosesLines s over left rest told lines r exit

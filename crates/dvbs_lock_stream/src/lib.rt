@@ -1,11 +1,22 @@
 // Packets and lines from received points that begin anywhere, turned any way, by a state of bytes that the firmware keeps, as functions for C.
 // Their declarations are in include/dvbs.h, docs/STATES.md lists the layout of the state, and docs/ACQUISITION.md says what is decided and told.
 ghost use mathlib.Core.Path.{_≡_};
+ghost use mathlib.Core.Bool.{true};
+ghost use mathlib.Core.List.{map};
+ghost use Prim.Native.Nat.{_≤_, _<_, min};
+ghost use lib.ListN.{length, take};
+ghost use Rattle.common.specs.Lists.{All};
 ghost use Rattle.answer.specs.Number.{numberOf};
-ghost use Rattle.dvbs_lock_stream.specs.Calls.{freshNumber, freshBytes, pointsDue, endDue, shortRoom, FeedsLock, EndsLock};
+ghost use Rattle.branch_metrics.specs.Cost.{receivedOf};
+ghost use Rattle.branch_metrics.specs.SoftPairs.{symbolPair};
+ghost use Rattle.lock_stream.specs.Source.{cameOf};
+ghost use Rattle.lock_stream.specs.Stream.{StreamReady};
+ghost use Rattle.dvbs_lock_stream.specs.State.{inRange, Sized};
+ghost use Rattle.dvbs_lock_stream.specs.Calls.{freshNumber, freshBytes, pointsDue, endDue, shortRoom, GivesTold, ClosesLines, LeavesStep, LeavesEnd, FeedsLock, EndsLock};
 use answer::Answer;
 use branch_metrics::soft_decision::soft_pairs;
 use common::least;
+use common::put;
 use lock_stream::LockStream;
 use reader::is_sound;
 
@@ -75,6 +86,105 @@ fn end_due(short: bool) -> Answer
     Answer::Done
 }
 
+// Writes the decisions on the first of the points, a pair as one number: on how many.
+fn decide(i: &[f32], q: &[f32], lost: &[u8], pairs: &mut [u8]) -> usize
+    requires { ⌜ (length (now q) ≡ length (now i)) × (length (now lost) ≡ length (now i)) × (1632 ≤ length (now pairs)) ⌝ }
+    ensures { λ r. ⌜
+        (r ≡ min 1632 (length (now (i .entry))))
+        × (take r (now (pairs .exit)) ≡ take 1632 (map symbolPair (receivedOf (now (i .entry)) (now (q .entry)) (now (lost .entry)))))
+        × (All (λ p. p < 81) (take r (now (pairs .exit)))) ⌝ }
+{
+    let some = least(1632, i.len() as u64) as usize;
+    soft_pairs(&i[..some], &q[..some], &lost[..some], pairs);
+    some
+}
+
+// Writes what a step gives and tells to the front of the rooms, and how many bytes of each there are.
+fn put_told(front: &[u8], lines: &[u8], packets: &mut [u8], text: &mut [u8], counts: &mut [u64])
+    requires { ⌜ (length (now front) ≤ length (now packets)) × (length (now lines) ≤ length (now text)) × (2 ≤ length (now counts)) ⌝ }
+    ensures { λ _. ⌜
+        GivesTold (now (packets .entry)) (now (text .entry)) (now (counts .entry)) (now (front .entry)) (now (lines .entry)) (now (packets .exit)) (now (text .exit)) (now (counts .exit)) ⌝ }
+{
+    put(front, 0, packets);
+    put(lines, 0, text);
+    counts[0] = front.len() as u64;
+    counts[1] = lines.len() as u64;
+}
+
+// Takes a step by the first of the points, if there are any, and writes what it gives and tells, and the bytes of the stream after it: how many points it took.
+fn step_points(
+    stream: LockStream,
+    i: &[f32],
+    q: &[f32],
+    lost: &[u8],
+    state: &mut [u8],
+    packets: &mut [u8],
+    text: &mut [u8],
+    counts: &mut [u64],
+) -> u64
+    requires { ⌜
+        (Sized stream) × (inRange stream ≡ true) × (length (now state) ≡ 15121) × (0 < length (now i))
+        × (pointsDue (cameOf (stream .source)) (now i) (now q) (now lost) (shortRoom (length (now packets)) (length (now text)) (length (now counts))) ≡ 0) ⌝ }
+    ensures { λ r. ⌜
+        LeavesStep stream (now (i .entry)) (now (q .entry)) (now (lost .entry)) (now (packets .entry)) (now (text .entry)) (now (counts .entry)) r (now (state .exit)) (now (packets .exit)) (now (text .exit)) (now (counts .exit)) ⌝ }
+{
+    let mut pairs = [0u8; 1632];
+    let some = decide(i, q, lost, &mut pairs);
+    let mut front = [0u8; 1504];
+    let mut lines = [0u8; 2048];
+    let step = stream.step(&pairs[..some], &mut front, &mut lines);
+    let given = step.packets;
+    let told = step.text;
+    let taken = step.taken;
+    write_state(step.stream, state);
+    put_told(&front[..given], &lines[..told], packets, text, counts);
+    taken as u64
+}
+
+// The closing lines, where the end is over: how many bytes of text there are.
+fn close_over(
+    stream: LockStream,
+    over: bool,
+    left: usize,
+    rest: u64,
+    told: usize,
+    lines: &mut [u8],
+) -> usize
+    requires { ⌜ (StreamReady stream) × (left < 1632) × (told ≤ 2048) × (2048 ≤ length (now lines)) ⌝ }
+    ensures { λ r. ⌜ ClosesLines stream over left rest told (now (lines .entry)) r (now (lines .exit)) ⌝ }
+{
+    if !over {
+        return told;
+    }
+    stream.close(left, rest, lines)
+}
+
+// Takes a step of the end, and writes what it gives and tells, and the bytes of the stream after it: 1 where it was the last.
+fn step_end(
+    stream: LockStream,
+    rest: u64,
+    state: &mut [u8],
+    packets: &mut [u8],
+    text: &mut [u8],
+    counts: &mut [u64],
+) -> u64
+    requires { ⌜
+        (Sized stream) × (inRange stream ≡ true) × (length (now state) ≡ 15121) × (endDue (shortRoom (length (now packets)) (length (now text)) (length (now counts))) ≡ 0) ⌝ }
+    ensures { λ r. ⌜
+        LeavesEnd rest stream (now (packets .entry)) (now (text .entry)) (now (counts .entry)) r (now (state .exit)) (now (packets .exit)) (now (text .exit)) (now (counts .exit)) ⌝ }
+{
+    let mut front = [0u8; 1504];
+    let mut lines = [0u8; 2048];
+    let step = stream.end_step(&mut front, &mut lines);
+    let next = step.stream;
+    let given = step.packets;
+    let over = step.over;
+    let told = close_over(next, over, step.left, rest, step.text, &mut lines);
+    write_state(next, state);
+    put_told(&front[..given], &lines[..told], packets, text, counts);
+    if over { 1 } else { 0 }
+}
+
 // Takes some of the points, as many as one step takes: how many. The first two numbers of counts are how many bytes of packets and of text were written, and the first
 // byte of answer has the number of the answer.
 #[no_mangle]
@@ -118,16 +228,7 @@ pub extern "C" fn dvbs_lock_feed(
         counts[1] = 0;
         return 0;
     }
-    let some = least(1632, i.len() as u64) as usize;
-    let mut pairs = [0u8; 1632];
-    soft_pairs(&i[..some], &q[..some], &lost[..some], &mut pairs);
-    let step = before.step(&pairs[..some], packets, text);
-    let stream = step.stream;
-    let taken = step.taken;
-    counts[0] = step.packets as u64;
-    counts[1] = step.text as u64;
-    write_state(stream, state);
-    taken as u64
+    step_points(before, i, q, lost, state, packets, text, counts)
 }
 
 // After the last point, call after call until it is over, which 1 tells: writes what the end decides, and at last the closing lines, where so many bytes are behind the
@@ -165,21 +266,5 @@ pub extern "C" fn dvbs_lock_end(
     if number != 0 {
         return 0;
     }
-    let step = before.end_step(packets, text);
-    let stream = step.stream;
-    let over = step.over;
-    let left = step.left;
-    let given = step.packets;
-    let told = step.text;
-    if over {
-        let size = stream.close(left, rest, text);
-        counts[0] = given as u64;
-        counts[1] = size as u64;
-        write_state(stream, state);
-        return 1;
-    }
-    counts[0] = given as u64;
-    counts[1] = told as u64;
-    write_state(stream, state);
-    0
+    step_end(before, rest, state, packets, text, counts)
 }

@@ -2,17 +2,14 @@
 -- Assumes nothing.
 use mathlib.Core.Path.{_≡_, refl, sym, ap, subst, _∙_}
 use mathlib.Core.Bool.{true}
-use native.Mathlib.Omega.{arith}
 use borrow.Author.Tests.{not-true, not-false}
-use lib.ListN.{length, set, length-set}
+use lib.ListN.{length, set}
 use Rattle.state_bytes.specs.Calls.{no-answer, wrong-length}
-use Rattle.lock_stream.specs.Stream.{StreamReady, EndsStream}
 use Rattle.lock_stream.specs.declared.LockStream.{LockStream}
-use Rattle.dvbs_lock_stream.specs.State.{inRange, Sized}
+use Rattle.dvbs_lock_stream.specs.State.{inRange}
 use Rattle.dvbs_lock_stream.specs.Reading.{stateOf}
-use Rattle.dvbs_lock_stream.specs.Calls.{shortRoom, endDue}
-use Rattle.dvbs_lock_stream.proofs.Feeding.{room-enough, end-pass, none-called, read-ready, refused-ends, ends-on, ends-over, writes}
-use Rattle.dvbs_lock_stream.proofs.Locks.{end-come, end-left}
+use Rattle.dvbs_lock_stream.specs.Calls.{shortRoom, endDue, LeavesEnd}
+use Rattle.dvbs_lock_stream.proofs.Feeding.{none-called, refused-ends, stepped-end}
 use borrow.Author.Needs.{needs}
 use Rattle.dvbs_lock_stream.proofs.dvbs_lock_end.Statement.{statement}
 use Rattle.dvbs_lock_stream.proofs.dvbs_lock_end.Tie as tie
@@ -57,9 +54,6 @@ tested c = ap inRange (sym (c .before .read-state .ensures .0)) ∙ sym (c .is-i
 clear : (c : tie.Else3) → inRange (stateOf (c .before .before .before .before .before .before .before .before .before .before .before .args .state .now)) ≡ true
 clear c = tested (c .before) ∙ not-false _ (c .if3 .left)
 
-sized : (c : tie.After-read-state) → Sized (stateOf (c .before .before .before .before .before .before .before .before .before .args .state .now))
-sized c = subst Sized (c .read-state .ensures .0) (c .read-state .ensures .1)
-
 returns-3 : tie.Need-returns-3
 returns-3 c = none-called (c .before .before .before .before .before .before .before .before .before .before .before .before .args .state .now) (c .before .before .before .before .before .before .before .before .before .before .before .before .args .answer .now) (c .before .before .before .before .before .before .if1 .left) (c .before .before .before .before .before .if2 .left) (set (c .before .before .before .before .before .before .before .before .before .before .before .before .args .answer .now) 0 (c .number2 .result)) (tested (c .before .before) ∙ not-true _ (c .before .if3 .taken)) (refl, refl, refl, refl) (ap (set (c .before .before .before .before .before .before .before .before .before .before .before .before .args .answer .now) 0) (c .number2 .ensures))
 
@@ -81,27 +75,21 @@ same-length-4 c = search needs
 same-length-5 : tie.Need-same-length-5
 same-length-5 c = search needs
 
+-- the answer that is due
+due : (c : tie.After-number3) → c .number3 .result ≡ endDue (shortRoom (length (c .before .before .before .before .before .before .before .before .before .before .before .before .before .before .args .packets .now)) (length (c .before .before .before .before .before .before .before .before .before .before .before .before .before .before .args .text .now)) (length (c .before .before .before .before .before .before .before .before .before .before .before .before .before .before .args .counts .now)))
+due c = c .number3 .ensures ∙ c .before .end-due .ensures ∙ ap endDue (c .before .before .is-short .ensures)
+
 returns-4 : tie.Need-returns-4
-returns-4 c = refused-ends (c .before .before .before .before .before .before .before .before .before .before .before .before .before .before .before .args .state .now) (c .before .before .before .before .before .before .before .before .before .before .before .before .before .before .before .args .answer .now) (c .before .before .before .before .before .before .before .before .before .if1 .left) (c .before .before .before .before .before .before .before .before .if2 .left) (λ i. c .before .before .before .before .before .before .before .before .before .before .before .before .before .before .slice-known .given i .fits) (clear (c .before .before .before .before)) (sized (c .before .before .before .before .before .before)) (c .before .before .before .before .before .before .before .before .before .before .before .before .before .before .before .args .rest) (c .before .before .before .before .before .before .before .before .before .before .before .before .before .before .before .args .packets .now) (c .before .before .before .before .before .before .before .before .before .before .before .before .before .before .before .args .text .now) (c .before .before .before .before .before .before .before .before .before .before .before .before .before .before .before .args .counts .now) (c .before .number3 .result) (set (c .before .before .before .before .before .before .before .before .before .before .before .before .before .before .before .args .answer .now) 0 (c .before .number3 .result)) (c .before .number3 .ensures ∙ c .before .before .end-due .ensures ∙ ap endDue (c .before .before .before .is-short .ensures)) refl (c .if4 .taken)
+returns-4 c =
+    refused-ends (c .before .before .before .before .before .before .before .before .before .before .before .before .before .before .before .args .state .now) (c .before .before .before .before .before .before .before .before .before .before .before .before .before .before .before .args .answer .now) (c .before .before .before .before .before .before .before .before .before .if1 .left) (c .before .before .before .before .before .before .before .before .if2 .left) (λ i. c .before .before .before .before .before .before .before .before .before .before .before .before .before .before .slice-known .given i .fits) (clear (c .before .before .before .before))
+    (c .before .before .before .before .before .before .before .before .before .before .before .before .before .before .before .args .packets .now) (c .before .before .before .before .before .before .before .before .before .before .before .before .before .before .before .args .text .now) (c .before .before .before .before .before .before .before .before .before .before .before .before .before .before .before .args .counts .now) (c .before .number3 .result) (set (c .before .before .before .before .before .before .before .before .before .before .before .before .before .before .before .args .answer .now) 0 (c .before .number3 .result)) refl
+    (c .before .before .before .before .before .before .before .before .before .before .before .before .before .before .before .args .rest) (due (c .before)) (c .if4 .taken)
 
-end-step-requires : tie.Need-end-step-requires
-end-step-requires c κs = let room = room-enough (length (c .before .before .before .before .before .before .before .before .before .before .before .before .before .before .before .before .before .args .packets .now)) (length (c .before .before .before .before .before .before .before .before .before .before .before .before .before .before .before .before .before .args .text .now)) (length (c .before .before .before .before .before .before .before .before .before .before .before .before .before .before .before .before .before .args .counts .now)) (end-pass (shortRoom (length (c .before .before .before .before .before .before .before .before .before .before .before .before .before .before .before .before .before .args .packets .now)) (length (c .before .before .before .before .before .before .before .before .before .before .before .before .before .before .before .before .before .args .text .now)) (length (c .before .before .before .before .before .before .before .before .before .before .before .before .before .before .before .before .before .args .counts .now))) (sym (c .before .before .before .number3 .ensures ∙ c .before .before .before .before .end-due .ensures ∙ ap endDue (c .before .before .before .before .before .is-short .ensures)) ∙ c .before .before .if4 .left)) in (subst StreamReady (sym (c .before .before .before .before .before .before .before .before .read-state .ensures .0)) (read-ready (c .before .before .before .before .before .before .before .before .before .before .before .before .before .before .before .before .before .args .state .now) (c .before .before .before .before .before .before .before .before .before .before .before .before .before .before .before .before .before .args .answer .now) (c .before .before .before .before .before .before .before .before .before .before .before .if1 .left) (c .before .before .before .before .before .before .before .before .before .before .if2 .left) (λ i. c .before .before .before .before .before .before .before .before .before .before .before .before .before .before .before .before .slice-known .given i .fits) (clear (c .before .before .before .before .before .before)) (sized (c .before .before .before .before .before .before .before .before))), room .0, room .1)
-
-close-requires : tie.Need-close-requires
-close-requires c κs = let room = room-enough (length (c .before .before .before .before .before .before .before .before .before .before .before .before .before .before .before .before .before .before .before .before .before .before .before .before .before .args .packets .now)) (length (c .before .before .before .before .before .before .before .before .before .before .before .before .before .before .before .before .before .before .before .before .before .before .before .before .before .args .text .now)) (length (c .before .before .before .before .before .before .before .before .before .before .before .before .before .before .before .before .before .before .before .before .before .before .before .before .before .args .counts .now)) (end-pass (shortRoom (length (c .before .before .before .before .before .before .before .before .before .before .before .before .before .before .before .before .before .before .before .before .before .before .before .before .before .args .packets .now)) (length (c .before .before .before .before .before .before .before .before .before .before .before .before .before .before .before .before .before .before .before .before .before .before .before .before .before .args .text .now)) (length (c .before .before .before .before .before .before .before .before .before .before .before .before .before .before .before .before .before .before .before .before .before .before .before .before .before .args .counts .now))) (sym (c .before .before .before .before .before .before .before .before .before .before .before .number3 .ensures ∙ c .before .before .before .before .before .before .before .before .before .before .before .before .end-due .ensures ∙ ap endDue (c .before .before .before .before .before .before .before .before .before .before .before .before .before .is-short .ensures)) ∙ c .before .before .before .before .before .before .before .before .before .before .if4 .left)) in let h = c .before .before .before .before .before .before .before .end-step .ensures in (h .ready, omega (arith, h .ends .left-is, h .ends .source-ends .few), omega (arith, room .1, c .before .before .before .before .before .before .before .end-step .kept .1 .1 .0))
-
-slice-write-counts : tie.Need-slice-write-counts
-slice-write-counts c = omega (arith, (room-enough (length (c .before .before .before .before .before .before .before .before .before .before .before .before .before .before .before .before .before .before .before .before .before .before .before .before .before .before .before .before .args .packets .now)) (length (c .before .before .before .before .before .before .before .before .before .before .before .before .before .before .before .before .before .before .before .before .before .before .before .before .before .before .before .before .args .text .now)) (length (c .before .before .before .before .before .before .before .before .before .before .before .before .before .before .before .before .before .before .before .before .before .before .before .before .before .before .before .before .args .counts .now)) (end-pass (shortRoom (length (c .before .before .before .before .before .before .before .before .before .before .before .before .before .before .before .before .before .before .before .before .before .before .before .before .before .before .before .before .args .packets .now)) (length (c .before .before .before .before .before .before .before .before .before .before .before .before .before .before .before .before .before .before .before .before .before .before .before .before .before .before .before .before .args .text .now)) (length (c .before .before .before .before .before .before .before .before .before .before .before .before .before .before .before .before .before .before .before .before .before .before .before .before .before .before .before .before .args .counts .now))) (sym (c .before .before .before .before .before .before .before .before .before .before .before .before .before .before .number3 .ensures ∙ c .before .before .before .before .before .before .before .before .before .before .before .before .before .before .before .end-due .ensures ∙ ap endDue (c .before .before .before .before .before .before .before .before .before .before .before .before .before .before .before .before .is-short .ensures)) ∙ c .before .before .before .before .before .before .before .before .before .before .before .before .before .if4 .left))) .2)
-
-slice-write-counts-2 : tie.Need-slice-write-counts-2
-slice-write-counts-2 c = simp length-set (omega (arith, (room-enough (length (c .before .before .before .before .before .before .before .before .before .before .before .before .before .before .before .before .before .before .before .before .before .before .before .before .before .before .before .before .args .packets .now)) (length (c .before .before .before .before .before .before .before .before .before .before .before .before .before .before .before .before .before .before .before .before .before .before .before .before .before .before .before .before .args .text .now)) (length (c .before .before .before .before .before .before .before .before .before .before .before .before .before .before .before .before .before .before .before .before .before .before .before .before .before .before .before .before .args .counts .now)) (end-pass (shortRoom (length (c .before .before .before .before .before .before .before .before .before .before .before .before .before .before .before .before .before .before .before .before .before .before .before .before .before .before .before .before .args .packets .now)) (length (c .before .before .before .before .before .before .before .before .before .before .before .before .before .before .before .before .before .before .before .before .before .before .before .before .before .before .before .before .args .text .now)) (length (c .before .before .before .before .before .before .before .before .before .before .before .before .before .before .before .before .before .before .before .before .before .before .before .before .before .before .before .before .args .counts .now))) (sym (c .before .before .before .before .before .before .before .before .before .before .before .before .before .before .number3 .ensures ∙ c .before .before .before .before .before .before .before .before .before .before .before .before .before .before .before .end-due .ensures ∙ ap endDue (c .before .before .before .before .before .before .before .before .before .before .before .before .before .before .before .before .is-short .ensures)) ∙ c .before .before .before .before .before .before .before .before .before .before .before .before .before .if4 .left))) .2))
-
-write-state-requires : tie.Need-write-state-requires
-write-state-requires c κs =
-    let r = c .before .before .before .before .before .before .before .before .before .before .before .end-step .result in
-    let h = c .before .before .before .before .before .before .before .before .before .before .before .end-step .ensures in
-    let w = writes (r .stream) (h .ready) (end-come (c .before .before .before .before .before .before .before .before .before .before .before .before .before .before .before .before .before .before .before .before .read-state .result) (c .before .before .before .before .before .before .before .before .before .before .before .before .before .before .before .before .before .before .before .before .read-state .ensures .1) (sym (c .before .before .before .before .before .before .before .before .before .before .before .before .before .before .before .before .before .before .before .is-in-range .ensures) ∙ not-false _ (c .before .before .before .before .before .before .before .before .before .before .before .before .before .before .before .before .before .before .if3 .left)) r h) (end-left (c .before .before .before .before .before .before .before .before .before .before .before .before .before .before .before .before .before .before .before .before .read-state .result) (c .before .before .before .before .before .before .before .before .before .before .before .before .before .before .before .before .before .before .before .before .read-state .ensures .1) (sym (c .before .before .before .before .before .before .before .before .before .before .before .before .before .before .before .before .before .before .before .is-in-range .ensures) ∙ not-false _ (c .before .before .before .before .before .before .before .before .before .before .before .before .before .before .before .before .before .before .if3 .left)) r h) in
-    (w .0, w .1, c .before .before .before .before .before .before .before .before .before .before .before .before .before .before .before .before .before .before .before .before .before .before .if2 .left)
+step-end-requires : tie.Need-step-end-requires
+step-end-requires c κs =
+    let s = c .before .before .before .before .before .before .before .before .before .before .before .before .before .before .before .before .before .before .before in
+    let r = c .before .before .before .before .before .before .before .before .before .before .read-state in
+    (r .ensures .1, sym (c .before .before .before .before .before .before .before .before .before .is-in-range .ensures) ∙ not-false _ (c .before .before .before .before .before .before .before .before .if3 .left), c .before .before .before .before .before .before .before .before .before .before .before .before .if2 .left, sym (due (c .before .before .before .before .before)) ∙ c .before .before .before .before .if4 .left)
 
 same-length-6 : tie.Need-same-length-6
 same-length-6 c = search needs
@@ -120,48 +108,12 @@ same-length-10 c = search needs
 
 returns-5 : tie.Need-returns-5
 returns-5 c =
-    let room = room-enough (length (c .before .before .before .before .before .before .before .before .before .before .before .before .before .before .before .before .before .before .before .before .before .before .before .before .before .before .before .before .before .before .before .before .args .packets .now)) (length (c .before .before .before .before .before .before .before .before .before .before .before .before .before .before .before .before .before .before .before .before .before .before .before .before .before .before .before .before .before .before .before .before .args .text .now)) (length (c .before .before .before .before .before .before .before .before .before .before .before .before .before .before .before .before .before .before .before .before .before .before .before .before .before .before .before .before .before .before .before .before .args .counts .now)) (end-pass (shortRoom (length (c .before .before .before .before .before .before .before .before .before .before .before .before .before .before .before .before .before .before .before .before .before .before .before .before .before .before .before .before .before .before .before .before .args .packets .now)) (length (c .before .before .before .before .before .before .before .before .before .before .before .before .before .before .before .before .before .before .before .before .before .before .before .before .before .before .before .before .before .before .before .before .args .text .now)) (length (c .before .before .before .before .before .before .before .before .before .before .before .before .before .before .before .before .before .before .before .before .before .before .before .before .before .before .before .before .before .before .before .before .args .counts .now))) (sym (c .before .before .before .before .before .before .before .before .before .before .before .before .before .before .before .before .before .before .number3 .ensures ∙ c .before .before .before .before .before .before .before .before .before .before .before .before .before .before .before .before .before .before .before .end-due .ensures ∙ ap endDue (c .before .before .before .before .before .before .before .before .before .before .before .before .before .before .before .before .before .before .before .before .is-short .ensures)) ∙ c .before .before .before .before .before .before .before .before .before .before .before .before .before .before .before .before .before .if4 .left)) in
-    let r = c .before .before .before .before .before .before .before .before .before .before .before .before .before .before .end-step .result in
-    let given = c .before .before .before .before .before .before .before .before .before .before .before .before .before .before .end-step .last .1 .0 in
-    let told = c .before .before .before .before .before .before .before .before .before .before .before .before .before .before .end-step .last .1 .1 .0 in
-    let h = subst (λ (s : LockStream). EndsStream s r given told) (c .before .before .before .before .before .before .before .before .before .before .before .before .before .before .before .before .before .before .before .before .before .before .before .read-state .ensures .0) (c .before .before .before .before .before .before .before .before .before .before .before .before .before .before .end-step .ensures) in
-    ends-over (c .before .before .before .before .before .before .before .before .before .before .before .before .before .before .before .before .before .before .before .before .before .before .before .before .before .before .before .before .before .before .before .before .args .state .now) (c .before .before .before .before .before .before .before .before .before .before .before .before .before .before .before .before .before .before .before .before .before .before .before .before .before .before .before .before .before .before .before .before .args .answer .now) (c .before .before .before .before .before .before .before .before .before .before .before .before .before .before .before .before .before .before .before .before .before .before .before .before .before .before .if1 .left) (c .before .before .before .before .before .before .before .before .before .before .before .before .before .before .before .before .before .before .before .before .before .before .before .before .before .if2 .left) (λ i. c .before .before .before .before .before .before .before .before .before .before .before .before .before .before .before .before .before .before .before .before .before .before .before .before .before .before .before .before .before .before .before .slice-known .given i .fits) (clear (c .before .before .before .before .before .before .before .before .before .before .before .before .before .before .before .before .before .before .before .before .before)) (sized (c .before .before .before .before .before .before .before .before .before .before .before .before .before .before .before .before .before .before .before .before .before .before .before)) (c .before .before .before .before .before .before .before .before .before .before .before .before .before .before .before .before .before .before .before .before .before .before .before .before .before .before .before .before .before .before .before .before .args .rest) (c .before .before .before .before .before .before .before .before .before .before .before .before .before .before .before .before .before .before .before .before .before .before .before .before .before .before .before .before .before .before .before .before .args .packets .now) (c .before .before .before .before .before .before .before .before .before .before .before .before .before .before .before .before .before .before .before .before .before .before .before .before .before .before .before .before .before .before .before .before .args .text .now) (c .before .before .before .before .before .before .before .before .before .before .before .before .before .before .before .before .before .before .before .before .before .before .before .before .before .before .before .before .before .before .before .before .args .counts .now) (c .before .before .before .before .before .before .before .before .before .before .before .before .before .before .before .before .before .before .number3 .result) (set (c .before .before .before .before .before .before .before .before .before .before .before .before .before .before .before .before .before .before .before .before .before .before .before .before .before .before .before .before .before .before .before .before .args .answer .now) 0 (c .before .before .before .before .before .before .before .before .before .before .before .before .before .before .before .before .before .before .number3 .result)) (c .before .before .before .before .before .before .before .before .before .before .before .before .before .before .before .before .before .before .number3 .ensures ∙ c .before .before .before .before .before .before .before .before .before .before .before .before .before .before .before .before .before .before .before .end-due .ensures ∙ ap endDue (c .before .before .before .before .before .before .before .before .before .before .before .before .before .before .before .before .before .before .before .before .is-short .ensures)) refl (c .before .before .before .before .before .before .before .before .before .before .before .before .before .before .before .before .before .if4 .left) r given told (c .before .before .write-state .last .1 .0) h (c .before .before .write-state .ensures .1) (c .before .before .write-state .ensures .0) (c .before .before .before .before .before .before .before .before .if5 .taken) (omega (arith, room .1, c .before .before .before .before .before .before .before .before .before .before .before .before .before .before .end-step .kept .1 .1 .0)) (c .before .before .before .before .before .before .close .result) (c .before .before .before .before .before .before .close .last .1 .1 .1 .0) (c .before .before .before .before .before .before .close .ensures)
-
-slice-write-counts-3 : tie.Need-slice-write-counts-3
-slice-write-counts-3 c = omega (arith, (room-enough (length (c .before .before .before .before .before .before .before .before .before .before .before .before .before .before .before .before .before .before .before .before .before .before .before .before .args .packets .now)) (length (c .before .before .before .before .before .before .before .before .before .before .before .before .before .before .before .before .before .before .before .before .before .before .before .before .args .text .now)) (length (c .before .before .before .before .before .before .before .before .before .before .before .before .before .before .before .before .before .before .before .before .before .before .before .before .args .counts .now)) (end-pass (shortRoom (length (c .before .before .before .before .before .before .before .before .before .before .before .before .before .before .before .before .before .before .before .before .before .before .before .before .args .packets .now)) (length (c .before .before .before .before .before .before .before .before .before .before .before .before .before .before .before .before .before .before .before .before .before .before .before .before .args .text .now)) (length (c .before .before .before .before .before .before .before .before .before .before .before .before .before .before .before .before .before .before .before .before .before .before .before .before .args .counts .now))) (sym (c .before .before .before .before .before .before .before .before .before .before .number3 .ensures ∙ c .before .before .before .before .before .before .before .before .before .before .before .end-due .ensures ∙ ap endDue (c .before .before .before .before .before .before .before .before .before .before .before .before .is-short .ensures)) ∙ c .before .before .before .before .before .before .before .before .before .if4 .left))) .2)
-
-slice-write-counts-4 : tie.Need-slice-write-counts-4
-slice-write-counts-4 c = simp length-set (omega (arith, (room-enough (length (c .before .before .before .before .before .before .before .before .before .before .before .before .before .before .before .before .before .before .before .before .before .before .before .before .args .packets .now)) (length (c .before .before .before .before .before .before .before .before .before .before .before .before .before .before .before .before .before .before .before .before .before .before .before .before .args .text .now)) (length (c .before .before .before .before .before .before .before .before .before .before .before .before .before .before .before .before .before .before .before .before .before .before .before .before .args .counts .now)) (end-pass (shortRoom (length (c .before .before .before .before .before .before .before .before .before .before .before .before .before .before .before .before .before .before .before .before .before .before .before .before .args .packets .now)) (length (c .before .before .before .before .before .before .before .before .before .before .before .before .before .before .before .before .before .before .before .before .before .before .before .before .args .text .now)) (length (c .before .before .before .before .before .before .before .before .before .before .before .before .before .before .before .before .before .before .before .before .before .before .before .before .args .counts .now))) (sym (c .before .before .before .before .before .before .before .before .before .before .number3 .ensures ∙ c .before .before .before .before .before .before .before .before .before .before .before .end-due .ensures ∙ ap endDue (c .before .before .before .before .before .before .before .before .before .before .before .before .is-short .ensures)) ∙ c .before .before .before .before .before .before .before .before .before .if4 .left))) .2))
-
-write-state-requires-2 : tie.Need-write-state-requires-2
-write-state-requires-2 c κs =
-    let r = c .before .before .before .before .before .before .before .end-step .result in
-    let h = c .before .before .before .before .before .before .before .end-step .ensures in
-    let w = writes (r .stream) (h .ready) (end-come (c .before .before .before .before .before .before .before .before .before .before .before .before .before .before .before .before .read-state .result) (c .before .before .before .before .before .before .before .before .before .before .before .before .before .before .before .before .read-state .ensures .1) (sym (c .before .before .before .before .before .before .before .before .before .before .before .before .before .before .before .is-in-range .ensures) ∙ not-false _ (c .before .before .before .before .before .before .before .before .before .before .before .before .before .before .if3 .left)) r h) (end-left (c .before .before .before .before .before .before .before .before .before .before .before .before .before .before .before .before .read-state .result) (c .before .before .before .before .before .before .before .before .before .before .before .before .before .before .before .before .read-state .ensures .1) (sym (c .before .before .before .before .before .before .before .before .before .before .before .before .before .before .before .is-in-range .ensures) ∙ not-false _ (c .before .before .before .before .before .before .before .before .before .before .before .before .before .before .if3 .left)) r h) in
-    (w .0, w .1, c .before .before .before .before .before .before .before .before .before .before .before .before .before .before .before .before .before .before .if2 .left)
-
-same-length-11 : tie.Need-same-length-11
-same-length-11 c = search needs
-
-same-length-12 : tie.Need-same-length-12
-same-length-12 c = search needs
-
-same-length-13 : tie.Need-same-length-13
-same-length-13 c = search needs
-
-same-length-14 : tie.Need-same-length-14
-same-length-14 c = search needs
-
-same-length-15 : tie.Need-same-length-15
-same-length-15 c = search needs
-
-returns-6 : tie.Need-returns-6
-returns-6 c =
-    let r = c .before .before .before .before .before .before .before .before .before .before .end-step .result in
-    let given = c .before .before .before .before .before .before .before .before .before .before .end-step .last .1 .0 in
-    let told = c .before .before .before .before .before .before .before .before .before .before .end-step .last .1 .1 .0 in
-    let h = subst (λ (s : LockStream). EndsStream s r given told) (c .before .before .before .before .before .before .before .before .before .before .before .before .before .before .before .before .before .before .before .read-state .ensures .0) (c .before .before .before .before .before .before .before .before .before .before .end-step .ensures) in
-    ends-on (c .before .before .before .before .before .before .before .before .before .before .before .before .before .before .before .before .before .before .before .before .before .before .before .before .before .before .before .before .args .state .now) (c .before .before .before .before .before .before .before .before .before .before .before .before .before .before .before .before .before .before .before .before .before .before .before .before .before .before .before .before .args .answer .now) (c .before .before .before .before .before .before .before .before .before .before .before .before .before .before .before .before .before .before .before .before .before .before .if1 .left) (c .before .before .before .before .before .before .before .before .before .before .before .before .before .before .before .before .before .before .before .before .before .if2 .left) (λ i. c .before .before .before .before .before .before .before .before .before .before .before .before .before .before .before .before .before .before .before .before .before .before .before .before .before .before .before .slice-known .given i .fits) (clear (c .before .before .before .before .before .before .before .before .before .before .before .before .before .before .before .before .before)) (sized (c .before .before .before .before .before .before .before .before .before .before .before .before .before .before .before .before .before .before .before)) (c .before .before .before .before .before .before .before .before .before .before .before .before .before .before .before .before .before .before .before .before .before .before .before .before .before .before .before .before .args .rest) (c .before .before .before .before .before .before .before .before .before .before .before .before .before .before .before .before .before .before .before .before .before .before .before .before .before .before .before .before .args .packets .now) (c .before .before .before .before .before .before .before .before .before .before .before .before .before .before .before .before .before .before .before .before .before .before .before .before .before .before .before .before .args .text .now) (c .before .before .before .before .before .before .before .before .before .before .before .before .before .before .before .before .before .before .before .before .before .before .before .before .before .before .before .before .args .counts .now) (c .before .before .before .before .before .before .before .before .before .before .before .before .before .before .number3 .result) (set (c .before .before .before .before .before .before .before .before .before .before .before .before .before .before .before .before .before .before .before .before .before .before .before .before .before .before .before .before .args .answer .now) 0 (c .before .before .before .before .before .before .before .before .before .before .before .before .before .before .number3 .result)) (c .before .before .before .before .before .before .before .before .before .before .before .before .before .before .number3 .ensures ∙ c .before .before .before .before .before .before .before .before .before .before .before .before .before .before .before .end-due .ensures ∙ ap endDue (c .before .before .before .before .before .before .before .before .before .before .before .before .before .before .before .before .is-short .ensures)) refl (c .before .before .before .before .before .before .before .before .before .before .before .before .before .if4 .left) r given told (c .before .before .write-state2 .last .1 .0) h (c .before .before .write-state2 .ensures .1) (c .before .before .write-state2 .ensures .0) (c .before .before .before .before .if5 .left)
+    let s = c .before .before .before .before .before .before .before .before .before .before .before .before .before .before .before .before .before .before .before .before .before .before .before .before .before .before .before .before in
+    let p = c .before .before .before .before .before .before .before .before .step-end in
+    let l = subst (λ (t : LockStream). LeavesEnd (s .args .rest) t (s .args .packets .now) (s .args .text .now) (s .args .counts .now) (p .result) (p .last .1 .1 .0) (p .last .1 .1 .1 .0) (p .last .1 .1 .1 .1 .0) (p .last .1 .1 .1 .1 .1 .0)) (c .before .before .before .before .before .before .before .before .before .before .before .before .before .before .before .before .before .before .before .read-state .ensures .0) (p .ensures) in
+    stepped-end (c .before .before .before .before .before .before .before .before .before .before .before .before .before .before .before .before .before .before .before .before .before .before .before .before .before .before .before .before .args .state .now) (c .before .before .before .before .before .before .before .before .before .before .before .before .before .before .before .before .before .before .before .before .before .before .before .before .before .before .before .before .args .answer .now) (c .before .before .before .before .before .before .before .before .before .before .before .before .before .before .before .before .before .before .before .before .before .before .if1 .left) (c .before .before .before .before .before .before .before .before .before .before .before .before .before .before .before .before .before .before .before .before .before .if2 .left) (λ i. c .before .before .before .before .before .before .before .before .before .before .before .before .before .before .before .before .before .before .before .before .before .before .before .before .before .before .before .slice-known .given i .fits) (clear (c .before .before .before .before .before .before .before .before .before .before .before .before .before .before .before .before .before))
+    (c .before .before .before .before .before .before .before .before .before .before .before .before .before .before .before .before .before .before .before .before .before .before .before .before .before .before .before .before .args .packets .now) (c .before .before .before .before .before .before .before .before .before .before .before .before .before .before .before .before .before .before .before .before .before .before .before .before .before .before .before .before .args .text .now) (c .before .before .before .before .before .before .before .before .before .before .before .before .before .before .before .before .before .before .before .before .before .before .before .before .before .before .before .before .args .counts .now) (c .before .before .before .before .before .before .before .before .before .before .before .before .before .before .number3 .result) (set (c .before .before .before .before .before .before .before .before .before .before .before .before .before .before .before .before .before .before .before .before .before .before .before .before .before .before .before .before .args .answer .now) 0 (c .before .before .before .before .before .before .before .before .before .before .before .before .before .before .number3 .result)) refl
+    (c .before .before .before .before .before .before .before .before .before .before .before .before .before .before .before .before .before .before .before .before .before .before .before .before .before .before .before .before .args .rest) (due (c .before .before .before .before .before .before .before .before .before .before .before .before .before .before)) (c .before .before .before .before .before .before .before .before .before .before .before .before .before .if4 .left) (p .result) (p .last .1 .1 .0) (p .last .1 .1 .1 .0) (p .last .1 .1 .1 .1 .0) (p .last .1 .1 .1 .1 .1 .0) l
 
 pub dvbs-lock-end-spec : {M : Type 1} → statement M
 dvbs-lock-end-spec =
@@ -186,23 +138,10 @@ dvbs-lock-end-spec =
     same-length-4
     same-length-5
     returns-4
-    end-step-requires
-    close-requires
-    slice-write-counts
-    slice-write-counts-2
-    write-state-requires
+    step-end-requires
     same-length-6
     same-length-7
     same-length-8
     same-length-9
     same-length-10
-    returns-5
-    slice-write-counts-3
-    slice-write-counts-4
-    write-state-requires-2
-    same-length-11
-    same-length-12
-    same-length-13
-    same-length-14
-    same-length-15
-    returns-6)
+    returns-5)
