@@ -58,8 +58,9 @@ if [ "$(df --output=avail -k "$scratch" | tail -n 1)" -ge 8000000 ] && cp /bin/t
     chmod 711 "$scratch"
     export TMPDIR=$scratch
 fi
-# rt waits for the whole of a batch. With four at a time two processors are seldom left idle by the longest one.
-export RT_JOBS=${RT_JOBS:-4}
+# rt waits for the whole of a batch. With four at a time, or eight where memory holds them at 2 GB each, two processors are seldom left idle by the longest one.
+if [ "$(awk '$1 == "MemAvailable:" { print $2 }' /proc/meminfo)" -ge 18000000 ]; then jobs=8; else jobs=4; fi
+export RT_JOBS=${RT_JOBS:-$jobs}
 # Its last line is held back: where something failed, no line of this script reads as if all had passed.
 rt ci | tee "$work/gate" | sed '$d' || fail "rt ci, which ended: $(tail -n 1 "$work/gate")"
 last=$(tail -n 1 "$work/gate")
@@ -68,9 +69,8 @@ last=$(tail -n 1 "$work/gate")
 # Nothing is written to a home folder.
 export CARGO_HOME=$PWD/target/cargo-home CARGO_TARGET_DIR=$PWD/target/cargo
 in_reference=(--release --offline --manifest-path reference/Cargo.toml)
-quietly ./build.sh libdvbs libdvbs_bridge
-quietly rt staticlib kernels
-# Each program is proved once more where it is built, one after the other. What needs none of them goes on beside that.
+quietly ./build.sh libdvbs libdvbs_bridge libkernels
+# Each program is proved once more where it is built. What needs none of them goes on beside that.
 ./build.sh $(basename -s .1 man/*.1) > "$work/built" 2>&1 &
 building=$!
 export EXPORTS_DIR=$PWD/target/staticlib

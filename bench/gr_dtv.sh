@@ -11,7 +11,7 @@ if ! with_gnuradio && ! { install gnuradio && with_gnuradio; }; then
     echo "bench/gr_dtv.sh: GNU Radio is missing (Debian: gnuradio), so gr-dtv is not measured"
     exit 0
 fi
-{ ./build.sh libdvbs && rt staticlib kernels; } > "$build/libraries.log" 2>&1 || { cat "$build/libraries.log"; exit 1; }
+./build.sh libdvbs libkernels > "$build/libraries.log" 2>&1 || { cat "$build/libraries.log"; exit 1; }
 "${CC:-cc}" -std=gnu11 -O3 -Wall -Wextra -shared -fPIC bench/gr_dtv_stages.c -Ltarget/staticlib -ldvbs -lkernels -o "$build/gr_dtv_stages.so"
 # GNU Radio's remarks on its own buffers are no lines of the table.
 "$python" bench/gr_dtv.py "$build/gr_dtv_stages.so" 2> "$build/gr_dtv.log" | grep -v '^buffer_double_mapped' | tee "$build/gr_dtv" || { tail -5 "$build/gr_dtv.log"; exit 1; }

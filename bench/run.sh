@@ -29,7 +29,7 @@ has_osmocore() {
 }
 
 mkdir -p "$build"
-{ ./build.sh libdvbs libdvbs_bridge && rt staticlib kernels; } > "$build/libraries.log" 2>&1 || { cat "$build/libraries.log"; exit 1; }
+./build.sh libdvbs libdvbs_bridge libkernels > "$build/libraries.log" 2>&1 || { cat "$build/libraries.log"; exit 1; }
 peers=() flags=()
 has_libfec || install libfec-dev
 if has_libfec; then

@@ -5,7 +5,7 @@
 #   tests/instructions.sh write    counts them and writes them down
 # What callgrind counts inside the C library depends on its version, on valgrind's and on what the processor offers, so the file says of which these are; elsewhere
 # nothing is compared, and that is said.
-# It needs the libraries in target/staticlib (./build.sh libdvbs libdvbs_bridge, rt staticlib kernels). CC may name another compiler.
+# It needs the libraries in target/staticlib (./build.sh libdvbs libdvbs_bridge libkernels). CC may name another compiler.
 set -euo pipefail
 cd "$(dirname "$0")/.."
 written=tests/instructions.txt
