@@ -1,12 +1,13 @@
 -- The loop of packing, one bit a turn; and one piece after the other: the bytes are those of all the bits.
 -- Assumes nothing.
-use mathlib.Core.Path.{_≡_, refl, sym, ap, ap₂, _∙_}
+use mathlib.Core.Path.{_≡_, refl, sym, ap, ap₂, subst, _∙_}
 use mathlib.Core.List.{List, [], _∷_, _++_, append-nil, append-assoc}
 use Prim.Native.Nat.{ℕ, suc, _+_, _-_, _*_, _/_, _%_, _≤_, _<_}
 use Prim.{tt}
 use native.Mathlib.Numerals.{add-one}
 use native.Mathlib.Omega.{arith}
-use lib.ListN.{length, getD, take, drop, set, length-append, length-drop}
+use borrow.Rule.Slice.PartMut.{midOf, putMid}
+use lib.ListN.{length, getD, take, drop, set, length-append, length-drop, drop-of-length-le}
 use lib.Seq.{take-suc, take-at, take-all, take-length, length-take-le, drop-at, drop-append-le, drop-drop, drop-cons, append-snoc, set-at}
 use Rattle.common.specs.Lists.{restOf}
 use Rattle.common.proofs.Chunks.{length-rest, rest-few, cut}
@@ -214,6 +215,36 @@ packs-more {carried} {piece} {output} {exit} {carry} {held} {count} w more {last
       few = v .few;
       carries = v .carries ∙ ap (restOf 8) c ∙ sym (cut 8 (omega arith) all more .rest-is) ∙ ap (restOf 8) (sym e);
     }
+
+-- in what is left of it
+pub packs-put : {carried piece output exit : List ℕ} {carry held count : ℕ} → Packs carried piece output carry held count exit
+    → (more : List ℕ) {last : List ℕ} {carry′ held′ n : ℕ} → Packs (carriedBits carry held) more (midOf count (length exit - count) exit) carry′ held′ n last
+    → Packs carried (piece ++ more) output carry′ held′ (count + n) (putMid count (length exit - count) exit last)
+packs-put {carried} {piece} {output} {exit} {carry} {held} {count} w more {last} {carry′} {held′} {n} v =
+    let all : midOf count (length exit - count) exit ≡ drop count exit = take-all (length exit - count) (drop count exit) (omega (arith, length-drop count exit)) in
+    let none : last ++ drop (length exit - count) (drop count exit) ≡ last =
+    ap (λ (x : List ℕ). last ++ x) (drop-of-length-le (drop count exit) {i = length exit - count} (omega (arith, length-drop count exit))) ∙ append-nil last in
+    subst (λ (l : List ℕ). Packs carried (piece ++ more) output carry′ held′ (count + n) l) (ap (λ (x : List ℕ). take count exit ++ x) (sym none))
+    (packs-more w more (subst (λ (x : List ℕ). Packs (carriedBits carry held) more x carry′ held′ n last) all v))
+
+-- ---- bits that fill bytes
+
+pub carried-none : (carry : ℕ) → carriedBits carry 0 ≡ []
+unfolding carriedBits bitsOf
+carried-none carry = refl
+
+none-of : (l : List ℕ) → length l ≡ 0 → l ≡ []
+none-of [] e = refl
+none-of (x ∷ l) e = absurd (omega arith)
+
+pub packs-whole : (carry : ℕ) (piece output : List ℕ) {exit : List ℕ} (count : ℕ) → length piece % 8 ≡ 0 → count ≡ length piece / 8 → exit ≡ packedBytes piece ++ drop count output
+    → Packs [] piece output carry 0 count exit
+packs-whole carry piece output count h n w = record {
+  counted = n;
+  written = w;
+  few = omega arith;
+  carries = carried-none carry ∙ sym (none-of (restOf 8 piece) (length-rest 8 piece ∙ h));
+}
 
 -- ---- piece after piece
 

@@ -9,8 +9,8 @@ use lib.ListN.{length, getD, take, drop, length-drop}
 use lib.Seq.{getD-take}
 use Rattle.common.proofs.Lists.{getD-map-in}
 use Rattle.common.proofs.Chunks.{chunks-more}
-use Rattle.convolutional_code.specs.Bits.{Bits, none, more}
-use Rattle.convolutional_code.proofs.Bits.{bits-at}
+use Rattle.convolutional_code.specs.Bits.{Bits}
+use Rattle.convolutional_code.proofs.Bits.{bits-at, bits-drop}
 use Rattle.bit_packing.specs.Packing.{byteOf, packedBytes}
 use Rattle.bit_packing.proofs.Bytes.{length-bytes}
 use Rattle.sync_search.specs.Sync.{byteAt}
@@ -57,11 +57,6 @@ first-byte l t =
 
     g : (i : ℕ) → i < 8 → getD l i 0 % 2 ≡ getD (take 8 l) i 0
     g i k = m (getD l i 0) (bits-at t i) ∙ sym (getD-take 8 l i 0 k)
-
-bits-drop : (n : ℕ) {l : List ℕ} → Bits l → Bits (drop n l)
-bits-drop zero t = t
-bits-drop (suc n) none = none
-bits-drop (suc n) (more h t) = bits-drop n t
 
 packed-at : (n : ℕ) (l : List ℕ) → Bits l → 8 * n + 8 ≤ length l → byteAt l (8 * n) ≡ getD (packedBytes l) n 0
 unfolding packedBytes

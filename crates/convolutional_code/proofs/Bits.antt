@@ -4,7 +4,7 @@ use mathlib.Core.Path.{_≡_, refl, ap}
 use mathlib.Core.List.{List, [], _∷_, _++_}
 use Prim.Native.Nat.{ℕ, zero, suc, _*_, _/_, _%_, _<_}
 use native.Mathlib.Omega.{arith}
-use lib.ListN.{length, getD, replicate}
+use lib.ListN.{length, getD, take, drop, replicate}
 use Rattle.common.specs.Lists.{total}
 use Rattle.convolutional_code.specs.Bits.{bitsOf, Bits, none, more}
 use Rattle.convolutional_code.specs.Code.{recent, nextMemory, motherOf, coded, memoryAfter}
@@ -18,6 +18,16 @@ bits-at (more h t) (suc k) = bits-at t k
 pub bits-append : {a b : List ℕ} → Bits a → Bits b → Bits (a ++ b)
 bits-append none t = t
 bits-append (more h s) t = more h (bits-append s t)
+
+pub bits-take : (n : ℕ) {l : List ℕ} → Bits l → Bits (take n l)
+bits-take zero t = none
+bits-take (suc n) none = none
+bits-take (suc n) (more h t) = more h (bits-take n t)
+
+pub bits-drop : (n : ℕ) {l : List ℕ} → Bits l → Bits (drop n l)
+bits-drop zero t = t
+bits-drop (suc n) none = none
+bits-drop (suc n) (more h t) = bits-drop n t
 
 pub zero-bits : (n : ℕ) → Bits (replicate n 0)
 zero-bits zero = none

@@ -4,14 +4,13 @@ use mathlib.Core.Path.{_≡_, refl, sym, ap, subst, _∙_}
 use mathlib.Core.List.{List, [], _++_, map, append-nil, append-assoc}
 use Prim.Native.Nat.{ℕ, _+_, _-_, _*_, _≤_, _<_}
 use native.Mathlib.Omega.{arith}
-use borrow.Rule.Slice.PartMut.{putMid}
+use borrow.Rule.Slice.PartMut.{putMid, same-len-mid}
 use lib.Ieee.{Float, nan}
-use lib.ListN.{length, getD, take, drop, length-append, length-take, length-drop, length-map, drop-of-length-le}
+use lib.ListN.{length, getD, take, drop, length-append, length-take, length-drop, length-map}
 use lib.Seq.{length-take-le, take-length, take-add, ext-getD, getD-take, getD-drop}
 use Rattle.common.specs.Lists.{All}
 use Rattle.common.proofs.Lists.{All-of, All-at, getD-map-in}
-use Rattle.bit_packing.specs.Packing.{Packs}
-use Rattle.bit_packing.proofs.Packing.{carried-length, packs-all, packs-fit, packs-none, packs-more}
+use Rattle.bit_packing.proofs.Packing.{carried-length, packs-all, packs-fit, packs-none, packs-put}
 use Rattle.branch_metrics.specs.Cost.{received, receivedOf}
 use Rattle.branch_metrics.specs.SoftPairs.{symbolPair, symbolAt}
 use Rattle.branch_metrics.specs.declared.soft_decision.ReceivedSymbol.the-variants.{Lost}
@@ -94,10 +93,6 @@ module _ {s next : ReaderStream} (going : ReaderReady s) {all output₀ output :
       → FeedsReader next piece behind after more last → length last ≡ length behind
       → Fed s all output₀ (putMid count (length output - count) output last) after (count + more) (at + n)
   fed-more piece n is h {after} {more} {last} g len =
-      let w = packs-more (f .feeds .packed) (g .bits) (subst (λ (x : List ℕ). Packs (heldBits next) (g .bits) x (after .carry) (after .held) more last) behind-is (g .packed)) in
-      let nothing : last ++ drop (length output - count) (drop count output) ≡ last =
-      ap (λ (x : List ℕ). last ++ x) (drop-of-length-le (drop count output) {i = length output - count} (omega (arith, length-drop count output))) ∙ append-nil last in
-      let put : take count output ++ (last ++ drop (length output - count) (drop count output)) ≡ take count output ++ last = ap (λ (x : List ℕ). take count output ++ x) nothing in
       let front : heldPairs s ++ take at all ++ piece ≡ heldPairs s ++ take (at + n) all =
       append-assoc (heldPairs s) (take at all) piece ∙ ap (λ (l : List ℕ). heldPairs s ++ l) (ap (λ (l : List ℕ). take at all ++ l) is ∙ sym (take-add at n all)) in
       record {
@@ -111,9 +106,9 @@ module _ {s next : ReaderStream} (going : ReaderReady s) {all output₀ output :
                   subst (λ (l : List ℕ). DecidedPairs (s .runs .rate) (s .runs .memory) l (f .feeds .bits ++ g .bits) (after .runs .memory) (heldPairs after)) front
                   (joined (going .runs-ready .known) (f .feeds .decided) piece
                   (subst (λ (j : ℕ). DecidedPairs j (next .runs .memory) (heldPairs next ++ piece) (g .bits) (after .runs .memory) (heldPairs after)) (f .feeds .rate-is) (g .decided)));
-              packed = subst (λ (l : List ℕ). Packs (heldBits s) (f .feeds .bits ++ g .bits) output₀ (after .carry) (after .held) (count + more) l) (sym put) w;
+              packed = packs-put (f .feeds .packed) (g .bits) (g .packed);
             };
-        same = ap length put ∙ length-append (take count output) last ∙ omega (arith, length-take-le count output within, len, behind-length, within, f .same);
+        same = same-len-mid count (length output - count) output last len ∙ f .same;
       }
 
   -- and count no more bytes than the output has

@@ -5,10 +5,10 @@ use mathlib.Core.List.{List, [], _++_, append-nil, append-assoc}
 use Prim.Native.Nat.{ℕ, _+_, _*_, _-_, _≤_, _<_}
 use native.Mathlib.Omega.{arith}
 use borrow.Rule.Slice.PartMut.{putMid}
-use lib.ListN.{length, take, drop, length-append, length-take, length-drop, drop-of-length-le}
+use lib.ListN.{length, take, drop, length-append, length-take, length-drop}
 use lib.Seq.{length-take-le, take-length, take-append-le, take-at, take-add}
 use Rattle.bit_packing.specs.Packing.{carriedBits, Packs}
-use Rattle.bit_packing.proofs.Packing.{carried-length, packs-fit, packs-all, packs-none, packs-more}
+use Rattle.bit_packing.proofs.Packing.{carried-length, packs-fit, packs-all, packs-none, packs-put}
 use Rattle.convolutional_code.specs.Bits.{Bits, none}
 use Rattle.reader_stream.specs.Runs.{fullSymbols, keptBits, keptSymbols, DecidedPairs, few-pairs, run-pairs, RunsReady, FeedsSymbols, gathered, read, heldOf, ClosesRuns}
 use Rattle.reader_stream.specs.declared.symbol_runs.SymbolRuns.{SymbolRuns}
@@ -184,9 +184,6 @@ module _ {start runs : SymbolRuns} {carry₀ held₀ : ℕ} (going : RunsReady s
         let t = fed-some in
         let more : List ℕ = take decided exit in
         let hr : start .rate < qpskCount = going .known in
-        let w = packs-more (g .packed) more (subst (λ (x : List ℕ). Packs (carriedBits carry held) more x carry′ held′ n last) behind-is p) in
-        let nothing : last ++ drop (length output - count) (drop count output) ≡ last =
-        ap (λ (x : List ℕ). last ++ x) (drop-of-length-le (drop count output) {i = length output - count} (omega (arith, length-drop count output))) ∙ append-nil last in
         let front : heldOf start ++ take at pairs ++ take taken piece ≡ heldOf start ++ take (at + taken) pairs =
         append-assoc (heldOf start) (take at pairs) (take taken piece)
         ∙ ap (λ (l : List ℕ). heldOf start ++ l) (ap (λ (l : List ℕ). take at pairs ++ take taken l) all ∙ sym (take-add at taken pairs)) in
@@ -199,9 +196,7 @@ module _ {start runs : SymbolRuns} {carry₀ held₀ : ℕ} (going : RunsReady s
               subst (λ (l : List ℕ). DecidedPairs (start .rate) (start .memory) l (g .bits ++ more) (next .memory) (heldOf next)) front
               (joined hr (g .decided) (take taken piece)
               (subst (λ (j : ℕ). DecidedPairs j (runs .memory) (heldOf runs ++ take taken piece) more (next .memory) (heldOf next)) (g .rate-is) (fed-decided (g .ready) f)));
-          packed =
-              subst (λ (l : List ℕ). Packs (carriedBits carry₀ held₀) (g .bits ++ more) output₀ carry′ held′ (count + n) l)
-              (ap (λ (x : List ℕ). take count output ++ x) (sym nothing)) w;
+          packed = packs-put (g .packed) more p;
           space = omega (arith, length-append (g .bits) more, length-take decided exit, g .space, fed-space (g .ready) r f);
         }
 
