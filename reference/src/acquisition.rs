@@ -1,14 +1,18 @@
 //! Acquisition (`docs/ACQUISITION.md`): the packets of points that begin anywhere, turned any way, and of decoded bytes that
-//! begin at any bit. Written from that text over the whole input at once: a list of decisions, a list of bits, a list of the
-//! blocks of a lock.
+//! begin at any bit. Points are taken step by step (`docs/STATES.md`, "A step of a lock"): what a lock keeps between two steps is all
+//! that it knows of those that came. Decoded bytes are taken as one list of bits.
 
-use crate::channel::{from_bytes, Point};
-use crate::inner_code::{InnerCoder, RATES};
-use crate::inner_decoder::{by_choices, level, BitCosts, LONGEST};
-use crate::losses::{blocks_by, lines};
-use crate::receiver::Receiver;
+use crate::answer::Answer;
+use crate::channel::from_bytes;
+use crate::inner_code::RATES;
+use crate::inner_decoder::{by_choices, BitCosts, LONGEST};
+use crate::interleaver::BRANCHES;
+use crate::losses::{in_place, sure, Block, Line};
+use crate::receiver::{Receiver, FILLING, MOST_BLOCKS};
 use crate::report::{Bits, Report};
-use crate::{answer::Answer, BLOCK_LENGTH, INVERTED_SYNC, SYNC};
+use crate::runs::{costs, decisions, lost_pair, pair_of, pattern_size, soft_pair, Runs, NOT_KNOWN};
+use crate::states::advance;
+use crate::{BLOCK_LENGTH, INVERTED_SYNC, SYNC};
 
 /// The symbols of a search.
 pub const WINDOW: usize = 1632;
@@ -19,7 +23,9 @@ pub const THRESHOLD: [u64; RATES as usize] = [760, 400, 255, 120, 72];
 const FIVE_SIXTHS: u8 = 3;
 /// The bits of a block, and those of a decision: five blocks and a byte.
 const BLOCK_BITS: usize = 8 * BLOCK_LENGTH;
-const DECISION_BITS: usize = 5 * BLOCK_BITS + 8;
+pub const DECISION_BITS: usize = 5 * BLOCK_BITS + 8;
+/// The bits that a decision without a block skips.
+pub const SKIPPED_BITS: usize = BLOCK_BITS + 1;
 
 /// What is on standard output and on standard error, and the status.
 #[derive(Debug, PartialEq, Eq)]
@@ -29,36 +35,17 @@ pub struct Told {
     pub status: i32,
 }
 
-/// The decisions on a symbol's I and Q: the level of each, or nothing where it is not known.
-pub type Decisions = [Option<u32>; 2];
-
-const NOT_KNOWN: Decisions = [None; 2];
-
-fn decided(point: Point) -> Decisions {
-    [point.0, point.1].map(|x| if x.is_nan() { None } else { Some(level(x)) })
-}
-
-/// What was sent, of what was received turned by `turn`.
-fn turned_back(turn: u8, received: Decisions) -> Decisions {
-    let negated = |decision: Option<u32>| decision.map(|level| 7 - level);
-    let [mut i, mut q] = received;
+/// What was sent, of what was received turned by `turn`: pairs of decisions.
+fn turned_back(turn: u8, received: u8) -> u8 {
+    let negated = |decision: u8| if decision == NOT_KNOWN { NOT_KNOWN } else { 7 - decision };
+    let [mut i, mut q] = decisions(received);
     for _ in 0..turn % 4 {
         (i, q) = (q, negated(i));
     }
     if turn >= 4 {
         q = negated(q);
     }
-    [i, q]
-}
-
-fn costs(symbol: Decisions) -> [BitCosts; 2] {
-    symbol.map(|decision| decision.map_or([0, 0], |level| [7 - level, level]))
-}
-
-/// The bits and the symbols of a rate's pattern.
-pub fn pattern_size(rate: u8) -> (usize, usize) {
-    let bits = InnerCoder::pattern_length(rate);
-    (bits, InnerCoder::after(rate, 0).symbols_due(bits))
+    pair_of([i, q])
 }
 
 // ---- the search
@@ -75,107 +62,46 @@ fn hypotheses(rate: u8) -> Vec<Hypothesis> {
     (0..pattern_size(rate).1).flat_map(|offset| turns.iter().map(move |&turn| Hypothesis { rate, offset, turn })).collect()
 }
 
+/// The lost symbols in front of a reading.
+fn lead(rate: u8) -> Vec<u8> {
+    vec![lost_pair(); LEAD[rate as usize] * pattern_size(rate).1]
+}
+
 /// Whether the window costs little enough.
-fn is_candidate(h: Hypothesis, window: &[Decisions]) -> bool {
+fn is_candidate(h: Hypothesis, window: &[u8]) -> bool {
     let (bits, symbols) = pattern_size(h.rate);
-    let lead = LEAD[h.rate as usize];
-    let behind = (LONGEST / bits - lead).min((window.len() - h.offset) / symbols);
-    let taken = window[h.offset..].iter().take(behind * symbols).map(|&s| turned_back(h.turn, s));
-    let read: Vec<BitCosts> = std::iter::repeat(NOT_KNOWN).take(lead * symbols).chain(taken).flat_map(costs).collect();
+    let patterns = LONGEST / bits;
+    let behind = window[h.offset..].iter().map(|&pair| turned_back(h.turn, pair));
+    let read: Vec<BitCosts> = lead(h.rate).into_iter().chain(behind).take(patterns * symbols).flat_map(costs).collect();
     let least: u32 = read.iter().map(|c| c[0].min(c[1])).sum();
     let differences: u32 = read.iter().map(|c| c[0].abs_diff(c[1])).sum();
-    let cost = by_choices(h.rate, 0, &read, (lead + behind) * bits).cost;
+    let cost = by_choices(h.rate, 0, &read, patterns * bits).cost;
     10_000 * u64::from(cost - least) < THRESHOLD[h.rate as usize] * u64::from(differences)
 }
 
 /// The only candidate, at one rate or at any.
-fn search(rate: Option<u8>, window: &[Decisions]) -> Option<Hypothesis> {
+fn search(rate: Option<u8>, window: &[u8]) -> Option<Hypothesis> {
     let rates = rate.map_or(0..RATES, |rate| rate..rate + 1);
     let mut candidates = rates.flat_map(hypotheses).filter(|&h| is_candidate(h, window));
     let first = candidates.next()?;
     candidates.next().map_or(Some(first), |_| None)
 }
 
-// ---- a reading
-
-/// Symbols that are read at a rate, turned back, in runs that overlap: of a longest run all patterns are kept but those of a
-/// hundred bits and one more.
-struct Reading<'a> {
-    rate: u8,
-    turn: u8,
-    symbols: &'a [Decisions],
-    /// Symbols, those of the lead too, before the next run, and behind the last one.
-    from: usize,
-    until: usize,
-    memory: u8,
-}
-
-impl<'a> Reading<'a> {
-    fn new(rate: u8, turn: u8, symbols: &'a [Decisions]) -> Self {
-        Reading { rate, turn, symbols, from: 0, until: 0, memory: 0 }
-    }
-
-    fn lead(&self) -> usize {
-        LEAD[self.rate as usize] * pattern_size(self.rate).1
-    }
-
-    /// So many patterns of the next run, of which so many are kept.
-    fn run(&mut self, patterns: usize, kept: usize) -> Vec<u8> {
-        let (bits, symbols) = pattern_size(self.rate);
-        self.until = self.from + patterns * symbols;
-        let lead = self.lead();
-        let symbol = |k: usize| if k < lead { NOT_KNOWN } else { turned_back(self.turn, self.symbols[k - lead]) };
-        let read: Vec<BitCosts> = (self.from..self.until).flat_map(|k| costs(symbol(k))).collect();
-        let mut run = by_choices(self.rate, self.memory, &read, patterns * bits).bits;
-        run.truncate(kept * bits);
-        let mut coder = InnerCoder::after(self.rate, self.memory);
-        coder.code_bits(&run);
-        self.memory = coder.memory();
-        self.from += kept * symbols;
-        run
-    }
-
-    /// The bits that are kept of the next longest run, where there is one.
-    fn next(&mut self) -> Option<Vec<u8>> {
-        let (bits, symbols) = pattern_size(self.rate);
-        let patterns = LONGEST / bits;
-        let there = self.from + patterns * symbols <= self.lead() + self.symbols.len();
-        there.then(|| self.run(patterns, patterns - (100 / bits + 1)))
-    }
-
-    /// The bits of the whole patterns that are left at the end.
-    fn last(&mut self) -> Vec<u8> {
-        let left = (self.lead() + self.symbols.len() - self.from) / pattern_size(self.rate).1;
-        self.run(left, left)
-    }
-
-    /// How many symbols were taken into runs.
-    fn taken(&self) -> usize {
-        self.until.saturating_sub(self.lead())
-    }
-
-    /// How many symbols come before the pattern of a bit.
-    fn symbols_before(&self, bit: usize) -> usize {
-        let (bits, symbols) = pattern_size(self.rate);
-        (bit / bits * symbols).saturating_sub(self.lead())
-    }
-}
-
 // ---- blocks
 
-/// Bits that are gathered, the number of the first of them, and of the block before, where the last decision gave one, whether it was
-/// inverted.
-struct Gathered {
-    bits: Vec<u8>,
-    first: usize,
-    before: Option<bool>,
+/// Bits that are gathered, how many the decisions before used up, and of the last decision whether it gave a block and whether that was inverted.
+pub struct Gathered {
+    pub bits: Vec<u8>,
+    pub used: u64,
+    pub gave: bool,
+    pub inverted: bool,
 }
 
-struct Block {
+/// A block that a decision gives.
+struct FoundBlock {
     begins: bool,
-    /// The number of its first bit, and of the one behind the block before.
-    at: usize,
-    behind: usize,
+    /// The number of its first bit.
+    at: u64,
     inverted: bool,
     bytes: Vec<u8>,
 }
@@ -185,8 +111,8 @@ fn byte_of(bits: &[u8]) -> u8 {
 }
 
 impl Gathered {
-    fn none() -> Self {
-        Gathered { bits: Vec::new(), first: 0, before: None }
+    pub fn none() -> Self {
+        Gathered { bits: Vec::new(), used: 0, gave: false, inverted: false }
     }
 
     /// The sync byte at a place, where it is one; nothing where the bits end before.
@@ -204,114 +130,168 @@ impl Gathered {
         Some(inverted)
     }
 
+    /// The block at the front follows the one before: one of four sync bytes is there, and a byte that is not whole counts as one.
     fn follows(&self) -> bool {
-        self.before.is_some() && (0..4).any(|k| self.sync(k * BLOCK_BITS).map_or(true, |sync| sync.is_some()))
+        let in_step = (0..4).any(|k| self.sync(k * BLOCK_BITS).map_or(true, |sync| sync.is_some()));
+        self.gave && self.bits.len() >= BLOCK_BITS && in_step
     }
 
     fn begins(&self) -> Option<usize> {
         (0..=BLOCK_BITS).find(|&at| self.inverted_of(5, at).map_or(false, |inverted| inverted <= 1 || inverted >= 4))
     }
 
-    /// A decision is due: on five blocks and a byte, and at the end on a block.
-    fn due(&self, ended: bool) -> bool {
-        self.bits.len() >= if ended { BLOCK_BITS } else { DECISION_BITS }
-    }
-
     fn skip(&mut self, bits: usize) {
         self.bits.drain(..bits);
-        self.first += bits;
+        self.used += bits as u64;
     }
 
-    /// The block that the decision gives.
-    fn decide(&mut self) -> Option<Block> {
-        let (before, behind) = (self.before, self.first);
+    /// The block that the decision gives. Where it gives none, the bits stay.
+    fn decide(&mut self) -> Option<FoundBlock> {
         let follows = self.follows();
         let place = if follows { Some(0) } else { self.begins() };
-        self.before = None;
+        let before = follows && self.inverted;
+        (self.gave, self.inverted) = (false, false);
         let at = place?;
-        let inverted = self.inverted_of(3, at).map_or(before.unwrap_or(false), |inverted| inverted >= 2);
+        let inverted = self.inverted_of(3, at).map_or(before, |inverted| inverted >= 2);
         let bytes = self.bits[at..at + BLOCK_BITS].chunks(8).map(|bits| byte_of(bits) ^ if inverted { 0xFF } else { 0 }).collect();
+        let block = FoundBlock { begins: !follows, at: self.used + at as u64, inverted, bytes };
         self.skip(at + BLOCK_BITS);
-        self.before = Some(inverted);
-        Some(Block { begins: !follows, at: behind + at, behind, inverted, bytes })
+        (self.gave, self.inverted) = (true, inverted);
+        Some(block)
+    }
+}
+
+// ---- packets
+
+/// The receiver of a lock's blocks, with the positions of its branches.
+pub struct LockReceiver {
+    pub receiver: Receiver,
+    pub positions: Vec<usize>,
+    /// A B8 fixed the place, and every block since gave a packet.
+    pub sure: bool,
+    /// The last blocks, whose packets wait for their B8.
+    pub waiting: Vec<Block>,
+}
+
+fn line_text(line: Line) -> String {
+    match line.answer {
+        Answer::Done => format!("block={} doubt=1\n", line.block),
+        answer => format!("block={} answer={}\n", line.block, answer.number()),
+    }
+}
+
+impl LockReceiver {
+    pub fn fresh() -> Self {
+        LockReceiver { receiver: Receiver::fresh(), positions: vec![0; BRANCHES], sure: false, waiting: Vec::new() }
+    }
+
+    /// A block that began with B8: it stands for those before, where the places are sure.
+    fn start() -> Block {
+        Block { answer: Answer::Done, place: 0, packet: Vec::new() }
+    }
+
+    /// The number of the first block that waits, or of the next: those behind the eleven that fill the delays, from 0.
+    fn first_waiting(&self) -> u64 {
+        self.receiver.counts().taken.saturating_sub(FILLING) - self.waiting.len() as u64
+    }
+
+    /// What a block gives and tells. Of a block whose packet waits both come later.
+    fn take(&mut self, bytes: &[u8]) -> (Vec<u8>, String) {
+        let first = self.first_waiting();
+        let received = Block::received(&mut self.receiver, bytes, &[0; BLOCK_LENGTH]);
+        advance(&self.receiver.branches, &mut self.positions);
+        let (mut packets, mut text) = (Vec::new(), String::new());
+        if let Some(block) = received {
+            let before: Vec<Block> = self.sure.then(Self::start).into_iter().collect();
+            let settled = before.len();
+            let blocks: Vec<Block> = before.into_iter().chain(self.waiting.drain(..)).chain([block]).collect();
+            self.sure = sure(&blocks, blocks.len() - 1);
+            let now: Vec<Option<bool>> = (0..blocks.len()).map(|at| if blocks[at].given() { in_place(&blocks, at) } else { Some(false) }).collect();
+            for (number, (block, now)) in (first..).zip(blocks.into_iter().zip(now).skip(settled)) {
+                match now {
+                    Some(true) => packets.extend(&block.packet),
+                    Some(false) => text += &line_text(Line { block: number, answer: block.answer }),
+                    None => self.waiting.push(block),
+                }
+            }
+        }
+        (packets, text)
+    }
+
+    /// The lines of the packets that wait where the lock ends.
+    fn waiting_text(&self) -> String {
+        (self.first_waiting()..).zip(&self.waiting).map(|(block, _)| line_text(Line { block, answer: Answer::Done })).collect()
     }
 }
 
 // ---- what is told
 
-struct Lock {
-    line: String,
-    /// Symbols, or bits, between the lock before and this one.
-    skipped: usize,
-    blocks: Vec<u8>,
-}
-
-struct Teller {
+/// What was given and told, and what is known of the last lock.
+pub struct Teller {
     /// `symbol` or `bit`.
     unit: &'static str,
-    packets: Vec<u8>,
-    text: String,
-    lock: Option<Lock>,
-    /// Where the last lock ended.
-    end: usize,
+    pub packets: Vec<u8>,
+    pub text: String,
+    /// There was a lock, and one lasts.
+    pub found: bool,
+    pub lasts: bool,
+    pub receiver: LockReceiver,
+    /// Symbols, or bits, between the lock before and the last one.
+    pub skipped: u64,
+    /// Those before the bit behind the last block.
+    pub end: u64,
 }
 
 impl Teller {
     fn new(unit: &'static str) -> Self {
-        Teller { unit, packets: Vec::new(), text: String::new(), lock: None, end: 0 }
+        let (packets, text) = (Vec::new(), String::new());
+        Teller { unit, packets, text, found: false, lasts: false, receiver: LockReceiver::fresh(), skipped: 0, end: 0 }
     }
 
-    /// A lock begins.
-    fn lock(&mut self, at: usize, words: &str) {
-        let line = format!("lock {}={at} {words}\n", self.unit);
-        self.lock = Some(Lock { line, skipped: at - self.end, blocks: Vec::new() });
-    }
-
-    /// A block goes to the lock.
-    fn block(&mut self, bytes: &[u8]) {
-        self.lock.as_mut().expect("a block begins a lock or follows one").blocks.extend(bytes);
-    }
-
-    /// The lock ends, where there is one: its lines, those of the end of the input where it lasts to it, and its report.
-    fn close(&mut self, at: usize, end: &str, rest: usize) {
-        let lock = match self.lock.take() {
-            Some(lock) => lock,
-            None => return,
-        };
-        let mut receiver = Receiver::fresh();
-        let blocks = blocks_by(&mut receiver, &lock.blocks, &[]);
-        let told = lines(&blocks);
-        self.text += &lock.line;
-        for line in &told {
-            self.text += &match line.answer {
-                Answer::Done => format!("block={} doubt=1\n", line.block),
-                answer => format!("block={} answer={}\n", line.block, answer.number()),
-            };
+    /// A block between two places. It begins a lock where it was found so, where none lasts, and where its receiver can count no more.
+    fn block(&mut self, block: &FoundBlock, [start, end]: [u64; 2], words: &str) {
+        if block.begins || !self.lasts || self.receiver.receiver.counts().taken == MOST_BLOCKS {
+            self.lost();
+            self.text += &format!("lock {}={start} {words}\n", self.unit);
+            self.receiver = LockReceiver::fresh();
+            self.skipped = start.saturating_sub(self.end);
+            (self.found, self.lasts) = (true, true);
         }
-        for (k, block) in blocks.iter().enumerate() {
-            if told.iter().all(|line| line.block != k as u64) {
-                self.packets.extend(&block.packet);
-            }
-        }
-        let [counts @ .., bits] = receiver.counts().in_order();
-        let report = Report { counts, bits: Bits::Number(bits), rest: rest as u64 };
-        self.text += &format!("{end}lost {}={at} skipped={}\n{}", self.unit, lock.skipped, report.text());
-        self.end = at;
+        self.end = end;
+        let (packets, text) = self.receiver.take(&block.bytes);
+        self.packets.extend(packets);
+        self.text += &text;
     }
 
-    /// The input ended. A lock lasts to it that ends at `at` and has so many whole bytes behind it.
-    fn ended(mut self, all: usize, at: usize, rest: usize, bytes: &str) -> Told {
-        let behind = if self.lock.is_some() { at } else { self.end };
-        let end = format!("end {}={all} skipped={}{bytes}\n", self.unit, all - behind);
-        if self.lock.is_some() {
-            self.close(at, &end, rest);
-        } else if self.text.is_empty() {
-            self.text = format!("nothing {}={all} skipped={all}{bytes}\n", self.unit);
-            return Told { packets: self.packets, text: self.text, status: 1 };
+    /// The lines of a lock that ends, with so many whole bytes behind it: `end` stands before its `lost` line.
+    fn close(&mut self, end: &str, rest: u64) {
+        let [counts @ .., bits] = self.receiver.receiver.counts().in_order();
+        let report = Report { counts, bits: Bits::Number(bits), rest };
+        self.text += &self.receiver.waiting_text();
+        self.text += &format!("{end}lost {}={} skipped={}\n{}", self.unit, self.end, self.skipped, report.text());
+    }
+
+    /// No block follows: the lock ends, where one lasts.
+    fn lost(&mut self) {
+        if self.lasts {
+            self.close("", 0);
+        }
+        self.lasts = false;
+    }
+
+    /// The input ended, behind so many symbols or bits. A lock that lasts to it has so many bits behind its last block.
+    fn ended(&mut self, all: u64, left: usize, bytes: &str) {
+        let word = if self.found { "end" } else { "nothing" };
+        let end = format!("{word} {}={all} skipped={}{bytes}\n", self.unit, all.saturating_sub(self.end));
+        if self.lasts {
+            self.close(&end, left as u64 / 8);
         } else {
             self.text += &end;
         }
-        Told { packets: self.packets, text: self.text, status: 0 }
+    }
+
+    fn told(self) -> Told {
+        Told { packets: self.packets, text: self.text, status: i32::from(!self.found) }
     }
 }
 
@@ -320,101 +300,211 @@ fn half_turned(turn: u8) -> u8 {
     turn / 4 * 4 + (turn + 2) % 4
 }
 
-/// `dvbs_lock RATE`, or `any` without a rate, on the bytes of points.
-pub fn lock(rate: Option<u8>, input: &[u8]) -> Told {
-    let all: Vec<Decisions> = input.chunks_exact(8).map(|bytes| decided(from_bytes(bytes))).collect();
-    let mut teller = Teller::new("symbol");
-    let (mut at, mut mirrored) = (0, false);
-    // Where a lock that lasts to the end ends, and the bytes behind it.
-    let (mut last, mut rest) = (0, 0);
-    while at + WINDOW <= all.len() {
-        let found = match search(rate, &all[at..at + WINDOW]) {
-            Some(found) => found,
-            None => {
-                at += WINDOW;
-                continue;
+// ---- a lock
+
+/// Symbols that are read at a rate, turned back, behind a lead.
+pub struct Reading {
+    pub turn: u8,
+    pub runs: Runs,
+    pub gathered: Gathered,
+    /// The symbols before the first that it reads.
+    pub first: u64,
+}
+
+impl Reading {
+    fn new(rate: u8, turn: u8, first: u64) -> Self {
+        Reading { turn, runs: Runs { rate, memory: 0, pairs: lead(rate) }, gathered: Gathered::none(), first }
+    }
+
+    /// Takes as many symbols as complete a longest run, or all: how many, and the bits that are kept of the run.
+    fn take(&mut self, symbols: &[u8]) -> (usize, Vec<u8>) {
+        let taken = symbols.len().min(self.runs.missing());
+        let turn = self.turn;
+        self.runs.pairs.extend(symbols[..taken].iter().map(|&pair| turned_back(turn, pair)));
+        (taken, self.runs.longest().unwrap_or_default())
+    }
+
+    /// The bits of the whole patterns that are left at the end.
+    fn last(&mut self) -> Vec<u8> {
+        let bits = self.runs.last().0;
+        self.runs = Runs { rate: self.runs.rate, memory: 0, pairs: Vec::new() };
+        bits
+    }
+
+    /// How many symbols come before the pattern of a bit.
+    fn symbols_before(&self, bit: u64) -> u64 {
+        let (bits, symbols) = pattern_size(self.runs.rate);
+        let pattern = (bit / bits as u64).saturating_sub(LEAD[self.runs.rate as usize] as u64);
+        self.first + pattern * symbols as u64
+    }
+
+    fn tell(&self, block: &FoundBlock, teller: &mut Teller) {
+        let (rate, turn) = (self.runs.rate, self.turn);
+        let places = [block.at, block.at + BLOCK_BITS as u64].map(|bit| self.symbols_before(bit));
+        let told = if block.inverted { half_turned(turn) } else { turn };
+        let offset = places[0] % pattern_size(rate).1 as u64;
+        teller.block(block, places, &format!("rate={rate} turn={told} offset={offset}"));
+    }
+}
+
+/// What is known of the symbols that came: pairs of decisions.
+pub struct Lock {
+    /// The rate that is searched, or any.
+    pub rate: Option<u8>,
+    /// A reading at 5/6 takes the symbols for mirrored.
+    pub mirrored: bool,
+    /// The reading; it searches where there is none.
+    pub reading: Option<Reading>,
+    /// Those that are not read yet.
+    pub pending: Vec<u8>,
+    /// How many came.
+    pub came: u64,
+    pub teller: Teller,
+}
+
+impl Lock {
+    pub fn fresh(rate: Option<u8>) -> Self {
+        Lock { rate, mirrored: false, reading: None, pending: Vec::new(), came: 0, teller: Teller::new("symbol") }
+    }
+
+    /// A step: how many symbols it takes of those that there are. Without any it does nothing.
+    pub fn feed(&mut self, symbols: &[u8]) -> usize {
+        if symbols.is_empty() {
+            return 0;
+        }
+        let taken = match &mut self.reading {
+            None => self.search(symbols),
+            Some(_) if !self.pending.is_empty() => {
+                self.read_pending();
+                0
+            }
+            Some(reading) => {
+                let (taken, bits) = reading.take(symbols);
+                self.gather(bits);
+                taken
             }
         };
-        let turn = found.turn + if found.rate == FIVE_SIXTHS && mirrored { 4 } else { 0 };
-        let start = at + found.offset;
-        let mut reading = Reading::new(found.rate, turn, &all[start..]);
-        let mut gathered = Gathered::none();
-        let mut gave = false;
-        // The decision before gave no block.
-        let mut missed = false;
-        let (mut ended, mut over) = (false, false);
-        while !ended && !over {
-            let bits = reading.next().unwrap_or_else(|| {
-                ended = true;
-                reading.last()
-            });
-            gathered.bits.extend(bits);
-            while !over && gathered.due(ended) {
-                let whole = gathered.due(false);
-                let before = gathered.first;
-                if let Some(block) = gathered.decide() {
-                    gave = true;
-                    missed = false;
-                    if block.begins {
-                        teller.close(start + reading.symbols_before(block.behind), "", 0);
-                        let symbol = start + reading.symbols_before(block.at);
-                        let told = if block.inverted { half_turned(turn) } else { turn };
-                        let offset = symbol % pattern_size(found.rate).1;
-                        teller.lock(symbol, &format!("rate={} turn={told} offset={offset}", found.rate));
-                    }
-                    teller.block(&block.bytes);
-                } else {
-                    teller.close(start + reading.symbols_before(before), "", 0);
-                    over = missed || !whole;
-                    missed = true;
-                    if !over {
-                        gathered.skip(BLOCK_BITS + 1);
-                    }
-                }
+        self.came += taken as u64;
+        taken
+    }
+
+    /// Symbols are gathered until they fill the window. Then it is searched.
+    fn search(&mut self, symbols: &[u8]) -> usize {
+        let taken = symbols.len().min(WINDOW - self.pending.len());
+        self.pending.extend(&symbols[..taken]);
+        if self.pending.len() == WINDOW {
+            let window = std::mem::take(&mut self.pending);
+            if let Some(found) = search(self.rate, &window) {
+                let turn = found.turn + if found.rate == FIVE_SIXTHS && self.mirrored { 4 } else { 0 };
+                self.pending = window[found.offset..].to_vec();
+                let first = self.came + taken as u64 - self.pending.len() as u64;
+                self.reading = Some(Reading::new(found.rate, turn, first));
             }
         }
-        mirrored ^= !gave;
-        (last, rest) = (start + reading.symbols_before(gathered.first), gathered.bits.len() / 8);
-        at = start + reading.taken();
-        if ended {
-            break;
+        taken
+    }
+
+    /// Symbols that are not read yet are read, as many as complete a longest run, or all.
+    fn read_pending(&mut self) {
+        let reading = self.reading.as_mut().expect("it reads");
+        let (taken, bits) = reading.take(&self.pending);
+        self.pending.drain(..taken);
+        self.gather(bits);
+    }
+
+    /// Bits of the reading are gathered. Where there are enough of them, a decision is made, and only one.
+    fn gather(&mut self, bits: Vec<u8>) {
+        let reading = self.reading.as_mut().expect("it reads");
+        let gathered = &mut reading.gathered;
+        gathered.bits.extend(bits);
+        if gathered.bits.len() < DECISION_BITS {
+            return;
+        }
+        let (gave, used) = (gathered.gave, gathered.used);
+        if let Some(block) = gathered.decide() {
+            reading.tell(&block, &mut self.teller);
+        } else {
+            gathered.skip(SKIPPED_BITS);
+            self.teller.lost();
+            // The decision before gave no block either, where there was one.
+            if !gave && used > 0 {
+                self.mirrored ^= used == SKIPPED_BITS as u64;
+                self.reading = None;
+            }
         }
     }
-    teller.ended(all.len(), last, rest, &format!(" bytes={}", input.len() % 8))
+
+    /// A step of the end, with so many bytes behind the last whole point: whether it was the last.
+    pub fn end(&mut self, bytes: u64) -> bool {
+        let reading = match &mut self.reading {
+            None => {
+                self.teller.ended(self.came, 0, &format!(" bytes={bytes}"));
+                return true;
+            }
+            Some(reading) => reading,
+        };
+        if !self.pending.is_empty() {
+            self.read_pending();
+        } else if !reading.runs.pairs.is_empty() {
+            let bits = reading.last();
+            self.gather(bits);
+        } else if let Some(block) = reading.gathered.decide() {
+            reading.tell(&block, &mut self.teller);
+        } else {
+            let left = reading.gathered.bits.len();
+            self.reading = None;
+            if left < BLOCK_BITS {
+                self.teller.ended(self.came, left, &format!(" bytes={bytes}"));
+                return true;
+            }
+            self.teller.lost();
+        }
+        false
+    }
+}
+
+/// `dvbs_lock RATE`, or `any` without a rate, on the bytes of points.
+pub fn lock(rate: Option<u8>, input: &[u8]) -> Told {
+    let all: Vec<u8> = input.chunks_exact(8).map(|bytes| soft_pair(from_bytes(bytes))).collect();
+    let mut lock = Lock::fresh(rate);
+    let mut at = 0;
+    while at < all.len() {
+        at += lock.feed(&all[at..]);
+    }
+    while !lock.end(input.len() as u64 % 8) {}
+    lock.teller.told()
 }
 
 /// `dvbs_lock bits` on decoded bytes.
 pub fn lock_bits(input: &[u8]) -> Told {
     let bits: Vec<u8> = input.iter().flat_map(|byte| (0..8).rev().map(move |k| byte >> k & 1)).collect();
-    let all = bits.len();
+    let all = bits.len() as u64;
     let mut teller = Teller::new("bit");
     let mut gathered = Gathered { bits, ..Gathered::none() };
-    while gathered.due(true) {
-        let whole = gathered.due(false);
-        let before = gathered.first;
+    loop {
+        let left = gathered.bits.len();
         if let Some(block) = gathered.decide() {
-            if block.begins {
-                teller.close(block.behind, "", 0);
-                teller.lock(block.at, &format!("inverted={}", u8::from(block.inverted)));
-            }
-            teller.block(&block.bytes);
+            let places = [block.at, block.at + BLOCK_BITS as u64];
+            teller.block(&block, places, &format!("inverted={}", u8::from(block.inverted)));
+        } else if left < BLOCK_BITS {
+            teller.ended(all, left, "");
+            return teller.told();
         } else {
-            teller.close(before, "", 0);
-            if !whole {
-                break;
-            }
-            gathered.skip(BLOCK_BITS + 1);
+            teller.lost();
+            gathered.skip(if left < DECISION_BITS { left } else { SKIPPED_BITS });
         }
     }
-    let (last, rest) = (gathered.first, gathered.bits.len() / 8);
-    teller.ended(all, last, rest, "")
 }
 
 #[cfg(test)]
 mod tests {
     use super::*;
     use crate::channel::{demodulated, sigma, to_bytes, turned, Channel, Demodulator, Slip};
+    use crate::inner_code::InnerCoder;
+    use crate::losses::{blocks, lines};
     use crate::numbered::{packets, symbols, Verdict};
+    use crate::runs::hard_pairs;
+    use crate::samples::stream;
     use crate::sender::interleaved_stream;
     use crate::xorshift::Xorshift;
 
@@ -439,7 +529,7 @@ mod tests {
             let mut number = || [-0.9, -0.6, -0.3, -0.1, 0.1, 0.3, 0.6, 0.9, f32::NAN][r.below(9)];
             let point = (number(), number());
             let turn = case as u8 % 8;
-            assert_eq!(turned_back(turn, decided(turned(turn, point))), decided(point));
+            assert_eq!(turned_back(turn, soft_pair(turned(turn, point))), soft_pair(point));
         }
     }
 
@@ -455,19 +545,44 @@ mod tests {
             let (bits, per_pattern) = pattern_size(rate);
             let mut r = Xorshift::new(rate as u64);
             let sent: Vec<u8> = (0..bits * (5000 / bits)).map(|_| r.byte() & 1).collect();
-            let all: Vec<Decisions> = InnerCoder::after(rate, 0).code_bits(&sent).into_iter().map(|s| decided(crate::channel::sent(s))).collect();
+            let all = hard_pairs(&InnerCoder::after(rate, 0).code_bits(&sent));
             let cut = 37;
-            let mut reading = Reading::new(rate, 0, &all[cut * per_pattern..]);
+            let (mut reading, mut at) = (Reading::new(rate, 0, 0), cut * per_pattern);
             let mut got = Vec::new();
-            while let Some(bits) = reading.next() {
+            while at < all.len() {
+                let (taken, bits) = reading.take(&all[at..]);
+                at += taken;
                 got.extend(bits);
             }
             got.extend(reading.last());
-            assert_eq!(reading.taken(), all.len() - cut * per_pattern);
             assert_eq!(got[LEAD[rate as usize] * bits..], sent[cut * bits..]);
             // The coder's memory, which the lead leaves open, is read too.
             assert_eq!(got[LEAD[rate as usize] * bits - 6..][..6], sent[cut * bits - 6..][..6]);
         }
+    }
+
+    /// Block by block a lock's receiver gives and tells what the list of losses of all its blocks says.
+    #[test]
+    fn lines_block_by_block_are_those_of_the_list() {
+        let mut r = Xorshift::new(3);
+        let mut doubts = 0;
+        for _ in 0..200 {
+            let recording = stream(&mut r, 50);
+            let (mut receiver, mut given, mut told) = (LockReceiver::fresh(), Vec::new(), String::new());
+            for block in recording.chunks_exact(BLOCK_LENGTH) {
+                let (packets, text) = receiver.take(block);
+                given.extend(packets);
+                told += &text;
+            }
+            told += &receiver.waiting_text();
+            let blocks = blocks(&recording, &[]);
+            let list = lines(&blocks);
+            doubts += list.iter().filter(|line| line.answer == Answer::Done).count();
+            assert_eq!(told, list.iter().map(|line| line_text(*line)).collect::<String>());
+            let unlisted = blocks.iter().enumerate().filter(|(k, _)| list.iter().all(|line| line.block != *k as u64));
+            assert_eq!(given, unlisted.flat_map(|(_, block)| &block.packet).copied().collect::<Vec<u8>>());
+        }
+        assert!(doubts > 20);
     }
 
     /// Every packet from the first group start on, and none that was not sent.

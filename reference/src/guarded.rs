@@ -47,4 +47,11 @@ impl Guarded {
         let lent = self.lend(&bytes, at_end);
         unsafe { std::slice::from_raw_parts(lent.as_ptr() as *const f32, numbers.len()) }
     }
+
+    /// The same with numbers of eight bytes, which may be written.
+    pub fn lend_counts(&mut self, counts: &[u64], at_end: bool) -> &mut [u64] {
+        let bytes: Vec<u8> = counts.iter().flat_map(|x| x.to_le_bytes()).collect();
+        let lent = self.lend(&bytes, at_end);
+        unsafe { std::slice::from_raw_parts_mut(lent.as_mut_ptr() as *mut u64, counts.len()) }
+    }
 }

@@ -27,6 +27,7 @@ pub mod receiver_state;
 pub mod recording;
 pub mod reed_solomon;
 pub mod report;
+pub mod runs;
 pub mod samples;
 pub mod season;
 pub mod sender;

@@ -2,7 +2,7 @@
 //! for each packet in doubt. From the whole list of blocks, looking back and ahead.
 
 use crate::answer::Answer;
-use crate::receiver::{Receiver, FILLING};
+use crate::receiver::Receiver;
 use crate::{BLOCK_LENGTH, PACKET_LENGTH};
 
 /// A line: the block, document 02's P5 number, and its answer; Done for a packet
@@ -28,7 +28,16 @@ pub struct Block {
 }
 
 impl Block {
-    fn given(&self) -> bool {
+    /// What a receiver makes of a block with its marks; nothing while the delays fill.
+    pub fn received(receiver: &mut Receiver, bytes: &[u8], marks: &[u8]) -> Option<Block> {
+        let mut packet = vec![0; PACKET_LENGTH];
+        let answer = receiver.receive_marked(bytes, marks, &mut packet);
+        // Behind a packet the receiver expects the place after the packet's.
+        let place = receiver.place.map_or(0, |next| (next + 7) % 8);
+        (answer != Answer::Filling).then_some(Block { answer, place, packet })
+    }
+
+    pub fn given(&self) -> bool {
         self.answer == Answer::Done
     }
 
@@ -41,28 +50,18 @@ impl Block {
 /// The blocks of a recording, those that came whole: after the eleven that fill
 /// the delays. Marks that are missing are 0.
 pub fn blocks(recording: &[u8], marks: &[u8]) -> Vec<Block> {
-    blocks_by(&mut Receiver::fresh(), recording, marks)
-}
-
-/// The same, by a fresh receiver of the caller, who has its counts afterwards.
-pub fn blocks_by(receiver: &mut Receiver, recording: &[u8], marks: &[u8]) -> Vec<Block> {
+    let mut receiver = Receiver::fresh();
     let mut all = Vec::new();
     for (i, block) in recording.chunks_exact(BLOCK_LENGTH).enumerate() {
         let from = i * BLOCK_LENGTH;
         let own: Vec<u8> = (from..from + BLOCK_LENGTH).map(|at| marks.get(at).copied().unwrap_or(0)).collect();
-        let mut packet = vec![0; PACKET_LENGTH];
-        let answer = receiver.receive_marked(block, &own, &mut packet);
-        if i as u64 >= FILLING {
-            // Behind a packet the receiver expects the place after the packet's.
-            let place = receiver.place.map_or(0, |next| (next + 7) % 8);
-            all.push(Block { answer, place, packet });
-        }
+        all.extend(Block::received(&mut receiver, block, &own));
     }
     all
 }
 
 /// A B8 fixes the place, and packets that follow it without a break are sure.
-fn sure(blocks: &[Block], at: usize) -> bool {
+pub fn sure(blocks: &[Block], at: usize) -> bool {
     let unbroken = blocks[..=at].iter().rev().take_while(|block| block.given());
     for block in unbroken {
         if block.starts() {
@@ -74,10 +73,24 @@ fn sure(blocks: &[Block], at: usize) -> bool {
 
 /// The next sync byte that can tell: a B8 where it is due, with a packet from every
 /// block on the way. Behind another break it could not: that break may be a gap too.
-fn confirmed(blocks: &[Block], at: usize) -> bool {
+/// Nothing where neither has come yet.
+fn confirmed(blocks: &[Block], at: usize) -> Option<bool> {
     let until = 8 - blocks[at].place;
     let ahead = &blocks[at + 1..];
-    ahead.len() >= until && ahead[..until - 1].iter().all(|block| block.given() && !block.starts()) && ahead[until - 1].starts()
+    let mut way = ahead.iter().take(until - 1);
+    if way.any(|block| !block.given() || block.starts()) {
+        return Some(false);
+    }
+    ahead.get(until - 1).map(Block::starts)
+}
+
+/// Whether a packet that was given is at its place: it is in doubt where not, and where the blocks end before they tell.
+pub fn in_place(blocks: &[Block], at: usize) -> Option<bool> {
+    if sure(blocks, at) {
+        Some(true)
+    } else {
+        confirmed(blocks, at)
+    }
 }
 
 pub fn losses(recording: &[u8], marks: &[u8]) -> Vec<Line> {
@@ -88,7 +101,7 @@ pub fn losses(recording: &[u8], marks: &[u8]) -> Vec<Line> {
 pub fn lines(blocks: &[Block]) -> Vec<Line> {
     let mut lines = Vec::new();
     for (at, block) in blocks.iter().enumerate() {
-        if !block.given() || !(sure(blocks, at) || confirmed(blocks, at)) {
+        if !block.given() || in_place(blocks, at) != Some(true) {
             lines.push(Line { block: at as u64, answer: block.answer });
         }
     }

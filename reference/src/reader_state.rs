@@ -4,8 +4,8 @@
 /// What the reference gives.
 pub mod expected {
     use crate::answer::Answer;
-    use crate::inner_code::{InnerCoder, RATES};
-    use crate::inner_decoder::{by_choices, level, BitCosts, LONGEST};
+    use crate::inner_code::RATES;
+    use crate::runs::{full, hard_pairs, soft_pairs, Runs};
     use crate::states::{place_of, Row};
 
     pub const STATE_LENGTH: usize = 1638;
@@ -18,56 +18,18 @@ pub mod expected {
         &state[place_of(&LAYOUT, name)]
     }
 
-    /// A reader: its pairs are those of the symbols that are held, and its bits those that fill no byte yet.
+    /// A reader: its runs, and the bits that fill no byte yet.
     pub struct Reader {
-        pub rate: u8,
-        pub memory: u8,
-        pub pairs: Vec<u8>,
+        pub runs: Runs,
         pub bits: Vec<u8>,
-    }
-
-    /// The bits and the symbols of a pattern.
-    pub fn pattern(rate: u8) -> (usize, usize) {
-        let bits = InnerCoder::pattern_length(rate);
-        (bits, InnerCoder::after(rate, 0).symbols_due(bits))
-    }
-
-    /// The symbols of a longest run.
-    pub fn full(rate: u8) -> usize {
-        let (bits, symbols) = pattern(rate);
-        LONGEST / bits * symbols
-    }
-
-    /// What deciding I and Q of a symbol costs, by its pair: of I first.
-    fn costs(pairs: &[u8]) -> Vec<BitCosts> {
-        let cost = |decision: u32| if decision == 8 { [0, 0] } else { [7 - decision, decision] };
-        pairs.iter().flat_map(|pair| [cost(*pair as u32 / 9), cost(*pair as u32 % 9)]).collect()
-    }
-
-    pub fn hard_pairs(symbols: &[u8]) -> Vec<u8> {
-        let decision = |bit: u8| if bit == 0 { 4 } else { 3 };
-        symbols.iter().map(|symbol| 9 * decision(symbol / 2) + decision(symbol % 2)).collect()
-    }
-
-    pub fn soft_pairs(i: &[f32], q: &[f32], lost: &[u8]) -> Vec<u8> {
-        let decision = |x: f32, lost: u8| if lost == 1 || x.is_nan() { 8 } else { level(x) as u8 };
-        (0..i.len()).map(|k| 9 * decision(i[k], lost[k]) + decision(q[k], lost[k])).collect()
     }
 
     impl Reader {
         /// Decides what makes longest runs, and packs it: the bytes that are filled.
         fn take(&mut self, pairs: &[u8]) -> Vec<u8> {
-            self.pairs.extend(pairs);
-            let (length, symbols) = pattern(self.rate);
-            let kept = LONGEST / length - (100 / length + 1);
-            while self.pairs.len() >= full(self.rate) {
-                let run = by_choices(self.rate, self.memory, &costs(&self.pairs[..full(self.rate)]), LONGEST / length * length);
-                let bits = &run.bits[..kept * length];
-                let mut coder = InnerCoder::after(self.rate, self.memory);
-                coder.code_bits(bits);
-                self.memory = coder.memory();
+            self.runs.pairs.extend(pairs);
+            while let Some(bits) = self.runs.longest() {
                 self.bits.extend(bits);
-                self.pairs.drain(..kept * symbols);
             }
             self.packed()
         }
@@ -79,12 +41,10 @@ pub mod expected {
 
         /// The bytes of the whole patterns that are held, and how many symbols and bits are left.
         fn end(&mut self) -> (Vec<u8>, u8, u8) {
-            let (length, symbols) = pattern(self.rate);
-            let patterns = self.pairs.len() / symbols;
-            let run = by_choices(self.rate, self.memory, &costs(&self.pairs[..patterns * symbols]), patterns * length);
-            self.bits.extend(run.bits);
+            let (bits, behind) = self.runs.last();
+            self.bits.extend(bits);
             let bytes = self.packed();
-            (bytes, (self.pairs.len() - patterns * symbols) as u8, self.bits.len() as u8)
+            (bytes, behind as u8, self.bits.len() as u8)
         }
     }
 
@@ -99,16 +59,17 @@ pub mod expected {
         let (pairs, behind) = field(state, "pairs").split_at(count);
         let clear = behind.iter().all(|byte| *byte == 0) && pairs.iter().all(|pair| *pair < 81);
         let bits = (0..held).rev().map(|place| carry >> place & 1).collect();
-        clear.then_some(Reader { rate, memory, pairs: pairs.to_vec(), bits })
+        clear.then_some(Reader { runs: Runs { rate, memory, pairs: pairs.to_vec() }, bits })
     }
 
     pub fn write(reader: &Reader, state: &mut [u8]) {
         state.fill(0);
-        state[..reader.pairs.len()].copy_from_slice(&reader.pairs);
+        let runs = &reader.runs;
+        state[..runs.pairs.len()].copy_from_slice(&runs.pairs);
         let carry = reader.bits.iter().fold(0, |byte, bit| byte << 1 | bit);
-        let count = (reader.pairs.len() as u16).to_le_bytes();
+        let count = (runs.pairs.len() as u16).to_le_bytes();
         state[place_of(&LAYOUT, "count")].copy_from_slice(&count);
-        for (name, byte) in [("rate", reader.rate), ("memory", reader.memory), ("carry", carry), ("held", reader.bits.len() as u8)] {
+        for (name, byte) in [("rate", runs.rate), ("memory", runs.memory), ("carry", carry), ("held", reader.bits.len() as u8)] {
             state[place_of(&LAYOUT, name)][0] = byte;
         }
     }
@@ -120,7 +81,7 @@ pub mod expected {
         if rate >= RATES {
             return Answer::UnknownRate.number();
         }
-        write(&Reader { rate, memory: 0, pairs: Vec::new(), bits: Vec::new() }, state);
+        write(&Reader { runs: Runs { rate, memory: 0, pairs: Vec::new() }, bits: Vec::new() }, state);
         Answer::Done.number()
     }
 
@@ -295,8 +256,7 @@ pub mod library {
 
 #[cfg(test)]
 mod tests {
-    use super::expected::{full, LAYOUT, STATE_LENGTH};
-    use crate::inner_code::RATES;
+    use super::expected::{LAYOUT, STATE_LENGTH};
     use crate::states::tables::{fills, owned, rows_after, specified};
 
     #[test]
@@ -305,10 +265,5 @@ mod tests {
         assert_eq!(rows_after("## The state of a reader", include_str!("../../docs/STATES.md")), owned(&LAYOUT));
         assert_eq!(rows_after("The state of a reader", include_str!("../../include/dvbs.h")), owned(&LAYOUT));
         assert_eq!(specified(include_str!("../../crates/dvbs_reader_stream/specs/State.antt")), owned(&LAYOUT));
-    }
-
-    #[test]
-    fn longest_runs() {
-        assert_eq!((0..RATES).map(full).collect::<Vec<_>>(), [1632, 1224, 1088, 978, 932]);
     }
 }

@@ -5,9 +5,9 @@
 //!   acquisition symbols RATE COUNT SEED      the symbols of numbered packets
 //!   acquisition judge COUNT SEED < packets   how many of these packets came back
 
-use reference::acquisition::pattern_size;
 use reference::channel::{demodulated, sigma, to_bytes, Channel, Demodulator, Point, Slip};
 use reference::numbered::{packets, symbols, Verdict};
+use reference::runs::pattern_size;
 use reference::xorshift::Xorshift;
 use reference::BLOCK_LENGTH;
 use std::io::{Read, Write};

@@ -8,11 +8,12 @@
 // build.rs sets the cfg `exports_linked`.
 #![allow(unknown_lints, unexpected_cfgs)]
 
-use reference::acquisition::{lock, lock_bits, pattern_size, Told, LEAD, THRESHOLD, WINDOW};
+use reference::acquisition::{lock, lock_bits, Told, LEAD, THRESHOLD, WINDOW};
 use reference::channel::{demodulated, sigma, to_bytes, turned, Bursts, Channel, Demodulator, Slip};
 use reference::inner_code::InnerCoder;
 use reference::inner_decoder::LONGEST;
 use reference::numbered::{packets, symbols, Verdict};
+use reference::runs::pattern_size;
 use reference::sender::interleaved_stream;
 use reference::xorshift::Xorshift;
 use reference::BLOCK_LENGTH;
@@ -63,7 +64,7 @@ fn by_program(program: &str, case: &Case) -> Told {
 fn by_states(case: &Case, r: &mut Xorshift, longest: usize) -> Told {
     use reference::channel::from_bytes;
     use reference::guarded::Guarded;
-    use reference::lock_state::expected::{stands, PACKETS, STATE_LENGTH, TEXT};
+    use reference::lock_state::expected::{Rooms, PACKETS, STATE_LENGTH, TEXT};
     use reference::lock_state::library;
 
     let (i, q): (Vec<f32>, Vec<f32>) = case.input.chunks_exact(8).map(from_bytes).unzip();
@@ -80,17 +81,17 @@ fn by_states(case: &Case, r: &mut Xorshift, longest: usize) -> Told {
         let own = own.lend(&state, at_end);
         let (packets, lines) = (packets.lend(&[0; PACKETS], at_end), lines.lend(&[0; TEXT], at_end));
         let (mut counts, mut answer) = ([0; 2], [0xA5]);
+        let rooms = Rooms { packets, text: lines, counts: &mut counts, answer: &mut answer };
         if at < i.len() {
             let (is, qs, marks) = (is.lend_numbers(&i[at..end], at_end), qs.lend_numbers(&q[at..end], at_end), marks.lend(&lost[at..end], at_end));
-            at += library::feed(own, is, qs, marks, packets, lines, &mut counts, &mut answer) as usize;
+            at += library::feed(own, is, qs, marks, rooms) as usize;
         } else {
-            over = library::end(own, (case.input.len() % 8) as u64, packets, lines, &mut counts, &mut answer) == 1;
+            over = library::end(own, (case.input.len() % 8) as u64, rooms) == 1;
         }
         assert_eq!(answer, [0]);
         given.extend(&packets[..counts[0] as usize]);
         text.extend(&lines[..counts[1] as usize]);
         state = own.to_vec();
-        assert!(stands(&state));
     }
     let text = String::from_utf8(text).unwrap();
     let status = text.starts_with("nothing ") as i32;

@@ -5,20 +5,23 @@
 //!
 //! `compare_states` runs all; `compare_states KIND` one kind; `compare_states KIND CASE` one case.
 
-// build.rs sets the cfg `exports_linked`.
-#![allow(unknown_lints, unexpected_cfgs)]
-
+use reference::acquisition::{Lock, DECISION_BITS, SKIPPED_BITS, WINDOW};
+use reference::answer::Answer;
+use reference::bridge::expected::read as read_blocks;
+use reference::channel::{demodulated, sigma, Bursts, Channel, Demodulator, Point, Slip};
 use reference::exports;
 use reference::guarded::Guarded;
 use reference::inner_code::{InnerCoder, SENT};
+use reference::lock_state::expected::{most_waiting, Rooms, MOST_CAME};
+use reference::losses::Block;
+use reference::numbered;
 use reference::receiver::MOST_BLOCKS;
+use reference::runs::{full, pattern_size, soft_pairs, Runs};
 use reference::samples::{block_receiver, stream};
 use reference::sender_state::expected::{holds, pattern_length, STATE_LENGTH};
 use reference::sender_state::{expected, library};
 use reference::xorshift::Xorshift;
-use reference::{reader_state, receiver_state, BLOCK_LENGTH, PACKET_LENGTH, SYNC};
-#[cfg(exports_linked)]
-use reference::{channel::sent as sent_point, lock_state, numbered::{packets, symbols}};
+use reference::{lock_state, reader_state, receiver_state, BLOCK_LENGTH, INVERTED_SYNC, PACKET_LENGTH, SYNC};
 
 /// Where the parts of a sender's state begin that are not its cells.
 const POSITIONS: usize = 1122;
@@ -35,7 +38,8 @@ struct Score {
     failed: u64,
     passed_all: u64,
     failed_all: u64,
-    lent: [Guarded; 6],
+    lent: [Guarded; 8],
+    lock_told: LockTold,
 }
 
 impl Score {
@@ -280,7 +284,7 @@ impl Score {
             Came::Soft(i, q, lost) => reader_state::expected::feed_soft(&mut a, i, q, lost, &mut b, &mut c),
         };
         let at_end = r.below(2) == 0;
-        let [own, first, room, told, marked, second] = &mut self.lent;
+        let [own, first, room, told, marked, second, ..] = &mut self.lent;
         let (own, room, told) = (own.lend(state, at_end), room.lend(output, at_end), told.lend(answer, at_end));
         let got = match came {
             Came::Hard(symbols) => reader_state::library::feed(own, first.lend(symbols, at_end), room, told),
@@ -299,7 +303,7 @@ impl Score {
         let (mut a, mut b, mut c) = (output.to_vec(), left.to_vec(), answer.to_vec());
         let want = reader_state::expected::end(state, &mut a, &mut b, &mut c);
         let at_end = r.below(2) == 0;
-        let [own, _, room, told, rest, _] = &mut self.lent;
+        let [own, _, room, told, rest, ..] = &mut self.lent;
         let (own, room, told, rest) = (own.lend(state, at_end), room.lend(output, at_end), told.lend(answer, at_end), rest.lend(left, at_end));
         let got = reader_state::library::end(own, room, rest, told);
         let (own, room, told, rest) = (own.to_vec(), room.to_vec(), told.to_vec(), rest.to_vec());
@@ -312,13 +316,11 @@ impl Score {
 /// A reader's state in range, which symbols may reach or not.
 fn reader_in_range(r: &mut Xorshift) -> Vec<u8> {
     let rate = r.below(5) as u8;
-    let most = reader_state::expected::full(rate);
+    let most = full(rate);
     let count = [0, 1, most - 1, r.below(most), r.below(40)][r.below(5)];
     let held = r.below(8);
     let reader = reader_state::expected::Reader {
-        rate,
-        memory: r.below(64) as u8,
-        pairs: (0..count).map(|_| r.below(81) as u8).collect(),
+        runs: Runs { rate, memory: r.below(64) as u8, pairs: (0..count).map(|_| r.below(81) as u8).collect() },
         bits: (0..held).map(|_| r.byte() & 1).collect(),
     };
     let mut state = vec![0; READER];
@@ -358,7 +360,7 @@ fn received(r: &mut Xorshift, symbols: &[u8], soft: bool) -> Came {
 
 /// All of it by the library's own runs, which overlap: the bytes, and how many symbols and bits are left.
 fn by_runs(rate: u8, came: &Came) -> (Vec<u8>, usize, usize) {
-    let (length, symbols) = reader_state::expected::pattern(rate);
+    let (length, symbols) = pattern_size(rate);
     let full = 1632 / length;
     let (mut from, mut memory, mut bits) = (0, 0, Vec::new());
     loop {
@@ -565,7 +567,7 @@ impl Score {
         let (mut a, mut b, mut c) = (state.to_vec(), output.to_vec(), answer.to_vec());
         let want = receiver_state::expected::feed(&mut a, piece, marks, &mut b, &mut c);
         let at_end = r.below(2) == 0;
-        let [own, given, room, told, marked, _] = &mut self.lent;
+        let [own, given, room, told, marked, ..] = &mut self.lent;
         let (own, given, room, told) = (own.lend(state, at_end), given.lend(piece, at_end), room.lend(output, at_end), told.lend(answer, at_end));
         let got = receiver_state::library::feed(own, given, marked.lend(marks, at_end), room, told);
         let (own, room, told) = (own.to_vec(), room.to_vec(), told.to_vec());
@@ -759,16 +761,12 @@ fn receiver_kinds(s: &mut Score) {
 }
 
 /// The length of a lock's state, and where its numbers begin.
-#[cfg(exports_linked)]
 const LOCK: usize = lock_state::expected::STATE_LENGTH;
-#[cfg(exports_linked)]
 const LOCK_NUMBERS: usize = 13_754;
-#[cfg(exports_linked)]
 const LOCK_PACKETS: usize = 13_805;
 
 /// What a call for a lock is lent beside its state and its points.
-#[cfg(exports_linked)]
-#[derive(Clone, PartialEq)]
+#[derive(Clone)]
 struct LockRooms {
     packets: Vec<u8>,
     text: Vec<u8>,
@@ -776,7 +774,6 @@ struct LockRooms {
     answer: Vec<u8>,
 }
 
-#[cfg(exports_linked)]
 impl LockRooms {
     fn new(r: &mut Xorshift, packets: usize, text: usize, counts: usize, answer: usize) -> Self {
         LockRooms { packets: r.bytes(packets), text: r.bytes(text), counts: (0..counts).map(|_| r.next()).collect(), answer: r.bytes(answer) }
@@ -785,48 +782,127 @@ impl LockRooms {
     fn enough(r: &mut Xorshift) -> Self {
         LockRooms::new(r, lock_state::expected::PACKETS, lock_state::expected::TEXT, 2, 1)
     }
-}
 
-#[cfg(exports_linked)]
-impl Score {
-    /// Feeds points, or ends where there are none: the answer is the one that is due. After a refusal, and where no byte is lent for the answer, all is as
-    /// it was. After any other call the state stands for a lock again, and what is told fits its room.
-    fn lock(&mut self, r: &mut Xorshift, state: &[u8], points: Option<(&[f32], &[f32], &[u8])>, rooms: &LockRooms) -> Option<u8> {
-        use lock_state::expected::{end_due, feed_due, stands};
-        let (packets, text, counts) = (rooms.packets.len(), rooms.text.len(), rooms.counts.len());
-        let due = match points {
-            Some((i, q, lost)) => feed_due(state, i.len(), q.len(), lost, packets, text, counts),
-            None => end_due(state, packets, text, counts),
-        };
-        let at_end = r.below(2) == 0;
-        let mut after = rooms.clone();
-        let [own, first, room, told, marked, second] = &mut self.lent;
-        let (own, room, told) = (own.lend(state, at_end), room.lend(&rooms.packets, at_end), told.lend(&rooms.answer, at_end));
-        let got = match points {
-            Some((i, q, lost)) => {
-                let (i, q) = (first.lend_numbers(i, at_end), second.lend_numbers(q, at_end));
-                lock_state::library::feed(own, i, q, marked.lend(lost, at_end), room, &mut after.text, &mut after.counts, told)
-            }
-            None => lock_state::library::end(own, r.next(), room, &mut after.text, &mut after.counts, told),
-        };
-        (after.packets, after.answer) = (room.to_vec(), told.to_vec());
-        let own = own.to_vec();
-        let mut want = rooms.clone();
-        if let Some(first) = want.answer.first_mut() {
-            *first = due;
-        }
-        let right = if due > 0 || rooms.answer.is_empty() {
-            got == 0 && own == state && after == want
-        } else {
-            let most = points.map_or(1, |(i, ..)| i.len().min(lock_state::expected::POINTS));
-            got as usize <= most && stands(&own) && after.answer == want.answer && after.counts[0] as usize <= packets && after.counts[1] as usize <= text
-        };
-        let inputs = format!("lock, state of {}, {:?} points, rooms of {packets}, {text}, {counts}, {}", state.len(), points.map(|(i, ..)| i.len()), rooms.answer.len());
-        self.same(&inputs, (due as u64, &[&[1]]), (after.answer.first().copied().unwrap_or(due) as u64, &[&[right as u8]]));
-        after.answer.first().copied()
+    fn lent(&mut self) -> Rooms<'_> {
+        Rooms { packets: &mut self.packets, text: &mut self.text, counts: &mut self.counts, answer: &mut self.answer }
     }
 
-    fn lock_fresh(&mut self, r: &mut Xorshift, length: usize, rate: u8) {
+    fn count_bytes(&self) -> Vec<u8> {
+        self.counts.iter().flat_map(|count| count.to_le_bytes()).collect()
+    }
+}
+
+/// How many calls for a lock gave packets, ended an acquisition, and told a line that begins with each word: so it is seen that what is compared comes to all of it.
+#[derive(Debug, Default)]
+struct LockTold {
+    gave: u64,
+    gave_several: u64,
+    over: u64,
+    lines: [u64; 5],
+    doubt: u64,
+}
+
+impl LockTold {
+    const WORDS: [&'static str; 5] = ["lock ", "lost ", "block=", "end ", "nothing "];
+
+    fn count(&mut self, over: bool, packets: u64, text: &[u8]) {
+        let text = String::from_utf8_lossy(text);
+        self.gave += u64::from(packets > 0);
+        self.gave_several += u64::from(packets as usize > PACKET_LENGTH);
+        self.over += u64::from(over);
+        for (told, word) in self.lines.iter_mut().zip(Self::WORDS) {
+            *told += u64::from(text.lines().any(|line| line.starts_with(word)));
+        }
+        self.doubt += u64::from(text.contains(" doubt=1\n"));
+    }
+
+    fn each_at_least(&self, least: u64) -> bool {
+        [self.gave, self.gave_several, self.over, self.doubt].iter().chain(&self.lines).all(|told| *told >= least)
+    }
+}
+
+/// Points with marks of lost symbols.
+#[derive(Clone, Default)]
+struct Points {
+    i: Vec<f32>,
+    q: Vec<f32>,
+    lost: Vec<u8>,
+}
+
+impl Points {
+    /// Lost symbols are marked, or are points of which nothing is known. What stands in a marked one may be anything.
+    fn of(r: &mut Xorshift, points: &[Point]) -> Self {
+        let mut all = Points::default();
+        for &(i, q) in points {
+            let marked = i.is_nan() && q.is_nan() && r.below(2) == 0;
+            all.push(if marked { some_number(r) } else { i }, if marked { some_number(r) } else { q }, marked as u8);
+        }
+        all
+    }
+
+    fn push(&mut self, i: f32, q: f32, lost: u8) {
+        self.i.push(i);
+        self.q.push(q);
+        self.lost.push(lost);
+    }
+
+    /// Any points.
+    fn some(r: &mut Xorshift, count: usize) -> Self {
+        let mut all = Points::default();
+        for _ in 0..count {
+            all.push(some_number(r), some_number(r), (r.below(30) == 0) as u8);
+        }
+        all
+    }
+
+    fn part(&self, from: usize, end: usize) -> Self {
+        Points { i: self.i[from..end].to_vec(), q: self.q[from..end].to_vec(), lost: self.lost[from..end].to_vec() }
+    }
+}
+
+/// What comes to a lock: points, or the end with so many bytes behind the last whole point.
+enum ToLock {
+    Points(Points),
+    End(u64),
+}
+
+impl Score {
+    /// Calls both sides: the number that the library returned, the state after it, and the answer where a byte was lent for it.
+    fn lock(&mut self, r: &mut Xorshift, state: &[u8], to: &ToLock, rooms: &LockRooms) -> (u64, Vec<u8>, Option<u8>) {
+        let (mut a, mut want) = (state.to_vec(), rooms.clone());
+        let due = match to {
+            ToLock::Points(Points { i, q, lost }) => lock_state::expected::feed(&mut a, i, q, lost, want.lent()),
+            ToLock::End(rest) => lock_state::expected::end(&mut a, *rest, want.lent()),
+        };
+        let at_end = r.below(2) == 0;
+        let [own, first, packets, answer, marked, second, text, counts] = &mut self.lent;
+        let own = own.lend(state, at_end);
+        let (packets, text) = (packets.lend(&rooms.packets, at_end), text.lend(&rooms.text, at_end));
+        let (counts, answer) = (counts.lend_counts(&rooms.counts, at_end), answer.lend(&rooms.answer, at_end));
+        let lent = Rooms { packets: &mut *packets, text: &mut *text, counts: &mut *counts, answer: &mut *answer };
+        let (got, points) = match to {
+            ToLock::Points(Points { i, q, lost }) => {
+                let (is, qs) = (first.lend_numbers(i, at_end), second.lend_numbers(q, at_end));
+                (lock_state::library::feed(own, is, qs, marked.lend(lost, at_end), lent), Some(i.len()))
+            }
+            ToLock::End(rest) => (lock_state::library::end(own, *rest, lent), None),
+        };
+        let after = LockRooms { packets: packets.to_vec(), text: text.to_vec(), counts: counts.to_vec(), answer: answer.to_vec() };
+        let own = own.to_vec();
+        if after.answer.first() == Some(&0) {
+            let text = &after.text[..(after.counts[1] as usize).min(after.text.len())];
+            self.lock_told.count(points.is_none() && got == 1, after.counts[0], text);
+        }
+        let lengths = (rooms.packets.len(), rooms.text.len(), rooms.counts.len(), rooms.answer.len());
+        self.same(
+            &format!("lock, state of {}, {points:?} points, rooms of {lengths:?}", state.len()),
+            (due, &[&a, &want.packets, &want.text, &want.count_bytes(), &want.answer]),
+            (got, &[&own, &after.packets, &after.text, &after.count_bytes(), &after.answer]),
+        );
+        (got, own, after.answer.first().copied())
+    }
+
+    fn lock_fresh(&mut self, r: &mut Xorshift, length: usize, rate: u8) -> Vec<u8> {
         let before = r.bytes(length);
         let mut a = before.clone();
         let want = lock_state::expected::fresh(&mut a, rate);
@@ -834,47 +910,222 @@ impl Score {
         let got = lock_state::library::fresh(lent, rate);
         let lent = lent.to_vec();
         self.same(&format!("fresh, state of {length}, rate {rate}"), (want as u64, &[&a]), (got as u64, &[&lent]));
+        lent
     }
-}
 
-/// States that points come to: before, in and behind a lock, at each rate.
-#[cfg(exports_linked)]
-fn lock_states(r: &mut Xorshift) -> Vec<Vec<u8>> {
-    let mut states = Vec::new();
-    for rate in 0..5 {
-        let sent = symbols(rate, &packets(r.next(), 44));
-        let (i, q): (Vec<f32>, Vec<f32>) = sent.iter().map(|symbol| sent_point(*symbol)).unzip();
-        let lost = vec![0; i.len()];
-        let mut state = vec![0; LOCK];
-        assert_eq!(lock_state::library::fresh(&mut state, rate), 0);
-        let (mut at, mut calls) = (0, 0);
-        while at < i.len() {
-            let end = (at + 1632).min(i.len());
-            let mut rooms = LockRooms::enough(r);
-            at += lock_state::library::feed(&mut state, &i[at..end], &q[at..end], &lost[at..end], &mut rooms.packets, &mut rooms.text, &mut rooms.counts, &mut rooms.answer) as usize;
-            assert_eq!(rooms.answer, [0]);
-            if calls % 7 == 0 {
-                states.push(state.clone());
+    /// The end, step by step, and once more behind its last step.
+    fn lock_end(&mut self, r: &mut Xorshift, mut state: Vec<u8>) {
+        let rest = [0, 7, r.next()][r.below(3)];
+        for _ in 0..60 {
+            let rooms = LockRooms::enough(r);
+            let (over, after, answer) = self.lock(r, &state, &ToLock::End(rest), &rooms);
+            assert_eq!(answer, Some(0));
+            state = after;
+            if over == 1 {
+                self.lock(r, &state, &ToLock::End(rest), &rooms);
+                return;
             }
-            calls += 1;
         }
-        states.push(state);
+        panic!("the end of {} {} is not over after sixty steps", self.kind, self.case);
     }
-    states
 }
 
-#[cfg(exports_linked)]
+/// Points that a lock is fed with, and the rate that it searches: a stream that is cut anywhere and turned. By the case it is unharmed; noisy, with slips; with
+/// whole blocks left out; or with noise, and with lost symbols, before, in and behind it.
+fn lock_stream(r: &mut Xorshift, case: usize) -> (u8, Points) {
+    let rate = (case % 5) as u8;
+    let (bits, per_pattern) = pattern_size(rate);
+    let symbols_of = |blocks: usize| 8 * BLOCK_LENGTH * blocks / bits * per_pattern;
+    let sent = numbered::symbols(rate, &numbered::packets(r.next(), 52));
+    let (cut, turn) = (r.below(symbols_of(13)), r.below(8) as u8);
+    let at = symbols_of(22) + r.below(symbols_of(10));
+    let mut noise = |many: usize| {
+        let mut silence = Channel::new(r.next(), 1.0, 0.0, Some(Bursts { period: 1, length: 1, lost: false }));
+        (0..many).map(|_| silence.receive(0)).collect::<Vec<Point>>()
+    };
+    let [before, within, behind] = if case / 5 % 4 == 3 { [2_500, 5_200, 16_000].map(&mut noise) } else { [(); 3].map(|_| Vec::new()) };
+    let (eb_n0, lost, slips) = match case / 5 % 4 {
+        0 => (f64::INFINITY, 0.0, vec![]),
+        1 => (6.5, 0.0, vec![(at as u64, [Slip::LeftOut(1), Slip::Doubled(500), Slip::Turned(1), Slip::Turned(2)][r.below(4)])]),
+        2 => (8.0, 0.0, vec![(at as u64, Slip::LeftOut(symbols_of([1, 2, 3, 7][r.below(4)]) as u64))]),
+        _ => (8.0, 0.01, vec![]),
+    };
+    let mut channel = Channel::new(r.next(), sigma(rate, eb_n0), lost, None);
+    let mut points = demodulated(&sent, &mut channel, &mut Demodulator::new(cut as u64, turn, slips));
+    points.splice(symbols_of(28)..symbols_of(28), within);
+    points.splice(0..0, before);
+    points.extend(behind);
+    (if r.below(3) == 0 { 5 } else { rate }, Points::of(r, &points))
+}
+
+/// A state that points come to, and the points behind them.
+struct Reached {
+    state: Vec<u8>,
+    stream: usize,
+    at: usize,
+}
+
+/// Streams, and states that they come to: before, in and behind a lock, at each rate and at any.
+fn reached(r: &mut Xorshift) -> (Vec<Points>, Vec<Reached>) {
+    let (mut streams, mut states) = (Vec::new(), Vec::new());
+    for stream in 0..20 {
+        let (rate, points) = lock_stream(r, stream);
+        let pairs = soft_pairs(&points.i, &points.q, &points.lost);
+        let mut lock = Lock::fresh(Some(rate).filter(|rate| *rate < 5));
+        let (mut at, mut steps, mut over) = (0, 0, false);
+        while !over {
+            if at < pairs.len() {
+                let end = (at + 1 + r.below(2 * WINDOW)).min(pairs.len());
+                at += lock.feed(&pairs[at..end]);
+            } else {
+                over = lock.end(0);
+            }
+            (lock.teller.packets, lock.teller.text) = (Vec::new(), String::new());
+            steps += 1;
+            if steps % 5 == 0 || !lock.teller.receiver.waiting.is_empty() || at == pairs.len() {
+                let mut state = vec![0; LOCK];
+                lock_state::expected::write(&lock, &mut state);
+                states.push(Reached { state, stream, at });
+            }
+        }
+        streams.push(points);
+    }
+    let locks: Vec<Lock> = states.iter().map(|reached| lock_state::expected::read(&reached.state).expect("points come to it")).collect();
+    let some = |is: &dyn Fn(&Lock) -> bool| locks.iter().any(is);
+    assert!(some(&|lock| lock.reading.is_none() && !lock.teller.found) && some(&|lock| lock.reading.is_none() && lock.teller.found && !lock.pending.is_empty()));
+    assert!(some(&|lock| lock.mirrored) && some(&|lock| lock.rate.is_none()) && some(&|lock| lock.teller.receiver.waiting.len() > 3));
+    assert!((0..5).all(|rate| some(&|lock| lock.teller.lasts && lock.reading.as_ref().map_or(false, |reading| reading.runs.rate == rate && reading.gathered.inverted))));
+    (streams, states)
+}
+
+/// So many bits, and from a place on, a block apart, sync bytes that may be harmed.
+fn some_bits(r: &mut Xorshift, count: usize) -> Vec<u8> {
+    let mut bits: Vec<u8> = (0..count).map(|_| r.byte() & 1).collect();
+    let mut at = [0, 1, 1631, 1632, 1633, r.below(1700)][r.below(6)];
+    let (harmed, one_in) = (r.below(8), 1 + r.below(6));
+    while at + 8 <= count {
+        let byte = if r.below(8) < harmed { r.byte() } else if r.below(one_in) == 0 { INVERTED_SYNC } else { SYNC };
+        (0..8).for_each(|k| bits[at + k] = byte >> (7 - k) & 1);
+        at += 8 * BLOCK_LENGTH;
+    }
+    bits
+}
+
+/// A lock with some fields changed to others in range, which points may come to or not.
+fn changed(r: &mut Xorshift, lock: &mut Lock) {
+    let some_pairs = |r: &mut Xorshift, count: usize| (0..count).map(|_| r.below(81) as u8).collect::<Vec<u8>>();
+    let some_count = |r: &mut Xorshift| [0, 1, r.below(5_000) as u64, r.next() >> 6, SKIPPED_BITS as u64, SKIPPED_BITS as u64 - 1, 2 * SKIPPED_BITS as u64][r.below(7)];
+    for _ in 0..1 + r.below(3) {
+        match (r.below(13), &mut lock.reading) {
+            (0, _) => (lock.rate, lock.mirrored) = ([None, Some(r.below(5) as u8)][r.below(2)], r.below(2) == 0),
+            (1, _) => {
+                let count = [0, 1, r.below(1632), 1632][r.below(4)];
+                lock.pending = some_pairs(r, count);
+            }
+            (2, _) => (lock.teller.found, lock.teller.lasts) = (r.below(2) == 0, r.below(2) == 0),
+            (3, _) => (lock.teller.skipped, lock.teller.end) = (some_count(r), [some_count(r), r.next(), u64::MAX, lock.came][r.below(4)]),
+            (4, _) => {
+                let receiver = &mut lock.teller.receiver;
+                (receiver.receiver, receiver.positions) = read_blocks(&block_receiver(r)).expect("it is in range");
+            }
+            (5, _) => {
+                let receiver = &mut lock.teller.receiver.receiver;
+                (receiver.place, receiver.odd) = if r.below(5) == 0 { (None, false) } else { (Some(r.below(8)), r.below(3) == 0) };
+            }
+            (6, _) => lock.teller.receiver.sure = r.below(4) == 0,
+            (7, Some(reading)) => {
+                let count = [0, 1, DECISION_BITS - 1, DECISION_BITS - 8, DECISION_BITS - r.below(1600) - 1, r.below(DECISION_BITS)][r.below(6)];
+                reading.gathered.bits = some_bits(r, count);
+            }
+            (8, Some(reading)) => (reading.gathered.gave, reading.gathered.inverted) = (r.below(2) == 0, r.below(2) == 0),
+            (9, Some(reading)) => (reading.first, reading.gathered.used) = (some_count(r), some_count(r)),
+            (10, Some(reading)) => (reading.turn, reading.runs.memory) = (r.below(8) as u8, r.below(64) as u8),
+            (11, Some(reading)) => {
+                let rate = r.below(5) as u8;
+                let count = [0, 1, full(rate) - 1, full(rate) - 1 - r.below(200), r.below(full(rate))][r.below(5)];
+                reading.runs = Runs { rate, memory: reading.runs.memory, pairs: some_pairs(r, count) };
+            }
+            // In the midst of a lock the packets wait that can, and the next B8 gives them.
+            _ => lock.teller.receiver.sure = false,
+        }
+    }
+    // No more packets wait than can.
+    let receiver = &mut lock.teller.receiver;
+    let most = if receiver.sure { 0 } else { most_waiting(receiver) };
+    let count = [most, receiver.waiting.len().min(most), r.below(most + 1)][r.below(3)];
+    let place = receiver.receiver.place.unwrap_or(0) + 8 - count;
+    let packets: Vec<Vec<u8>> = (0..count).map(|k| receiver.waiting.get(k).map_or_else(|| r.bytes(PACKET_LENGTH), |block| block.packet.clone())).collect();
+    receiver.waiting = packets.into_iter().enumerate().map(|(k, packet)| Block { answer: Answer::Done, place: (place + k) % 8, packet }).collect();
+    // As many points came as are held and gave bits: no more than that, more, or as many as can be counted.
+    let held = lock.pending.len() as u64;
+    let least = match &lock.reading {
+        None => {
+            lock.pending.truncate(WINDOW - 1);
+            held
+        }
+        Some(reading) => {
+            let counted = reading.gathered.used + reading.gathered.bits.len() as u64 + 2 * (held + reading.runs.pairs.len() as u64);
+            held.max(reading.first + counted.saturating_sub(16) / 2 + counted % 2)
+        }
+    };
+    lock.came = match r.below(8) {
+        0 => least,
+        1 => least + r.below(5_000) as u64,
+        2 => MOST_CAME - 1 - r.below(2 * WINDOW) as u64,
+        3 => MOST_CAME - 1 - WINDOW as u64,
+        _ => lock.came.max(least),
+    };
+}
+
 fn lock_kinds(s: &mut Score) {
-    let states = lock_states(&mut Xorshift::new(0x300_421));
+    // Call by call beside the reference, from a fresh state to behind the end.
+    s.kind("a lock's steps", 40, |s, r, case| {
+        let (rate, points) = lock_stream(r, case as usize);
+        let longest = [200, 1_632, 5_000][r.below(3)];
+        let mut state = s.lock_fresh(r, LOCK, rate);
+        let mut at = 0;
+        while at < points.i.len() {
+            let end = (at + r.below(longest + 1)).min(points.i.len());
+            let rooms = LockRooms::enough(r);
+            let (taken, after, answer) = s.lock(r, &state, &ToLock::Points(points.part(at, end)), &rooms);
+            assert_eq!(answer, Some(0));
+            state = after;
+            at += taken as usize;
+        }
+        s.lock_end(r, state);
+    });
+    let (streams, states) = reached(&mut Xorshift::new(0x300_421));
     let (mut accepted, mut refused) = (0u64, 0u64);
     let mut tell = |answer: Option<u8>| if answer == Some(5) { refused += 1 } else { accepted += 1 };
-    let some_points = |r: &mut Xorshift, count: usize| {
-        let numbers = |r: &mut Xorshift| (0..count).map(|_| some_number(r)).collect::<Vec<f32>>();
-        (numbers(r), numbers(r), (0..count).map(|_| (r.below(30) == 0) as u8).collect::<Vec<u8>>())
-    };
+    // A few calls from states with other numbers, bits, pairs and packets: on the points behind them, whole or harmed, or on any; and their end.
+    s.kind("a lock's other states", 12_000, |s, r, case| {
+        let from = &states[r.below(states.len())];
+        let mut lock = lock_state::expected::read(&from.state).expect("points come to it");
+        changed(r, &mut lock);
+        let mut state = vec![0; LOCK];
+        lock_state::expected::write(&lock, &mut state);
+        assert!(lock_state::expected::read(&state).is_some(), "case {case}");
+        let (mut at, points) = (from.at, &streams[from.stream]);
+        for _ in 0..1 + r.below(8) {
+            let count = [1, 5, 300, 1_632, 1_632, 3_000][r.below(6)];
+            let mut came = if r.below(4) == 0 { Points::some(r, count) } else { points.part(at, (at + count).min(points.i.len())) };
+            if r.below(6) == 0 {
+                came.i.iter_mut().step_by(1 + r.below(40)).for_each(|x| *x = some_number(r));
+                came.lost.iter_mut().skip(r.below(40)).step_by(1 + r.below(40)).for_each(|mark| *mark = 1);
+            }
+            let rooms = LockRooms::enough(r);
+            let (taken, after, answer) = s.lock(r, &state, &ToLock::Points(came), &rooms);
+            tell(answer);
+            state = after;
+            at = (at + taken as usize).min(points.i.len());
+        }
+        if case % 3 == 0 {
+            s.lock_end(r, state);
+        }
+    });
     s.kind("a lock's random states", 30_000, |s, r, case| {
         // All bytes at random; only the numbers; a byte or two of them; a cell.
-        let mut state = states[r.below(states.len())].clone();
+        let mut state = states[r.below(states.len())].state.clone();
         match case % 6 {
             0 => state = r.bytes(LOCK),
             1 => {
@@ -890,30 +1141,30 @@ fn lock_kinds(s: &mut Score) {
                 }
             }
         }
-        let count = [0, 1, 200][r.below(3)];
-        let (i, q, lost) = some_points(r, count);
+        let count = [0, 1, 200, 1_632][r.below(4)];
+        let (points, end) = (Points::some(r, count), r.next());
         let rooms = LockRooms::enough(r);
-        tell(s.lock(r, &state, Some((&i, &q, &lost)), &rooms));
-        tell(s.lock(r, &state, None, &rooms));
+        tell(s.lock(r, &state, &ToLock::Points(points), &rooms).2);
+        tell(s.lock(r, &state, &ToLock::End(end), &rooms).2);
     });
     // Every bit of the numbers, and some of the cells.
     const BITS: usize = 8 * (LOCK_PACKETS - LOCK_NUMBERS);
-    s.kind("single bits of a lock's states", 60, |s, r, _| {
-        let state = states[r.below(states.len())].clone();
-        let (i, q, lost) = some_points(r, 3);
+    s.kind("single bits of a lock's states", 60, |s, r, case| {
+        let state = states[r.below(states.len())].state.clone();
+        let points = ToLock::Points(Points::some(r, if case % 6 == 0 { 1_632 } else { 3 }));
         let rooms = LockRooms::enough(r);
         for bit in 0..BITS + 200 {
             let bit = if bit < BITS { 8 * LOCK_NUMBERS + bit } else { r.below(8 * LOCK) };
             let mut other = state.clone();
             other[bit / 8] ^= 1 << (bit % 8);
-            tell(s.lock(r, &other, Some((&i, &q, &lost)), &rooms));
+            tell(s.lock(r, &other, &points, &rooms).2);
         }
     });
     s.kind("a lock's refusals", 8, |s, r, case| {
-        let mut full = states[r.below(states.len())].clone();
+        let mut full = states[r.below(states.len())].state.clone();
         // So many points came that no more can.
-        full[13_760..13_768].copy_from_slice(&((1u64 << 60) - 1_632 + case % 2 * 1_000).to_le_bytes());
-        for state in [states[r.below(states.len())].clone(), full, r.bytes(LOCK)] {
+        full[13_760..13_768].copy_from_slice(&(MOST_CAME - 1_632 + case % 2 * 1_000).to_le_bytes());
+        for state in [states[r.below(states.len())].state.clone(), full, r.bytes(LOCK)] {
             let mut long = state.clone();
             long.extend(r.bytes(3));
             for length in [0, case as usize, LOCK - 1, LOCK, LOCK + 1, LOCK + 3] {
@@ -921,10 +1172,11 @@ fn lock_kinds(s: &mut Score) {
                     for (packets, text, counts) in [(1504, 2048, 2), (1503, 2048, 2), (1504, 2047, 2), (1504, 2048, 1), (0, 0, 0), (1600, 2100, 3)] {
                         for answer in [0, 1, 2] {
                             let rooms = LockRooms::new(r, packets, text, counts, answer);
-                            let (i, q, mut lost) = (some_points(r, i).0, some_points(r, q).0, vec![0; lost]);
-                            lost.iter_mut().skip(2).take(1).for_each(|first| *first = mark);
-                            s.lock(r, &long[..length], Some((&i, &q, &lost)), &rooms);
-                            s.lock(r, &long[..length], None, &rooms);
+                            let mut points = Points { i: Points::some(r, i).i, q: Points::some(r, q).q, lost: vec![0; lost] };
+                            points.lost.iter_mut().skip(2).take(1).for_each(|first| *first = mark);
+                            s.lock(r, &long[..length], &ToLock::Points(points), &rooms);
+                            let end = r.next();
+                            s.lock(r, &long[..length], &ToLock::End(end), &rooms);
                         }
                     }
                 }
@@ -935,8 +1187,8 @@ fn lock_kinds(s: &mut Score) {
         }
     });
     if s.only_kind.is_none() {
-        println!("states of a lock: {accepted} stood for one, {refused} for none");
-        assert!(accepted > 20_000 && refused > 20_000);
+        println!("states of a lock: {accepted} stood for one, {refused} for none; calls: {:?}", s.lock_told);
+        assert!(accepted > 20_000 && refused > 20_000 && s.lock_told.each_at_least(100));
     }
 }
 
@@ -944,12 +1196,11 @@ fn main() {
     let mut arguments = std::env::args().skip(1);
     let only_kind = arguments.next();
     let only_case = arguments.next().map(|case| case.parse().expect("a case"));
-    let lent = [15_124, 24_000, 6_000, 2, 6_000, 24_000].map(Guarded::new);
-    let mut s = Score { only_kind, only_case, kind: "", case: 0, passed: 0, failed: 0, passed_all: 0, failed_all: 0, lent };
+    let lent = [15_124, 24_000, 6_000, 2, 6_000, 24_000, 2_100, 24].map(Guarded::new);
+    let mut s = Score { only_kind, only_case, kind: "", case: 0, passed: 0, failed: 0, passed_all: 0, failed_all: 0, lent, lock_told: LockTold::default() };
     sender_kinds(&mut s);
     reader_kinds(&mut s);
     receiver_kinds(&mut s);
-    #[cfg(exports_linked)]
     lock_kinds(&mut s);
     println!("comparisons of states: {} passed, {} failed", s.passed_all, s.failed_all);
     if s.failed_all > 0 {
