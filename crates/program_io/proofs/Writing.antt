@@ -3,16 +3,30 @@
 use mathlib.Core.Path.{_≡_, refl, sym, ap, _∙_}
 use mathlib.Core.Bool.{true, false, true≢false}
 use mathlib.Core.List.{List}
-use Prim.Native.Nat.{ℕ, _+_, _≤_}
+use Prim.Native.Nat.{ℕ, _+_, _-_, _≤_}
 use native.Mathlib.Omega.{arith}
+use borrow.Author.Tests.{ltb-true}
+use lib.IntN.{ℤ, pos, negsuc}
 use lib.ListN.{length, take, drop}
 use lib.Seq.{take-add, take-all}
+use lib.Signed.{ltZ}
+use Rattle.io.specs.Counts.{clamped}
 use Rattle.program_io.specs.Checksum.{traced}
-use Rattle.program_io.specs.Files.{outputFile, outputTrace, outputFailed, outputClosed, WritesFrom, Writes}
+use Rattle.program_io.specs.Files.{outputFile, outputTrace, outputFailed, outputClosed, WrittenBy, WritesFrom, Writes}
 use Rattle.program_io.specs.declared.trace.Trace.{Trace}
 use Rattle.program_io.specs.declared.output.Output.{Output}
 use Rattle.program_io.specs.declared.output.Put.{Put}
+use Rattle.program_io.proofs.Reading.{moved-within}
 use Rattle.program_io.proofs.Traces.{traced-more}
+
+-- an answer below 0 is no number of bytes
+pub none-clamped : (z : ℤ) (most : ℕ) → ltZ z (pos 0) ≡ true → clamped z most ≡ 0
+none-clamped (pos k) most e = absurd (omega (arith, ltb-true k 0 e))
+none-clamped (negsuc k) most e = refl
+
+-- no more bytes are taken than there are
+pub written-within : {o : Output} {bytes : List ℕ} {from : ℕ} {got : ℤ} {r : Put} → from ≤ length bytes → WrittenBy o bytes from got r → from + r .length ≤ length bytes
+written-within {bytes = bytes} {from} {got} h w = omega (arith, w .length-is, moved-within got (length bytes - from))
 
 -- so many bytes were taken, and nothing failed
 pub record Writing (o : Output) (bytes : List ℕ) (output : Output) (done : ℕ) : Type 0 where

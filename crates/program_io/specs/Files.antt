@@ -79,12 +79,13 @@ pub record NoInput (i : Input) : Type 0 where
   pub trace : inputTrace i ≡ noBytes
   pub ended : inputEnded i ≡ true
 
--- a file that an argument names, before the first read; it is no standard stream
+-- a file that an argument names, before the first read; it is no standard stream, and has failed exactly where it has no descriptor
 pub record OpenedInput (argument start : ℕ) (i : Input) : Type 0 where
   pub argument-is : originArgument (inputOrigin i) ≡ argument
   pub start-is : originStart (inputOrigin i) ≡ start
   pub trace : inputTrace i ≡ noBytes
   pub going : inputEnded i ≡ false
+  pub failed : inputFailed i ≡ ltZ (originFile (inputOrigin i)) (pos 0)
   pub other : inputFailed i ≡ false → ltZ (originFile (inputOrigin i)) (pos 3) ≡ false
 
 -- before the first write, to a descriptor
@@ -134,6 +135,16 @@ pub record Loses (o r : Output) : Type 0 where
   pub file : outputFile r ≡ outputFile o
   pub trace : outputTrace r ≡ outputTrace o
   pub failed : outputFailed r ≡ true
+  pub closed : outputClosed r ≡ outputClosed o
+
+-- After a write of the bytes from a place on that was answered so: it failed exactly where that is below 0, and else it took as many bytes, over which the
+-- checksum goes on.
+pub record WrittenBy (o : Output) (bytes : List ℕ) (from : ℕ) (got : ℤ) (r : Put) : Type 0 where
+  pub file : outputFile (r .output) ≡ outputFile o
+  pub failed : outputFailed (r .output) ≡ ltZ got (pos 0)
+  pub length-is : r .length ≡ clamped got (length bytes - from)
+  pub trace : outputFailed (r .output) ≡ false → outputTrace (r .output) ≡ traced (outputTrace o) (take (r .length) (drop from bytes))
+  pub closed : outputClosed (r .output) ≡ outputClosed o
 
 -- One write of the bytes from a place on: unless it failed, the checksum goes on over those that it took.
 pub record WritesFrom (o : Output) (bytes : List ℕ) (from : ℕ) (r : Put) : Type 0 where
@@ -149,6 +160,13 @@ pub record Writes (o : Output) (bytes : List ℕ) (r : Output) : Type 0 where
   pub unclosed : outputFailed r ≡ false → outputClosed r ≡ outputClosed o
   pub started : outputFailed r ≡ false → outputFailed o ≡ false
   pub failed : outputFailed o ≡ true → r ≡ o
+
+-- After a closing that was answered so: it failed exactly where that is below 0, and else it is closed.
+pub record ClosedBy (o : Output) (answer : ℤ) (r : Output) : Type 0 where
+  pub file : outputFile r ≡ outputFile o
+  pub trace : outputTrace r ≡ outputTrace o
+  pub failed : outputFailed r ≡ ltZ answer (pos 0)
+  pub closed : outputFailed r ≡ false → outputClosed r ≡ true
 
 -- Closing an output: where nothing failed, it is closed.
 pub record Closes (o r : Output) : Type 0 where

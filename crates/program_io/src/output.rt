@@ -4,7 +4,7 @@ ghost use mathlib.Core.Path.{_≡_};
 ghost use Prim.Native.Nat.{_≤_};
 ghost use lib.IntN.{pos};
 ghost use lib.ListN.{length};
-ghost use Rattle.program_io.specs.Files.{outputFailed, FreshOutput, Loses, WritesFrom, Writes, Closes};
+ghost use Rattle.program_io.specs.Files.{outputFailed, FreshOutput, Loses, WrittenBy, WritesFrom, Writes, ClosedBy, Closes};
 use crate::trace::Trace;
 use crate::trace::no_bytes;
 use crate::trace::traced;
@@ -79,22 +79,16 @@ impl Output {
         }
     }
 
-    // Writes once, the bytes from a place on. The checksum goes on over those that were taken. An output that is closed takes none.
-    fn write_from(self, name: &[u8], bytes: &[u8], from: usize) -> Put
+    // The output after a write of the bytes from a place on that was answered so: a number of bytes, and below 0 it failed. The checksum goes on over those
+    // that were taken.
+    fn written_by(self, bytes: &[u8], from: usize, got: isize) -> Put
         requires { ⌜ from ≤ length (now bytes) ⌝ }
-        ensures { λ r. ⌜ WritesFrom self (now (bytes .entry)) from r ⌝ }
+        ensures { λ r. ⌜ WrittenBy self (now (bytes .entry)) from got r ⌝ }
     {
         let fd = self.fd;
         let trace = self.trace;
-        if self.closed {
-            return Put {
-                output: self.lost(),
-                length: 0,
-            };
-        }
-        let got = libc::write(fd, &bytes[from..]);
+        let closed = self.closed;
         if got < 0 {
-            os::fail(name);
             return Put {
                 output: self.lost(),
                 length: 0,
@@ -108,10 +102,29 @@ impl Output {
                 fd,
                 trace,
                 failed: false,
-                closed: false,
+                closed,
             },
             length,
         }
+    }
+
+    // Writes once, the bytes from a place on. An output that is closed takes none.
+    fn write_from(self, name: &[u8], bytes: &[u8], from: usize) -> Put
+        requires { ⌜ from ≤ length (now bytes) ⌝ }
+        ensures { λ r. ⌜ WritesFrom self (now (bytes .entry)) from r ⌝ }
+    {
+        let fd = self.fd;
+        if self.closed {
+            return Put {
+                output: self.lost(),
+                length: 0,
+            };
+        }
+        let got = libc::write(fd, &bytes[from..]);
+        if got < 0 {
+            os::fail(name);
+        }
+        self.written_by(bytes, from, got)
     }
 
     // Writes bytes with as many writes as it takes. A write that fails or takes nothing ends it.
@@ -159,20 +172,13 @@ impl Output {
         output
     }
 
-    // Closes the output, where nothing failed. A file system may tell only then that what was written is lost.
-    pub fn close(self, name: &[u8]) -> Output
-        ensures { λ r. ⌜ Closes self r ⌝ }
+    // The output after a closing that was answered so: below 0 it failed.
+    fn closed_by(self, answer: i32) -> Output
+        ensures { λ r. ⌜ ClosedBy self answer r ⌝ }
     {
         let fd = self.fd;
         let trace = self.trace;
-        if self.failed {
-            return self;
-        }
-        if self.closed {
-            return self;
-        }
-        if libc::close(fd) < 0 {
-            os::fail(name);
+        if answer < 0 {
             return self.lost();
         }
         Output {
@@ -181,5 +187,23 @@ impl Output {
             failed: false,
             closed: true,
         }
+    }
+
+    // Closes the output, where nothing failed. A file system may tell only then that what was written is lost.
+    pub fn close(self, name: &[u8]) -> Output
+        ensures { λ r. ⌜ Closes self r ⌝ }
+    {
+        let fd = self.fd;
+        if self.failed {
+            return self;
+        }
+        if self.closed {
+            return self;
+        }
+        let answer = libc::close(fd);
+        if answer < 0 {
+            os::fail(name);
+        }
+        self.closed_by(answer)
     }
 }

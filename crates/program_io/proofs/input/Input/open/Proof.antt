@@ -37,6 +37,7 @@ returns c = record {
   start-is = refl;
   trace = c .before .no-bytes .ensures;
   going = refl;
+  failed = sym (c .if1 .taken);
   other = λ h. absurd (true≢false h);
 }
 
@@ -49,6 +50,7 @@ returns-2 c =
       start-is = refl;
       trace = c .before .no-bytes .ensures;
       going = refl;
+      failed = sym (c .if1 .left);
       other = λ h. subst (λ (x : ℤ). ltZ x (pos 3) ≡ false) (sym e) (c .before .before .opened .ensures (subst (λ (x : ℤ). ltZ x (pos 0) ≡ false) e (c .if1 .left)));
     }
 

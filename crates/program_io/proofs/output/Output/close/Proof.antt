@@ -18,27 +18,16 @@ close-requires c κs = search needs
 fail-requires : tie.Need-fail-requires
 fail-requires c κs = search needs
 
-lost-requires : tie.Need-lost-requires
-lost-requires c κs = search needs
+closed-by-requires : tie.Need-closed-by-requires
+closed-by-requires c κs = search needs
 
 returns-3 : tie.Need-returns-3
 returns-3 c =
-    let u = c .before .before .before .before .before .if1 .left in
-    let l = c .lost .ensures in
-    record {
-      file = l .file;
-      trace = l .trace;
-      closed = λ h. absurd (true≢false (sym (l .failed) ∙ h));
-      started = λ h. u;
-      failed = λ h. absurd (true≢false (sym h ∙ u));
-    }
-
-returns-4 : tie.Need-returns-4
-returns-4 c =
-    let u = c .before .before .before .if1 .left in
-    record { file = search needs; trace = refl; closed = λ h. refl; started = λ h. u; failed = λ h. absurd (true≢false (sym h ∙ u)) }
+    let w = c .closed-by .ensures in
+    let u = c .before .before .before .before .if1 .left in
+    record { file = w .file; trace = w .trace; closed = w .closed; started = λ h. u; failed = λ h. absurd (true≢false (sym h ∙ u)) }
 
 pub close-spec : {M : Type 1} → statement M
 close-spec =
     tie.close
-    (tie.spec returns returns-2 close-requires fail-requires lost-requires returns-3 returns-4)
+    (tie.spec returns returns-2 close-requires fail-requires closed-by-requires returns-3)
