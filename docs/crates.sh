@@ -5,7 +5,7 @@
 set -euo pipefail
 
 # What build.sh builds, with all below it; any other code is of the tests and the benchmark.
-built=$(sed -n 's/^programs=(\(.*\))$/\1/p; s/.*rt staticlib \([a-z_]*\).*/\1/p' build.sh)
+built=$(sed -n 's/^\(programs\|libdvbs\)=(\(.*\))$/\2/p; s/.*libdvbs_bridge) echo \([a-z_]*\) ;;.*/\1/p' build.sh)
 below=$(for name in $built; do grep "^$name:" crates.txt; done | tr -d ':')
 
 # kind NAME: by what the files of the crate say.
