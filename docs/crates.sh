@@ -6,6 +6,7 @@ set -euo pipefail
 
 # What build.sh builds, with all below it; any other code is of the tests and the benchmark.
 built=$(sed -n 's/^\(programs\|libdvbs\)=(\(.*\))$/\2/p; s/.*libdvbs_bridge) echo \([a-z_]*\) ;;.*/\1/p' build.sh)
+programs=$(sed -n 's/^programs=(\(.*\))$/ \1 /p' build.sh)
 below=$(for name in $built; do grep "^$name:" crates.txt; done | tr -d ':')
 
 # kind NAME: by what the files of the crate say.
@@ -14,7 +15,7 @@ kind() {
         echo theory
     elif [[ " ${below//$'\n'/ } " != *" $1 "* ]]; then
         echo test
-    elif [ -f "crates/$1/src/main.rt" ]; then
+    elif [[ $programs = *" $1 "* ]]; then
         echo program
     elif grep -q '^// Inner' "crates/$1/src/lib.rt"; then
         echo inner
