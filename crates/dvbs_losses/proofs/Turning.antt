@@ -142,11 +142,11 @@ close-count i {lines} {exit} {count} w l = omega (arith, w .counted, ap length (
 pub cut-of : {bytes : List ℕ} {marks : Input} {output : Output} {i : LossStream} → Going bytes marks output i → Cut output
 cut-of g = record { lines = g .lines; written = g .written }
 
-pub finished : {input marks : Input} {output : Output} {i : LossStream} {rest : ℕ} (a : AllRead input marks output i rest) → inputFailed input ≡ false
+pub finished : {input marks : Input} {output : Output} {i : LossStream} {rest : ℕ} (a : AllRead input marks output i rest) → inputFailed input ≡ false → inputFailed marks ≡ false
     → {lines exit text : List ℕ} {count : ℕ} → WritesLines (closeLines i lines) lines count exit → length lines ≡ 8 → text ≡ listText (take count exit) ++ restText rest
     → {written last : Output} → files.Writes output text written → files.Closes written last → outputFailed last ≡ false
     → {errors : Output} → outputTrace errors ≡ noBytes → (status : ℤ) → Whole (record { status = status; input = input; marks = marks; output = last; errors = errors })
-finished {input} {marks} {output} {i} {rest} a u {lines} {exit} {text} {count} w n e {written} {last} f h v q status =
+finished {input} {marks} {output} {i} {rest} a u unfailed {lines} {exit} {text} {count} w n e {written} {last} f h v q status =
     let g = a .going in
     let range = came-range (g .came) in
     let room : waitingOf (i .certainty) ≤ length lines = let r = stream-range i range in omega (arith, r .waiting .0, most-seven (i .receiver .sync .place)) in
@@ -166,6 +166,7 @@ finished {input} {marks} {output} {i} {rest} a u {lines} {exit} {text} {count} w
       ended = a .ended u;
       marks-read = g .marks-read;
       marks-all = g .marks-all;
+      marks-unfailed = unfailed;
       written =
           h .trace
           ∙ traced-on (listText (g .lines)) (listText (endLines i) ++ restText rest) (g .written) (f .whole (h .started v) ∙ ap (traced (outputTrace output)) x)

@@ -97,6 +97,7 @@ pub record Whole (r : MarkedEnded) : Type 0 where
   pub ended : (inputEnded (r .input) ≡ true) ⊎ (length bytes ≡ 204 * 4294967295)
   pub marks-read : inputTrace (r .marks) ≡ traced noBytes own
   pub marks-all : (length own ≡ length bytes) ⊎ (inputOver (r .marks) ≡ true)
+  pub marks-unfailed : inputFailed (r .marks) ≡ false
   pub written : outputTrace (r .output) ≡ traced noBytes (listText lines ++ restText (length after-it))
   pub unfailed : outputFailed (r .output) ≡ false
   pub closed : outputClosed (r .output) ≡ true

@@ -34,6 +34,7 @@ same-came g t u = record {
   marks-read = g .marks-read;
   marks-fit = g .marks-fit;
   marks-all = g .marks-all;
+  marks-unfailed = g .marks-unfailed;
   unmarked = g .unmarked;
   unfailed = u;
   written = t ∙ g .written;

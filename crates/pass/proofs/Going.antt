@@ -34,8 +34,8 @@ use Rattle.pass.proofs.Marks.{above-after, none-above, padded-on, padde
 -- ---- before the first read
 
 pub came-none : (wanted : Bool) {input marks : Input} {output : Output} {stream : ReceiverStream} → inputTrace input ≡ noBytes → inputTrace marks ≡ noBytes
-    → outputTrace output ≡ noBytes → outputFailed output ≡ false → stream ≡ freshReceiverStream → PassCame wanted marks input marks output stream
-came-none wanted {stream = stream} i m o u s = record {
+    → outputTrace output ≡ noBytes → outputFailed output ≡ false → inputFailed marks ≡ false → stream ≡ freshReceiverStream → PassCame wanted marks input marks output stream
+came-none wanted {stream = stream} i m o u v s = record {
   bytes = [];
   came = [];
   packets = [];
@@ -44,6 +44,7 @@ came-none wanted {stream = stream} i m o u s = record {
   marks-read = m;
   marks-fit = omega arith;
   marks-all = inl refl;
+  marks-unfailed = v;
   unmarked = λ h. (refl, refl);
   unfailed = u;
   written = o ∙ ap (traced noBytes) (sym (nothing wanted));
@@ -89,6 +90,7 @@ module _ {wanted : Bool} {start input marks : Input} {output : Output} {stream :
           marks-read = g .marks-read;
           marks-fit = g .marks-fit;
           marks-all = g .marks-all;
+          marks-unfailed = g .marks-unfailed;
           unmarked = g .unmarked;
           unfailed = g .unfailed;
           written = g .written;
@@ -224,8 +226,8 @@ module _ {wanted : Bool} {start input marks : Input} {output : Output} {stream :
             less (length (g .bytes)) (length (g .bytes ++ piece)) (f .length) (reception-capacity (g .reception)) (reception-capacity received)
             (length-append (g .bytes) piece ∙ ap (λ (n : ℕ). length (g .bytes) + n) piece-length) some (received .few)
 
-        pub came-more : {o : Output} → HandsOn output wanted (take count exit) o → outputFailed o ≡ false → PassCame wanted start (f .input) (m .input) o next
-        came-more {o} w u = record {
+        pub came-more : {o : Output} → HandsOn output wanted (take count exit) o → outputFailed o ≡ false → inputFailed (m .input) ≡ false → PassCame wanted start (f .input) (m .input) o next
+        came-more {o} w u v = record {
           bytes = g .bytes ++ piece;
           came = g .came ++ new;
           packets = g .packets ++ take count exit;
@@ -234,6 +236,7 @@ module _ {wanted : Bool} {start input marks : Input} {output : Output} {stream :
           marks-read = marks-now;
           marks-fit = omega (arith, length-append (g .came) new, length-append (g .bytes) piece, new-length, piece-length, k .within, g .marks-fit);
           marks-all = still-all;
+          marks-unfailed = v;
           unmarked = λ e.
               let z = k .over (still-over e) in
               let n : new ≡ [] = ap (λ (j : ℕ). take j own) (z .0) in

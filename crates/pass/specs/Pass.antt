@@ -45,8 +45,8 @@ pub data HandsOn (o : Output) (wanted : Bool) (packets : List ℕ) (r : Output) 
 abbrev pub endingOf : Bool → Ending
 endingOf failed = pick failed Failed Whole
 
--- All these bytes were read, and these marks: one for each byte, unless their input is over; where none came it is 0, and so it is of every byte where
--- that input was over from the start. This is what they come to, and the packets were written where they are wanted.
+-- All these bytes were read, and these marks, of which no read failed: one for each byte, unless their input is over; where none came it is 0, and so it is of
+-- every byte where that input was over from the start. This is what they come to, and the packets were written where they are wanted.
 pub record PassCame (wanted : Bool) (start input marks : Input) (output : Output) (stream : ReceiverStream) : Type 0 where
   pub bytes : List ℕ
   pub came : List ℕ
@@ -56,6 +56,7 @@ pub record PassCame (wanted : Bool) (start input marks : Input) (output : Output
   pub marks-read : inputTrace marks ≡ traced noBytes came
   pub marks-fit : length came ≤ length bytes
   pub marks-all : (length came ≡ length bytes) ⊎ (inputOver marks ≡ true)
+  pub marks-unfailed : inputFailed marks ≡ false
   pub unmarked : inputOver start ≡ true → (came ≡ []) × (inputLast marks ≡ inputLast start)
   pub unfailed : outputFailed output ≡ false
   pub written : outputTrace output ≡ traced noBytes (pick wanted packets [])

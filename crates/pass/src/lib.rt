@@ -136,7 +136,8 @@ pub fn receive_all(
         × (outputFailed output ≡ false)
         × (length (now bytes) ≡ 65536)
         × (length (now own) ≡ 65536)
-        × (length (now packets) ≡ 65536) ⌝ }
+        × (length (now packets) ≡ 65536)
+        × (inputFailed marks ≡ false) ⌝ }
     ensures { λ r. ⌜ Passes input marks output wanted r ⌝ }
 {
     let mut input = input;

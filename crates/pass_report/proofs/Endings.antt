@@ -24,12 +24,15 @@ use Rattle.pass_report.specs.Ends as own
 use Rattle.pass_report.specs.Ends.{isWhole, Prints, printed, lost, Ends}
 use Rattle.pass_report.specs.declared.PassEnded.{PassEnded}
 
-ended-over : (i : Input) → inputEnded i ≡ true → inputOver i ≡ true
-ended-over i e = by (inputFailed i) refl
+pub ended-unfailed : (i : Input) → inputEnded i ≡ true → inputFailed i ≡ false
+ended-unfailed i e = by (inputFailed i) refl
   where
-    by : (b : Bool) → inputFailed i ≡ b → inputOver i ≡ true
+    by : (b : Bool) → inputFailed i ≡ b → inputFailed i ≡ false
     by true f = absurd (true≢false (sym e ∙ ap (λ (t : Bool). pick t false (inputOver i)) f))
-    by false f = sym (ap (λ (t : Bool). pick t false (inputOver i)) f) ∙ e
+    by false f = f
+
+ended-over : (i : Input) → inputEnded i ≡ true → inputOver i ≡ true
+ended-over i e = sym (ap (λ (t : Bool). pick t false (inputOver i)) (ended-unfailed i e)) ∙ e
 
 pub all-whole : (e : Ending) → isWhole e ≡ true → e ≡ Whole
 all-whole Whole h = refl

@@ -106,7 +106,8 @@ returns-4 c =
     let q = c .before .before .before .before .before .before .before .before .put-line in
     let u = sym (c .before .before .before .before .before .before .before .before .before .before .before .before .before .before .before .before .before .before .before .before .before .failed .ensures) ∙ c .before .before .before .before .before .before .before .before .before .before .before .before .before .before .before .before .before .before .before .before .if1 .left in
     let v = sym (c .before .failed3 .ensures) ∙ c .if3 .left in
-    (whole refl (finished (s .pre .0) u (d .ensures .1) refl (q .ensures .text ∙ ap (λ (x : List ℕ). x ++ restText (s .args .rest)) (p .ensures .text)) (c .before .before .before .before .write-text .ensures) (c .before .before .close2 .ensures) v (s .pre .1) _), refl, refl, c .before .before .close2 .ensures .file ∙ c .before .before .before .before .write-text .ensures .file, refl)
+    let m = sym (c .before .before .before .before .before .before .before .before .before .before .before .before .before .before .before .before .before .before .before .failed2 .ensures) ∙ c .before .before .before .before .before .before .before .before .before .before .before .before .before .before .before .before .before .before .if2 .left in
+    (whole refl (finished (s .pre .0) u m (d .ensures .1) refl (q .ensures .text ∙ ap (λ (x : List ℕ). x ++ restText (s .args .rest)) (p .ensures .text)) (c .before .before .before .before .write-text .ensures) (c .before .before .close2 .ensures) v (s .pre .1) _), refl, refl, c .before .before .close2 .ensures .file ∙ c .before .before .before .before .write-text .ensures .file, refl)
 
 pub finish-spec : {M : Type 1} → statement M
 finish-spec =

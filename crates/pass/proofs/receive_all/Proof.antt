@@ -36,7 +36,7 @@ new-requires c κs = search needs
 loop-holds : tie.Need-loop-holds Inv-loop μ-loop
 loop-holds c =
     let p = c .before .before .before .before .pre in
-    (came-none _ (p .0) (p .1) (p .2) (p .3) (c .new .ensures), p .4, p .5, p .6, refl, refl, refl, λ w. refl)
+    (came-none _ (p .0) (p .1) (p .2) (p .3) (p .7) (c .new .ensures), p .4, p .5, p .6, refl, refl, refl, λ w. refl)
 
 capacity-requires : tie.Need-capacity-requires Inv-loop μ-loop
 capacity-requires c κs = search needs
@@ -227,7 +227,7 @@ loop-again c =
     let f = c .before .before .before .before .before .before .before .feed in
     let n = c .before .before .before .before .before .before .before .before .before .before .before .before .before .before .before .before .before .before .before .before .before .if1 .left in (
       came-more (l .inv .0) (most-is (c .before .before .before .before .before .before .before .before .before .before .before .before .before .before .before .before .before .before .before .before .before .before .before .before .before .before .before .before)) (r .ensures) (m .ensures) (r .kept .1 .1 .0 ∙ l .inv .1) (m .kept .1 .0 ∙ l .inv .2) (omega (arith, n))
-          (let z = c .before .before .before .before .before .before .before .before .before .before .before .if3 .left in subst (λ (k : ℕ). m .result .length ≤ k) (c .before .before .before .before .before .before .before .before .before .before .before .before .first-above .ensures) z) (l .inv .3) (f .ensures) (c .before .before .before .hand-on .ensures) (sym (c .before .failed2 .ensures) ∙ c .if4 .left),
+          (let z = c .before .before .before .before .before .before .before .before .before .before .before .if3 .left in subst (λ (k : ℕ). m .result .length ≤ k) (c .before .before .before .before .before .before .before .before .before .before .before .before .first-above .ensures) z) (l .inv .3) (f .ensures) (c .before .before .before .hand-on .ensures) (sym (c .before .failed2 .ensures) ∙ c .if4 .left) (sym (c .before .before .before .before .before .before .before .before .before .before .before .before .before .before .before .failed .ensures) ∙ c .before .before .before .before .before .before .before .before .before .before .before .before .before .before .if2 .left),
       r .kept .1 .1 .0 ∙ l .inv .1,
       m .kept .1 .0 ∙ l .inv .2,
       f .kept .1 .1 .1 .0 ∙ l .inv .3,

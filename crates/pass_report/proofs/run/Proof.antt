@@ -1,7 +1,7 @@
 -- `pass_report::run` meets its contract.
 -- Assumes nothing.
 use mathlib.Core.Path.{sym, _∙_}
-use Rattle.pass_report.proofs.Endings.{all-whole, came-of, fresh, ends-printed, ends-failed}
+use Rattle.pass_report.proofs.Endings.{ended-unfailed, all-whole, came-of, fresh, ends-printed, ends-failed}
 use borrow.Author.Needs.{needs}
 use Rattle.pass_report.proofs.run.Statement.{statement}
 use Rattle.pass_report.proofs.run.Tie as tie
@@ -34,7 +34,7 @@ slice-aggregate-receive-all-3 : tie.Need-slice-aggregate-receive-all-3
 slice-aggregate-receive-all-3 c = search needs
 
 receive-all-requires : tie.Need-receive-all-requires
-receive-all-requires c κs = search needs
+receive-all-requires c κs = (search needs, search needs, search needs, search needs, search needs, search needs, search needs, ended-unfailed (c .before .before .before .before .before .before .before .none .result) (c .before .before .before .before .before .before .before .none .ensures .ended))
 
 is-whole-requires : tie.Need-is-whole-requires
 is-whole-requires c κs = search needs
