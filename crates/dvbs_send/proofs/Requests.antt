@@ -44,5 +44,8 @@ module _ (mode : ℕ) (b : Bool) (e : b ≡ modeOf mode .sent) where
   pub not-sent : not b ≡ true → modeOf mode .sent ≡ false
   not-sent n = sym (flag-false (λ (x : Bool). x ≡ modeOf mode .sent) b n e)
 
+  pub is-sent : not b ≡ false → modeOf mode .sent ≡ true
+  is-sent n = sym (flag-true (λ (x : Bool). x ≡ modeOf mode .sent) b n e)
+
   pub new-sent : not b ≡ false → newNumber mode ≡ 0
-  new-sent n = ap (λ (x : Bool). pick x 0 6) (sym (flag-true (λ (x : Bool). x ≡ modeOf mode .sent) b n e))
+  new-sent n = ap (λ (x : Bool). pick x 0 6) (is-sent n)

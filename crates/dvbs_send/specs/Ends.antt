@@ -174,5 +174,5 @@ requested a first second = requestOf (argumentCount a) (wordBytes first) (wordBy
 -- mode that is sent; else how the run in that mode ended.
 pub data Exits (status : ℤ) : Type 0 where
   answered : AnswersCall name usage (λ a first. (second : Word) × Called a first second × (modeOf (requested a first second .mode) .sent ≡ false)) status → Exits status
-  ran : (a : Arguments) (first second : Word) (r : Ended) → Called a first second
+  ran : (a : Arguments) (first second : Word) (r : Ended) → Called a first second → modeOf (requested a first second .mode) .sent ≡ true
       → Ends (requested a first second .mode) (requested a first second .flush) r → status ≡ r .status → Exits status

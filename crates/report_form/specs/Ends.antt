@@ -4,7 +4,7 @@
 use mathlib.Core.Path.{_≡_}
 use mathlib.Core.Bool.{true, false}
 use mathlib.Core.List.{List, [], _∷_, _++_}
-use Prim.Native.Nat.{ℕ}
+use Prim.Native.Nat.{ℕ, _<_}
 use lib.Dec.{eqb}
 use lib.IntN.{ℤ, pos}
 use lib.ListN.{replicate}
@@ -88,4 +88,4 @@ pub record Called (a : Arguments) (first : Word) : Type 0 where
 -- no form; else how the run ended.
 pub data Exits (status : ℤ) : Type 0 where
   answered : AnswersCall name usage (λ a first. formOf (argumentCount a) (wordBytes first) ≡ 0) status → Exits status
-  ran : (a : Arguments) (first : Word) (r : Ended) → Called a first → Ends (formOf (argumentCount a) (wordBytes first)) r → status ≡ r .status → Exits status
+  ran : (a : Arguments) (first : Word) (r : Ended) → Called a first → 0 < formOf (argumentCount a) (wordBytes first) → Ends (formOf (argumentCount a) (wordBytes first)) r → status ≡ r .status → Exits status

@@ -1,7 +1,7 @@
 -- `dvbs_send::work` meets its contract.
 -- Assumes nothing.
 use mathlib.Core.Path.{_≡_, ap, subst, _∙_}
-use mathlib.Core.Bool.{false}
+use mathlib.Core.Bool.{true, false}
 use Prim.Native.Nat.{ℕ}
 use mir.Syntax.{w32}
 use mir.Val.{toZ, ofZ}
@@ -9,7 +9,7 @@ use Rattle.puncturing.specs.Mode.{modeOf}
 use Rattle.program_io.specs.Words.{wordBytes}
 use Rattle.dvbs_send.specs.Ends.{requestOf, requested, Ends, answered, ran}
 use Rattle.dvbs_send.specs.declared.SendRequest.{SendRequest}
-use Rattle.dvbs_send.proofs.Requests.{not-sent, new-sent}
+use Rattle.dvbs_send.proofs.Requests.{is-sent, not-sent, new-sent}
 use borrow.Author.Needs.{needs}
 use Rattle.program_io.proofs.Answering.{wrong-answered}
 use Rattle.dvbs_send.proofs.work.Statement.{statement}
@@ -74,6 +74,7 @@ returns-2 c =
     let z = r .result .status in
     let e : toZ w32 (ofZ w32 z) ≡ z = search needs in
     ran (s .args .arguments) (s .args .first) (s .args .second) (r .result) (s .pre)
+    (subst (λ (x : SendRequest). modeOf (x .mode) .sent ≡ true) (asked (c .before .before .before .before .before .before .before)) (is-sent (c .before .before .before .before .before .before .before .request-of .result .mode) (c .before .before .before .before .before .before .is-sent .result) (c .before .before .before .before .before .before .is-sent .ensures) (c .before .before .before .before .before .if1 .left)))
     (subst (λ (x : SendRequest). Ends (x .mode) (x .flush) (r .result)) (asked (c .before .before .before .before .before .before .before)) (r .ensures)) e
 
 pub work-spec : {M : Type 1} → statement M

@@ -2,6 +2,7 @@
 -- Assumes nothing.
 use mathlib.Core.Path.{_≡_, sym, ap, subst, _∙_}
 use Prim.Native.Nat.{ℕ}
+use native.Mathlib.Omega.{arith}
 use mir.Syntax.{w32}
 use mir.Val.{toZ, ofZ}
 use Rattle.program_io.specs.Words.{argumentCount, wordBytes}
@@ -57,7 +58,7 @@ returns-2 c =
     let r = c .before .move-input in
     let z = r .result .status in
     let e : toZ w32 (ofZ w32 z) ≡ z = search needs in
-    ran (s .args .arguments) (s .args .first) (r .result) (s .pre) (subst (λ (n : ℕ). Ends n (r .result)) (asked (c .before .before .before .before .before .before)) (r .ensures)) e
+    ran (s .args .arguments) (s .args .first) (r .result) (s .pre) (omega (arith, asked (c .before .before .before .before .before .before), c .before .before .before .before .before .if1 .left)) (subst (λ (n : ℕ). Ends n (r .result)) (asked (c .before .before .before .before .before .before)) (r .ensures)) e
 
 pub work-spec : {M : Type 1} → statement M
 work-spec =
