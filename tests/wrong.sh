@@ -3,7 +3,7 @@
 # whether the prover refuses it, and where its first error is, or ACCEPTED. An accepted edit breaks what no contract says: docs/TRUST.md has the lines that a
 # person must read then. Some edits change a line of a proof too: they show what a contract leaves open to one who writes the proof as well.
 #   tests/wrong.sh [CRATE | CRATE/NAME]..      all of them, or those of some crates, or some
-# All of them take some forty minutes on one processor, and they are not part of the gate. What they stand on must be proved before (rt check). What the prover
+# All of them take some fifty minutes on one processor, and they are not part of the gate. What they stand on must be proved before (rt check). What the prover
 # said of each is left in target/wrong/CRATE/NAME.log.
 # Status 0: all are refused. 1: some are accepted. 2: an edit is bad, or was not tried.
 set -euo pipefail
