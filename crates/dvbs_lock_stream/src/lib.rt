@@ -111,7 +111,7 @@ fn put_told(front: &[u8], lines: &[u8], packets: &mut [u8], text: &mut [u8], cou
     counts[1] = lines.len() as u64;
 }
 
-// Takes a step by the first of the points, if there are any, and writes what it gives and tells, and the bytes of the stream after it: how many points it took.
+// Takes a step by the first of the points, and writes what it gives and tells, and the bytes of the stream after it: how many points it took.
 fn step_points(
     stream: LockStream,
     i: &[f32],
