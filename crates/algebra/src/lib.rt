@@ -1,1 +1,2 @@
 // Fields of characteristic two, polynomials over them, and linear equations: there is no code here.
+#![tactic(auto)]

@@ -2,6 +2,7 @@
 // EN 301 210, tables 3 and 4; the generator polynomial of the outer code, EN 300 421, 4.4.2. The coders use them from here, and their proofs compare
 // them with the definitions.
 // Inner: docs/ARCHITECTURE.md names the public surface.
+#![tactic(auto)]
 
 // The modes are QPSK 1/2, 2/3, 3/4, 5/6, 7/8, and 16QAM 3/4. A mode is known by its number, from 0 on.
 pub const MODES: usize = 6;

@@ -3,6 +3,7 @@
 // where a lock was found and lost, what to ask for again, and a pass report for each lock. docs/ACQUISITION.md has the lines.
 // RATE is 0 to 4, 1/2, 2/3, 3/4, 5/6 or 7/8; `any` searches all five; `bits` takes decoded bytes whose blocks begin at any bit.
 // Status 0: all was read and written, and there was a lock. 1: something failed, or there was no lock. 2: a wrong call.
+#![tactic(auto)]
 ghost use Rattle.std.specs.Prelude.{◌≡◌, ◌+◌, ◌<◌, ◌≤◌, pos, length};
 ghost use Rattle.common.specs.Lists.{All};
 ghost use Rattle.lock_stream.specs.Source.{came_of};

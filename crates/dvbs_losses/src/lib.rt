@@ -4,6 +4,7 @@
 // is cut off.
 // MARKS is a file with a byte for each received byte, in their order: 1 for a doubtful one, 0 for any other. Bytes past its end are not marked.
 // Status 0: all was read and written. 1: something failed, or a mark was above 1. 2: a wrong call.
+#![tactic(auto)]
 ghost use Rattle.std.specs.Prelude.{◌≡◌, ◌≤◌, length};
 ghost use Rattle.common.specs.Lists.{padded};
 ghost use Rattle.program_io.specs.Checksum.{no_bytes};

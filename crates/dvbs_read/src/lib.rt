@@ -1,5 +1,6 @@
 // dvbs_read RATE < symbols > bytes
 // Reads the symbols of standard input at a rate 0 to 4, one byte each, and writes the bits that were most likely sent, eight to a byte, the top bit first.
+#![tactic(auto)]
 ghost use Rattle.std.specs.Prelude.{false};
 ghost use Rattle.reader_program.specs.Ends.{Exits};
 ghost use Rattle.dvbs_read.specs.Texts.{name_text, usage_text};

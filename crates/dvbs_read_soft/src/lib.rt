@@ -1,6 +1,7 @@
 // dvbs_read_soft RATE < points > bytes
 // Reads the received points of standard input at a rate 0 to 4, and writes the bits that were most likely sent, eight to a byte, the top bit first.
 // A point is two f32, I and then Q, the lowest byte first: the complex numbers of GNU Radio's files. One whose numbers are both NaN is a lost symbol.
+#![tactic(auto)]
 ghost use Rattle.std.specs.Prelude.{true};
 ghost use Rattle.reader_program.specs.Ends.{Exits};
 ghost use Rattle.dvbs_read_soft.specs.Texts.{name_text, usage_text};

@@ -2,6 +2,7 @@
 // Writes the packets of the received bytes on standard input to standard output, and their pass report to standard error.
 // MARKS is a file with a byte for each received byte, in their order: 1 for a doubtful one, 0 for any other. Bytes past its end are not marked.
 // Status 0: all was read, written and told. 1: something failed, or a mark was above 1. 2: a wrong call.
+#![tactic(auto)]
 ghost use Rattle.std.specs.Prelude.{◌≡◌, false, pos};
 ghost use Rattle.answer_lines.specs.Lines.{refusal_text};
 ghost use Rattle.program_io.specs.Checksum.{no_bytes};

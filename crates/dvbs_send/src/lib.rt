@@ -3,6 +3,7 @@
 // tells each packet that it replaced by a null packet, and at the end how many packets there were, how many of them it replaced, and how many bytes
 // came after the last. The last eleven packets stay in the delays of the interleaver: --flush sends eleven null packets after them, which take them out.
 // Status 0: all was read, sent and told; 1: something failed, and the counts are not told; 2: a wrong call.
+#![tactic(auto)]
 ghost use Rattle.std.specs.Prelude.{◌≡◌, true, ◌+◌, ◌≤◌, ◌<◌, pos, length};
 ghost use Rattle.inner_code.specs.Encode.{new_number};
 ghost use Rattle.program_io.specs.Words.{word_bytes};

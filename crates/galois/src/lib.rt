@@ -1,4 +1,5 @@
 // Arithmetic in GF(256) by 11D hex, with no table and no branch on a value.
+#![tactic(auto)]
 ghost use Rattle.std.specs.Prelude.{◌≡◌};
 ghost use Rattle.galois.specs.Field256.{times_x as timesXOf, mul as mulOf};
 

@@ -1,6 +1,7 @@
 // The lines that are told of a lock, each put at a place of a text: where it was found, where it was lost, and the end of the input. Places are counted in
 // symbols, or in bits where decoded bits come.
 // Inner: its functions may require what the crates above have tested. docs/ARCHITECTURE.md names the public surface.
+#![tactic(auto)]
 ghost use Rattle.std.specs.Prelude.{◌++◌, ◌+◌, ◌≤◌, length};
 ghost use Rattle.report_lines.specs.Line.{Appended};
 ghost use Rattle.lock_lines.specs.Lines.{place_text, found_text, lock_text, lost_text, closing_word, skipped_text, end_text};

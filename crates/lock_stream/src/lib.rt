@@ -1,6 +1,7 @@
 // Packets and lines from received symbols that begin anywhere, turned any way, or from decoded bits that begin anywhere: a value that is fed with pieces, step
 // after step. docs/ACQUISITION.md says what is decided and told.
 // Inner: its functions may require what the crates above have tested. docs/ARCHITECTURE.md names the public surface.
+#![tactic(auto)]
 ghost use Rattle.std.specs.Prelude.{◌≡◌, true, ◌+◌, ◌<◌, ◌≤◌, length};
 ghost use Rattle.common.specs.Lists.{All};
 ghost use Rattle.report_lines.specs.Line.{Appended};

@@ -1,6 +1,7 @@
 // The search for the right hypothesis about received symbols that begin anywhere and came turned: the rate, the start of a pattern, and the turn as far as an
 // inner decoder can tell it.
 // Inner: its functions may require what the crates above have tested. docs/ARCHITECTURE.md names the public surface.
+#![tactic(auto)]
 ghost use Rattle.std.specs.Prelude.{◌≡◌, List, ◌++◌, ◌*◌, ◌<◌, ◌≤◌, length, get_or, take};
 ghost use Rattle.answer.specs.Number.{number_of};
 ghost use Rattle.common.specs.Choice.{pick};

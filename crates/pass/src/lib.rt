@@ -1,5 +1,6 @@
 // A pass: received bytes from an input, and their marks from another, piece after piece as they are read, until they end. The packets go to an output.
 // Where the marks have ended, or there is no input for them, no byte is marked.
+#![tactic(auto)]
 ghost use Rattle.std.specs.Prelude.{◌≡◌, false, ◌++◌, ◌+◌, ◌-◌, ◌/◌, ◌≤◌, min, length, take, drop, replicate};
 ghost use Rattle.program_io.specs.Checksum.{no_bytes};
 ghost use Rattle.program_io.specs.Files.{input_trace, input_failed, output_trace, output_failed, Writes};

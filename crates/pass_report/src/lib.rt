@@ -1,6 +1,7 @@
 // pass_report < blocks
 // Prints the pass report of the received bytes on standard input, in form 2.
 // Status 0: all was read, and the report was written. 1: something failed. 2: a wrong call.
+#![tactic(auto)]
 ghost use Rattle.std.specs.Prelude.{◌≡◌, pos};
 ghost use Rattle.program_io.specs.Calls.{Answers};
 ghost use Rattle.program_io.specs.Files.{FreshOutput};

@@ -1,6 +1,7 @@
 // A program's files, arguments and standard streams, as values whose fields no other crate can name: a value is a fresh one, or what a read or a
 // write of this crate left in it. So no program can make up what a read or a write answered, and no other crate calls the system.
 // Inner: its functions may require what the crates above have tested. docs/ARCHITECTURE.md names the public surface.
+#![tactic(auto)]
 mod calls;
 mod input;
 mod output;

@@ -1,6 +1,7 @@
 // What dvbs_read and dvbs_read_soft do: they read received symbols or points from standard input, and write the bytes of the bits that were most likely sent.
 // The two differ in the symbols that they read: hard decisions, one byte each, or points for soft ones.
 // Inner: its functions may require what the crates above have tested. docs/ARCHITECTURE.md names the public surface.
+#![tactic(auto)]
 ghost use Rattle.std.specs.Prelude.{◌≡◌, true, ◌+◌, ◌≤◌, ◌<◌, pos, length};
 ghost use Rattle.puncturing.specs.Mode.{qpsk_count};
 ghost use Rattle.program_io.specs.Files.{StandardFiles, input_over, StandardInput, FreshOutput};

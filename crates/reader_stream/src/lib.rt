@@ -2,6 +2,7 @@
 // decided yet are held, and the bits that fill no byte yet.
 // A symbol comes as one number, the pair of the decisions on its I and Q, whether they are hard or soft ones.
 // Inner: its functions may require what the crates above have tested. docs/ARCHITECTURE.md names the public surface.
+#![tactic(auto)]
 
 ghost use Rattle.std.specs.Prelude.{◌+◌, ◌*◌, ◌<◌, ◌≤◌, length};
 ghost use Rattle.common.specs.Lists.{All};

@@ -1,6 +1,7 @@
 // The bytes of received symbols, taken by a reader: hard decisions, one byte each, or points for soft ones, eight bytes each. The bytes of a point that is not
 // whole yet are held.
 // Inner: its functions may require what the crates above have tested. docs/ARCHITECTURE.md names the public surface.
+#![tactic(auto)]
 ghost use Rattle.std.specs.Prelude.{◌+◌, ◌*◌, ◌/◌, ◌≤◌, length};
 ghost use Rattle.reader_stream.specs.Stream.{ReaderReady};
 ghost use Rattle.received_symbols.specs.Received.{width};

@@ -3,6 +3,7 @@
 // bytes and bits changed go to standard error. Only the twelve blocks from block P on are read, wherever they lie in the file:
 // block P of a recording is block 0 of these (`by-seeking` in recording/proofs/Blocks.antt).
 // Status 0: the block was given. 1: it was not, or something failed. 2: a wrong call.
+#![tactic(auto)]
 ghost use Rattle.std.specs.Prelude.{◌≡◌, ◌*◌, pos};
 ghost use Rattle.answer_lines.specs.Lines.{block_text};
 ghost use Rattle.program_io.specs.Calls.{Answers};

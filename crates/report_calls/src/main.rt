@@ -9,6 +9,7 @@
 //   4      four numbers of eight bytes: the answer is 1 where the product of the first two is less than that of the others, else 0, then 16 in
 //          two bytes, and the first product in sixteen
 //   5      a text: its season, as it is printed, after the number of its answer and its length
+#![tactic(auto)]
 ghost use Rattle.std.specs.Prelude.{◌+◌, ◌≤◌, ◌<◌, length};
 
 use answer::Answer;

@@ -2,6 +2,7 @@
 // Writes the pass report of standard input in form 1 or 2 to standard output. Where it is refused, the number of the answer goes to standard error, and
 // nothing to standard output.
 // Status 0: the report was written; 1: it was refused, or something failed; 2: a wrong call.
+#![tactic(auto)]
 ghost use Rattle.std.specs.Prelude.{◌≡◌, [], pos};
 ghost use Rattle.report_lines.specs.Line.{line_text};
 ghost use Rattle.program_io.specs.Words.{word_bytes};

@@ -1,6 +1,7 @@
 // season < reports
 // Prints the totals of a season of pass reports, one after another on standard input, and the worst of them; or the number of the first refusal.
 // Status 0: the totals were printed; 1: the season was refused, or something failed; 2: a wrong call.
+#![tactic(auto)]
 ghost use Rattle.std.specs.Prelude.{pos};
 ghost use Rattle.program_io.specs.Files.{StandardInput, FreshOutput};
 ghost use Rattle.season.specs.Ends.{Comes, Ends, Called, Exits};

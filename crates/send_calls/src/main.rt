@@ -1,6 +1,7 @@
 // send_calls RATE < inputs > answers
 // Gives a fresh sender one input after another, for the comparison with reference/. On standard input each is a byte with its length, and then
 // so many bytes. For each come the number of the answer, the number of symbols in two bytes, the lower first, and the symbols.
+#![tactic(auto)]
 ghost use Rattle.std.specs.Prelude.{◌<◌, ◌≤◌, length};
 
 use libc::{STDIN_FILENO, STDOUT_FILENO};
