@@ -65,6 +65,25 @@ def foreign(text, crates):
     return found
 
 
+def turn_clauses(text, turn):
+    """The text of a .rt file with its clauses, ghost items and lines 'ghost use' turned, and a comment's words in camel case."""
+    done, at = [], 0
+    for m in re.finditer(r"(?m)^\s*//[^\n]*|ghost\s+use\b[^;]*;|(?:requires|ensures)\s*\*?\s*(?:\w+\s*)?\{|ghost\s+\w+\s*:\s*\{", text):
+        if m.start() < at:
+            continue
+        end = m.end()
+        if m[0].endswith("{"):
+            depth = 1
+            while depth:
+                depth += {"{": 1, "}": -1}.get(text[end], 0)
+                end += 1
+        part = text[m.start() : end]
+        comment = part.lstrip().startswith("//")
+        done += [text[at : m.start()], re.sub(r"\b[a-z]+[A-Z]\w*", lambda w: turn(w[0]), part) if comment else turn(part)]
+        at = end
+    return "".join(done) + text[at:]
+
+
 def main(check):
     crates = {os.path.basename(os.path.dirname(p)) for p in glob.glob("crates/*/src")}
     antt = dict(texts("crates/*/specs/**/*.antt")) | dict(texts("crates/*/proofs/**/*.antt"))
@@ -131,9 +150,7 @@ def main(check):
     for path, text in antt.items():
         write(path, text, turn_lines(text, foreign(text, crates)))
     for path, text in rust.items():
-        skip = foreign(text, crates)
-        clause = re.compile(r"ghost\s+use\b[^;]*;|(?:requires|ensures)\s*\*?\s*(?:\w+\s*)?\{[^\n]*|ghost\s+\w+\s*:\s*\{[^\n]*|^\s*//[^\n]*", re.M)
-        write(path, text, clause.sub(lambda m: turn(m[0], skip, camel if m[0].lstrip().startswith("//") else renamed), text))
+        write(path, text, turn_clauses(text, lambda clause: token.sub(lambda m: m[1] if m[1] in foreign(text, crates) else word(m), clause)))
     for pattern in ("crates/*/must-fail/*.edit", "tests/wrong/*/*.edit", "tests/*.sh", "tests/*.awk"):
         for path, text in texts(pattern):
             of_code = path.endswith((".sh", ".awk")) or "file: src/" in text

@@ -154,7 +154,7 @@ pub fn code_bytes(memory: u8, bytes: &[u8], history: &mut [u8], coded: &mut [u8]
         × (length history.old ≡ 8 * length bytes.now + 6)
         × (length coded.old ≡ 16 * length bytes.now) }
     ensures { (result ≡ memory_after memory (bits_of bytes.now))
-        × (coded.new ≡ blockMother memory (bits_of bytes.now)) }
+        × (coded.new ≡ block_mother memory (bits_of bytes.now)) }
 {
     let bits = 8 * bytes.len();
     unpack(memory, bytes, history);

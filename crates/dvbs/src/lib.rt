@@ -23,7 +23,7 @@ use reed_solomon::Decoded;
 #[unsafe(no_mangle)]
 pub extern "C" fn dvbs_randomize(place: u8, packet: &[u8], output: &mut [u8]) -> u8
     ensures { (result ≡ randomize_number place packet.now output.old)
-        × (output.new ≡ randomizeOutput place packet.now output.old) }
+        × (output.new ≡ randomize_output place packet.now output.old) }
 {
     let answer = randomizer::randomize(place, packet, output);
     answer.number()
@@ -33,7 +33,7 @@ pub extern "C" fn dvbs_randomize(place: u8, packet: &[u8], output: &mut [u8]) ->
 #[unsafe(no_mangle)]
 pub extern "C" fn dvbs_derandomize(place: u8, packet: &[u8], output: &mut [u8]) -> u8
     ensures { (result ≡ derandomize_number place packet.now output.old)
-        × (output.new ≡ derandomizeOutput place packet.now output.old) }
+        × (output.new ≡ derandomize_output place packet.now output.old) }
 {
     let answer = randomizer::derandomize(place, packet, output);
     answer.number()
@@ -43,7 +43,7 @@ pub extern "C" fn dvbs_derandomize(place: u8, packet: &[u8], output: &mut [u8]) 
 #[unsafe(no_mangle)]
 pub extern "C" fn dvbs_rs_encode(message: &[u8], output: &mut [u8]) -> u8
     ensures { (result ≡ encode_number message.now output.old)
-        × (output.new ≡ encodeOutput message.now output.old) }
+        × (output.new ≡ encode_output message.now output.old) }
 {
     let answer = reed_solomon::encode(message, output);
     answer.number()
@@ -87,7 +87,7 @@ pub extern "C" fn dvbs_rs_decode(block: &mut [u8], count: &mut [u8]) -> u8
 #[unsafe(no_mangle)]
 pub extern "C" fn dvbs_rs_decode_marked(block: &mut [u8], marks: &[u8], count: &mut [u8]) -> u8
     ensures { DecodeExported (DecodesMarked marks.now block.old block.new)
-        (decodeMarkedRefusal marks.now block.old count.old)
+        (decode_marked_refusal marks.now block.old count.old)
         block.old block.new count.old count.new result }
 {
     if block.len() != 204 {
@@ -112,8 +112,8 @@ pub extern "C" fn dvbs_send_run(
     answer: &mut [u8],
 ) -> u64
     ensures { (result ≡ send_run_count rate packets.now output.old answer.old)
-        × (output.new ≡ sendRunOutput rate packets.now output.old answer.old)
-        × (answer.new ≡ sendRunAnswer rate packets.now output.old answer.old) }
+        × (output.new ≡ send_run_output rate packets.now output.old answer.old)
+        × (answer.new ≡ send_run_answer rate packets.now output.old answer.old) }
 {
     if answer.len() < 1 {
         return 0;
@@ -129,7 +129,7 @@ pub extern "C" fn dvbs_send_run(
 fn put_recorded(recorded: Recorded, counts: &mut [u8], answer: &mut [u8]) -> u64
     requires { (64 ≤ length counts.old) × (1 ≤ length answer.old) }
     ensures { (result ≡ pick (eqb (number_of recorded.answer) 0) recorded.count 0)
-        × (counts.new ≡ pick (eqb (number_of recorded.answer) 0) (countBytes recorded.receiver.counts ++ drop 64 counts.old) counts.old)
+        × (counts.new ≡ pick (eqb (number_of recorded.answer) 0) (count_bytes recorded.receiver.counts ++ drop 64 counts.old) counts.old)
         × (answer.new ≡ set answer.old 0 (number_of recorded.answer)) }
 {
     let given = recorded.answer;

@@ -28,7 +28,7 @@ fn is_refusal(number: u8) -> bool
 #[unsafe(no_mangle)]
 pub extern "C" fn dvbs_bridge_fresh(state: &mut [u8]) -> u8
     ensures { (result ≡ fresh_number state.old)
-        × (state.new ≡ freshBytes state.old) }
+        × (state.new ≡ fresh_bytes state.old) }
 {
     if state.len() != STATE_LENGTH {
         let answer = Answer::StateLength;

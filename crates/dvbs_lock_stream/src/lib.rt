@@ -22,7 +22,7 @@ use reader::is_sound;
 #[unsafe(no_mangle)]
 pub extern "C" fn dvbs_lock_fresh(state: &mut [u8], rate: u8) -> u8
     ensures { (result ≡ fresh_number state.old rate)
-        × (state.new ≡ freshBytes state.old rate) }
+        × (state.new ≡ fresh_bytes state.old rate) }
 {
     if state.len() != STATE_LENGTH {
         let answer = Answer::StateLength;
@@ -80,7 +80,7 @@ fn end_due(short: bool) -> Answer
 fn decide(i: &[f32], q: &[f32], lost: &[u8], pairs: &mut [u8]) -> usize
     requires { (length q.now ≡ length i.now) × (length lost.now ≡ length i.now) × (1632 ≤ length pairs.old) }
     ensures { (result ≡ min 1632 (length i.now))
-        × (take result pairs.new ≡ take 1632 (map symbolPair (receivedOf i.now q.now lost.now)))
+        × (take result pairs.new ≡ take 1632 (map symbol_pair (received_of i.now q.now lost.now)))
         × (All (λ p. p < 81) (take result pairs.new)) }
 {
     let some = least(1632, i.len() as u64) as usize;
@@ -111,7 +111,7 @@ fn step_points(
     counts: &mut [u64],
 ) -> u64
     requires { (Sized stream) × (in_range stream ≡ true) × (length state.old ≡ 15121) × (0 < length i.now)
-        × (pointsDue (cameOf stream.source) i.now q.now lost.now (shortRoom (length packets.old) (length text.old) (length counts.old)) ≡ 0) }
+        × (points_due (came_of stream.source) i.now q.now lost.now (short_room (length packets.old) (length text.old) (length counts.old)) ≡ 0) }
     ensures { LeavesStep stream i.now q.now lost.now packets.old text.old counts.old result state.new packets.new text.new counts.new }
 {
     let mut pairs = [0u8; 1632];

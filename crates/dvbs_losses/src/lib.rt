@@ -102,10 +102,10 @@ fn finish(
 ) -> MarkedEnded
     requires { (AllRead input marks output stream rest) × (output_trace errors ≡ no_bytes) }
     ensures { (Status result)
-        × (inputOrigin result.input ≡ inputOrigin input)
-        × (inputOrigin result.marks ≡ inputOrigin marks)
-        × (outputFile result.output ≡ outputFile output)
-        × (outputFile result.errors ≡ outputFile errors) }
+        × (input_origin result.input ≡ input_origin input)
+        × (input_origin result.marks ≡ input_origin marks)
+        × (output_file result.output ≡ output_file output)
+        × (output_file result.errors ≡ output_file errors) }
 {
     if input.failed() {
         return MarkedEnded {

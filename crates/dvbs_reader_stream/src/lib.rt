@@ -21,7 +21,7 @@ use pieces::{feed_points, feed_symbols};
 #[unsafe(no_mangle)]
 pub extern "C" fn dvbs_reader_fresh(state: &mut [u8], rate: u8) -> u8
     ensures { (result ≡ fresh_number state.old rate)
-        × (state.new ≡ freshBytes state.old rate) }
+        × (state.new ≡ fresh_bytes state.old rate) }
 {
     if state.len() != STATE_LENGTH {
         let answer = Answer::StateLength;

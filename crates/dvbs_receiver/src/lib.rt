@@ -15,7 +15,7 @@ use layout::{STATE_LENGTH, is_clear, read_state, write_state};
 #[unsafe(no_mangle)]
 pub extern "C" fn dvbs_receiver_fresh(state: &mut [u8]) -> u8
     ensures { (result ≡ fresh_number state.old)
-        × (state.new ≡ freshBytes state.old) }
+        × (state.new ≡ fresh_bytes state.old) }
 {
     if state.len() != STATE_LENGTH {
         let answer = Answer::StateLength;

@@ -25,7 +25,7 @@ fn is_refusal(number: u8) -> bool
 #[unsafe(no_mangle)]
 pub extern "C" fn dvbs_sender_fresh(state: &mut [u8], mode: u8) -> u8
     ensures { (result ≡ fresh_number state.old mode)
-        × (state.new ≡ freshBytes state.old mode) }
+        × (state.new ≡ fresh_bytes state.old mode) }
 {
     if state.len() != STATE_LENGTH {
         let answer = Answer::StateLength;

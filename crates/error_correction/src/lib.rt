@@ -145,9 +145,9 @@ pub fn find_roots(u: &[u8], f: usize, q: [u8; 9]) -> Roots
     requires { (length u.now ≡ 208)
         × (f ≤ 16)
         × (f ≡ 0 → Unmarked u.now)
-        × (f ≡ length (rootsOf u.now onePolynomial))
+        × (f ≡ length (roots_of u.now one_polynomial))
         × (Zero bytes (elements q) → ⊥)
-        × (length (rootsOf u.now q) ≤ 16) }
+        × (length (roots_of u.now q) ≤ 16) }
     ensures { FoundRoots u.now q result.degrees result.places result.count }
 {
     let d = degree(&q);
@@ -286,7 +286,7 @@ pub fn error_values(p: [u8; 16], s: [u8; 16], places: [u8; 16], count: usize) ->
 pub fn correct(block: &mut [u8], degrees: [u8; 16], values: [u8; 16], count: usize) -> u8
     requires { (length block.old ≡ 204) × (count ≤ 16) × ((l : ℕ) → l < count → get_or degrees l 0 < 204) }
     ensures { (result ≡ changed_in (take count values))
-        × (block.new ≡ correctedBy block.old (take count degrees) (take count values)) }
+        × (block.new ≡ corrected_by block.old (take count degrees) (take count values)) }
 {
     let mut changed: u8 = 0;
     let mut l: usize = 0;

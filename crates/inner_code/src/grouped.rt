@@ -140,8 +140,8 @@ fn code_groups(
         × (8 * length bytes.old ≤ length output.old) }
     ensures { (result ≡ memory_after memory (bits_of (firsts (others + 1) (length bytes.old) block.now)))
         × (output.new
-        ≡ numbered c2 c1 (groupDigits others base per (length bytes.old) block.now)
-        (blockMother memory (bits_of (firsts (others + 1) (length bytes.old) block.now))) (8 * length bytes.old)
+        ≡ numbered c2 c1 (group_digits others base per (length bytes.old) block.now)
+        (block_mother memory (bits_of (firsts (others + 1) (length bytes.old) block.now))) (8 * length bytes.old)
         ++ drop (8 * length bytes.old) output.old) }
 {
     let groups = bytes.len();
@@ -169,8 +169,8 @@ pub fn code_grouped(
     ensures { (result ≡ memory_after memory (bits_of (firsts (others + 1) (204 / (others + 1)) block.now)))
         × (output.new
         ≡ numbered c2 c1
-        (groupDigits others base (8 / others) (204 / (others + 1)) block.now)
-        (blockMother memory (bits_of (firsts (others + 1) (204 / (others + 1)) block.now))) (8 * (204 / (others + 1)))
+        (group_digits others base (8 / others) (204 / (others + 1)) block.now)
+        (block_mother memory (bits_of (firsts (others + 1) (204 / (others + 1)) block.now))) (8 * (204 / (others + 1)))
         ++ drop (8 * (204 / (others + 1))) output.old) }
 {
     let per = 8 / others;

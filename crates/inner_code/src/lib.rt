@@ -150,9 +150,9 @@ impl InnerCoder {
     // Codes a block of 204 bytes into the output.
     pub fn encode(self, block: &[u8], output: &mut [u8]) -> Encoded
         ensures { (number_of result.answer ≡ inner_encode_number self block.now output.old)
-            × (result.coder ≡ encodeCoder self block.now output.old)
-            × (result.count ≡ encodeCount self block.now output.old)
-            × (output.new ≡ innerEncodeOutput self block.now output.old) }
+            × (result.coder ≡ encode_coder self block.now output.old)
+            × (result.count ≡ encode_count self block.now output.old)
+            × (output.new ≡ inner_encode_output self block.now output.old) }
     {
         if !self.in_range() {
             return Encoded {

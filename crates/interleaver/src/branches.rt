@@ -180,8 +180,8 @@ pub fn pass_cells(
 ) -> [u8; 12]
     requires { (positions_within side positions 12 ≡ true) × (length cells.old ≡ 1122) × (length block.now ≡ 204) × (204 ≤ length output.old) }
     ensures { (result ≡ (branches_after side (laid cells.old positions) block.now).positions)
-        × (cells.new ≡ (branchesAfter side (laid cells.old positions) block.now).cells)
-        × (output.new ≡ blockOut side (laid cells.old positions) block.now ++ drop 204 output.old) }
+        × (cells.new ≡ (branches_after side (laid cells.old positions) block.now).cells)
+        × (output.new ≡ block_out side (laid cells.old positions) block.now ++ drop 204 output.old) }
 {
     let mut next = positions;
     let mut base: usize = 0;
@@ -200,7 +200,7 @@ pub fn pass_cells(
 pub fn pass_block(side: Side, branches: Branches, block: &[u8], output: &mut [u8]) -> Branches
     requires { (branches_in_range side branches ≡ true) × (length block.now ≡ 204) × (204 ≤ length output.old) }
     ensures { (result ≡ branches_after side branches block.now)
-        × (output.new ≡ blockOut side branches block.now ++ drop 204 output.old) }
+        × (output.new ≡ block_out side branches block.now ++ drop 204 output.old) }
 {
     let mut cells = branches.cells;
     let before = branches.positions;

@@ -47,8 +47,8 @@ pub struct Deinterleaved {
 // The tests, and the work.
 fn pass(side: Side, branches: Branches, block: &[u8], output: &mut [u8]) -> Passed
     ensures { (number_of result.answer ≡ pass_number side branches block.now output.old)
-        × (result.branches ≡ passBranches side branches block.now output.old)
-        × (output.new ≡ passOutput side branches block.now output.old) }
+        × (result.branches ≡ pass_branches side branches block.now output.old)
+        × (output.new ≡ pass_output side branches block.now output.old) }
 {
     let positions = branches.positions;
     if !positions_within(side, positions) {
@@ -97,8 +97,8 @@ impl Interleaver {
     // Puts a block in, and writes the block that leaves.
     pub fn interleave(self, block: &[u8], output: &mut [u8]) -> Interleaved
         ensures { (number_of result.answer ≡ pass_number Side.Sending self.branches block.now output.old)
-            × (result.interleaver.branches ≡ passBranches Side.Sending self.branches block.now output.old)
-            × (output.new ≡ passOutput Side.Sending self.branches block.now output.old) }
+            × (result.interleaver.branches ≡ pass_branches Side.Sending self.branches block.now output.old)
+            × (output.new ≡ pass_output Side.Sending self.branches block.now output.old) }
     {
         let before = self.branches;
         let passed = pass(Side::Sending, before, block, output);
@@ -133,8 +133,8 @@ impl Deinterleaver {
     // Puts a block in, and writes the block that leaves.
     pub fn deinterleave(self, block: &[u8], output: &mut [u8]) -> Deinterleaved
         ensures { (number_of result.answer ≡ pass_number Side.Receiving self.branches block.now output.old)
-            × (result.deinterleaver.branches ≡ passBranches Side.Receiving self.branches block.now output.old)
-            × (output.new ≡ passOutput Side.Receiving self.branches block.now output.old) }
+            × (result.deinterleaver.branches ≡ pass_branches Side.Receiving self.branches block.now output.old)
+            × (output.new ≡ pass_output Side.Receiving self.branches block.now output.old) }
     {
         let before = self.branches;
         let passed = pass(Side::Receiving, before, block, output);

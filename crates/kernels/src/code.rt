@@ -9,7 +9,7 @@ use inner_code::InnerCoder;
 pub fn code_blocks(rate: u8, blocks: &[u8], output: &mut [u8]) -> usize
     requires { ((mode_of rate).sent ≡ true) × (8 * length blocks.now ≤ length output.old) }
     ensures { (result ≡ length (coded_symbols rate blocks.now))
-        × (output.new ≡ codedSymbols rate blocks.now ++ drop (length (codedSymbols rate blocks.now)) output.old) }
+        × (output.new ≡ coded_symbols rate blocks.now ++ drop (length (coded_symbols rate blocks.now)) output.old) }
 {
     let created = InnerCoder::new(rate);
     let mut coder = created.coder;

@@ -44,7 +44,7 @@ pub extern "C" fn kernel_interleave(blocks: &[u8], output: &mut [u8])
 #[unsafe(no_mangle)]
 pub extern "C" fn kernel_inner_code(rate: u8, blocks: &[u8], output: &mut [u8]) -> u64
     ensures { (result ≡ code_count rate blocks.now output.old)
-        × (output.new ≡ codeOutput rate blocks.now output.old) }
+        × (output.new ≡ code_output rate blocks.now output.old) }
 {
     if !is_sent(rate) {
         return 0;

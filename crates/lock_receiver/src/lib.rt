@@ -58,7 +58,7 @@ fn settle(
     output: &mut [u8],
 ) -> Settled
     requires { (waiting_of certainty ≤ 7)
-        × (number ≡ 0 → start ≡ false → waitingOf (oneMore certainty) ≤ 7)
+        × (number ≡ 0 → start ≡ false → waiting_of (and_one_more certainty) ≤ 7)
         × (length packet.now ≡ 188)
         × (1504 ≤ length output.old) }
     ensures { Settles certainty number due start packet.now held output.old result.packets result.given output.new }
@@ -207,7 +207,7 @@ impl LockReceiver {
     // The end of the lock: a line for each packet that still waits, in doubt.
     pub fn end(self, lines: &mut [u64]) -> LossesListed
         ensures { (number_of result.answer ≡ lock_end_number self lines.old)
-            × WritesLines (lockEndLines self lines.old) lines.old result.count lines.new }
+            × WritesLines (lock_end_lines self lines.old) lines.old result.count lines.new }
     {
         let receiver = self.receiver;
         let certainty = self.certainty;

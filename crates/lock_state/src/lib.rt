@@ -8,7 +8,7 @@ ghost use Rattle.losses.specs.Watch.{waiting_of};
 ghost use Rattle.reception_counts.specs.Bytes.{to_bytes};
 ghost use Rattle.acquisition_state.specs.State.{Writable};
 ghost use Rattle.lock_state.specs.State.{certainty_of, code_of, packets_clear, in_range, cleared, state_bytes, Sized, BlocksSized, NextSized};
-ghost use Rattle.receiver_state.specs.State.{state_bytes as blockBytes};
+ghost use Rattle.receiver_state.specs.State.{state_bytes as block_bytes};
 ghost use Rattle.lock_state.specs.Reading.{state_of};
 
 use acquisition_state::{flags_byte, high_of, low_of, plain_of};
@@ -163,7 +163,7 @@ fn put_fields(
 // The bytes of the receiver of blocks.
 fn write_blocks(receiver: Receiver, bytes: &mut [u8])
     requires { length bytes.old ≡ 2322 }
-    ensures { (bytes.new ≡ blockBytes receiver) × (BlocksSized receiver) }
+    ensures { (bytes.new ≡ block_bytes receiver) × (BlocksSized receiver) }
 {
     receiver_state::write_state(receiver, bytes);
 }

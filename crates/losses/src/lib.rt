@@ -175,11 +175,11 @@ fn decide(
     lines: &mut [u64],
 ) -> Decided
     requires { (waiting_of certainty ≤ 7)
-        × (waitingOf certainty ≤ block)
+        × (waiting_of certainty ≤ block)
         × (block ≤ 4294967295)
-        × (waitingOf certainty < length lines.old) }
+        × (waiting_of certainty < length lines.old) }
     ensures { (result.certainty ≡ certainty_next certainty number start)
-        × WritesLines (linesNow certainty block number due start) lines.old result.count lines.new }
+        × WritesLines (lines_now certainty block number due start) lines.old result.count lines.new }
 {
     let count = waiting(certainty) as usize;
     let first = block - count as u64;
@@ -255,7 +255,7 @@ pub fn take_block(
 pub fn tell_waiting(certainty: Certainty, taken: u64, lines: &mut [u64]) -> LossesListed
     requires { (waiting_of certainty ≤ 7) × (waiting_of certainty ≤ taken - 11) × (taken ≤ 4294967295) }
     ensures { (number_of result.answer ≡ end_number certainty lines.old)
-        × WritesLines (linesAtEnd certainty taken lines.old) lines.old result.count lines.new }
+        × WritesLines (lines_at_end certainty taken lines.old) lines.old result.count lines.new }
 {
     let count = waiting(certainty) as usize;
     if lines.len() < count {
@@ -480,7 +480,7 @@ impl LossStream {
     // Ends the list: the packets that still wait are in doubt.
     pub fn close(self, lines: &mut [u64]) -> LossesListed
         ensures { (number_of result.answer ≡ loss_close_number self lines.old)
-            × WritesLines (closeLines self lines.old) lines.old result.count lines.new }
+            × WritesLines (close_lines self lines.old) lines.old result.count lines.new }
     {
         let receiver = self.receiver;
         let certainty = self.certainty;

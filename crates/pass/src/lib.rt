@@ -128,13 +128,13 @@ pub fn receive_all(
     packets: &mut [u8],
 ) -> Pass
     requires { (input_trace input ≡ no_bytes)
-        × (inputTrace marks ≡ noBytes)
-        × (outputTrace output ≡ noBytes)
-        × (outputFailed output ≡ false)
+        × (input_trace marks ≡ no_bytes)
+        × (output_trace output ≡ no_bytes)
+        × (output_failed output ≡ false)
         × (length bytes.old ≡ 65536)
         × (length own.old ≡ 65536)
         × (length packets.old ≡ 65536)
-        × (inputFailed marks ≡ false) }
+        × (input_failed marks ≡ false) }
     ensures { Passes input marks output wanted result }
 {
     let mut input = input;

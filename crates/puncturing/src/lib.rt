@@ -148,15 +148,15 @@ fn puncture_bits(
     at: usize,
 ) -> Progress
     requires { (rate < qpsk_count)
-        × (place < patternLength rate)
-        × (held ≤ heldCount rate place)
+        × (place < pattern_length rate)
+        × (held ≤ held_count rate place)
         × (Bits coded.now)
         × (length coded.now ≡ 3264)
         × (from ≤ to)
         × (to ≤ 1632)
-        × (at + length (puncturedSymbols rate place held coded.now from (to - from)) ≤ length output.old) }
+        × (at + length (punctured_symbols rate place held coded.now from (to - from)) ≤ length output.old) }
     ensures { (result ≡ progress rate place held coded.now from (to - from) at)
-        × (output.new ≡ placed output.old at (puncturedSymbols rate place held coded.now from (to - from))) }
+        × (output.new ≡ placed output.old at (punctured_symbols rate place held coded.now from (to - from))) }
 {
     let mut p = place;
     let mut i = held;
@@ -192,16 +192,16 @@ fn puncture_parts(
     output: &mut [u8],
 ) -> Progress
     requires { (rate < qpsk_count)
-        × (place < patternLength rate)
-        × (held ≤ heldCount rate place)
+        × (place < pattern_length rate)
+        × (held ≤ held_count rate place)
         × (Bits coded.now)
         × (length coded.now ≡ 3264)
-        × (patternPlaceAfter rate place head ≡ 0)
-        × (tail ≡ head + turns * patternLength rate)
+        × (pattern_place_after rate place head ≡ 0)
+        × (tail ≡ head + turns * pattern_length rate)
         × (tail ≤ 1632)
-        × (length (puncturedSymbols rate place held coded.now 0 1632) ≤ length output.old) }
+        × (length (punctured_symbols rate place held coded.now 0 1632) ≤ length output.old) }
     ensures { (result ≡ progress rate place held coded.now 0 1632 0)
-        × (output.new ≡ placed output.old 0 (puncturedSymbols rate place held coded.now 0 1632)) }
+        × (output.new ≡ placed output.old 0 (punctured_symbols rate place held coded.now 0 1632)) }
 {
     let first = puncture_bits(rate, place, held, coded, 0, head, output, 0);
     let next = whole_patterns(rate, coded, head, turns, output, first.count);
@@ -211,13 +211,13 @@ fn puncture_parts(
 // X and Y of each bit of a block, into an output that is long enough.
 pub fn puncture_block(rate: u8, place: u8, held: u8, coded: &[u8], output: &mut [u8]) -> Progress
     requires { (rate < qpsk_count)
-        × (place < patternLength rate)
-        × (held ≤ heldCount rate place)
+        × (place < pattern_length rate)
+        × (held ≤ held_count rate place)
         × (Bits coded.now)
         × (length coded.now ≡ 3264)
-        × (length (puncturedSymbols rate place held coded.now 0 1632) ≤ length output.old) }
+        × (length (punctured_symbols rate place held coded.now 0 1632) ≤ length output.old) }
     ensures { (result ≡ progress rate place held coded.now 0 1632 0)
-        × (output.new ≡ placed output.old 0 (puncturedSymbols rate place held coded.now 0 1632)) }
+        × (output.new ≡ placed output.old 0 (punctured_symbols rate place held coded.now 0 1632)) }
 {
     let len = pattern_length(rate) as usize;
     let head = (len - place as usize) % len;

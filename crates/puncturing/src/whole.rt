@@ -46,7 +46,7 @@ fn patterns(
         × (at + turns * length i.now ≤ length output.old) }
     ensures { (result ≡ at + turns * length i.now)
         × (output.new
-        ≡ placed output.old at (patternsSymbols i.now q.now coded.now len from turns)) }
+        ≡ placed output.old at (patterns_symbols i.now q.now coded.now len from turns)) }
 {
     let mut n = from;
     let mut k = at;
@@ -72,11 +72,11 @@ pub fn whole_patterns(
     requires { (rate < qpsk_count)
         × (Bits coded.now)
         × (length coded.now ≡ 3264)
-        × (from + turns * patternLength rate ≤ 1632)
-        × (at + turns * length (iBits rate) ≤ length output.old) }
+        × (from + turns * pattern_length rate ≤ 1632)
+        × (at + turns * length (i_bits rate) ≤ length output.old) }
     ensures { (result ≡ at + turns * length (i_bits rate))
         × (output.new
-        ≡ placed output.old at (patternsSymbols (iBits rate) (qBits rate) coded.now (patternLength rate) from turns)) }
+        ≡ placed output.old at (patterns_symbols (i_bits rate) (q_bits rate) coded.now (pattern_length rate) from turns)) }
 {
     let lengths = PATTERN_LENGTHS;
     if rate == 0 {

@@ -269,7 +269,7 @@ fn apply(place: u8, packet: &[u8], output: &mut [u8])
 // Writes the packet at a place of its group as it is sent.
 pub fn randomize(place: u8, packet: &[u8], output: &mut [u8]) -> Answer
     ensures { (number_of result ≡ randomize_number place packet.now output.old)
-        × (output.new ≡ randomizeOutput place packet.now output.old) }
+        × (output.new ≡ randomize_output place packet.now output.old) }
 {
     if place > 7 {
         return Answer::StateRange;
@@ -290,7 +290,7 @@ pub fn randomize(place: u8, packet: &[u8], output: &mut [u8]) -> Answer
 // Writes the packet that was sent at a place of its group.
 pub fn derandomize(place: u8, packet: &[u8], output: &mut [u8]) -> Answer
     ensures { (number_of result ≡ derandomize_number place packet.now output.old)
-        × (output.new ≡ derandomizeOutput place packet.now output.old) }
+        × (output.new ≡ derandomize_output place packet.now output.old) }
 {
     if place > 7 {
         return Answer::StateRange;

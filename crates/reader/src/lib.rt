@@ -136,7 +136,7 @@ fn decode_pairs(rate: u8, memory: u8, pairs: &[u8], count: usize, output: &mut [
 pub fn read_pairs(rate: u8, memory: u8, pairs: &[u8], output: &mut [u8]) -> Read
     requires { Readable rate memory pairs.now output.old }
     ensures { (number_of result.answer ≡ 0)
-        × (BestRead (runCost (costsOf pairs.now) rate memory) (runBits rate (length pairs.now)) memory output.old result.memory result.cost result.count output.new) }
+        × (BestRead (run_cost (costs_of pairs.now) rate memory) (run_bits rate (length pairs.now)) memory output.old result.memory result.cost result.count output.new) }
 {
     let bits = pattern_length(rate) as usize;
     let pattern = symbol_count(rate) as usize;

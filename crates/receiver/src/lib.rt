@@ -50,7 +50,7 @@ fn decoding_of(decoded: Decoded, first: u8) -> BlockDecoding
 fn deliver(outcome: Outcome, left: &[u8], output: &mut [u8]) -> Answer
     requires { (PlaceOf outcome) × (length left.now ≡ 204) × (188 ≤ length output.old) }
     ensures { (number_of result ≡ outcome_number outcome)
-        × (output.new ≡ outputAfter outcome left.now output.old) }
+        × (output.new ≡ output_after outcome left.now output.old) }
 {
     match outcome {
         Outcome::Filling => Answer::Filling,
@@ -70,10 +70,10 @@ fn delay_marks(cells: &mut [u8], positions: [u8; 12], marks: &[u8], none: bool, 
     requires { (branch.positions_within Side.Receiving positions 12 ≡ true)
         × (length cells.old ≡ 1122)
         × (length marks.now ≡ 204)
-        × (output.old ≡ noMarks)
-        × (none ≡ true → (cells.old ≡ replicate 1122 0) × (marks.now ≡ noMarks)) }
+        × (output.old ≡ no_marks)
+        × (none ≡ true → (cells.old ≡ replicate 1122 0) × (marks.now ≡ no_marks)) }
     ensures { (cells.new ≡ (branches_after Side.Receiving (branch.laid cells.old positions) marks.now).cells)
-        × (output.new ≡ blockOut Side.Receiving (branch.laid cells.old positions) marks.now) }
+        × (output.new ≡ block_out Side.Receiving (branch.laid cells.old positions) marks.now) }
 {
     if none {
         return;
@@ -116,7 +116,7 @@ fn take_block(
     requires { Ready (receiver_of cells.old held.old positions sync counts) block.now marks.now output.old
         × (length cells.old ≡ 1122)
         × (length held.old ≡ 1122)
-        × (none ≡ true → (held.old ≡ replicate 1122 0) × (marks.now ≡ noMarks)) }
+        × (none ≡ true → (held.old ≡ replicate 1122 0) × (marks.now ≡ no_marks)) }
     ensures { ReceivesParts cells.old held.old positions sync counts block.now marks.now output.old result cells.new held.new output.new }
 {
     let taken = counts.taken;

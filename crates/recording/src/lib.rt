@@ -81,7 +81,7 @@ fn receive_at(
 ) -> Step
     requires { (at + 204 ≤ length bytes.now)
         × ((length marks.now ≡ 0) ⊎ (length marks.now ≡ length bytes.now))
-        × (valid ≡ receiverInRange (receiverOf cells.old held.old positions sync counts))
+        × (valid ≡ receiver_in_range (receiver_of cells.old held.old positions sync counts))
         × (length cells.old ≡ 1122)
         × (length held.old ≡ 1122)
         × (clean ≡ true → held.old ≡ replicate 1122 0) }

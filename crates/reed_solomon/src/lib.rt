@@ -50,7 +50,7 @@ impl Decoded {
 // Writes the 188 bytes of the message and the sixteen that make the block a codeword.
 pub fn encode(message: &[u8], output: &mut [u8]) -> Answer
     ensures { (number_of result ≡ encode_number message.now output.old)
-        × (output.new ≡ encodeOutput message.now output.old) }
+        × (output.new ≡ encode_output message.now output.old) }
 {
     if message.len() != 188 {
         return Answer::PacketLength;
@@ -68,7 +68,7 @@ pub fn encode(message: &[u8], output: &mut [u8]) -> Answer
 // whole residue.
 fn correct_errors(block: &mut [u8], residue: [u8; 16], marks: &[u8], f: usize) -> Decoded
     requires { (length block.old ≡ 204)
-        × (residue ≡ residueOf block.old)
+        × (residue ≡ residue_of block.old)
         × Marks marks.now
         × (f ≡ marked marks.now)
         × (f ≤ 16) }

@@ -164,9 +164,9 @@ fn null_packet() -> [u8; Sender::PACKET_LENGTH]
 fn transmit(sender: Sender, packet: &[u8], output: &mut [u8]) -> Sent
     requires { (sender_in_range mode_of sender ≡ true) × (is_sent mode_of sender ≡ true) × (length packet.now ≡ 188) × (get_or packet.now 0 0 ≡ 0x47) × (sent_count mode_of sender ≤ length output.old) }
     ensures { (number_of result.answer ≡ 0)
-        × (result.count ≡ sentCount mode_of sender)
-        × (result.sender ≡ senderAfter mode_of sender packet.now)
-        × (output.new ≡ sentSymbols mode_of sender packet.now ++ drop (sentCount mode_of sender) output.old) }
+        × (result.count ≡ sent_count mode_of sender)
+        × (result.sender ≡ sender_after mode_of sender packet.now)
+        × (output.new ≡ sent_symbols mode_of sender packet.now ++ drop (sent_count mode_of sender) output.old) }
 {
     let place = sender.place;
     let interleaver = sender.interleaver;

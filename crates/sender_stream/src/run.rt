@@ -69,7 +69,7 @@ pub fn is_short(rate: u8, start: u8, packets: usize, space: usize) -> bool
 fn send_packets(rate: u8, packets: &[u8], output: &mut [u8]) -> usize
     requires { Sendable rate packets.now output.old }
     ensures { (result ≡ length (run_symbols rate packets.now))
-        × (output.new ≡ runSymbols rate packets.now ++ drop (length (runSymbols rate packets.now)) output.old) }
+        × (output.new ≡ run_symbols rate packets.now ++ drop (length (run_symbols rate packets.now)) output.old) }
 {
     let created = Sender::new(rate);
     let mut sender = created.sender;

@@ -6,7 +6,7 @@ ghost use Rattle.common.specs.Choice.{pick};
 ghost use Rattle.viterbi_decoder.specs.Best.{Decoded};
 ghost use Rattle.convolutional_code.specs.Costs.{cost_from, at, decided, zero_cost, one_cost, step_costs, Pairs};
 ghost use Rattle.viterbi_decoder.specs.Metric.{far, FirstLeast};
-ghost use Rattle.viterbi_decoder.specs.Lanes.{lane, held, CostRows, SumRows, Bounded, row_cost, row_costs, lesser as lesserOf, chosen as chosen_of, Stepped, Forward, low, traced};
+ghost use Rattle.viterbi_decoder.specs.Lanes.{lane, held, CostRows, SumRows, Bounded, row_cost, row_costs, lesser as lesser_of, chosen as chosen_of, Stepped, Forward, low, traced};
 
 // X of the mother code for a bit 0, out of the memory of each lane.
 const CODED_X: [u8; 64] = [
@@ -36,7 +36,7 @@ fn decide(bit: u8, zero: u8, one: u8) -> u8
 }
 
 fn lesser(a: u8, b: u8) -> u8
-    ensures { result ≡ lesserOf a b }
+    ensures { result ≡ lesser_of a b }
 {
     if b < a { b } else { a }
 }
@@ -152,7 +152,7 @@ fn halves(row: &[u8; 64]) -> BranchMetrics
 // Add, compare, select: the path metric of each of 32 memories, which is the lesser of the ways into it, from lane i and from lane i + 32.
 fn lesser_ways(metrics: &[u8; 64], costs: &[u8; 32], others: &[u8; 32]) -> [u8; 32]
     requires { (i : ℕ) → i < 32 → (at metrics.now i + at costs.now i < 256) × (at metrics.now (i + 32) + at others.now i < 256) }
-    ensures { (i : ℕ) → i < 32 → at result i ≡ lesserOf (at metrics.now i + at costs.now i) (at metrics.now (i + 32) + at others.now i) }
+    ensures { (i : ℕ) → i < 32 → at result i ≡ lesser_of (at metrics.now i + at costs.now i) (at metrics.now (i + 32) + at others.now i) }
 {
     let mut r = [0u8; 32];
     let mut i = 0;
