@@ -1,0 +1,19 @@
+-- `common::byte_at` meets its contract.
+-- Assumes nothing.
+use mathlib.Core.Path.{◌≡◌, ap, ◌∙◌}
+use Prim.Native.Nat.{ℕ, suc, ◌+◌, ◌-◌, ◌/◌, ◌%◌, ◌≤◌, ◌<◌}
+use native.Mathlib.Omega.{arith}
+use Rattle.common.specs.Bytes.{byte_at}
+use borrow.Author.Rules.{rules}
+use Rattle.common.proofs.byte_at.Given as goal
+
+-- the byte that is wanted is byte k - j of what is left
+pub record Divided (n k left j : ℕ) : Type 0 where
+  pub within : j ≤ k
+  pub same : byte_at (k - j) left ≡ byte_at k n
+
+abbrev pub invariant-loop-j : goal.invariant-loop-j
+invariant-loop-j l = Divided l.n l.k l.left l.j
+
+abbrev pub decreases-loop-j : goal.decreases-loop-j
+decreases-loop-j l = l.k - l.j
