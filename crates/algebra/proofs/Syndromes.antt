@@ -11,7 +11,7 @@ use lib.ListN.{length, get_or, take}
 use Prim.{tt}
 use Rattle.algebra.specs.Field.{Field, ops}
 use Rattle.algebra.specs.Polynomial.{power, eval}
-use Rattle.algebra.proofs.Ring.{ring, cancel, add-zero, mul_zero, zero_mul, zero_add, mul_div, mul_comm, mul_one, mul_ne}
+use Rattle.algebra.proofs.Ring.{ring, cancel, add_zero, mul_zero, zero_mul, zero_add, mul_div, mul_comm, mul_one, mul_ne}
 use Rattle.common.specs.Lists.{All}
 use Rattle.common.proofs.Lists.{All-map, All-of}
 use Rattle.algebra.proofs.Lists.{Away, Distinct}
@@ -102,7 +102,7 @@ module _ (K : Field) where
 
   paired_first : (e : Term) (E : List Term) (p : List F) → All (λ d. d.1 * eval (ops K) p d.0 ≡ 𝟘) E → paired (e ∷ E) p ≡ e.1 * eval (ops K) p e.0
   unfolding paired
-  paired_first e E p h = ap (λ u. e.1 * eval (ops K) p e.0 + u) (paired_zero E p h) ∙ add-zero K _
+  paired_first e E p h = ap (λ u. e.1 * eval (ops K) p e.0 + u) (paired_zero E p h) ∙ add_zero K _
 
   length_places : (E : List Term) → length (places E) ≡ length E
   length_places [] = refl

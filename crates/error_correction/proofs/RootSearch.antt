@@ -19,7 +19,7 @@ use Rattle.common.specs.Choice.{pick, indicator}
 use Rattle.common.proofs.Lists.{length_list_of, get_d_list_of, zeros_at}
 use Rattle.algebra.specs.Field.{ops}
 use Rattle.algebra.specs.Polynomial.{eval}
-use Rattle.algebra.proofs.Ring.{zero-add as field-zero-add, add-zero as field-add-zero, mul_zero as field-mul-zero}
+use Rattle.algebra.proofs.Ring.{zero_add as field-zero-add, add_zero as field-add-zero, mul_zero as field-mul-zero}
 use Rattle.galois.specs.Field256.{pow}
 use Rattle.galois.proofs.Instance.{bytes, byte, byte_val, byte_zero}
 use Rattle.galois.specs.Lanes.{PowersFrom, ValuesAt}

@@ -16,7 +16,7 @@ use Rattle.common.proofs.Lists.{All-at, All-of}
 use Rattle.algebra.specs.Field.{ops}
 use Rattle.algebra.specs.Polynomial.{power, eval}
 use Rattle.algebra.proofs.Lists.{Away}
-use Rattle.algebra.proofs.Ring.{add-zero, one_mul, mul_comm, mul_zero, zero_mul}
+use Rattle.algebra.proofs.Ring.{add_zero, one_mul, mul_comm, mul_zero, zero_mul}
 use Rattle.algebra.proofs.Polynomial.{from_roots, length_from_roots, from_roots_roots, from_roots_ne}
 use Rattle.algebra.proofs.Syndromes.{Term, weight, weighted, dot, dot_ext, dot_take, syndrome, key_marked}
 use Rattle.algebra.proofs.Recurrence.{recurrence}
@@ -113,7 +113,7 @@ module _ (came c : List ℕ) (n : length came ≡ 204) (b : Bytes came) (cw : Co
   E-syndrome : (j : ℕ) → j < 16 → byte (get_or s j 0) ≡ syndrome bytes E j
   E-syndrome j h =
       syndromes j h
-      ∙ sym (errors_syndrome came c n (codeword_length c cw) b (codeword_bytes c cw) j ∙ ap (λ (u : Fin 256). bytes.add (block_syndrome came j) u) (codeword_syndromes c cw j h) ∙ add-zero bytes (block_syndrome came j))
+      ∙ sym (errors_syndrome came c n (codeword_length c cw) b (codeword_bytes c cw) j ∙ ap (λ (u : Fin 256). bytes.add (block_syndrome came j) u) (codeword_syndromes c cw j h) ∙ add_zero bytes (block_syndrome came j))
 
   -- ---- the erasures
 

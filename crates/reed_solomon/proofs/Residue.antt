@@ -15,7 +15,7 @@ use Rattle.common.specs.Lists.{Bytes}
 use Rattle.common.proofs.Choice.{false_true}
 use Rattle.algebra.specs.Field.{ops}
 use Rattle.algebra.specs.Polynomial.{power, eval}
-use Rattle.algebra.proofs.Ring.{add_comm, zero-add as field-zero-add}
+use Rattle.algebra.proofs.Ring.{add_comm, zero_add as field-zero-add}
 use Rattle.galois.proofs.Instance.{bytes, byte, byte_zero, byte_inj}
 use Rattle.galois.specs.Lanes.{PowersFrom, ValuesAt}
 use Rattle.galois.proofs.Elements.{elements, alpha}
