@@ -1,0 +1,16 @@
+-- `galois::lanes::evaluate` meets its contract: v has the values of the coefficients from k on.
+-- Assumes nothing.
+use mathlib.Core.Path.{◌≡◌, subst}
+use Prim.Native.Nat.{ℕ, ◌+◌, ◌-◌, ◌<◌}
+use native.Mathlib.Omega.{arith}
+use lib.ListN.{length, drop}
+use Rattle.galois.specs.Lanes.{ValuesAt}
+use Rattle.galois.proofs.LanePowers.{values_none, values_more}
+use borrow.Author.Rules.{rules}
+use Rattle.galois.proofs.lanes.evaluate.Given as goal
+
+abbrev pub invariant-loop-k : goal.invariant-loop-k
+invariant-loop-k l = (l.k < length l.q) × ValuesAt (drop l.k l.q) l.x l.v
+
+abbrev pub decreases-loop-k : goal.decreases-loop-k
+decreases-loop-k l = l.k

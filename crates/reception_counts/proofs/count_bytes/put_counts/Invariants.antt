@@ -1,0 +1,25 @@
+-- `reception_counts::count_bytes::put_counts` meets its contract.
+-- Assumes nothing.
+use mathlib.Core.Path.{◌≡◌, refl, sym, ap, ap₂, ◌∙◌}
+use mathlib.Core.List.{List, ◌++◌, map, flatten}
+use Prim.Native.Nat.{ℕ, suc, ◌+◌, ◌-◌, ◌*◌, ◌≤◌, ◌<◌}
+use native.Mathlib.Omega.{arith}
+use lib.ListN.{length, get_or, take, drop, length-append, length-take, length-drop}
+use lib.Seq.{take-suc}
+use Rattle.common.specs.Lists.{placed}
+use Rattle.common.proofs.Lists.{put_after}
+use Rattle.reception_counts.specs.Bytes.{to_bytes, numbers_of, count_bytes}
+use Rattle.reception_counts.proofs.Numbers.{length_to, each_length, each_snoc}
+use borrow.Author.Rules.{rules}
+use Rattle.reception_counts.proofs.count_bytes.put_counts.Given as goal
+
+-- the first i of eight numbers are written
+pub record Put (output₀ numbers output : List ℕ) (i : ℕ) : Type 0 where
+  pub within : i ≤ 8
+  pub same : output ≡ flatten (map (to_bytes 8) (take i numbers)) ++ drop (8 * i) output₀
+
+abbrev pub invariant-loop-i : goal.invariant-loop-i
+invariant-loop-i l = Put l.initial.output l.numbers l.output l.i
+
+abbrev pub decreases-loop-i : goal.decreases-loop-i
+decreases-loop-i l = 8 - l.i
