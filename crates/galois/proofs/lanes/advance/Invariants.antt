@@ -9,9 +9,6 @@ use Rattle.common.proofs.Written.{Written, written_none, written_next, written_w
 use Rattle.galois.specs.Lanes.{horner_step}
 use Rattle.galois.proofs.LanePowers.{length_advanced, advanced_at}
 use borrow.Author.Rules.{rules}
-use Rattle.galois.proofs.lanes.advance.Reads as reads
-use Rattle.galois.proofs.lanes.advance.Lts as lts
-use Rattle.galois.proofs.mul.Reads as mul-reads
 use Rattle.galois.proofs.lanes.advance.Given as goal
 
 abbrev pub invariant-loop-j : goal.invariant-loop-j

@@ -26,7 +26,7 @@ loop-k-preserved c =
     let q = c.args.q.now in
     let m : l.k ≡ l.k - 1 + 1 = omega arith in (
       omega (arith, l.invariant.0),
-      values_more q c.args.x (l.k - 1) l.v _ (omega (arith, l.invariant.0)) c.well_formed_lem.1.0.1.0.1 (c.shared_slice_known-in-loop-k-1.given (l.k - 1)).fits
+      values_more q c.args.x (l.k - 1) l.v _ (omega (arith, l.invariant.0)) c.well_formed.1.0.1.0.1 (c.shared_slice_known-in-loop-k-1.given (l.k - 1)).fits
           (subst (λ (n : ℕ). ValuesAt (drop n q) c.args.x l.v) m l.invariant.1) c.advance-w.ensures,
     )
 

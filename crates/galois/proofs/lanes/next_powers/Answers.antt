@@ -12,14 +12,14 @@ use Rattle.galois.proofs.lanes.next_powers.Goals as goal
 
 pub loop-i-init : goal.loop-i-init
 unfolding scale
-loop-i-init c = mapped_none (mul 0x4C) c.args.t1 c.well_formed_lem.0.1.0.1 refl
+loop-i-init c = mapped_none (mul 0x4C) c.args.x c.well_formed.0.1.0.1 refl
 
 pub loop-i-preserved : goal.loop-i-preserved
 unfolding scale
 loop-i-preserved c =
-    mapped_more (mul 0x4C) c.args.t1 c.well_formed_lem.0.1.0.1 c.loop-i.invariant _ (search rules) (c.mul.ensures ∙ mul_comm _ 0x4C)
+    mapped_more (mul 0x4C) c.args.x c.well_formed.0.1.0.1 c.loop-i.invariant _ (search rules) (c.mul.ensures ∙ mul_comm _ 0x4C)
 
 pub returns : goal.returns
 unfolding scale
 returns c =
-    mapped_all (mul 0x4C) c.args.t1 c.well_formed_lem.0.1.0.1 refl c.loop-i.invariant (search rules)
+    mapped_all (mul 0x4C) c.args.x c.well_formed.0.1.0.1 refl c.loop-i.invariant (search rules)

@@ -12,23 +12,23 @@ use Rattle.galois.proofs.lanes.products.Goals as goal
 
 pub loop-l-init : goal.loop-l-init
 loop-l-init c =
-    let na : length c.args.t1 ≡ 16 = c.well_formed_lem.0.1.0.1 in
-    let nb : length c.args.t2 ≡ 16 = c.well_formed_lem.1.0.1.0.1 in
-    written_none (omega (arith, length_products c.args.t1 c.args.t2 (na ∙ sym nb)))
+    let na : length c.args.a ≡ 16 = c.well_formed.0.1.0.1 in
+    let nb : length c.args.b ≡ 16 = c.well_formed.1.0.1.0.1 in
+    written_none (omega (arith, length_products c.args.a c.args.b (na ∙ sym nb)))
 
 pub loop-l-preserved : goal.loop-l-preserved
 loop-l-preserved c =
     let l = c.loop-l in
-    let na : length c.args.t1 ≡ 16 = c.well_formed_lem.0.1.0.1 in
-    let nb : length c.args.t2 ≡ 16 = c.well_formed_lem.1.0.1.0.1 in
-    written_next l.invariant _ (omega (arith, length_products c.args.t1 c.args.t2 (na ∙ sym nb)))
-    (c.mul.ensures ∙ sym (products_at c.args.t1 c.args.t2 l.l (na ∙ sym nb) (omega arith)))
+    let na : length c.args.a ≡ 16 = c.well_formed.0.1.0.1 in
+    let nb : length c.args.b ≡ 16 = c.well_formed.1.0.1.0.1 in
+    written_next l.invariant _ (omega (arith, length_products c.args.a c.args.b (na ∙ sym nb)))
+    (c.mul.ensures ∙ sym (products_at c.args.a c.args.b l.l (na ∙ sym nb) (omega arith)))
 
 pub returns : goal.returns
 returns c =
     let l = c.loop-l in
-    let na : length c.args.t1 ≡ 16 = c.well_formed_lem.0.1.0.1 in
-    let nb : length c.args.t2 ≡ 16 = c.well_formed_lem.1.0.1.0.1 in
-    let n : length (products_of c.args.t1 c.args.t2) ≡ 16 = length_products c.args.t1 c.args.t2 (na ∙ sym nb) ∙ na in
+    let na : length c.args.a ≡ 16 = c.well_formed.0.1.0.1 in
+    let nb : length c.args.b ≡ 16 = c.well_formed.1.0.1.0.1 in
+    let n : length (products_of c.args.a c.args.b) ≡ 16 = length_products c.args.a c.args.b (na ∙ sym nb) ∙ na in
     let e : l.l ≡ 16 = omega (arith, l.invariant.within, n) in
     written_whole (rw e at l.invariant) n refl

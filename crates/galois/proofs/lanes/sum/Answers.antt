@@ -13,23 +13,23 @@ use Rattle.galois.proofs.lanes.sum.Goals as goal
 
 pub loop-j-init : goal.loop-j-init
 loop-j-init c =
-    let na : length c.args.t1 ≡ 16 = c.well_formed_lem.0.1.0.1 in
-    let nb : length c.args.t2 ≡ 16 = c.well_formed_lem.1.0.1.0.1 in
-    written_none (omega (arith, length-sum c.args.t1 c.args.t2 (na ∙ sym nb)))
+    let na : length c.args.a ≡ 16 = c.well_formed.0.1.0.1 in
+    let nb : length c.args.b ≡ 16 = c.well_formed.1.0.1.0.1 in
+    written_none (omega (arith, length-sum c.args.a c.args.b (na ∙ sym nb)))
 
 pub loop-j-preserved : goal.loop-j-preserved
 loop-j-preserved c =
     let l = c.loop-j in
-    let na : length c.args.t1 ≡ 16 = c.well_formed_lem.0.1.0.1 in
-    let nb : length c.args.t2 ≡ 16 = c.well_formed_lem.1.0.1.0.1 in
-    written_next l.invariant _ (omega (arith, length-sum c.args.t1 c.args.t2 (na ∙ sym nb)))
-    (sym (sum_at c.args.t1 c.args.t2 l.j (na ∙ sym nb)))
+    let na : length c.args.a ≡ 16 = c.well_formed.0.1.0.1 in
+    let nb : length c.args.b ≡ 16 = c.well_formed.1.0.1.0.1 in
+    written_next l.invariant _ (omega (arith, length-sum c.args.a c.args.b (na ∙ sym nb)))
+    (sym (sum_at c.args.a c.args.b l.j (na ∙ sym nb)))
 
 pub returns : goal.returns
 returns c =
     let l = c.loop-j in
-    let na : length c.args.t1 ≡ 16 = c.well_formed_lem.0.1.0.1 in
-    let nb : length c.args.t2 ≡ 16 = c.well_formed_lem.1.0.1.0.1 in
-    let n : length (plus numbers c.args.t1 c.args.t2) ≡ 16 = length-sum c.args.t1 c.args.t2 (na ∙ sym nb) ∙ na in
+    let na : length c.args.a ≡ 16 = c.well_formed.0.1.0.1 in
+    let nb : length c.args.b ≡ 16 = c.well_formed.1.0.1.0.1 in
+    let n : length (plus numbers c.args.a c.args.b) ≡ 16 = length-sum c.args.a c.args.b (na ∙ sym nb) ∙ na in
     let e : l.j ≡ 16 = omega (arith, l.invariant.within) in
     written_whole (rw e at l.invariant) n refl
