@@ -6,7 +6,7 @@ use crate::{Event, FoundBlock, event_of, last_event, turn_told, used_by};
 use block_sync::{BlockSync, SyncStep};
 
 // The blocks in progress, how many bits the decisions on them used up, and how many came in all.
-#[derive(Drop)]
+#[derive(Clone, Copy)]
 pub struct BitSource {
     pub sync: BlockSync,
     pub used: u64,
@@ -15,7 +15,7 @@ pub struct BitSource {
 
 // The source after it, how many bits of the piece were taken, what happened, and the block where one was found. Its numbers count bits, and its turn is 0, or
 // 2 where the bits are inverted.
-#[derive(Drop)]
+#[derive(Clone, Copy)]
 pub struct BitStep {
     pub source: BitSource,
     pub taken: usize,
@@ -24,7 +24,7 @@ pub struct BitStep {
 }
 
 // The same after the last piece: whether that was all, and how many bits then are behind the last block.
-#[derive(Drop)]
+#[derive(Clone, Copy)]
 pub struct BitEnd {
     pub source: BitSource,
     pub event: Event,

@@ -22,7 +22,7 @@ pub mod bit_source;
 
 // Reading by a hypothesis: the turn that the symbols came with, the runs and the blocks in progress, how many symbols came before the first that is read, and how
 // many bits the decisions on blocks used up. The bits of the lead are among these.
-#[derive(Drop)]
+#[derive(Clone, Copy)]
 pub struct Reading {
     pub turn: u8,
     pub runs: SymbolRuns,
@@ -31,7 +31,7 @@ pub struct Reading {
     pub used: u64,
 }
 
-#[derive(Drop)]
+#[derive(Clone, Copy)]
 pub enum Phase {
     Searches,
     Reads,
@@ -39,7 +39,7 @@ pub enum Phase {
 
 // The rate that is searched, or 5 for any; whether a reading at 5/6 takes the symbols for mirrored; the phase, and the reading, which is idle while it searches;
 // the symbols that are not read yet, so many at the front of an array; and how many came in all.
-#[derive(Drop)]
+#[derive(Clone, Copy)]
 pub struct Acquisition {
     pub rate: u8,
     pub mirrored: bool,
@@ -52,7 +52,7 @@ pub struct Acquisition {
 
 // A block that was found: whether it begins a lock, by which rate and turn it was read, how many symbols came before the pattern of its first bit and before
 // that of the bit behind it, and its bytes.
-#[derive(Drop)]
+#[derive(Clone, Copy)]
 pub struct FoundBlock {
     pub begins: bool,
     pub rate: u8,
@@ -62,7 +62,7 @@ pub struct FoundBlock {
     pub bytes: [u8; 204],
 }
 
-#[derive(Drop)]
+#[derive(Clone, Copy)]
 pub enum Event {
     Waits,
     Block,
@@ -71,7 +71,7 @@ pub enum Event {
 }
 
 // The value after it, how many symbols of the piece were taken, what happened, and the block where one was found.
-#[derive(Drop)]
+#[derive(Clone, Copy)]
 pub struct Step {
     pub acquisition: Acquisition,
     pub taken: usize,
@@ -80,7 +80,7 @@ pub struct Step {
 }
 
 // The same after the last piece: whether that was all, and how many bits then are behind the last block.
-#[derive(Drop)]
+#[derive(Clone, Copy)]
 pub struct EndStep {
     pub acquisition: Acquisition,
     pub event: Event,
@@ -90,7 +90,7 @@ pub struct EndStep {
 }
 
 // The reading after some symbols, how many of them were taken, and what happened.
-#[derive(Drop)]
+#[derive(Clone, Copy)]
 pub struct ReadStep {
     pub reading: Reading,
     pub taken: usize,

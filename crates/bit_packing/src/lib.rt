@@ -6,7 +6,7 @@ ghost use Rattle.convolutional_code.specs.Bits.{Bits};
 ghost use Rattle.bit_packing.specs.Packing.{packed_bytes, carried_bits, Packs};
 
 // The bits that fill no byte yet, which are the last `held` of `carry`, and how many bytes were packed.
-#[derive(Drop)]
+#[derive(Clone, Copy)]
 pub struct Packed {
     pub carry: u8,
     pub held: usize,

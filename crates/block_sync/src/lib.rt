@@ -12,14 +12,14 @@ use common::put;
 use sync_search::SyncPlace;
 
 // Whether blocks are being given, and whether their bits come inverted.
-#[derive(Drop)]
+#[derive(Clone, Copy)]
 pub struct Lock {
     pub locked: bool,
     pub inverted: bool,
 }
 
 // The lock, and the bits that are held: how many, and an array that has them at its front.
-#[derive(Drop)]
+#[derive(Clone, Copy)]
 pub struct BlockSync {
     pub lock: Lock,
     pub bits: [u8; 8168],
@@ -28,7 +28,7 @@ pub struct BlockSync {
 
 // What is decided of the bits at the front: how many are skipped, whether a block follows these, whether it is one that does not follow the block
 // before it, and the lock after it.
-#[derive(Drop)]
+#[derive(Clone, Copy)]
 pub struct Decision {
     pub skipped: usize,
     pub given: bool,
@@ -38,7 +38,7 @@ pub struct Decision {
 
 // An answer, how many bits of the piece were taken, how many bits were skipped, the block behind these, where one is given, whether it begins anew, so
 // that a fresh receiver must take it, and the value after it.
-#[derive(Drop)]
+#[derive(Clone, Copy)]
 pub struct SyncStep {
     pub answer: Answer,
     pub taken: usize,

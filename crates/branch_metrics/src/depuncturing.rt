@@ -15,7 +15,7 @@ const SENT_KINDS: [u8; 35] = [
 ];
 
 // The decisions on the coded bits of a step as one number, 9 x + y, of which the decoder takes its branch metrics; and the first coded bit after it.
-#[derive(Drop)]
+#[derive(Clone, Copy)]
 struct DepuncturedStep {
     pair: u8,
     next: usize,

@@ -10,14 +10,14 @@ ghost use Rattle.branch_metrics.specs.SoftPairs.{point_levels, number_decision, 
 use common::put;
 
 // A received point.
-#[derive(Drop)]
+#[derive(Clone, Copy)]
 pub struct Point {
     pub i: f32,
     pub q: f32,
 }
 
 // A symbol as the demodulator hands it over.
-#[derive(Drop)]
+#[derive(Clone, Copy)]
 pub enum ReceivedSymbol {
     // The point that was received.
     At(Point),

@@ -59,7 +59,7 @@ pub const Q_7_8: [usize; 4] = [Y1, Y3, X5, X7];
 // How a mode with uncoded bits takes a group of bytes: EN 301 210, tables 3 and 4. The first byte is coded, the top bit first. The others, as many as
 // others says, are cut into digits of the base, the top bits first, and one digit stands beside each coded bit. Each coded bit gives one symbol: its
 // coded bits C2 and C1 are X1 or Y1.
-#[derive(Drop)]
+#[derive(Clone, Copy)]
 pub struct Grouping {
     pub others: usize,
     pub base: u8,

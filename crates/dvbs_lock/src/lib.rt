@@ -20,7 +20,7 @@ use program_io::{Arguments, Asked, Ended, Input, Output, Word};
 mod numbers;
 
 // What numbers came to.
-#[derive(Drop)]
+#[derive(Clone, Copy)]
 struct NumbersTaken {
     failed: bool,
     output: Output,
@@ -29,7 +29,7 @@ struct NumbersTaken {
 }
 
 // What the end came to, and how many bits are behind the last block of a lock that lasts.
-#[derive(Drop)]
+#[derive(Clone, Copy)]
 struct LocksFinished {
     failed: bool,
     output: Output,

@@ -8,7 +8,7 @@ use program_io::Input;
 use received_symbols::point_pairs;
 
 // The input after its next bytes, how many came, and how many numbers they make.
-#[derive(Drop)]
+#[derive(Clone, Copy)]
 pub struct NumbersRead {
     pub input: Input,
     pub length: usize,

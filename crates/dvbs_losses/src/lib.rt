@@ -19,7 +19,7 @@ use program_io::{Arguments, Asked, Input, MarkedEnded, Output, Word};
 use reception_counts::Counts;
 
 // What a piece came to.
-#[derive(Drop)]
+#[derive(Clone, Copy)]
 struct Turned {
     failed: bool,
     marks: Input,

@@ -17,7 +17,7 @@ use program_io::{Answered, Arguments, Asked, Input, MarkedEnded, Output, Word};
 use receiver_stream::ReceiverStream;
 
 // The end of what was written, and what was told of it.
-#[derive(Drop)]
+#[derive(Clone, Copy)]
 struct PassTold {
     status: i32,
     output: Output,

@@ -18,14 +18,14 @@ use sender_stream::SenderStream;
 mod lines;
 
 // What the words of a call ask for. Mode 6 is none.
-#[derive(Drop)]
+#[derive(Clone, Copy)]
 pub struct SendRequest {
     pub mode: u8,
     pub flush: bool,
 }
 
 // Sending in progress: how many bytes came, and how many of their packets were replaced.
-#[derive(Drop)]
+#[derive(Clone, Copy)]
 pub struct Sending {
     pub stream: SenderStream,
     pub output: Output,
@@ -35,7 +35,7 @@ pub struct Sending {
 }
 
 // Standard error after the lines of some packets, and how many of them were replaced.
-#[derive(Drop)]
+#[derive(Clone, Copy)]
 struct PacketsTold {
     errors: Output,
     replaced: u64,

@@ -9,7 +9,7 @@ ghost use Rattle.galois.proofs.Elements.{elements};
 ghost use Rattle.error_correction.specs.Correction.{EndsAt, Unmarked, ByDegree, masked, Masked, zeros_from, NoZero, Listed, roots_of, one_polynomial, FoundRoots, monic, RootProduct, FractionsAt, ErrorValues, corrected_by, changed_in};
 
 // The degrees of the erasures and those at which the locator vanishes, in order, their places, and how many they are. The places after them are zero.
-#[derive(Drop)]
+#[derive(Clone, Copy)]
 pub struct Roots {
     pub degrees: [u8; 16],
     pub places: [u8; 16],
@@ -228,7 +228,7 @@ pub fn root_product(places: [u8; 16], count: usize) -> [u8; 16]
 }
 
 // Numerators and denominators of Forney's formula. For each of sixteen places y, with q = p / (x + y): the sum of q_i S_i, and q(y).
-#[derive(Drop)]
+#[derive(Clone, Copy)]
 struct Fractions {
     numerators: [u8; 16],
     denominators: [u8; 16],

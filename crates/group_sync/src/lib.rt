@@ -4,14 +4,14 @@ ghost use Rattle.std.specs.Prelude.{◌≡◌};
 ghost use Rattle.group_sync.specs.Group.{later_place, known_after, byte_at_first, step, step_odd, searching, start_due, packet_due, accepted_step, group_step, sync_in_range, fresh_sync};
 
 // The place of the next packet in its group of eight, 0 to 7: document 01's group place.
-#[derive(Drop)]
+#[derive(Clone, Copy)]
 pub enum Place {
     NotKnown,
     Known(u8),
 }
 
 // What the outer decoder, which document 01 calls the repair, made of a block.
-#[derive(Drop)]
+#[derive(Clone, Copy)]
 pub enum BlockDecoding {
     // No codeword is near enough.
     Lost,
@@ -20,7 +20,7 @@ pub enum BlockDecoding {
 }
 
 // What a block taken comes to.
-#[derive(Drop)]
+#[derive(Clone, Copy)]
 pub enum Outcome {
     // The delay branches are filling: the block that they give is not whole.
     Filling,
@@ -35,7 +35,7 @@ pub enum Outcome {
 }
 
 // What the first byte of a packet says of its place.
-#[derive(Drop)]
+#[derive(Clone, Copy)]
 enum FirstByte {
     // B8: the sync byte of the first packet of a group, inverted.
     InvertedSync,
@@ -45,7 +45,7 @@ enum FirstByte {
 }
 
 // Group synchronization.
-#[derive(Drop)]
+#[derive(Clone, Copy)]
 pub struct GroupSync {
     pub place: Place,
     // How many blocks since the last sync byte in its place had neither sync byte first: 0 or 1, document 02's mark.
@@ -53,7 +53,7 @@ pub struct GroupSync {
 }
 
 // An outcome, and the synchronization after it.
-#[derive(Drop)]
+#[derive(Clone, Copy)]
 pub struct GroupStep {
     pub outcome: Outcome,
     pub sync: GroupSync,

@@ -16,7 +16,7 @@ use grouped::code_grouped;
 use puncturing::{Symbol, block_count, held_count, is_sent, puncture, puncture_block};
 
 // The state of the coder. place is where in the puncturing pattern the next bit stands; held is an I whose Q has not come, 0 where none is held.
-#[derive(Drop)]
+#[derive(Clone, Copy)]
 pub struct InnerCoder {
     pub rate: u8,
     pub memory: u8,
@@ -27,20 +27,20 @@ pub struct InnerCoder {
 // A fresh coder. The answer stands beside it, as it stands beside a fresh sender, whose arrays no enum can hold.
 // Where the answer is 6 the coder holds the rate that was wanted, and every call refuses it: with 5 where there is no such mode, with 6 where the
 // mode is not sent.
-#[derive(Drop)]
+#[derive(Clone, Copy)]
 pub struct CoderCreated {
     pub answer: Answer,
     pub coder: InnerCoder,
 }
 
-#[derive(Drop)]
+#[derive(Clone, Copy)]
 pub struct Stepped {
     pub answer: Answer,
     pub coder: InnerCoder,
     pub symbol: Symbol,
 }
 
-#[derive(Drop)]
+#[derive(Clone, Copy)]
 pub struct Encoded {
     pub answer: Answer,
     pub coder: InnerCoder,

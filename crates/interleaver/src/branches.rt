@@ -7,14 +7,14 @@ ghost use Rattle.interleaver.specs.Column.{column, scattered};
 ghost use Rattle.interleaver.specs.Block.{fresh, block_out, branches_after, position_after, position_advanced, Exchanged};
 
 // The side of the line that the branches stand on.
-#[derive(Drop)]
+#[derive(Clone, Copy)]
 pub enum Side {
     Sending,
     Receiving,
 }
 
 // The cells of the twelve branches, one branch after the other, and the next cell of each.
-#[derive(Drop)]
+#[derive(Clone, Copy)]
 pub struct Branches {
     pub cells: [u8; 1122],
     pub positions: [u8; 12],

@@ -12,33 +12,33 @@ use answer::Answer;
 use branches::{Branches, Side, pass_block, positions_within};
 
 // An answer, and the branches after it.
-#[derive(Drop)]
+#[derive(Clone, Copy)]
 struct Passed {
     answer: Answer,
     branches: Branches,
 }
 
 // The sending side.
-#[derive(Drop)]
+#[derive(Clone, Copy)]
 pub struct Interleaver {
     pub branches: Branches,
 }
 
 // An answer, and the sending side after it.
-#[derive(Drop)]
+#[derive(Clone, Copy)]
 pub struct Interleaved {
     pub answer: Answer,
     pub interleaver: Interleaver,
 }
 
 // The receiving side.
-#[derive(Drop)]
+#[derive(Clone, Copy)]
 pub struct Deinterleaver {
     pub branches: Branches,
 }
 
 // An answer, and the receiving side after it.
-#[derive(Drop)]
+#[derive(Clone, Copy)]
 pub struct Deinterleaved {
     pub answer: Answer,
     pub deinterleaver: Deinterleaver,

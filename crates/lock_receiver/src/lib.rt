@@ -14,7 +14,7 @@ use receiver::Receiver;
 use reception_counts::Counts;
 
 // A receiver, what is known of the places of its packets, and the packets that wait, one after the other at the front of an array.
-#[derive(Drop)]
+#[derive(Clone, Copy)]
 pub struct LockReceiver {
     pub receiver: Receiver,
     pub certainty: Certainty,
@@ -22,7 +22,7 @@ pub struct LockReceiver {
 }
 
 // The answer of the receiver's call, how many packets were given, how many lines were told, and the value after it.
-#[derive(Drop)]
+#[derive(Clone, Copy)]
 pub struct LockStep {
     pub answer: Answer,
     pub given: usize,
@@ -31,7 +31,7 @@ pub struct LockStep {
 }
 
 // The packets that wait, and how many were given.
-#[derive(Drop)]
+#[derive(Clone, Copy)]
 struct Settled {
     packets: [u8; 1316],
     given: usize,

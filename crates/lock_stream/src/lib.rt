@@ -19,14 +19,14 @@ use progress::{LockProgress, Told};
 use source::LockSource;
 
 // The source, and what was given and told of locks.
-#[derive(Drop)]
+#[derive(Clone, Copy)]
 pub struct LockStream {
     pub source: LockSource,
     pub progress: LockProgress,
 }
 
 // The stream after a step, how many symbols or bits were taken, and how many bytes of packets and of text were written.
-#[derive(Drop)]
+#[derive(Clone, Copy)]
 pub struct StreamStep {
     pub stream: LockStream,
     pub taken: usize,
@@ -36,7 +36,7 @@ pub struct StreamStep {
 
 // The stream after a step of the end, how many bytes of packets and of text were written, whether that was all, and how many bits are behind the last block of
 // a lock that lasts.
-#[derive(Drop)]
+#[derive(Clone, Copy)]
 pub struct StreamEnd {
     pub stream: LockStream,
     pub packets: usize,

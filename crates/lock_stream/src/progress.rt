@@ -16,7 +16,7 @@ use reception_counts::Counts;
 
 // Whether there was a lock, and whether one lasts; the receiver of the last one; how many symbols or bits were skipped before it, and how many came before the
 // bit behind its last block.
-#[derive(Drop)]
+#[derive(Clone, Copy)]
 pub struct LockProgress {
     pub found: bool,
     pub locked: bool,
@@ -26,7 +26,7 @@ pub struct LockProgress {
 }
 
 // The progress after an event, and how many bytes of packets and of text were written.
-#[derive(Drop)]
+#[derive(Clone, Copy)]
 pub struct Told {
     pub progress: LockProgress,
     pub packets: usize,
@@ -34,7 +34,7 @@ pub struct Told {
 }
 
 // The receiver after a block, how many bytes of packets were written, and where the text ends.
-#[derive(Drop)]
+#[derive(Clone, Copy)]
 struct BlockTaken {
     receiver: LockReceiver,
     packets: usize,

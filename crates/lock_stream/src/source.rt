@@ -8,14 +8,14 @@ use acquisition::bit_source::BitSource;
 use acquisition::{Acquisition, Event, FoundBlock, Reading};
 
 // Whether bits come, and the acquisition that takes the symbols or holds the bits.
-#[derive(Drop)]
+#[derive(Clone, Copy)]
 pub struct LockSource {
     pub bits: bool,
     pub symbols: Acquisition,
 }
 
 // The source after a step, how many symbols or bits were taken, what happened, and the block where one was found.
-#[derive(Drop)]
+#[derive(Clone, Copy)]
 pub struct SourceStep {
     pub source: LockSource,
     pub taken: usize,
@@ -24,7 +24,7 @@ pub struct SourceStep {
 }
 
 // The source after a step of the end, what happened, whether that was all, and how many bits are behind the last block of a lock that lasts.
-#[derive(Drop)]
+#[derive(Clone, Copy)]
 pub struct SourceEnd {
     pub source: LockSource,
     pub event: Event,

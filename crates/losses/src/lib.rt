@@ -16,7 +16,7 @@ use receiver::Receiver;
 use reception_counts::Counts;
 
 // What is known of the places of the packets that were given.
-#[derive(Drop)]
+#[derive(Clone, Copy)]
 pub enum Certainty {
     // B8 fixed the place, and every block since was given.
     Sure,
@@ -26,7 +26,7 @@ pub enum Certainty {
 
 // A receiver, what is known of the places, and the bytes after the last whole block with their marks: how many, and the fronts of arrays that have
 // them.
-#[derive(Drop)]
+#[derive(Clone, Copy)]
 pub struct LossStream {
     pub receiver: Receiver,
     pub certainty: Certainty,
@@ -36,7 +36,7 @@ pub struct LossStream {
 }
 
 // An answer, how many lines were written, and the stream after it.
-#[derive(Drop)]
+#[derive(Clone, Copy)]
 pub struct LossesFed {
     pub answer: Answer,
     pub count: usize,
@@ -44,21 +44,21 @@ pub struct LossesFed {
 }
 
 // An answer, and how many lines were written.
-#[derive(Drop)]
+#[derive(Clone, Copy)]
 pub struct LossesListed {
     pub answer: Answer,
     pub count: usize,
 }
 
 // How many lines were written, and what is known after a block.
-#[derive(Drop)]
+#[derive(Clone, Copy)]
 struct Decided {
     certainty: Certainty,
     count: usize,
 }
 
 // The same with the answer of the receiver's call, and the receiver after it.
-#[derive(Drop)]
+#[derive(Clone, Copy)]
 pub struct BlockTaken {
     pub answer: Answer,
     pub receiver: Receiver,
@@ -67,7 +67,7 @@ pub struct BlockTaken {
 }
 
 // How many lines were written, and the stream after it.
-#[derive(Drop)]
+#[derive(Clone, Copy)]
 struct LossesTaken {
     count: usize,
     stream: LossStream,

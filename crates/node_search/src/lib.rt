@@ -19,7 +19,7 @@ use reader::{read_pairs, symbol_count};
 use symbol_turns::{turn_pairs, undoing_turn};
 
 // A hypothesis: the rate, how many symbols stand before the first whole pattern, and the least of the turns that cannot be told from the one it means.
-#[derive(Drop)]
+#[derive(Clone, Copy)]
 pub struct Hypothesis {
     pub rate: u8,
     pub offset: u8,
@@ -27,7 +27,7 @@ pub struct Hypothesis {
 }
 
 // What a search comes to.
-#[derive(Drop)]
+#[derive(Clone, Copy)]
 pub enum Search {
     // The only hypothesis that is below its threshold.
     Found(Hypothesis),
@@ -37,7 +37,7 @@ pub enum Search {
     Several,
 }
 
-#[derive(Drop)]
+#[derive(Clone, Copy)]
 pub struct Searched {
     pub answer: Answer,
     pub search: Search,

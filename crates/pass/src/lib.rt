@@ -13,7 +13,7 @@ use program_io::{Filled, Input, Output};
 use receiver_stream::ReceiverStream;
 
 // How a pass ended: all was read and taken; a read or a write failed; or there was a mark above 1 in this block.
-#[derive(Drop)]
+#[derive(Clone, Copy)]
 pub enum Ending {
     Whole,
     Failed,
@@ -21,7 +21,7 @@ pub enum Ending {
 }
 
 // What a pass came to.
-#[derive(Drop)]
+#[derive(Clone, Copy)]
 pub struct Pass {
     pub input: Input,
     pub marks: Input,

@@ -14,7 +14,7 @@ use program_io::{Answered, Arguments, Asked, Input, Output, Word};
 use receiver_stream::ReceiverStream;
 
 // How it ended, with the files as it left them.
-#[derive(Drop)]
+#[derive(Clone, Copy)]
 pub struct PassEnded {
     pub status: i32,
     pub input: Input,

@@ -8,7 +8,7 @@ use crate::output::Output;
 use crate::words::{Arguments, Word};
 
 // What a call asks for.
-#[derive(Drop)]
+#[derive(Clone, Copy)]
 pub enum Asked {
     Help,
     Version,
@@ -16,7 +16,7 @@ pub enum Asked {
 }
 
 // How a run ended, with its files as it left them.
-#[derive(Drop)]
+#[derive(Clone, Copy)]
 pub struct Ended {
     pub status: i32,
     pub input: Input,
@@ -25,7 +25,7 @@ pub struct Ended {
 }
 
 // The same of a run whose received bytes have marks.
-#[derive(Drop)]
+#[derive(Clone, Copy)]
 pub struct MarkedEnded {
     pub status: i32,
     pub input: Input,
@@ -35,7 +35,7 @@ pub struct MarkedEnded {
 }
 
 // A text that was given, and the status of the program.
-#[derive(Drop)]
+#[derive(Clone, Copy)]
 pub struct Answered {
     pub output: Output,
     pub status: i32,

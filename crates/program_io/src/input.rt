@@ -6,7 +6,7 @@ use crate::trace::{Trace, no_bytes, traced};
 use libc::{STDERR_FILENO, STDIN_FILENO};
 
 // Where an input comes from: its descriptor, which argument named it, 0 for none, and the place where reading began.
-#[derive(Drop)]
+#[derive(Clone, Copy)]
 pub struct Origin {
     fd: i32,
     argument: usize,
@@ -15,7 +15,7 @@ pub struct Origin {
 
 // A file that is read: where it comes from, the checksum of the bytes that came, and what the last read answered: a number of bytes, 0 at the end, or
 // -1 where it failed. Before the first read that is 1, and -1 where the file could not be opened.
-#[derive(Drop)]
+#[derive(Clone, Copy)]
 pub struct Input {
     origin: Origin,
     trace: Trace,
@@ -23,14 +23,14 @@ pub struct Input {
 }
 
 // The input after a read, or after several, and how many bytes came.
-#[derive(Drop)]
+#[derive(Clone, Copy)]
 pub struct Filled {
     pub input: Input,
     pub length: usize,
 }
 
 // What a read answered, and how many bytes came.
-#[derive(Drop)]
+#[derive(Clone, Copy)]
 struct Piece {
     got: isize,
     length: usize,

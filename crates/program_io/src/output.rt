@@ -8,7 +8,7 @@ use libc::{STDERR_FILENO, STDOUT_FILENO};
 
 // A file that is written: its descriptor, the checksum of the bytes that it took, whether a write failed or took too little, or closing it failed, and
 // whether it is closed.
-#[derive(Drop)]
+#[derive(Clone, Copy)]
 pub struct Output {
     fd: i32,
     trace: Trace,
@@ -17,7 +17,7 @@ pub struct Output {
 }
 
 // The output after a write, and how many bytes it took.
-#[derive(Drop)]
+#[derive(Clone, Copy)]
 struct Put {
     output: Output,
     length: usize,

@@ -5,7 +5,7 @@ ghost use Rattle.program_io.specs.Checksum.{no_bytes, stepped, traced as Checksu
 use std::num::{wrapping_add_u16, wrapping_add_u64};
 
 // How many bytes there were, the weight of the next one, which is odd, and the sum of each byte times its weight.
-#[derive(Drop)]
+#[derive(Clone, Copy)]
 pub struct Trace {
     count: u64,
     weight: u16,

@@ -3,7 +3,7 @@ ghost use Rattle.std.specs.Prelude.{◌≡◌, ◌+◌, ◌*◌, ◌<◌, ◌≤
 ghost use Rattle.program_io.specs.Words.{same_bytes, parsed, front_part, argument_count, word_argument, word_bytes, word_is_option};
 
 // How many arguments the program has, beside its name.
-#[derive(Drop)]
+#[derive(Clone, Copy)]
 pub struct Arguments {
     count: usize,
 }
@@ -24,7 +24,7 @@ impl Arguments {
 }
 
 // An argument that is a word of at most 32 bytes. Of a longer one the first 32 are kept, and it counts as empty, as one that is not there.
-#[derive(Drop)]
+#[derive(Clone, Copy)]
 pub struct Word {
     argument: usize,
     bytes: [u8; 32],
@@ -32,7 +32,7 @@ pub struct Word {
 }
 
 // What a word says: a number up to a limit, one beyond it, or none.
-#[derive(Drop)]
+#[derive(Clone, Copy)]
 pub enum Parsed {
     Number(u64),
     Large,

@@ -19,7 +19,7 @@ use whole::whole_patterns;
 const SENT: [u8; MODES] = [1, 1, 1, 1, 0, 1];
 
 // What a bit completes: no symbol yet, or one with this number.
-#[derive(Drop)]
+#[derive(Clone, Copy)]
 pub enum Symbol {
     None,
     One(u8),
@@ -78,7 +78,7 @@ fn next_place(rate: u8, place: u8) -> u8
     (place + 1) % pattern_length(rate)
 }
 
-#[derive(Drop)]
+#[derive(Clone, Copy)]
 pub struct Punctured {
     pub place: u8,
     pub held: u8,
@@ -129,7 +129,7 @@ pub fn puncture(rate: u8, place: u8, held: u8, x: u8, y: u8) -> Punctured
 }
 
 // Where the puncturing stands after a run, and how many symbols are in the output.
-#[derive(Drop)]
+#[derive(Clone, Copy)]
 pub struct Progress {
     pub place: u8,
     pub held: u8,

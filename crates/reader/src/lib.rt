@@ -23,7 +23,7 @@ const SYMBOL_COUNTS: [u8; QPSK_MODES] = [1, 3, 2, 3, 4];
 
 // What a call hands back: the answer, the coder's memory after the bits, what they cost, and how many bits were written. Where the answer is not 0,
 // the memory is the one given and the cost and the count are 0.
-#[derive(Drop)]
+#[derive(Clone, Copy)]
 pub struct Read {
     pub answer: Answer,
     pub memory: u8,

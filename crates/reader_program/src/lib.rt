@@ -17,7 +17,7 @@ use received_symbols::{SymbolPass, SymbolsTaken, take_bytes};
 mod lines;
 
 // The input after one read, how many bytes came, and what was taken.
-#[derive(Drop)]
+#[derive(Clone, Copy)]
 struct Turn {
     input: Input,
     length: usize,

@@ -15,7 +15,7 @@ use bit_packing::pack;
 pub mod symbol_runs;
 
 // The runs in progress, and the bits that fill no byte yet, which are the last `held` of `carry`.
-#[derive(Drop)]
+#[derive(Clone, Copy)]
 pub struct ReaderStream {
     pub runs: SymbolRuns,
     pub carry: u8,
@@ -23,14 +23,14 @@ pub struct ReaderStream {
 }
 
 // The stream after a piece, and how many bytes its bits filled.
-#[derive(Drop)]
+#[derive(Clone, Copy)]
 pub struct ReaderFed {
     pub stream: ReaderStream,
     pub count: usize,
 }
 
 // How many bytes the last bits filled, how many symbols make no whole pattern, and how many bits no whole byte.
-#[derive(Drop)]
+#[derive(Clone, Copy)]
 pub struct Finished {
     pub count: usize,
     pub rest: usize,

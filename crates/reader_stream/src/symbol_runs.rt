@@ -13,7 +13,7 @@ use reader::{read_pairs, symbol_count};
 
 // Runs in progress: the rate, the coder's memory before the first symbol that is held, the decisions on the symbols that are held, one number for each,
 // and how many these are.
-#[derive(Drop)]
+#[derive(Clone, Copy)]
 pub struct SymbolRuns {
     pub rate: u8,
     pub memory: u8,
@@ -22,7 +22,7 @@ pub struct SymbolRuns {
 }
 
 // The runs after a piece, how many symbols of the piece were taken, and how many bits are decided.
-#[derive(Drop)]
+#[derive(Clone, Copy)]
 pub struct RunsFed {
     pub runs: SymbolRuns,
     pub taken: usize,
@@ -30,7 +30,7 @@ pub struct RunsFed {
 }
 
 // How many bits the last patterns have, and how many symbols make no whole pattern.
-#[derive(Drop)]
+#[derive(Clone, Copy)]
 pub struct Closed {
     pub count: usize,
     pub rest: usize,

@@ -15,7 +15,7 @@ mod symbols;
 pub use points::point_pairs;
 
 // A reader, and the bytes of a point that is not whole yet: so many of the tail.
-#[derive(Drop)]
+#[derive(Clone, Copy)]
 pub struct SymbolPass {
     pub stream: ReaderStream,
     pub tail: [u8; 8],
@@ -23,7 +23,7 @@ pub struct SymbolPass {
 }
 
 // What was taken of some bytes: the pass after it, how many bytes, whether the byte behind them is no symbol, and how many bytes stand in the output.
-#[derive(Drop)]
+#[derive(Clone, Copy)]
 pub struct SymbolsTaken {
     pub pass: SymbolPass,
     pub taken: usize,

@@ -19,7 +19,7 @@ use reception_counts::{Counts, count};
 use reed_solomon::Decoded;
 
 // A receiver: the delay branches, the marks of the bytes in them, cell by cell, the place in the group, and the counts.
-#[derive(Drop)]
+#[derive(Clone, Copy)]
 pub struct Receiver {
     pub deinterleaver: Deinterleaver,
     pub marks: [u8; 1122],
@@ -28,7 +28,7 @@ pub struct Receiver {
 }
 
 // An answer, and the receiver after it.
-#[derive(Drop)]
+#[derive(Clone, Copy)]
 pub struct Received {
     pub receiver: Receiver,
     pub answer: Answer,
@@ -93,7 +93,7 @@ fn decode_block(block: &mut [u8], marks: &[u8], none: bool) -> Decoded
 }
 
 // What taking a block gives: the answer, and the parts of the receiver that are not written in place.
-#[derive(Drop)]
+#[derive(Clone, Copy)]
 pub struct Step {
     pub answer: Answer,
     pub positions: [u8; 12],

@@ -16,7 +16,7 @@ use recording::Batch;
 use report::{Bits, Report, Written};
 
 // A receiver, and the bytes after the last whole block: how many, and the fronts of the arrays that have them and their marks.
-#[derive(Drop)]
+#[derive(Clone, Copy)]
 pub struct ReceiverStream {
     pub receiver: Receiver,
     pub pending: [u8; 204],
@@ -25,7 +25,7 @@ pub struct ReceiverStream {
 }
 
 // An answer, how many bytes of packets were written, and the stream receiver after it.
-#[derive(Drop)]
+#[derive(Clone, Copy)]
 pub struct ReceiverFed {
     pub answer: Answer,
     pub count: usize,
@@ -33,7 +33,7 @@ pub struct ReceiverFed {
 }
 
 // How many bytes of packets were written, and the stream receiver after it.
-#[derive(Drop)]
+#[derive(Clone, Copy)]
 struct ReceiverTaken {
     count: usize,
     stream: ReceiverStream,

@@ -10,7 +10,7 @@ use common::least;
 use group_sync::Outcome;
 
 // How many blocks were taken, what each of them came to, and how many bytes and bits were changed in the accepted ones.
-#[derive(Drop)]
+#[derive(Clone, Copy)]
 pub struct Counts {
     pub taken: u64,
     pub filling: u64,

@@ -8,7 +8,7 @@ use common::least;
 use reed_solomon::{Changed, Decoded};
 
 // The answer, and what was changed.
-#[derive(Drop)]
+#[derive(Clone, Copy)]
 pub struct DecodedBlock {
     pub answer: Answer,
     pub changed: Changed,
@@ -90,7 +90,7 @@ pub fn decoded_block(bytes: &[u8], blocks: u64, p: u64, output: &mut [u8]) -> De
 }
 
 // A recording that remembers how many whole blocks it has.
-#[derive(Drop)]
+#[derive(Clone, Copy)]
 pub struct RecordingView<'a> {
     pub bytes: &'a [u8],
     pub blocks: u64,

@@ -16,7 +16,7 @@ use receiver::{Receiver, Step, receive_parts};
 use reception_counts::Counts;
 
 // An answer, how many bytes of packets were written, and the receiver after it.
-#[derive(Drop)]
+#[derive(Clone, Copy)]
 pub struct Recorded {
     pub answer: Answer,
     pub count: usize,
@@ -24,7 +24,7 @@ pub struct Recorded {
 }
 
 // How many bytes of packets were written, and the receiver after it.
-#[derive(Drop)]
+#[derive(Clone, Copy)]
 pub struct Batch {
     pub count: usize,
     pub receiver: Receiver,

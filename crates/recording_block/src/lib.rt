@@ -15,7 +15,7 @@ use program_io::{Answered, Arguments, Asked, Ended, Input, Output, Parsed, Word}
 use reed_solomon::Changed;
 
 // What a call asks for: a block, one past every recording, or what every program answers.
-#[derive(Drop)]
+#[derive(Clone, Copy)]
 enum BlockRequest {
     Block(u64),
     Past,

@@ -14,14 +14,14 @@ mod error_bits;
 mod syndromes;
 
 // What decoding changed in a block: how many bytes, and how many bits of them.
-#[derive(Drop)]
+#[derive(Clone, Copy)]
 pub struct Changed {
     pub bytes: u8,
     pub bits: u8,
 }
 
 // What decoding a block answers. specs/Decode.antt gives each case the number of documents 01 and 02.
-#[derive(Drop)]
+#[derive(Clone, Copy)]
 pub enum Decoded {
     // The block is now the codeword within eight bytes, or with marks the one with 2 e + f at most 16, and this was changed.
     Corrected(Changed),

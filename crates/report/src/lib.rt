@@ -14,14 +14,14 @@ use answer::Answer;
 use report_lines::LineRead;
 
 // The changed bits: absent from form 1; in form 2 a number, or a dash where they are not known. So the form follows from them.
-#[derive(Drop)]
+#[derive(Clone, Copy)]
 pub enum Bits {
     Absent,
     Dash,
     Number(u64),
 }
 
-#[derive(Drop)]
+#[derive(Clone, Copy)]
 pub struct Report {
     pub taken: u64,
     pub filling: u64,
@@ -78,7 +78,7 @@ fn read_row(text: &[u8], at: usize, n: usize) -> LineRead
     report_lines::read_line(text, at, &keys[from..to], LIMITS[n])
 }
 
-#[derive(Drop)]
+#[derive(Clone, Copy)]
 struct Rows {
     found: bool,
     values: [u64; 8],
@@ -113,7 +113,7 @@ fn read_rows(text: &[u8], at: usize) -> Rows
     }
 }
 
-#[derive(Drop)]
+#[derive(Clone, Copy)]
 struct BitsRead {
     found: bool,
     bits: Bits,
@@ -155,7 +155,7 @@ fn read_bits(text: &[u8], at: usize, form: u64) -> BitsRead
     }
 }
 
-#[derive(Drop)]
+#[derive(Clone, Copy)]
 struct Lines {
     found: bool,
     report: Report,
@@ -237,7 +237,7 @@ fn sums_right(report: Report) -> bool
 }
 
 // An answer, the report that was read, and the place after it; where none stands there, the place where it was to begin.
-#[derive(Drop)]
+#[derive(Clone, Copy)]
 pub struct FrontRead {
     pub answer: Answer,
     pub report: Report,
@@ -275,7 +275,7 @@ pub fn read_front(text: &[u8], at: usize) -> FrontRead
 }
 
 // An answer, and the report that was read.
-#[derive(Drop)]
+#[derive(Clone, Copy)]
 pub struct ReportRead {
     pub answer: Answer,
     pub report: Report,
@@ -403,7 +403,7 @@ fn report_fits(report: Report) -> bool
 }
 
 // An answer, and how many bytes were written.
-#[derive(Drop)]
+#[derive(Clone, Copy)]
 pub struct Written {
     pub answer: Answer,
     pub length: usize,

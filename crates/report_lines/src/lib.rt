@@ -49,7 +49,7 @@ fn digit(c: u8) -> u64
 }
 
 // What was read: whether a line is there, its number and the place after it.
-#[derive(Drop)]
+#[derive(Clone, Copy)]
 pub struct LineRead {
     pub found: bool,
     pub value: u64,

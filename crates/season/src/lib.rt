@@ -10,14 +10,14 @@ use program_io::{Arguments, Asked, Input, Output, Word};
 use season_totals::Season;
 
 // What was read, and the season that it came to.
-#[derive(Drop)]
+#[derive(Clone, Copy)]
 pub struct SeasonCame {
     pub input: Input,
     pub season: Season,
 }
 
 // How a run ended, with the files as it left them.
-#[derive(Drop)]
+#[derive(Clone, Copy)]
 pub struct SeasonEnded {
     pub status: i32,
     pub input: Input,

@@ -96,7 +96,7 @@ fn count_report(totals: [u64; 7], report: Report) -> [u64; 7]
 }
 
 // An answer, and the totals: zeros where it is a refusal.
-#[derive(Drop)]
+#[derive(Clone, Copy)]
 pub struct SeasonRead {
     pub answer: Answer,
     pub totals: [u64; 7],
@@ -104,7 +104,7 @@ pub struct SeasonRead {
 
 // A season in progress: the first refusal, or that there was none; the totals of the reports that were read; and the bytes after them, at
 // the front of a buffer that is longer than any report.
-#[derive(Drop)]
+#[derive(Clone, Copy)]
 pub struct Season {
     pub answer: Answer,
     pub totals: [u64; 7],

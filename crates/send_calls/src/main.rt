@@ -8,7 +8,7 @@ use libc::{STDIN_FILENO, STDOUT_FILENO};
 use sender::Sender;
 
 // The sender after a call, and whether there was an input for it.
-#[derive(Drop)]
+#[derive(Clone, Copy)]
 struct Called {
     sender: Sender,
     more: bool,

@@ -13,7 +13,7 @@ use interleaver::Interleaver;
 
 // The state between two packets. Each stage keeps its own numbers, so nothing is held twice: the rate is the inner coder's,
 // and the place of the next packet in its group of eight is the sender's, since randomizing takes it with each packet.
-#[derive(Drop)]
+#[derive(Clone, Copy)]
 pub struct Sender {
     pub place: u8,
     pub interleaver: Interleaver,
@@ -23,14 +23,14 @@ pub struct Sender {
 // A fresh sender. The answer stands beside the state, since an enum cannot hold a state with arrays.
 // Where the answer is 6 the sender holds the rate that was wanted, and every call refuses it: with 5 where there is no such mode, with 6 where the
 // mode is not sent.
-#[derive(Drop)]
+#[derive(Clone, Copy)]
 pub struct SenderCreated {
     pub answer: Answer,
     pub sender: Sender,
 }
 
 // An answer, how many symbols were written, and the sender after it.
-#[derive(Drop)]
+#[derive(Clone, Copy)]
 pub struct Sent {
     pub answer: Answer,
     pub count: usize,

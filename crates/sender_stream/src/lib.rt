@@ -14,7 +14,7 @@ use sender::Sender;
 pub mod run;
 
 // The sender, and the bytes of a packet that is not whole yet: so many of pending, which has zeros after them.
-#[derive(Drop)]
+#[derive(Clone, Copy)]
 pub struct SenderStream {
     pub sender: Sender,
     pub pending: [u8; Sender::PACKET_LENGTH],
@@ -22,14 +22,14 @@ pub struct SenderStream {
 }
 
 // The answer stands beside the state, as a fresh sender's does.
-#[derive(Drop)]
+#[derive(Clone, Copy)]
 pub struct Begun {
     pub answer: Answer,
     pub sending: SenderStream,
 }
 
 // An answer, how many symbols were written, how many packets were sent, each with its answer, and the sending after them.
-#[derive(Drop)]
+#[derive(Clone, Copy)]
 pub struct SenderFed {
     pub answer: Answer,
     pub count: usize,

@@ -15,7 +15,7 @@ use sender::Sender;
 const BLOCK_BITS: u16 = 1632;
 
 // An answer, and how many symbols were written.
-#[derive(Drop)]
+#[derive(Clone, Copy)]
 pub struct SentRun {
     pub answer: Answer,
     pub count: usize,

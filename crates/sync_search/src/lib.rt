@@ -5,7 +5,7 @@ ghost use Rattle.std.specs.Prelude.{◌≡◌, ◌+◌, ◌≤◌, length};
 ghost use Rattle.sync_search.specs.Sync.{byte_at, is_at, count_at, sync_at, FirstSync};
 
 // The place where a sync was found, or none.
-#[derive(Drop)]
+#[derive(Clone, Copy)]
 pub enum SyncPlace {
     At(usize),
     Nowhere,

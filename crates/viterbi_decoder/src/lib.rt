@@ -125,7 +125,7 @@ fn write_sums(xs: &[[u8; 64]; 9], ys: &[[u8; 64]; 9], rows: &mut [[u8; 64]; 81])
 }
 
 // The branch metrics of a step for bit 0, out of the even memories and out of the odd ones.
-#[derive(Drop)]
+#[derive(Clone, Copy)]
 struct BranchMetrics {
     even: [u8; 32],
     odd: [u8; 32],
@@ -232,7 +232,7 @@ fn lowered(metrics: &[u8; 64], by: &[u8; 64]) -> [u8; 64]
     r
 }
 
-#[derive(Drop)]
+#[derive(Clone, Copy)]
 struct Row {
     metrics: [u8; 64],
     origins: [u8; 64],
@@ -296,7 +296,7 @@ fn first_least(metrics: &[u8; 64]) -> usize
     best
 }
 
-#[derive(Drop)]
+#[derive(Clone, Copy)]
 struct Survivors {
     metrics: [u8; 64],
     offset: usize,
@@ -389,7 +389,7 @@ fn trace(rows: &[u8], end: usize, output: &mut [u8])
     write_low(r, rest, 0, output);
 }
 
-#[derive(Drop)]
+#[derive(Clone, Copy)]
 pub struct DecodedRun {
     pub memory: usize,
     pub cost: usize,
