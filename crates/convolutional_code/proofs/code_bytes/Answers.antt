@@ -14,26 +14,23 @@ use Rattle.convolutional_code.proofs.code_bytes.Goals as goal
 
 pub mother-requires : goal.mother-requires
 mother-requires c =
-    let unpacked : (Bits c.unpack.new.1.1.0) × (length c.unpack.new.1.1.0 ≡ 8 * length c.args.bytes.now + 6) = (rw c.unpack.ensures (bits_append (bits_oldest c.args.memory) (bits_bits c.args.bytes.now)), c.unpack.auto.1.1.0 ∙ c.requires.2) in
+    let unpacked : (Bits c.unpack.new.history) × (length c.unpack.new.history ≡ 8 * length c.args.bytes.now + 6) = (rw c.unpack.ensures (bits_append (bits_oldest c.args.memory) (bits_bits c.args.bytes.now)), c.unpack.auto.history ∙ c.requires.2) in
     let u = unpacked in
-    let a = c.before.before.before.before.before.before.before.before.before in
-    (u.0, omega (arith, a.requires.1), u.1, omega (arith, a.requires.3))
+    (u.0, omega (arith, c.requires.1), u.1, omega (arith, c.requires.3))
 
 pub memory_of-requires : goal.memory_of-requires
 memory_of-requires c =
-    let unpacked : (Bits c.unpack.new.1.1.0) × (length c.unpack.new.1.1.0 ≡ 8 * length c.args.bytes.now + 6) = (rw c.unpack.ensures (bits_append (bits_oldest c.args.memory) (bits_bits c.args.bytes.now)), c.unpack.auto.1.1.0 ∙ c.requires.2) in
+    let unpacked : (Bits c.unpack.new.history) × (length c.unpack.new.history ≡ 8 * length c.args.bytes.now + 6) = (rw c.unpack.ensures (bits_append (bits_oldest c.args.memory) (bits_bits c.args.bytes.now)), c.unpack.auto.history ∙ c.requires.2) in
     let u = unpacked in
-    let a = c.before.before.before.before.before.before.before.before.before.before.before.before.before in
-    (u.0, omega (arith, a.requires.1), u.1)
+    (u.0, omega (arith, c.requires.1), u.1)
 
 pub returns : goal.returns
 returns c =
-    let s = c.before.before.before.before.before.before.before.before.before.before.before.before.before.before in
-    let a = s.args in
+    let a = c.args in
     let bits = 8 * length a.bytes.now in
     let u = c.unpack.ensures in (
-      c.memory_of.ensures ∙ ap (λ (l : List ℕ). memory_at l bits) u ∙ block_memory a.memory a.bytes.now bits s.requires.0 refl,
+      c.memory_of.ensures ∙ ap (λ (l : List ℕ). memory_at l bits) u ∙ block_memory a.memory a.bytes.now bits c.requires.0 refl,
       c.mother.ensures
           ∙ ap (λ (l : List ℕ). sweep offsets_x l 0 bits ++ sweep offsets_y l 0 bits) u
-          ∙ block_mother_lem a.memory a.bytes.now bits s.requires.0 refl,
+          ∙ block_mother_lem a.memory a.bytes.now bits c.requires.0 refl,
     )

@@ -15,7 +15,8 @@ use Rattle.convolutional_code.proofs.convolve.Goals as goal
 
 pub loop-n-init : goal.loop-n-init
 loop-n-init c =
-    (omega arith, written_none (rw (length_sweep (taps (goal.at.loop-n-init c).Start) c.args.history.now 0 c.args.bits) c.requires.8))
+    let taps : List ℕ = c.args.a ∷ c.args.b ∷ c.args.c ∷ c.args.d ∷ c.args.e ∷ [] in
+    (omega arith, written_none (rw (length_sweep (taps) c.args.history.now 0 c.args.bits) c.requires.8))
 
 pub parity-requires : goal.parity-requires
 parity-requires c =
@@ -29,12 +30,13 @@ bounds-coded-at c =
 
 pub loop-n-preserved : goal.loop-n-preserved
 loop-n-preserved c =
+    let taps : List ℕ = c.args.a ∷ c.args.b ∷ c.args.c ∷ c.args.d ∷ c.args.e ∷ [] in
     let l = c.loop-n in
     let h = c.args.history.now in
-    let at : get_or (sweep (taps (goal.at.loop-n-preserved c).Start) h 0 c.args.bits) l.n 0 ≡ total_at (taps (goal.at.loop-n-preserved c).Start) h l.n % 2
-    = sweep_at (taps (goal.at.loop-n-preserved c).Start) h 0 c.args.bits l.n (omega arith) ∙ ap (λ (n : ℕ). total_at (taps (goal.at.loop-n-preserved c).Start) h n % 2) (zero-add l.n)
+    let at : get_or (sweep (taps) h 0 c.args.bits) l.n 0 ≡ total_at (taps) h l.n % 2
+    = sweep_at (taps) h 0 c.args.bits l.n (omega arith) ∙ ap (λ (n : ℕ). total_at (taps) h n % 2) (zero-add l.n)
     in
-    let output : l.n < length (sweep (taps (goal.at.loop-n-preserved c).Start) h 0 c.args.bits) = rw (length_sweep (taps (goal.at.loop-n-preserved c).Start) h 0 c.args.bits) (omega arith) in
+    let output : l.n < length (sweep (taps) h 0 c.args.bits) = rw (length_sweep (taps) h 0 c.args.bits) (omega arith) in
     (omega arith, written_more l.invariant.1 _ _ output refl (c.parity.ensures ∙ sym at))
 
 pub shape_of-coded : goal.shape_of-coded
@@ -42,5 +44,6 @@ shape_of-coded c = written_length c.loop-n.invariant.1
 
 pub returns : goal.returns
 returns c =
+    let taps : List ℕ = c.args.a ∷ c.args.b ∷ c.args.c ∷ c.args.d ∷ c.args.e ∷ [] in
     let n : c.args.bits ≡ c.loop-n.n = omega arith in
-    placed_all c.loop-n.invariant.1 (length_sweep (taps (goal.at.returns c).Start) c.args.history.now 0 c.args.bits ∙ n)
+    placed_all c.loop-n.invariant.1 (length_sweep (taps) c.args.history.now 0 c.args.bits ∙ n)

@@ -24,6 +24,7 @@ loop-at-preserved c = (
   omega (arith, c.loop-at.invariant.0),
   c.loop-at.invariant.1,
   passed_more _ _ _ c.loop-at.invariant.2 (sym c.IsSync-at.ensures ∙ c.if-sync_at.false),
+)
 
 pub returns : goal.returns
 returns c = nowhere (λ q h e. c.loop-at.invariant.2 q h (omega (arith, c.loop-at.invariant.1)))

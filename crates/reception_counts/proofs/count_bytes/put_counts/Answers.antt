@@ -63,7 +63,7 @@ put_number-requires c =
 pub loop-i-preserved : goal.loop-i-preserved
 loop-i-preserved c =
     let a = c.args in
-    put-more a.output.now (numbers_of a.counts) c.requires refl c.loop-i.output c.put_number.new.1.1.0 c.loop-i.i c.loop-i.invariant
+    put-more a.output.now (numbers_of a.counts) c.requires refl c.loop-i.output c.put_number.new.output c.loop-i.i c.loop-i.invariant
     c.loop-i-test.true c.put_number.ensures
 
 pub shape_of-output : goal.shape_of-output

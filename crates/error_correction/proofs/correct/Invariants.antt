@@ -1,0 +1,15 @@
+-- `error_correction::correct` meets its contract: the errors from l on are left to do.
+-- Assumes nothing.
+use mathlib.Core.Path.{sym, subst}
+use mathlib.Core.Logic.{⊎_elim}
+use Prim.Native.Nat.{◌+◌, ◌-◌}
+use native.Mathlib.Omega.{arith}
+use Rattle.error_correction.proofs.CorrectedBlock.{Correcting, correcting_none, changed_fits, fixed, correcting_same, correcting_more, correcting_count, correcting_block}
+use borrow.Author.Rules.{rules}
+use Rattle.error_correction.proofs.correct.Given as goal
+
+abbrev pub invariant-loop-l : goal.invariant-loop-l
+invariant-loop-l l = Correcting l.initial.block l.block l.degrees l.values l.count l.changed l.l
+
+abbrev pub decreases-loop-l : goal.decreases-loop-l
+decreases-loop-l l = l.count - l.l

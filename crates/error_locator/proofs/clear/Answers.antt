@@ -1,0 +1,34 @@
+-- `error_locator::clear` meets its contract: the rows below i are cleared in column k.
+-- Assumes nothing.
+use mathlib.Core.Path.{sym, ap₂, ◌∙◌, subst}
+use mathlib.Core.List.{List}
+use mathlib.Core.Logic.{⊎_elim}
+use Prim.Native.Nat.{ℕ, ◌+◌, ◌*◌, ◌-◌}
+use native.Mathlib.Omega.{arith}
+use lib.ListN.{get_or, replicate}
+use Rattle.error_locator.specs.Locator.{combined_of, Cleared}
+use Rattle.error_locator.proofs.KeyEquations.{combined_row, cleared_start, cleared_step_lem, cleared_skip, cleared_done}
+use borrow.Author.Rules.{rules}
+use Rattle.error_locator.proofs.clear.Goals as goal
+
+pub loop-i-init : goal.loop-i-init
+loop-i-init c = cleared_start _ _ _ c.requires.0
+
+pub loop-i-preserved : goal.loop-i-preserved
+loop-i-preserved c =
+    let l = c.loop-i in
+    let C = l.invariant in
+    let o = c.args.m.now in
+    let k = c.args.k in
+    let n = c.args.size in
+    ⊎_elim
+    (λ w. subst (λ m. Cleared o m n k (l.i + 1)) (sym w.10)
+    (cleared_step_lem o l.m _ n k l.i c.requires.1 (omega arith) c.requires.2 w.0.taken c.requires.3 (w.7.kept.1.1.0 ∙ C.len)
+    (combined_row o l.m _ w.4.result l.i k (get_or o (k * 16 + k) 0) (get_or l.m (l.i * 16 + k) 0) c.requires.0 C.len (omega arith) (omega arith) C.swept.own
+    (w.4.ensures ∙ ap₂ (λ (a b : List ℕ). combined_of (replicate 16 (get_or o (k * 16 + k) 0)) a b (replicate 16 (get_or l.m (l.i * 16 + k) 0))) w.3.ensures c.sixteen-row.ensures)
+    w.7.ensures) C))
+    (λ w. subst (λ m. Cleared o m n k (l.i + 1)) (sym w.1) (cleared_skip o l.m n k l.i (omega arith) w.0.left C))
+    c.if-i-k.branch
+
+pub returns : goal.returns
+returns c = cleared_done _ _ _ _ _ (omega arith) c.loop-i.invariant
