@@ -1,12 +1,12 @@
 -- `error_correction::correct` meets its contract: the errors from l on are left to do.
 -- Assumes nothing.
 use mathlib.Core.Path.{sym, subst}
-use mathlib.Core.Logic.{⊎_elim}
 use Prim.Native.Nat.{◌+◌, ◌-◌}
 use native.Mathlib.Omega.{arith}
 use Rattle.error_correction.proofs.CorrectedBlock.{Correcting, correcting_none, changed_fits, fixed, correcting_same, correcting_more, correcting_count, correcting_block}
 use borrow.Author.Rules.{rules}
 use Rattle.error_correction.proofs.correct.Goals as goal
+use Rattle.error_correction.proofs.correct.Goals.{then-e-ne0, else-e-ne0}
 
 pub loop-l-init : goal.loop-l-init
 loop-l-init c = correcting_none _ _ _ _ c.requires.0
@@ -33,11 +33,12 @@ loop-l-preserved c =
     let l = c.loop-l in
     let n = c.well_formed.1.0.1.0.1 in
     let m = c.well_formed.1.1.0.1.0.1 in
-    ⊎_elim
-    (λ w. subst (λ k. Correcting c.args.block.now (fixed _ _ _ _ _ _ _ n m c.requires.1 (omega arith) l.invariant) c.args.degrees c.args.values c.args.count k (l.l + 1)) (sym w.1)
-    (correcting_more _ _ _ _ _ _ _ n m c.requires.1 (omega arith) l.invariant w.0.taken))
-    (λ w. subst (λ k. Correcting c.args.block.now (fixed _ _ _ _ _ _ _ n m c.requires.1 (omega arith) l.invariant) c.args.degrees c.args.values c.args.count k (l.l + 1)) (sym w.1)
-    (correcting_same _ _ _ _ _ _ _ n m c.requires.1 (omega arith) l.invariant w.0.left)) c.if-e-ne0.branch
+    elim c.if-e-ne0.branch [
+      then-e-ne0 w ↦ subst (λ k. Correcting c.args.block.now (fixed _ _ _ _ _ _ _ n m c.requires.1 (omega arith) l.invariant) c.args.degrees c.args.values c.args.count k (l.l + 1)) (sym w.changed-is)
+    (correcting_more _ _ _ _ _ _ _ n m c.requires.1 (omega arith) l.invariant w.if-e-ne0.true)
+      | else-e-ne0 w ↦ subst (λ k. Correcting c.args.block.now (fixed _ _ _ _ _ _ _ n m c.requires.1 (omega arith) l.invariant) c.args.degrees c.args.values c.args.count k (l.l + 1)) (sym w.changed-is)
+    (correcting_same _ _ _ _ _ _ _ n m c.requires.1 (omega arith) l.invariant w.if-e-ne0.false)
+    ]
 
 pub shape_of-block : goal.shape_of-block
 shape_of-block c = omega (arith, c.loop-l.invariant.len, c.requires.0)

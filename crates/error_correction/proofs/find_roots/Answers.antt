@@ -1,7 +1,6 @@
 -- `error_correction::find_roots` meets its contract: the roots among the first i degrees are listed, and x has the next sixteen places.
 -- Assumes nothing.
 use mathlib.Core.Path.{◌≡◌, sym}
-use mathlib.Core.Logic.{⊎_elim}
 use Prim.Native.Nat.{◌-◌, ◌%◌, ◌≤◌}
 use native.Mathlib.Omega.{arith}
 use lib.ListN.{length, take, drop}
@@ -12,6 +11,7 @@ use Rattle.error_correction.proofs.RootSearch.{ends_of, length_prefix, lanes_nex
 use Rattle.error_correction.proofs.RootCount.{ends_most}
 use borrow.Author.Rules.{rules}
 use Rattle.error_correction.proofs.find_roots.Goals as goal
+use Rattle.error_correction.proofs.find_roots.Goals.{then-zero_lanes-ne0, else-zero_lanes-ne0}
 
 pub degree-d-requires : goal.degree-d-requires
 degree-d-requires c = omega (arith, c.well_formed.1.1.0.1.0.1)
@@ -64,10 +64,10 @@ loop-i-preserved c =
       omega (arith, l.invariant.1),
       c.next_powers-y.type_inv.1.0.1,
       powers_next _ _ _ l.invariant.2 c.next_powers-y.ensures l.invariant.3,
-      ⊎_elim
-          (λ w. rw w.4 (searched_more _ _ _ _ _ _ l.invariant.4 _ _ (omega (arith, l.invariant.1)) l.invariant.3 (next) _ _ _ w.3.ensures))
-          (λ w. rw w.1 (searched_more _ _ _ _ _ _ l.invariant.4 _ _ (omega (arith, l.invariant.1)) l.invariant.3 (next) _ _ _ (listed_nothing _ _ _ _ _ _ c.with_erasures-v.type_inv.1.0.1 (c.zero_lanes.ensures w.0.left))))
-          c.if-zero_lanes-ne0.branch,
+      elim c.if-zero_lanes-ne0.branch [
+          then-zero_lanes-ne0 w ↦ rw w.found-is (searched_more _ _ _ _ _ _ l.invariant.4 _ _ (omega (arith, l.invariant.1)) l.invariant.3 (next) _ _ _ w.list_zeros-r.ensures)
+          | else-zero_lanes-ne0 w ↦ rw w.found-is (searched_more _ _ _ _ _ _ l.invariant.4 _ _ (omega (arith, l.invariant.1)) l.invariant.3 (next) _ _ _ (listed_nothing _ _ _ _ _ _ c.with_erasures-v.type_inv.1.0.1 (c.zero_lanes.ensures w.if-zero_lanes-ne0.false)))
+          ],
     )
 
 pub returns : goal.returns

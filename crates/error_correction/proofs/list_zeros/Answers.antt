@@ -2,7 +2,6 @@
 -- Assumes nothing.
 use mathlib.Core.Path.{◌≡◌, sym, ◌∙◌}
 use mathlib.Core.List.{List}
-use mathlib.Core.Logic.{⊎_elim}
 use Prim.Native.Nat.{ℕ, ◌+◌, ◌-◌, ◌≤◌, ◌<◌}
 use native.Mathlib.Omega.{arith}
 use lib.ListN.{length, get_or, take, length-take}
@@ -10,6 +9,7 @@ use lib.Seq.{get_or-take}
 use Rattle.error_correction.proofs.RootSearch.{ListedTo, listed_none, listed_as, listed_past, listed_skip, listed_more, listed_fits, listed_all}
 use borrow.Author.Rules.{rules}
 use Rattle.error_correction.proofs.list_zeros.Goals as goal
+use Rattle.error_correction.proofs.list_zeros.Goals.{then-d-lt204+then-v-at-eq0, then-d-lt204+else-v-at-eq0, else-d-lt204}
 
 -- a lane whose degree is below 204
 module _ (v : List ℕ) (i l : ℕ) (n : length v ≡ 16) (h : l < 16) (k : i + l < 204) where
@@ -49,12 +49,11 @@ loop-l-preserved c =
     let i = c.args.i in
     let n = c.well_formed.1.1.1.0.1.0.1 in (
       search rules,
-      ⊎_elim
-          (λ w. listed_as w.2 w.3 w.4 (listed_more _ _ _ _ _ _ _ _ _ _ l.invariant.1 (counts _ i l.l n (search rules) w.0.taken) (lane _ i l.l n (search rules) w.0.taken ∙ w.1.taken) c.requires.1))
-          (⊎_elim
-          (λ w. listed_as w.2 w.3 w.4 (listed_skip _ _ _ _ _ _ _ _ _ _ l.invariant.1 (counts _ i l.l n (search rules) w.0.taken) (λ z. w.1.left (sym (lane _ i l.l n (search rules) w.0.taken) ∙ z))))
-          (λ w. listed_as w.1 w.2 w.3 (listed_past _ _ _ _ _ _ _ _ _ _ l.invariant.1 (omega (arith, length-take (204 - i) c.args.v, w.0.left)))))
-          c.if-d-lt204.branch,
+      elim c.if-d-lt204.branch [
+          then-d-lt204+then-v-at-eq0 w ↦ listed_as w.degrees-is w.places-is w.count-is (listed_more _ _ _ _ _ _ _ _ _ _ l.invariant.1 (counts _ i l.l n (search rules) w.if-d-lt204.true) (lane _ i l.l n (search rules) w.if-d-lt204.true ∙ w.if-v-at-eq0.true) c.requires.1)
+          | then-d-lt204+else-v-at-eq0 w ↦ listed_as w.degrees-is w.places-is w.count-is (listed_skip _ _ _ _ _ _ _ _ _ _ l.invariant.1 (counts _ i l.l n (search rules) w.if-d-lt204.true) (λ z. w.if-v-at-eq0.false (sym (lane _ i l.l n (search rules) w.if-d-lt204.true) ∙ z)))
+          | else-d-lt204 w ↦ listed_as w.degrees-is w.places-is w.count-is (listed_past _ _ _ _ _ _ _ _ _ _ l.invariant.1 (omega (arith, length-take (204 - i) c.args.v, w.if-d-lt204.false)))
+          ],
     )
 
 pub returns : goal.returns

@@ -8,6 +8,7 @@ use Rattle.galois.proofs.Instance.{byte}
 use Rattle.error_locator.specs.Locator.{Reduced, Pivoted}
 use Rattle.error_locator.proofs.KeyEquations.{kept_start, kept_more, eliminated, eliminated_all}
 use borrow.Author.Rules.{rules}
+use mathlib.Core.Path.{subst}
 use Rattle.error_locator.proofs.eliminate.Goals as goal
 
 pub loop-k-init : goal.loop-k-init
@@ -17,11 +18,11 @@ pub pivot-found-requires : goal.pivot-found-requires
 pivot-found-requires c = (c.loop-k.invariant.1.len, search rules, omega arith)
 
 pub returns-then-not-found : goal.returns-then-not-found
-returns-then-not-found c = eliminated _ _ _ _ _ _ (omega arith) c.loop-k.invariant.1 (flag_false (Pivoted _ _ _ _) _ c.if-not-found.true c.pivot-found.ensures)
+returns-then-not-found c = eliminated _ _ _ _ _ _ (omega arith) c.loop-k.invariant.1 (subst (Pivoted _ _ _ _) c.if-not-found.true c.pivot-found.ensures)
 
 pub clear-requires : goal.clear-requires
 clear-requires c =
-    let P = flag_true (Pivoted _ _ _ _) _ c.if-not-found.false c.pivot-found.ensures in
+    let P = subst (Pivoted _ _ _ _) c.if-not-found.false c.pivot-found.ensures in
     (P.len, search rules, omega arith, P.outcome)
 
 pub scale_row-requires : goal.scale_row-requires
@@ -32,7 +33,7 @@ bounds-m-k c = omega (arith, c.scale_row.auto.m, c.clear.ensures.len)
 
 pub loop-k-preserved : goal.loop-k-preserved
 loop-k-preserved c =
-    let P = flag_true (Pivoted _ _ _ _) _ c.if-not-found.false c.pivot-found.ensures in (
+    let P = subst (Pivoted _ _ _ _) c.if-not-found.false c.pivot-found.ensures in (
       omega arith,
       kept_more _ _ _ _ _ _ _ _ _ (search rules) (omega arith) c.loop-k.invariant.1 P c.clear.ensures (c.scale_row.auto.m ∙ c.clear.ensures.len) c.scale_row.ensures refl,
     )

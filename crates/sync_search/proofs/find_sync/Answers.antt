@@ -16,14 +16,14 @@ loop-at-init c = (omega arith, omega arith, passed_none _ _)
 
 pub returns-then-sync_at : goal.returns-then-sync_at
 returns-then-sync_at c =
-    first _ c.loop-at.invariant.0 (omega (arith, c.loop-at.invariant.1)) (sym c.IsSync-at.ensures ∙ c.if-sync_at.true)
+    first _ c.loop-at.invariant.0 (omega (arith, c.loop-at.invariant.1)) (sym c.sync_at.ensures ∙ c.if-sync_at.true)
     c.loop-at.invariant.2
 
 pub loop-at-preserved : goal.loop-at-preserved
 loop-at-preserved c = (
   omega (arith, c.loop-at.invariant.0),
   c.loop-at.invariant.1,
-  passed_more _ _ _ c.loop-at.invariant.2 (sym c.IsSync-at.ensures ∙ c.if-sync_at.false),
+  passed_more _ _ _ c.loop-at.invariant.2 (sym c.sync_at.ensures ∙ c.if-sync_at.false),
 )
 
 pub returns : goal.returns
