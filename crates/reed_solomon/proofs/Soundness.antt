@@ -79,7 +79,7 @@ pub corrected_length : (b ds es : List ℕ) → length (corrected_by b ds es) �
 unfolding corrected_by
 corrected_length b [] es = refl
 corrected_length b (d ∷ ds) [] = refl
-corrected_length b (d ∷ ds) (e ∷ es) = corrected_length _ ds es ∙ length-set b (203 - d) (bit_xor (get_or b (203 - d) 0) e)
+corrected_length b (d ∷ ds) (e ∷ es) = corrected_length (set b (203 - d) (bit_xor (get_or b (203 - d) 0) e)) ds es ∙ length-set b (203 - d) (bit_xor (get_or b (203 - d) 0) e)
 
 pub corrected_bytes : (b ds es : List ℕ) → length b ≡ 204 → Bytes b → Bytes es → Bytes (corrected_by b ds es)
 unfolding corrected_by

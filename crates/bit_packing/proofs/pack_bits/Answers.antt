@@ -1,0 +1,49 @@
+-- `bit_packing::pack_bits` meets its contract.
+-- Assumes nothing.
+use mathlib.Core.Path.{◌≡◌, refl, ap, ◌∙◌}
+use mathlib.Core.Logic.{⊎_elim}
+use Prim.Native.Nat.{◌-◌}
+use native.Mathlib.Omega.{arith}
+use lib.ListN.{length, length-set}
+use Rattle.convolutional_code.proofs.Bits.{bits_at}
+use Rattle.bit_packing.specs.Packing.{carried_bits}
+use Rattle.bit_packing.proofs.Packing.{Packing, carried_length, packing_start, packing_held, packing_whole, packing_as, packing_done}
+use Rattle.bit_packing.proofs.pack_bits.Goals as goal
+
+pub loop-i-init : goal.loop-i-init
+loop-i-init c = (packing_start c.args.carry c.args.held c.args.bits.now c.args.output.now c.requires.0, refl)
+
+pub overflow_add-byte : goal.overflow_add-byte
+overflow_add-byte c = omega (arith, bits_at c.requires.1 c.loop-i.i)
+
+pub overflow_add-n : goal.overflow_add-n
+overflow_add-n c = omega (arith, c.loop-i.invariant.0.few)
+
+pub bounds-output-k : goal.bounds-output-k
+bounds-output-k c =
+    omega (arith, c.loop-i.invariant.0.counted, c.loop-i.invariant.1, carried_length c.args.carry c.args.held (omega arith))
+
+pub overflow_add-k : goal.overflow_add-k
+overflow_add-k c =
+    omega (arith, c.loop-i.invariant.0.counted, carried_length c.args.carry c.args.held (omega arith))
+
+pub loop-i-preserved : goal.loop-i-preserved
+loop-i-preserved c =
+    let l = c.loop-i in
+    let g = l.invariant.0 in
+    let here = c.loop-i-test.true in
+    let bit = bits_at c.requires.1 l.i in
+    ⊎_elim
+    (λ w. (
+      packing_as w.1 w.2 w.3
+          (packing_whole g here bit w.0.taken (omega (arith, g.counted, carried_length c.args.carry c.args.held (omega arith))) (omega (arith, bit))),
+      ap length w.1 ∙ simp length-set l.invariant.1,
+    ))
+    (λ w. (packing_as w.1 w.2 w.3 (packing_held g here bit (omega (arith, g.few, w.0.left))), ap length w.1 ∙ l.invariant.1))
+    c.if-n-eq8.branch
+
+pub shape_of-output : goal.shape_of-output
+shape_of-output c = c.loop-i.invariant.1
+
+pub returns : goal.returns
+returns c = packing_done c.loop-i.invariant.0 c.loop-i-test.false

@@ -1,0 +1,18 @@
+-- `bit_packing::pack_bytes` meets its contract.
+-- Assumes nothing.
+use mathlib.Core.Path.{◌≡◌, refl, ◌∙◌}
+use mathlib.Core.List.{◌++◌}
+use Prim.Native.Nat.{◌+◌, ◌-◌, ◌*◌, ◌/◌, ◌≤◌, ◌<◌}
+use native.Mathlib.Omega.{arith}
+use lib.ListN.{length, take, drop, length-set}
+use lib.Seq.{take_all}
+use Rattle.bit_packing.specs.Packing.{packed_bytes}
+use Rattle.bit_packing.proofs.Bytes.{packed_few}
+use Rattle.bit_packing.proofs.Whole.{whole_more}
+use Rattle.bit_packing.proofs.pack_bytes.Given as goal
+
+abbrev pub invariant-loop-k : goal.invariant-loop-k
+invariant-loop-k l = (l.k ≤ l.count) × (l.output ≡ packed_bytes (take (8 * l.k) l.bits) ++ drop l.k l.initial.output) × (length l.output ≡ length l.initial.output)
+
+abbrev pub decreases-loop-k : goal.decreases-loop-k
+decreases-loop-k l = l.count - l.k

@@ -1,0 +1,58 @@
+-- `puncturing::puncture_bits` meets its contract: proofs/Run.antt has what holds as the loop goes.
+-- Assumes nothing.
+use mathlib.Core.Path.{ap, sym, ◌∙◌}
+use mathlib.Core.Logic.{⊎_elim}
+use Prim.Native.Nat.{◌+◌, ◌-◌, ◌<◌}
+use native.Mathlib.Omega.{arith}
+use borrow.Author.Rules.{rules}
+use lib.ListN.{length}
+use Rattle.common.proofs.Written.{written_length}
+use Rattle.convolutional_code.proofs.Bits.{bits_at}
+use Rattle.puncturing.specs.declared.Punctured.{Punctured}
+use Rattle.puncturing.proofs.Places.{up}
+use Rattle.puncturing.proofs.Steps.{held_le}
+use Rattle.puncturing.proofs.Run.{Going, going_start, going_none, going_one, going_fits, going_end}
+use Rattle.puncturing.proofs.puncture_bits.Goals as goal
+
+pub loop-n-init : goal.loop-n-init
+loop-n-init c = let g = c.requires in going_start g.0 g.1 g.2 g.5 g.7
+
+pub puncture-punctured-requires : goal.puncture-punctured-requires
+puncture-punctured-requires c =
+    let l = c.loop-n in
+    let g = l.invariant in (
+      up c.args.rate g.rate,
+      g.place,
+      omega (arith, g.held, held_le c.args.rate l.p (up c.args.rate g.rate) g.place),
+      bits_at c.requires.3 l.n,
+      bits_at c.requires.3 (1632 + l.n),
+    )
+
+pub bounds-output-count : goal.bounds-output-count
+bounds-output-count c =
+    let symbol_fits : let l = c.loop-n in
+    l.count < length l.output = going_fits c.loop-n.invariant c.requires.3 (omega arith) (sym c.in-One.is ∙ ap (λ (x : Punctured). x.symbol) c.puncture-punctured.ensures) in
+    symbol_fits
+
+pub overflow_add-count : goal.overflow_add-count
+overflow_add-count c =
+    let symbol_fits : let l = c.loop-n in
+    l.count < length l.output = going_fits c.loop-n.invariant c.requires.3 (omega arith) (sym c.in-One.is ∙ ap (λ (x : Punctured). x.symbol) c.puncture-punctured.ensures) in
+    omega (arith, symbol_fits, written_length c.loop-n.invariant.written)
+
+pub loop-n-preserved : goal.loop-n-preserved
+loop-n-preserved c =
+    let g = c.loop-n.invariant in
+    let bits = c.requires.3 in
+    let e = c.puncture-punctured.ensures in
+    let place = ap (λ (x : Punctured). x.place) e in
+    let held = ap (λ (x : Punctured). x.held) e in
+    let symbol = ap (λ (x : Punctured). x.symbol) e in
+    ⊎_elim (λ w. rw (w.3, w.4) (going_one g bits (omega arith) place held (sym w.1.given.1 ∙ symbol)))
+    (λ w. rw (w.2, w.3) (going_none g bits (omega arith) place held (sym w.1.given.1 ∙ symbol))) c.match-symbol.branch
+
+pub shape_of-output : goal.shape_of-output
+shape_of-output c = written_length c.loop-n.invariant.written
+
+pub returns : goal.returns
+returns c = going_end c.loop-n.invariant (omega arith)

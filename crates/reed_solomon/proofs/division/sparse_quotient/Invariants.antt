@@ -1,0 +1,17 @@
+-- `reed_solomon::division::sparse_quotient` meets its contract: the first i coefficients are written.
+-- Assumes nothing.
+use mathlib.Core.Path.{◌≡◌, refl, subst, ◌∙◌}
+use mathlib.Core.List.{List}
+use Prim.Native.Nat.{ℕ, ◌+◌, ◌-◌, ◌%◌, ◌≤◌}
+use native.Mathlib.Omega.{arith}
+use lib.ListN.{length}
+use Rattle.reed_solomon.specs.Steps.{delays, DelayedSums, SparseQuotient}
+use Rattle.reed_solomon.proofs.SparseDivision.{short, quotient_none, quotient_more}
+use borrow.Author.Rules.{rules}
+use Rattle.reed_solomon.proofs.division.sparse_quotient.Given as goal
+
+abbrev pub invariant-loop-i : goal.invariant-loop-i
+invariant-loop-i l = (l.i ≤ 128) × (l.i % 16 ≡ 0) × (length l.quotient ≡ 320) × SparseQuotient l.m l.quotient l.i
+
+abbrev pub decreases-loop-i : goal.decreases-loop-i
+decreases-loop-i l = 128 - l.i

@@ -1,0 +1,22 @@
+-- `report_lines::read_line` meets its contract.
+-- Assumes nothing.
+use Rattle.common.proofs.Choice.{flag_true, flag_false}
+use Rattle.report_lines.specs.Reading.{WordIs}
+use Rattle.report_lines.proofs.Numbers.{line_none, line_found}
+use borrow.Author.Rules.{rules}
+use mathlib.Core.Path.{subst}
+use Rattle.report_lines.proofs.read_line.Goals as goal
+
+pub returns-then-not-matches : goal.returns-then-not-matches
+returns-then-not-matches c =
+    let a = c.args in
+    let m = c.matches in
+    line_none a.key.now a.text.now a.at a.limit (subst (WordIs a.key.now a.text.now a.at) c.if-not-matches.true m.ensures)
+
+pub returns : goal.returns
+returns c =
+    let a = c.args in
+    let m = c.matches in
+    let n = c.read_number in
+    line_found a.key.now a.text.now a.at a.limit n.result.found n.result.value n.result.end
+    (subst (WordIs a.key.now a.text.now a.at) c.if-not-matches.false m.ensures) n.ensures

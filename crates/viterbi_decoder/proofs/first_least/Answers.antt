@@ -1,0 +1,19 @@
+-- `viterbi_decoder::first_least` meets its contract: the first of the memories so far with the least metric.
+-- Assumes nothing.
+use mathlib.Core.Path.{◌≡◌}
+use Prim.Native.Nat.{◌-◌, ◌≤◌}
+use native.Mathlib.Omega.{arith}
+use Rattle.convolutional_code.specs.Costs.{at}
+use mathlib.Core.Logic.{⊎_elim}
+use Rattle.viterbi_decoder.specs.Metric.{FirstLeast}
+use Rattle.viterbi_decoder.proofs.Ends.{ends_one, ends_new, ends_old}
+use Rattle.viterbi_decoder.proofs.first_least.Goals as goal
+
+pub loop-s-init : goal.loop-s-init
+loop-s-init c = (omega arith, ends_one _)
+
+pub loop-s-preserved : goal.loop-s-preserved
+loop-s-preserved c = let inv = c.loop-s.invariant in (omega arith, ⊎_elim (λ w. rw w.1 (ends_new _ _ _ inv.1 w.0.taken)) (λ w. rw w.1 (ends_old _ _ _ inv.1 w.0.left)) c.if-metrics-s.branch)
+
+pub returns : goal.returns
+returns c = let e : c.loop-s.s ≡ 64 = omega arith in rw e at c.loop-s.invariant.1

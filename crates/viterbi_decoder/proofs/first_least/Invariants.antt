@@ -1,0 +1,16 @@
+-- `viterbi_decoder::first_least` meets its contract: the first of the memories so far with the least metric.
+-- Assumes nothing.
+use mathlib.Core.Path.{◌≡◌}
+use Prim.Native.Nat.{◌-◌, ◌≤◌}
+use native.Mathlib.Omega.{arith}
+use Rattle.convolutional_code.specs.Costs.{at}
+use mathlib.Core.Logic.{⊎_elim}
+use Rattle.viterbi_decoder.specs.Metric.{FirstLeast}
+use Rattle.viterbi_decoder.proofs.Ends.{ends_one, ends_new, ends_old}
+use Rattle.viterbi_decoder.proofs.first_least.Given as goal
+
+abbrev pub invariant-loop-s : goal.invariant-loop-s
+invariant-loop-s l = (l.s ≤ 64) × FirstLeast (at l.metrics) l.s l.best
+
+abbrev pub decreases-loop-s : goal.decreases-loop-s
+decreases-loop-s l = 64 - l.s

@@ -1,0 +1,10 @@
+-- `viterbi_decoder::lesser` meets its contract.
+-- Assumes nothing.
+use borrow.Author.Tests.{lt-ltb, le-ltb}
+use Rattle.viterbi_decoder.proofs.lesser.Goals as goal
+
+pub returns-then-b-a : goal.returns-then-b-a
+returns-then-b-a c = simp (lt-ltb _ _ c.if-b-a.true)
+
+pub returns-else-b-a : goal.returns-else-b-a
+returns-else-b-a c = simp (le-ltb _ _ c.if-b-a.false)
