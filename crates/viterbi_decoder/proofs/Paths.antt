@@ -74,6 +74,12 @@ pub record Chosen (M : ℕ → ℕ) (f : ℕ → ℕ → ℕ) (s d : ℕ) : Type
   pub least : (e : ℕ) → e < 2 → via M f s d ≤ via M f s e
   pub tie : (e : ℕ) → e < d → via M f s d < via M f s e
 
+-- what holds of 0 and of 1 holds of each number below 2
+of_two : (P : ℕ → Type 0) → P 0 → P 1 → (e : ℕ) → e < 2 → P e
+of_two P a b zero h = a
+of_two P a b (suc zero) h = b
+of_two P a b (suc (suc n)) h = absurd (omega arith)
+
 pub chosen : (M : ℕ → ℕ) (f : ℕ → ℕ → ℕ) (s : ℕ) → Chosen M f s (choice M f s)
 unfolding choice
 chosen M f s = go (ltb (via M f s 1) (via M f s 0)) refl
@@ -83,14 +89,14 @@ chosen M f s = go (ltb (via M f s 1) (via M f s 0)) refl
         let l : via M f s 1 < via M f s 0 = ltb-true _ _ e in
         record {
           bit = omega arith;
-          least = elim [ zero ↦ λ h. omega arith | suc n ↦ elim n [ zero ↦ λ h. omega arith | suc n ↦ λ h. absurd (omega arith) ] ];
+          least = of_two (λ d. via M f s 1 ≤ via M f s d) (omega arith) (omega arith);
           tie = elim [ zero ↦ λ h. l | suc n ↦ λ h. absurd (omega arith) ];
         }
     go false e =
         let l : via M f s 0 ≤ via M f s 1 = ltb-false _ _ e in
         record {
           bit = omega arith;
-          least = elim [ zero ↦ λ h. omega arith | suc n ↦ elim n [ zero ↦ λ h. omega arith | suc n ↦ λ h. absurd (omega arith) ] ];
+          least = of_two (λ d. via M f s 0 ≤ via M f s d) (omega arith) l;
           tie = λ e h. absurd (omega arith);
         }
 

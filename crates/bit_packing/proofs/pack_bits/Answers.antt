@@ -1,7 +1,6 @@
 -- `bit_packing::pack_bits` meets its contract.
 -- Assumes nothing.
 use mathlib.Core.Path.{◌≡◌, refl, ap, ◌∙◌}
-use mathlib.Core.Logic.{⊎_elim}
 use Prim.Native.Nat.{◌-◌}
 use native.Mathlib.Omega.{arith}
 use lib.ListN.{length, length-set}
@@ -9,6 +8,7 @@ use Rattle.convolutional_code.proofs.Bits.{bits_at}
 use Rattle.bit_packing.specs.Packing.{carried_bits}
 use Rattle.bit_packing.proofs.Packing.{Packing, carried_length, packing_start, packing_held, packing_whole, packing_as, packing_done}
 use Rattle.bit_packing.proofs.pack_bits.Goals as goal
+use Rattle.bit_packing.proofs.pack_bits.Goals.{then-n-eq8, else-n-eq8}
 
 pub loop-i-init : goal.loop-i-init
 loop-i-init c = (packing_start c.args.carry c.args.held c.args.bits.now c.args.output.now c.requires.0, refl)
@@ -33,14 +33,14 @@ loop-i-preserved c =
     let g = l.invariant.0 in
     let here = c.loop-i-test.true in
     let bit = bits_at c.requires.1 l.i in
-    ⊎_elim
-    (λ w. (
-      packing_as w.1 w.2 w.3
-          (packing_whole g here bit w.0.taken (omega (arith, g.counted, carried_length c.args.carry c.args.held (omega arith))) (omega (arith, bit))),
-      ap length w.1 ∙ simp length-set l.invariant.1,
-    ))
-    (λ w. (packing_as w.1 w.2 w.3 (packing_held g here bit (omega (arith, g.few, w.0.left))), ap length w.1 ∙ l.invariant.1))
-    c.if-n-eq8.branch
+    elim c.if-n-eq8.branch [
+      then-n-eq8 w ↦ (
+        packing_as w.output-is w.n-is w.k-is
+            (packing_whole g here bit w.if-n-eq8.true (omega (arith, g.counted, carried_length c.args.carry c.args.held (omega arith))) (omega (arith, bit))),
+        ap length w.output-is ∙ simp length-set l.invariant.1,
+      )
+      | else-n-eq8 w ↦ (packing_as w.output-is w.n-is w.k-is (packing_held g here bit (omega (arith, g.few, w.if-n-eq8.false))), ap length w.output-is ∙ l.invariant.1)
+    ]
 
 pub shape_of-output : goal.shape_of-output
 shape_of-output c = c.loop-i.invariant.1

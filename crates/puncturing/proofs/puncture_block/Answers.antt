@@ -12,39 +12,42 @@ use Rattle.puncturing.proofs.Parts.{to_start}
 use borrow.Author.Rules.{rules}
 use Rattle.puncturing.proofs.puncture_block.Goals as goal
 
--- how far the first pattern begins, and how far whole patterns reach
-module _ (c : tie.After-pattern-length) where
-  len : c.pattern-length.result ≡ pattern_length c.before.before.before.args.rate
-  len = c.pattern-length.ensures
-
-  some : 0 < c.pattern-length.result
-  some = let g = c.before.before.before.requires.1 in omega (arith, len)
-
-  short : (c.pattern-length.result - c.before.before.before.args.place) % c.pattern-length.result ≤ longest_pattern
-  short =
-      let a = c.before.before.before in
-      let h = mod-lt (c.pattern-length.result - a.args.place) some in
-      omega (arith, len, length_le a.args.rate (up a.args.rate a.requires.0))
-
-  reach : (1632 - (c.pattern-length.result - c.before.before.before.args.place) % c.pattern-length.result) / c.pattern-length.result * c.pattern-length.result
-      ≤ 1632 - (c.pattern-length.result - c.before.before.before.args.place) % c.pattern-length.result
-  reach = let e = div-add-mod' (1632 - (c.pattern-length.result - c.before.before.before.args.place) % c.pattern-length.result) c.pattern-length.result in omega arith
-
 pub overflow_sub-turns : goal.overflow_sub-turns
-overflow_sub-turns c = omega (arith, short (goal.at.overflow_sub-turns c).After-pattern_length-len)
+overflow_sub-turns c =
+    let len : c.pattern_length-len.result ≡ pattern_length c.args.rate = c.pattern_length-len.ensures in
+    let some : 0 < c.pattern_length-len.result = let g = c.requires.1 in omega (arith, len) in
+    let short : (c.pattern_length-len.result - c.args.place) % c.pattern_length-len.result ≤ longest_pattern = let h = mod-lt (c.pattern_length-len.result - c.args.place) some in
+    omega (arith, len, length_le c.args.rate (up c.args.rate c.requires.0)) in
+    omega (arith, short)
 
 pub overflow_mul-turns : goal.overflow_mul-turns
-overflow_mul-turns c = omega (arith, reach (goal.at.overflow_mul-turns c).After-pattern_length-len)
+overflow_mul-turns c =
+    let reach : (1632 - (c.pattern_length-len.result - c.args.place) % c.pattern_length-len.result) / c.pattern_length-len.result * c.pattern_length-len.result
+    ≤ 1632 - (c.pattern_length-len.result - c.args.place) % c.pattern_length-len.result = let e = div-add-mod' (1632 - (c.pattern_length-len.result - c.args.place) % c.pattern_length-len.result) c.pattern_length-len.result in omega arith in
+    omega (arith, reach)
 
 pub overflow_add-head : goal.overflow_add-head
-overflow_add-head c = omega (arith, reach (goal.at.overflow_add-head c).After-pattern_length-len, short (goal.at.overflow_add-head c).After-pattern_length-len)
+overflow_add-head c =
+    let len : c.pattern_length-len.result ≡ pattern_length c.args.rate = c.pattern_length-len.ensures in
+    let some : 0 < c.pattern_length-len.result = let g = c.requires.1 in omega (arith, len) in
+    let short : (c.pattern_length-len.result - c.args.place) % c.pattern_length-len.result ≤ longest_pattern = let h = mod-lt (c.pattern_length-len.result - c.args.place) some in
+    omega (arith, len, length_le c.args.rate (up c.args.rate c.requires.0)) in
+    let reach : (1632 - (c.pattern_length-len.result - c.args.place) % c.pattern_length-len.result) / c.pattern_length-len.result * c.pattern_length-len.result
+    ≤ 1632 - (c.pattern_length-len.result - c.args.place) % c.pattern_length-len.result = let e = div-add-mod' (1632 - (c.pattern_length-len.result - c.args.place) % c.pattern_length-len.result) c.pattern_length-len.result in omega arith in
+    omega (arith, reach, short)
 
 pub puncture_parts-requires : goal.puncture_parts-requires
 puncture_parts-requires c =
+    let len : c.pattern_length-len.result ≡ pattern_length c.args.rate = c.pattern_length-len.ensures in
+    let some : 0 < c.pattern_length-len.result = let g = c.requires.1 in omega (arith, len) in
+    let short : (c.pattern_length-len.result - c.args.place) % c.pattern_length-len.result ≤ longest_pattern = let h = mod-lt (c.pattern_length-len.result - c.args.place) some in
+    omega (arith, len, length_le c.args.rate (up c.args.rate c.requires.0)) in
+    let reach : (1632 - (c.pattern_length-len.result - c.args.place) % c.pattern_length-len.result) / c.pattern_length-len.result * c.pattern_length-len.result
+    ≤ 1632 - (c.pattern_length-len.result - c.args.place) % c.pattern_length-len.result = let e = div-add-mod' (1632 - (c.pattern_length-len.result - c.args.place) % c.pattern_length-len.result) c.pattern_length-len.result in omega arith in
     let g = c.requires in
     let start =
-    ap (λ (n : ℕ). pattern_place_after c.args.rate c.args.place ((n - c.args.place) % n)) (len (goal.at.puncture_parts-requires c).After-pattern_length-len)
+    ap (λ (n : ℕ). pattern_place_after c.args.rate c.args.place ((n - c.args.place) % n)) (len)
     ∙ to_start c.args.rate c.args.place g.0 g.1
     in
     let head = (c.pattern_length-len.result - c.args.place) % c.pattern_length-len.result in
-    (g.0, g.1, g.2, g.3, g.4, start, ap (λ (n : ℕ). head + (1632 - head) / c.pattern_length-len.result * n) (len (goal.at.puncture_parts-requires c).After-pattern_length-len), omega (arith, reach (goal.at.puncture_parts-requires c).After-pattern_length-len, short (goal.at.puncture_parts-requires c).After-pattern_length-len), g.5)
+    (g.0, g.1, g.2, g.3, g.4, start, ap (λ (n : ℕ). head + (1632 - head) / c.pattern_length-len.result * n) (len), omega (arith, reach, short), g.5)

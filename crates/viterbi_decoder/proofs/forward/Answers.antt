@@ -2,13 +2,13 @@
 -- Assumes nothing.
 use borrow.Author.Rules.{rules}
 use mathlib.Core.Path.{◌≡◌, sym}
-use mathlib.Core.Logic.{⊎_elim}
 use Prim.Native.Nat.{◌+◌, ◌-◌}
 use native.Mathlib.Omega.{arith}
 use lib.ListN.{length}
 use Rattle.viterbi_decoder.specs.Lanes.{row_costs}
 use Rattle.viterbi_decoder.proofs.Sweeps.{small_costs, InBlock, in_block_none, in_block_fits, in_block_more, in_block_all, Going, going_none, offset_le, going_first, close, going_more, going_all}
 use Rattle.viterbi_decoder.proofs.forward.Goals as goal
+use Rattle.viterbi_decoder.proofs.forward.Goals.{then-end-ge6, else-end-ge6}
 
 pub loop-end-init : goal.loop-end-init
 loop-end-init c = going_none _ _ _ _ _ c.start-metrics.ensures
@@ -40,7 +40,7 @@ pub slice_bounds-put-end : goal.slice_bounds-put-end
 slice_bounds-put-end c = sym c.loop-k.invariant.size
 
 pub put-requires : goal.put-requires
-put-requires c = omega (arith, slice-aggregate-put (goal.at.put-requires c).After-origins-then-end-ge6-1, c.loop-end.invariant.length_is, c.requires.5)
+put-requires c = omega (arith, c.loop-k.invariant.size, c.loop-end.invariant.length_is, c.requires.5)
 
 pub levelled-level-requires : goal.levelled-level-requires
 levelled-level-requires c =
@@ -56,10 +56,11 @@ loop-end-preserved c =
     let small = small_costs c.args.costs.now c.args.steps.now c.requires.0 c.requires.4 in
     let e : c.loop-k.k ≡ c.loop-end.end = omega (arith, c.loop-k.invariant.most) in
     rw e
-    (⊎_elim
-    (λ w. rw (w.9, w.10, w.11, w.3.ensures) (going_more g small c.requires.2 b (omega arith) (omega (arith, w.0.taken)) c.loop-k.invariant.size c.requires.5 w.7.result.metrics w.7.result.offset w.7.ensures.0 w.7.ensures.1))
-    (λ w. rw (w.1, w.2, w.3) (going_first g small c.requires.2 b (omega arith) (omega (arith, w.0.left))))
-    c.if-end-ge6.branch)
+    (elim c.if-end-ge6.branch [
+      then-end-ge6 w ↦ rw (w.rows-is, w.metrics-is, w.offset-is, w.put.ensures)
+      (going_more g small c.requires.2 b (omega arith) (omega (arith, w.if-end-ge6.true)) c.loop-k.invariant.size c.requires.5 w.levelled-level.result.metrics w.levelled-level.result.offset w.levelled-level.ensures.0 w.levelled-level.ensures.1)
+      | else-end-ge6 w ↦ rw (w.rows-is, w.metrics-is, w.offset-is) (going_first g small c.requires.2 b (omega arith) (omega (arith, w.if-end-ge6.false)))
+    ])
 
 pub shape_of-rows : goal.shape_of-rows
 shape_of-rows c = c.loop-end.invariant.length_is

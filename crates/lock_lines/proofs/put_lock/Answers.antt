@@ -1,0 +1,17 @@
+-- `lock_lines::put_lock` meets its contract.
+-- Assumes nothing.
+use mathlib.Core.Path.{refl}
+use Prim.Native.Nat.{◌+◌}
+use native.Mathlib.Omega.{arith}
+use Rattle.report_lines.proofs.Lines.{joined_appended, restated}
+use borrow.Author.Rules.{rules}
+use Rattle.lock_lines.proofs.put_lock.Goals as goal
+
+-- src/lib.rt:55:1
+pub returns : goal.returns
+returns c =
+    let a = c.args in
+    let f = c.put_start-middle in
+    let g = c.put_found in
+    restated (a.at + 113) (joined_appended _ _ a.text.now f.new.text g.new.text a.at f.result g.result _ _ f.ensures g.ensures) refl
+    (omega (arith, f.ensures.bound, g.ensures.bound))

@@ -1,0 +1,10 @@
+-- `report::bits_fit` meets its contract.
+-- Assumes nothing.
+use mathlib.Core.Path.{refl}
+use Rattle.report.specs.Text.{row}
+use borrow.Author.Rules.{rules}
+use Rattle.report.proofs.bits_fit.Goals as goal
+
+pub returns-in-Number : goal.returns-in-Number
+unfolding row
+returns-in-Number c = rw c.in-Number.is refl
