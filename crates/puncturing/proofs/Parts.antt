@@ -145,9 +145,28 @@ near r p h l m n j (suc k) e =
 abbrev Whole : ℕ → Type 0
 Whole r = (l : List ℕ) (n : ℕ) → pattern_symbols (i_bits r) (q_bits r) l n ≡ sent_near r 0 0 l n 0 (pattern_length r)
 
-wholes : Below Whole qpsk_count
+whole_0 : Whole 0
 unfolding pattern_symbols i_bits q_bits punctured_by held_by mode_of
-wholes = (λ l n. refl) & (λ l n. refl) & (λ l n. refl) & (λ l n. refl) & (λ l n. refl) & end
+whole_0 l n = refl
+
+whole_1 : Whole 1
+unfolding pattern_symbols i_bits q_bits punctured_by held_by mode_of
+whole_1 l n = refl
+
+whole_2 : Whole 2
+unfolding pattern_symbols i_bits q_bits punctured_by held_by mode_of
+whole_2 l n = refl
+
+whole_3 : Whole 3
+unfolding pattern_symbols i_bits q_bits punctured_by held_by mode_of
+whole_3 l n = refl
+
+whole_4 : Whole 4
+unfolding pattern_symbols i_bits q_bits punctured_by held_by mode_of
+whole_4 l n = refl
+
+wholes : Below Whole qpsk_count
+wholes = whole_4 & whole_3 & whole_2 & whole_1 & whole_0 & end
 
 pattern_sent : (r : ℕ) (l : List ℕ) (n : ℕ) → r < qpsk_count → pattern_symbols (i_bits r) (q_bits r) l n ≡ punctured_symbols r 0 0 l n (pattern_length r)
 pattern_sent r l n h = below Whole qpsk_count wholes r h l n ∙ sym (near r 0 0 l n n 0 (pattern_length r) (sym (add-zero n)))

@@ -43,12 +43,12 @@ other (suc (suc (suc (suc k)))) x y h a b c d = refl
 
 pub returns-then-kind-eq0 : goal.returns-then-kind-eq0
 returns-then-kind-eq0 c =
-    let made :  {s : Symbol}
+    let made :  (s : Symbol)
     → let a = c.args in
     s ≡ by_kind c.completed_at-kind.result a.x a.y a.held
     → ◌≡◌ {A = Punctured}
     (record { place = c.next_place-next.result; held = a.y * c.held_count.result; symbol = s })
-    (puncture_step a.rate a.place a.held a.x a.y) = λ {s} e. let a = c.args in
+    (puncture_step a.rate a.place a.held a.x a.y) = λ s e. let a = c.args in
     let g = c.requires in
     let next = c.next_place-next.ensures in
     let kept = ap (λ (n : ℕ). a.y * n) (c.held_count.ensures ∙ ap (held_count a.rate) next)
@@ -56,16 +56,16 @@ returns-then-kind-eq0 c =
     let symbol = e ∙ sym (c.completed_at-kind.ensures a.x a.y a.held) in
     λ i. record { place = next i; held = kept i; symbol = symbol i } in
     let a = c.args in
-    made (of-kind 0 a.x a.y a.held c.if-kind-eq0.true)
+    made _ (of-kind 0 a.x a.y a.held c.if-kind-eq0.true)
 
 pub returns-then-kind-eq1 : goal.returns-then-kind-eq1
 returns-then-kind-eq1 c =
-    let made :  {s : Symbol}
+    let made :  (s : Symbol)
     → let a = c.args in
     s ≡ by_kind c.completed_at-kind.result a.x a.y a.held
     → ◌≡◌ {A = Punctured}
     (record { place = c.next_place-next.result; held = a.y * c.held_count.result; symbol = s })
-    (puncture_step a.rate a.place a.held a.x a.y) = λ {s} e. let a = c.args in
+    (puncture_step a.rate a.place a.held a.x a.y) = λ s e. let a = c.args in
     let g = c.requires in
     let next = c.next_place-next.ensures in
     let kept = ap (λ (n : ℕ). a.y * n) (c.held_count.ensures ∙ ap (held_count a.rate) next)
@@ -73,16 +73,16 @@ returns-then-kind-eq1 c =
     let symbol = e ∙ sym (c.completed_at-kind.ensures a.x a.y a.held) in
     λ i. record { place = next i; held = kept i; symbol = symbol i } in
     let a = c.args in
-    made (of-kind 1 a.x a.y a.held c.if-kind-eq1.true)
+    made _ (of-kind 1 a.x a.y a.held c.if-kind-eq1.true)
 
 pub returns-then-kind-eq2 : goal.returns-then-kind-eq2
 returns-then-kind-eq2 c =
-    let made :  {s : Symbol}
+    let made :  (s : Symbol)
     → let a = c.args in
     s ≡ by_kind c.completed_at-kind.result a.x a.y a.held
     → ◌≡◌ {A = Punctured}
     (record { place = c.next_place-next.result; held = a.y * c.held_count.result; symbol = s })
-    (puncture_step a.rate a.place a.held a.x a.y) = λ {s} e. let a = c.args in
+    (puncture_step a.rate a.place a.held a.x a.y) = λ s e. let a = c.args in
     let g = c.requires in
     let next = c.next_place-next.ensures in
     let kept = ap (λ (n : ℕ). a.y * n) (c.held_count.ensures ∙ ap (held_count a.rate) next)
@@ -90,16 +90,16 @@ returns-then-kind-eq2 c =
     let symbol = e ∙ sym (c.completed_at-kind.ensures a.x a.y a.held) in
     λ i. record { place = next i; held = kept i; symbol = symbol i } in
     let a = c.args in
-    made (of-kind 2 a.x a.y a.held c.if-kind-eq2.true)
+    made _ (of-kind 2 a.x a.y a.held c.if-kind-eq2.true)
 
 pub returns-then-kind-eq3 : goal.returns-then-kind-eq3
 returns-then-kind-eq3 c =
-    let made :  {s : Symbol}
+    let made :  (s : Symbol)
     → let a = c.args in
     s ≡ by_kind c.completed_at-kind.result a.x a.y a.held
     → ◌≡◌ {A = Punctured}
     (record { place = c.next_place-next.result; held = a.y * c.held_count.result; symbol = s })
-    (puncture_step a.rate a.place a.held a.x a.y) = λ {s} e. let a = c.args in
+    (puncture_step a.rate a.place a.held a.x a.y) = λ s e. let a = c.args in
     let g = c.requires in
     let next = c.next_place-next.ensures in
     let kept = ap (λ (n : ℕ). a.y * n) (c.held_count.ensures ∙ ap (held_count a.rate) next)
@@ -107,16 +107,16 @@ returns-then-kind-eq3 c =
     let symbol = e ∙ sym (c.completed_at-kind.ensures a.x a.y a.held) in
     λ i. record { place = next i; held = kept i; symbol = symbol i } in
     let a = c.args in
-    made (of-kind 3 a.x a.y a.held c.if-kind-eq3.true)
+    made _ (of-kind 3 a.x a.y a.held c.if-kind-eq3.true)
 
 pub returns : goal.returns
 returns c =
-    let made :  {s : Symbol}
+    let made :  (s : Symbol)
     → let a = c.args in
     s ≡ by_kind c.completed_at-kind.result a.x a.y a.held
     → ◌≡◌ {A = Punctured}
     (record { place = c.next_place-next.result; held = a.y * c.held_count.result; symbol = s })
-    (puncture_step a.rate a.place a.held a.x a.y) = λ {s} e. let a = c.args in
+    (puncture_step a.rate a.place a.held a.x a.y) = λ s e. let a = c.args in
     let g = c.requires in
     let next = c.next_place-next.ensures in
     let kept = ap (λ (n : ℕ). a.y * n) (c.held_count.ensures ∙ ap (held_count a.rate) next)
@@ -124,4 +124,4 @@ returns c =
     let symbol = e ∙ sym (c.completed_at-kind.ensures a.x a.y a.held) in
     λ i. record { place = next i; held = kept i; symbol = symbol i } in
     let a = c.args in
-    made (other c.completed_at-kind.result a.x a.y a.held c.if-kind-eq0.false c.if-kind-eq1.false c.if-kind-eq2.false c.if-kind-eq3.false)
+    made _ (other c.completed_at-kind.result a.x a.y a.held c.if-kind-eq0.false c.if-kind-eq1.false c.if-kind-eq2.false c.if-kind-eq3.false)

@@ -1,7 +1,6 @@
 -- `puncturing::puncture_bits` meets its contract: proofs/Run.antt has what holds as the loop goes.
 -- Assumes nothing.
 use mathlib.Core.Path.{ap, sym, ◌∙◌}
-use mathlib.Core.Logic.{⊎_elim}
 use Prim.Native.Nat.{◌+◌, ◌-◌, ◌<◌}
 use native.Mathlib.Omega.{arith}
 use borrow.Author.Rules.{rules}
@@ -13,6 +12,7 @@ use Rattle.puncturing.proofs.Places.{up}
 use Rattle.puncturing.proofs.Steps.{held_le}
 use Rattle.puncturing.proofs.Run.{Going, going_start, going_none, going_one, going_fits, going_end}
 use Rattle.puncturing.proofs.puncture_bits.Goals as goal
+use Rattle.puncturing.proofs.puncture_bits.Goals.{in-One, in_default}
 
 pub loop-n-init : goal.loop-n-init
 loop-n-init c = let g = c.requires in going_start g.0 g.1 g.2 g.5 g.7
@@ -48,8 +48,10 @@ loop-n-preserved c =
     let place = ap (λ (x : Punctured). x.place) e in
     let held = ap (λ (x : Punctured). x.held) e in
     let symbol = ap (λ (x : Punctured). x.symbol) e in
-    ⊎_elim (λ w. rw (w.3, w.4) (going_one g bits (omega arith) place held (sym w.1.given.1 ∙ symbol)))
-    (λ w. rw (w.2, w.3) (going_none g bits (omega arith) place held (sym w.1.given.1 ∙ symbol))) c.match-symbol.branch
+    elim c.match-symbol.branch [
+      in-One w ↦ rw (w.output-is, w.count-is) (going_one g bits (omega arith) place held (sym w.in-One.is ∙ symbol))
+      | in_default w ↦ rw (w.output-is, w.count-is) (going_none g bits (omega arith) place held (sym w.in_default.is ∙ symbol))
+    ]
 
 pub shape_of-output : goal.shape_of-output
 shape_of-output c = written_length c.loop-n.invariant.written
