@@ -144,7 +144,7 @@ grid_locked {i} {f} {n} {l} {left} {k = k} {last} g q (turn {parts = ps} d h e a
     let p : n - 1 + 1 ≡ n = omega arith in
     let g' : SyncGrid i (f + 1) (n - 1) (drop 1632 l) = grid_drop (subst (λ (y : ℕ). SyncGrid i f y l) (sym p) g) in
     let u : drop (used_bits d) l ≡ drop 1632 l = ap (λ (y : Decision). drop (used_bits y) l) x in
-    let r = grid_locked (subst (SyncGrid i (f + 1) (n - 1)) (sym u) g') (ap (λ (y : Decision). y.lock) x) a in
+    let r = grid_locked {f = f + 1} {n = n - 1} (subst (SyncGrid i (f + 1) (n - 1)) (sym u) g') (ap (λ (y : Decision). y.lock) x) a in
     let b = blocks_more i l (omega arith) ∙ ap (λ (y : List ℕ). block_of i (take 1632 l) ∷ grid_blocks i y) (sym u) in
     let c : part_given (part_of d (take 8168 l)) ≡ followers (block_of i (take 1632 l) ∷ []) =
     ap (λ (y : Decision). part_given (part_of y (take 8168 l))) x ∙ follow_given i 8168 l (omega arith) in
@@ -170,7 +170,7 @@ grid_fresh {i} {f} {n} {l} {left} {last = last} g o (turn {parts = ps} d h e a) 
     let p : n - 1 + 1 ≡ n = omega arith in
     let g' : SyncGrid i (f + 1) (n - 1) (drop 1632 l) = grid_drop (subst (λ (y : ℕ). SyncGrid i f y l) (sym p) g) in
     let u : drop (used_bits d) l ≡ drop 1632 l = ap (λ (y : Decision). drop (used_bits y) l) x in
-    let r = grid_locked (subst (SyncGrid i (f + 1) (n - 1)) (sym u) g') (ap (λ (y : Decision). y.lock) x) a in
+    let r = grid_locked {f = f + 1} {n = n - 1} (subst (SyncGrid i (f + 1) (n - 1)) (sym u) g') (ap (λ (y : Decision). y.lock) x) a in
     let b = blocks_more i l (omega arith) ∙ ap (λ (y : List ℕ). block_of i (take 1632 l) ∷ grid_blocks i y) (sym u) in
     let c : part_given (part_of d (take 8168 l)) ≡ begun (block_of i (take 1632 l) ∷ []) =
     ap (λ (y : Decision). part_given (part_of y (take 8168 l))) x ∙ begun_given i 8168 l (omega arith) in

@@ -260,17 +260,17 @@ holds_block m bits n =
     (λ i h. ap (λ (k : ℕ). get_or (x ++ y) k 0) (zero-add i) ∙ get_or-append x y 0 i (rw (length_mother taps_x m bits) h))
     (λ i h. ap (λ (k : ℕ). get_or (x ++ y) (k + i) 0) (sym size) ∙ get_or-append-add x y i 0)
 
-symbols_held : (c : InnerCoder) (l : List ℕ) {n : ℕ} {bits : List ℕ} → Holds l n c.memory bits
+symbols_held : (l : List ℕ) (c : InnerCoder) {n : ℕ} {bits : List ℕ} → Holds l n c.memory bits
     → symbols_of c bits ≡ punctured_symbols c.rate c.place c.held l n (length bits)
 unfolding symbols_by punctured_symbols
-symbols_held c l nothing = refl
-symbols_held c l (also {n} {b = b} {bs} ex ey t) =
-    ap (λ (s : List ℕ). symbol_list (symbol_by (mode_of c.rate) c b) ++ s) (symbols_held (step_by (mode_of c.rate) c b) l t)
+symbols_held l c nothing = refl
+symbols_held l c (also {n} {b = b} {bs} ex ey t) =
+    ap (λ (s : List ℕ). symbol_list (symbol_by (mode_of c.rate) c b) ++ s) (symbols_held l (step_by (mode_of c.rate) c b) t)
     ∙ (λ i.
     symbol_list (punctured c.rate c.place (sym ex i) (sym ey i) c.held)
     ++ punctured_symbols c.rate (place_next c.rate c.place) (held_after c.rate c.place (sym ex i) (sym ey i) c.held) l (suc n) (length bs))
 
-coder_held : (c : InnerCoder) (l : List ℕ) {n : ℕ} {bits : List ℕ} → Holds l n c.memory bits
+coder_held : (l : List ℕ) (c : InnerCoder) {n : ℕ} {bits : List ℕ} → Holds l n c.memory bits
     → coder_after c bits
     ≡ record {
       rate = c.rate;
@@ -279,9 +279,9 @@ coder_held : (c : InnerCoder) (l : List ℕ) {n : ℕ} {bits : List ℕ} → Hol
       held = held_behind c.rate c.place c.held l n (length bits);
     }
 unfolding coder_by memory_after pattern_place_after held_behind
-coder_held c l nothing = refl
-coder_held c l (also {n} {b = b} {bs} ex ey t) =
-    coder_held (step_by (mode_of c.rate) c b) l t
+coder_held l c nothing = refl
+coder_held l c (also {n} {b = b} {bs} ex ey t) =
+    coder_held l (step_by (mode_of c.rate) c b) t
     ∙ (λ i. record {
       rate = c.rate;
       memory = memory_after (next_memory c.memory b) bs;
@@ -302,7 +302,7 @@ module _ (c : InnerCoder) (h : c.rate < qpsk_count) (block : List ℕ) where
 module _ (c : InnerCoder) (bits : List ℕ) (n : length bits ≡ 1632) where
   pub symbols_serial : symbols_of c bits ≡ punctured_symbols c.rate c.place c.held (block_mother c.memory bits) 0 1632
   symbols_serial =
-      symbols_held c (block_mother c.memory bits) (holds_block c.memory bits n)
+      symbols_held (block_mother c.memory bits) c (holds_block c.memory bits n)
       ∙ ap (punctured_symbols c.rate c.place c.held (block_mother c.memory bits) 0) n
 
   pub coder_serial : coder_after c bits
@@ -313,7 +313,7 @@ module _ (c : InnerCoder) (bits : List ℕ) (n : length bits ≡ 1632) where
         held = held_behind c.rate c.place c.held (block_mother c.memory bits) 0 1632;
       }
   coder_serial =
-      coder_held c (block_mother c.memory bits) (holds_block c.memory bits n)
+      coder_held (block_mother c.memory bits) c (holds_block c.memory bits n)
       ∙ ap
       (λ (k : ℕ). record {
         rate = c.rate;

@@ -13,4 +13,4 @@ pub slice_bounds-block_of-end : goal.slice_bounds-block_of-end
 slice_bounds-block_of-end c = omega (arith, c.requires, given_used c.args.d c.if-not-given.false)
 
 pub returns : goal.returns
-returns c = given_block c.args.d c.args.bits.now _ c.if-not-given.false c.Block-of.ensures
+returns c = given_block c.args.d c.args.bits.now _ c.if-not-given.false c.block_of.ensures

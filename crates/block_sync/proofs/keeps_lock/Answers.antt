@@ -6,10 +6,10 @@ use borrow.Author.Rules.{rules}
 use Rattle.block_sync.proofs.keeps_lock.Goals as goal
 
 pub returns-then-not-lock : goal.returns-then-not-lock
-returns-then-not-lock c = keeps_not _ _ c.if-not-lock.true
+returns-then-not-lock c = keeps_not _ _ (not-true _ c.if-not-lock.true)
 
 pub returns-then-bits-lt1632 : goal.returns-then-bits-lt1632
-returns-then-bits-lt1632 c = keeps_short _ _ c.if-not-lock.false c.if-bits-lt1632.true
+returns-then-bits-lt1632 c = keeps_short _ _ (not-false _ c.if-not-lock.false) c.if-bits-lt1632.true
 
 pub returns : goal.returns
-returns c = keeps_step _ _ _ c.if-not-lock.false c.if-bits-lt1632.false c.in_step.ensures
+returns c = keeps_step _ _ _ (not-false _ c.if-not-lock.false) c.if-bits-lt1632.false c.in_step.ensures

@@ -14,7 +14,6 @@ slice_bounds-derandomize-end c = sym (length-take-le 188 c.args.left.now (let n 
 
 pub returns-in-Delivered : goal.returns-in-Delivered
 returns-in-Delivered c =
-    let o = c.in-Delivered.given in
     let l : length (take 188 c.args.left.now) ≡ 188 = length-take-le 188 c.args.left.now (let n = c.requires.1 in omega arith) in
-    simp o.1
-    (refl, c.derandomize.ensures.1 ∙ (derandomize_done o.0.0 (take 188 c.args.left.now) (subst PlaceOf o.1 c.requires.0) l c.args.output.now c.requires.2).1)
+    simp c.in-Delivered.is
+    (refl, c.derandomize.ensures.1 ∙ (derandomize_done c.in-Delivered.place (take 188 c.args.left.now) (subst PlaceOf c.in-Delivered.is c.requires.0) l c.args.output.now c.requires.2).1)

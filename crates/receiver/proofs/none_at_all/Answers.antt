@@ -9,4 +9,4 @@ pub returns-then-not-clean : goal.returns-then-not-clean
 returns-then-not-clean c = λ z. (cc, cc)
 
 pub returns : goal.returns
-returns c = λ z. (not-false _ c.if-not-clean.false, sym c.largest_of.ensures ∙ eqb-true _ _ z)
+returns c = λ z. (c.if-not-clean.false, sym c.largest_of.ensures ∙ eqb-true _ _ z)

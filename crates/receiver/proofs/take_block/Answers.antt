@@ -37,53 +37,47 @@ delay_marks-requires c =
 
 pub count-counts-requires : goal.count-counts-requires
 count-counts-requires c =
-    let first : tie.Start = (goal.at.count-counts-requires c).Start in
-    let s = first in
-    let a = s.args in
-    output_for_lem (whole s) a.block.now a.marks.now a.output.now s.pre.0 no_change (record { few = omega arith; least = omega arith; most = omega arith })
+    let whole : Receiver = receiver_of c.args.cells.now c.args.held.now c.args.positions c.args.sync c.args.counts in
+    let a = c.args in
+    output_for_lem (whole) a.block.now a.marks.now a.output.now c.requires.0 no_change (record { few = omega arith; least = omega arith; most = omega arith })
 
 pub returns-then-taken-lt11 : goal.returns-then-taken-lt11
 returns-then-taken-lt11 c =
-    let first : tie.Start = (goal.at.returns-then-taken-lt11 c).Start in
-    let s = first in
-    let a = s.args in
+    let whole : Receiver = receiver_of c.args.cells.now c.args.held.now c.args.positions c.args.sync c.args.counts in
+    let a = c.args in
     let p = c.pass_cells-moved in
-    filling_call (whole s) a.block.now a.marks.now a.output.now s.pre.0 c.if-taken-lt11.true _ (record { branches = laid p.new.cells p.result }) c.delay_marks.new.cells c.count-counts.result _
+    filling_call (whole) a.block.now a.marks.now a.output.now c.requires.0 c.if-taken-lt11.true _ (record { branches = laid p.new.cells p.result }) c.delay_marks.new.cells c.count-counts.result _
     refl (λ i. laid (p.ensures.1 i) (p.ensures.0 i)) c.delay_marks.ensures.0 c.count-counts.ensures refl
 
 pub decode_block-decoded-requires : goal.decode_block-decoded-requires
 decode_block-decoded-requires c =
-    let first : tie.Start = (goal.at.decode_block-decoded-requires c).Start in
     λ z.
-    let s = first in
-    let e = s.pre.3 z in
+    let e = c.requires.3 z in
     c.delay_marks.ensures.1
-    ∙ ap₂ (λ (k m : List ℕ). block_out Receiving (laid k s.args.positions) m) e.0 e.1
-    ∙ none_leaves s.args.positions
+    ∙ ap₂ (λ (k m : List ℕ). block_out Receiving (laid k c.args.positions) m) e.0 e.1
+    ∙ none_leaves c.args.positions
 
 pub count-counts-requires-2 : goal.count-counts-requires-2
 count-counts-requires-2 c =
-    let first : tie.Start = (goal.at.count-counts-requires-2 c).Start in
-    let decodes : DecodesMarked (delayed_marks (whole (first)) (first).args.marks.now) (delayed_block (whole (first)) (first).args.block.now) c.decode_block-decoded.new.block c.decode_block-decoded.result = let a = (first).args in
+    let whole : Receiver = receiver_of c.args.cells.now c.args.held.now c.args.positions c.args.sync c.args.counts in
+    let decodes : DecodesMarked (delayed_marks (whole) c.args.marks.now) (delayed_block (whole) c.args.block.now) c.decode_block-decoded.new.block c.decode_block-decoded.result = let a = c.args in
     subst₂ (λ (m b : List ℕ). DecodesMarked m b c.decode_block-decoded.new.block c.decode_block-decoded.result)
-    c.delay_marks.ensures.1 (output_filled (delayed_block (whole (first)) a.block.now) (replicate 204 0) _ refl c.pass_cells-moved.ensures.2) c.decode_block-decoded.ensures in
-    let s = first in
-    let a = s.args in
-    output_for_lem (whole s) a.block.now a.marks.now a.output.now s.pre.0 _
+    c.delay_marks.ensures.1 (output_filled (delayed_block (whole) a.block.now) (replicate 204 0) _ refl c.pass_cells-moved.ensures.2) c.decode_block-decoded.ensures in
+    let a = c.args in
+    output_for_lem (whole) a.block.now a.marks.now a.output.now c.requires.0 _
     (subst FewChanges (sym (c.changed-changed.ensures ∙ tells_changes _ _ c.decode_block-decoded.new.block c.decode_block-decoded.result (decodes)))
-    (few_changes (delayed_marks (whole s) a.marks.now) (delayed_block (whole s) a.block.now) c.decode_block-decoded.new.block c.decode_block-decoded.result (decodes)))
+    (few_changes (delayed_marks (whole) a.marks.now) (delayed_block (whole) a.block.now) c.decode_block-decoded.new.block c.decode_block-decoded.result (decodes)))
 
 pub deliver-answer-requires : goal.deliver-answer-requires
 deliver-answer-requires c =
-    let first : tie.Start = (goal.at.deliver-answer-requires c).Start in
-    let decodes : DecodesMarked (delayed_marks (whole (first)) (first).args.marks.now) (delayed_block (whole (first)) (first).args.block.now) c.decode_block-decoded.new.block c.decode_block-decoded.result = let a = (first).args in
+    let whole : Receiver = receiver_of c.args.cells.now c.args.held.now c.args.positions c.args.sync c.args.counts in
+    let decodes : DecodesMarked (delayed_marks (whole) c.args.marks.now) (delayed_block (whole) c.args.block.now) c.decode_block-decoded.new.block c.decode_block-decoded.result = let a = c.args in
     subst₂ (λ (m b : List ℕ). DecodesMarked m b c.decode_block-decoded.new.block c.decode_block-decoded.result)
-    c.delay_marks.ensures.1 (output_filled (delayed_block (whole (first)) a.block.now) (replicate 204 0) _ refl c.pass_cells-moved.ensures.2) c.decode_block-decoded.ensures in
-    let s = first in
-    let a = s.args in (
-      subst (λ (g : GroupStep). PlaceOf g.outcome) (sym c.step-step.ensures) (outcome_place a.sync c.decoding_of.result (state_range (whole s) s.pre.0.range).sync),
-      left_length (delayed_marks (whole s) a.marks.now) (delayed_block (whole s) a.block.now) c.decode_block-decoded.new.block c.decode_block-decoded.result (decodes) (length_out Receiving (whole s).deinterleaver.branches a.block.now),
-      s.pre.0.enough,
+    c.delay_marks.ensures.1 (output_filled (delayed_block (whole) a.block.now) (replicate 204 0) _ refl c.pass_cells-moved.ensures.2) c.decode_block-decoded.ensures in
+    let a = c.args in (
+      subst (λ (g : GroupStep). PlaceOf g.outcome) (sym c.step-step.ensures) (outcome_place a.sync c.decoding_of.result (state_range (whole) c.requires.0.range).sync),
+      left_length (delayed_marks (whole) a.marks.now) (delayed_block (whole) a.block.now) c.decode_block-decoded.new.block c.decode_block-decoded.result (decodes) (length_out Receiving (whole).deinterleaver.branches a.block.now),
+      c.requires.0.enough,
     )
 
 pub shape_of-cells : goal.shape_of-cells
@@ -94,17 +88,16 @@ shape_of-held c = search rules
 
 pub returns : goal.returns
 returns c =
-    let first : tie.Start = (goal.at.returns c).Start in
-    let decodes : DecodesMarked (delayed_marks (whole (first)) (first).args.marks.now) (delayed_block (whole (first)) (first).args.block.now) c.decode_block-decoded.new.block c.decode_block-decoded.result = let a = (first).args in
+    let whole : Receiver = receiver_of c.args.cells.now c.args.held.now c.args.positions c.args.sync c.args.counts in
+    let decodes : DecodesMarked (delayed_marks (whole) c.args.marks.now) (delayed_block (whole) c.args.block.now) c.decode_block-decoded.new.block c.decode_block-decoded.result = let a = c.args in
     subst₂ (λ (m b : List ℕ). DecodesMarked m b c.decode_block-decoded.new.block c.decode_block-decoded.result)
-    c.delay_marks.ensures.1 (output_filled (delayed_block (whole (first)) a.block.now) (replicate 204 0) _ refl c.pass_cells-moved.ensures.2) c.decode_block-decoded.ensures in
-    let s = first in
-    let a = s.args in
+    c.delay_marks.ensures.1 (output_filled (delayed_block (whole) a.block.now) (replicate 204 0) _ refl c.pass_cells-moved.ensures.2) c.decode_block-decoded.ensures in
+    let a = c.args in
     let p = c.pass_cells-moved in
     let k = c.step-step in
     let v = c.deliver-answer.ensures in
     let n = c.count-counts-2 in
-    decoding_call (whole s) a.block.now a.marks.now a.output.now s.pre.0 c.if-taken-lt11.false c.decode_block-decoded.new.block c.decode_block-decoded.result (decodes)
+    decoding_call (whole) a.block.now a.marks.now a.output.now c.requires.0 c.if-taken-lt11.false c.decode_block-decoded.new.block c.decode_block-decoded.result (decodes)
     k.result (k.ensures ∙ ap (group_step a.sync) c.decoding_of.ensures) _ (record { branches = laid p.new.cells p.result }) c.delay_marks.new.cells n.result _
     v.0 (λ i. laid (p.ensures.1 i) (p.ensures.0 i)) c.delay_marks.ensures.0
     (n.ensures ∙ ap (λ (x : Changed). counted a.counts (outcome_number k.result.outcome) x.bytes x.bits) c.changed-changed.ensures) v.1

@@ -8,14 +8,13 @@ use Rattle.common.proofs.Choice.{flag_true, flag_false}
 use Rattle.report.specs.Steps.{Front}
 use Rattle.report.proofs.Answers.{read_none, read-wrong, read_done}
 use borrow.Author.Rules.{rules}
-use mathlib.Core.Path.{subst}
 use Rattle.report.proofs.read_front.Goals as goal
 
 pub returns-then-not-lines : goal.returns-then-not-lines
 returns-then-not-lines c =
     let a = c.args in
     let l = c.read_lines-lines in
-    (read_none a.text.now a.at l.result.report l.result.end (subst (λ (f : Bool). Front a.text.now a.at f l.result.report l.result.end) c.if-not-lines.true l.ensures), search rules, λ e. refl)
+    (read_none a.text.now a.at l.result.report l.result.end (flag_false (λ (f : Bool). Front a.text.now a.at f l.result.report l.result.end) l.result.found c.if-not-lines.true l.ensures), search rules, λ e. refl)
 
 pub sums_right-requires : goal.sums_right-requires
 sums_right-requires c =
@@ -23,7 +22,7 @@ sums_right-requires c =
     let l = c.read_lines-lines in
     Front a.text.now a.at true l.result.report l.result.end = let a = c.args in
     let l = c.read_lines-lines in
-    subst (λ (f : Bool). Front a.text.now a.at f l.result.report l.result.end) c.if-not-lines.false l.ensures in
+    flag_true (λ (f : Bool). Front a.text.now a.at f l.result.report l.result.end) l.result.found c.if-not-lines.false l.ensures in
     (there).small refl
 
 pub returns-then-not-sums_right : goal.returns-then-not-sums_right
@@ -32,7 +31,7 @@ returns-then-not-sums_right c =
     let l = c.read_lines-lines in
     Front a.text.now a.at true l.result.report l.result.end = let a = c.args in
     let l = c.read_lines-lines in
-    subst (λ (f : Bool). Front a.text.now a.at f l.result.report l.result.end) c.if-not-lines.false l.ensures in
+    flag_true (λ (f : Bool). Front a.text.now a.at f l.result.report l.result.end) l.result.found c.if-not-lines.false l.ensures in
     let a = c.args in
     let l = c.read_lines-lines in
     let f = there in
@@ -44,7 +43,7 @@ returns c =
     let l = c.read_lines-lines in
     Front a.text.now a.at true l.result.report l.result.end = let a = c.args in
     let l = c.read_lines-lines in
-    subst (λ (f : Bool). Front a.text.now a.at f l.result.report l.result.end) c.if-not-lines.false l.ensures in
+    flag_true (λ (f : Bool). Front a.text.now a.at f l.result.report l.result.end) l.result.found c.if-not-lines.false l.ensures in
     let a = c.args in
     let l = c.read_lines-lines in
     let f = there in

@@ -10,7 +10,6 @@ use Rattle.report.specs.Text.{row}
 use Rattle.report.specs.Steps.{RowsRead, BitsIs}
 use Rattle.report.proofs.Fronts.{front_rows, front_bits, front_rest, front_found}
 use borrow.Author.Rules.{rules}
-use mathlib.Core.Path.{subst}
 use Rattle.report.proofs.read_lines.Goals as goal
 
 pub returns-then-not-rows : goal.returns-then-not-rows
@@ -18,7 +17,7 @@ returns-then-not-rows c =
     let a = c.args in
     let r = c.read_rows-rows in
     front_rows a.text.now a.at r.result.values r.result.end _ _
-    (subst (λ (f : Bool). RowsRead a.text.now a.at f r.result.values r.result.end) c.if-not-rows.true r.ensures)
+    (flag_false (λ (f : Bool). RowsRead a.text.now a.at f r.result.values r.result.end) r.result.found c.if-not-rows.true r.ensures)
 
 pub read_bits-bits-requires : goal.read_bits-bits-requires
 read_bits-bits-requires c =
@@ -26,7 +25,7 @@ read_bits-bits-requires c =
     let r = c.read_rows-rows in
     RowsRead a.text.now a.at true r.result.values r.result.end = let a = c.args in
     let r = c.read_rows-rows in
-    subst (λ (f : Bool). RowsRead a.text.now a.at f r.result.values r.result.end) c.if-not-rows.false r.ensures in
+    flag_true (λ (f : Bool). RowsRead a.text.now a.at f r.result.values r.result.end) r.result.found c.if-not-rows.false r.ensures in
     (rows_there).place refl
 
 pub returns-then-not-bits : goal.returns-then-not-bits
@@ -35,12 +34,12 @@ returns-then-not-bits c =
     let r = c.read_rows-rows in
     RowsRead a.text.now a.at true r.result.values r.result.end = let a = c.args in
     let r = c.read_rows-rows in
-    subst (λ (f : Bool). RowsRead a.text.now a.at f r.result.values r.result.end) c.if-not-rows.false r.ensures in
+    flag_true (λ (f : Bool). RowsRead a.text.now a.at f r.result.values r.result.end) r.result.found c.if-not-rows.false r.ensures in
     let a = c.args in
     let r = c.read_rows-rows in
     let i = c.read_bits-bits in
     front_bits a.text.now a.at r.result.values r.result.end (rows_there) i.result.bits i.result.end _ _
-    (subst (λ (f : Bool). BitsIs a.text.now r.result.end (get_or r.result.values 0 0) f i.result.bits i.result.end) c.if-not-bits.true i.ensures)
+    (flag_false (λ (f : Bool). BitsIs a.text.now r.result.end (get_or r.result.values 0 0) f i.result.bits i.result.end) i.result.found c.if-not-bits.true i.ensures)
 
 pub read_row-rest-requires : goal.read_row-rest-requires
 read_row-rest-requires c =
@@ -50,7 +49,7 @@ read_row-rest-requires c =
     BitsIs a.text.now r.result.end (get_or r.result.values 0 0) true i.result.bits i.result.end = let a = c.args in
     let r = c.read_rows-rows in
     let i = c.read_bits-bits in
-    subst (λ (f : Bool). BitsIs a.text.now r.result.end (get_or r.result.values 0 0) f i.result.bits i.result.end) c.if-not-bits.false i.ensures in
+    flag_true (λ (f : Bool). BitsIs a.text.now r.result.end (get_or r.result.values 0 0) f i.result.bits i.result.end) i.result.found c.if-not-bits.false i.ensures in
     ((bits_there).place refl, omega arith)
 
 pub returns-then-not-rest : goal.returns-then-not-rest
@@ -59,21 +58,21 @@ returns-then-not-rest c =
     let r = c.read_rows-rows in
     RowsRead a.text.now a.at true r.result.values r.result.end = let a = c.args in
     let r = c.read_rows-rows in
-    subst (λ (f : Bool). RowsRead a.text.now a.at f r.result.values r.result.end) c.if-not-rows.false r.ensures in
+    flag_true (λ (f : Bool). RowsRead a.text.now a.at f r.result.values r.result.end) r.result.found c.if-not-rows.false r.ensures in
     let bits_there : let a = c.args in
     let r = c.read_rows-rows in
     let i = c.read_bits-bits in
     BitsIs a.text.now r.result.end (get_or r.result.values 0 0) true i.result.bits i.result.end = let a = c.args in
     let r = c.read_rows-rows in
     let i = c.read_bits-bits in
-    subst (λ (f : Bool). BitsIs a.text.now r.result.end (get_or r.result.values 0 0) f i.result.bits i.result.end) c.if-not-bits.false i.ensures in
+    flag_true (λ (f : Bool). BitsIs a.text.now r.result.end (get_or r.result.values 0 0) f i.result.bits i.result.end) i.result.found c.if-not-bits.false i.ensures in
     let a = c.args in
     let r = c.read_rows-rows in
     let i = c.read_bits-bits in
     let l = c.read_row-rest in
     front_rest a.text.now a.at r.result.values r.result.end (rows_there) i.result.bits i.result.end (bits_there)
     l.result.value l.result.end _ _
-    (subst (λ (f : Bool). LineIs (row 9).key a.text.now i.result.end (row 9).limit f l.result.value l.result.end) c.if-not-rest.true l.ensures)
+    (flag_false (λ (f : Bool). LineIs (row 9).key a.text.now i.result.end (row 9).limit f l.result.value l.result.end) l.result.found c.if-not-rest.true l.ensures)
 
 pub returns : goal.returns
 returns c =
@@ -81,18 +80,18 @@ returns c =
     let r = c.read_rows-rows in
     RowsRead a.text.now a.at true r.result.values r.result.end = let a = c.args in
     let r = c.read_rows-rows in
-    subst (λ (f : Bool). RowsRead a.text.now a.at f r.result.values r.result.end) c.if-not-rows.false r.ensures in
+    flag_true (λ (f : Bool). RowsRead a.text.now a.at f r.result.values r.result.end) r.result.found c.if-not-rows.false r.ensures in
     let bits_there : let a = c.args in
     let r = c.read_rows-rows in
     let i = c.read_bits-bits in
     BitsIs a.text.now r.result.end (get_or r.result.values 0 0) true i.result.bits i.result.end = let a = c.args in
     let r = c.read_rows-rows in
     let i = c.read_bits-bits in
-    subst (λ (f : Bool). BitsIs a.text.now r.result.end (get_or r.result.values 0 0) f i.result.bits i.result.end) c.if-not-bits.false i.ensures in
+    flag_true (λ (f : Bool). BitsIs a.text.now r.result.end (get_or r.result.values 0 0) f i.result.bits i.result.end) i.result.found c.if-not-bits.false i.ensures in
     let a = c.args in
     let r = c.read_rows-rows in
     let i = c.read_bits-bits in
     let l = c.read_row-rest in
     front_found a.text.now a.at r.result.values r.result.end (rows_there) i.result.bits i.result.end (bits_there)
     l.result.value l.result.end
-    (subst (λ (f : Bool). LineIs (row 9).key a.text.now i.result.end (row 9).limit f l.result.value l.result.end) c.if-not-rest.false l.ensures)
+    (flag_true (λ (f : Bool). LineIs (row 9).key a.text.now i.result.end (row 9).limit f l.result.value l.result.end) l.result.found c.if-not-rest.false l.ensures)

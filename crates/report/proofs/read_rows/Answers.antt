@@ -9,7 +9,6 @@ use Rattle.common.proofs.Choice.{flag_true, flag_false}
 use Rattle.report_lines.specs.Reading.{LineIs}
 use Rattle.report.specs.Text.{row}
 use Rattle.report.proofs.LineRuns.{RowsTo, rows_none, rows_more, rows_stop, rows_all}
-use mathlib.Core.Path.{subst}
 use Rattle.report.proofs.read_rows.Goals as goal
 
 pub loop-i-init : goal.loop-i-init
@@ -23,14 +22,14 @@ returns-then-not-line c =
     let l = c.loop-i in
     let r = c.read_row-line in
     rows_stop r.result.value r.result.end l.invariant c.loop-i-test.true
-    (subst (λ (f : Bool). LineIs (row l.i).key c.args.text.now l.place (row l.i).limit f r.result.value r.result.end) c.if-not-line.true r.ensures)
+    (flag_false (λ (f : Bool). LineIs (row l.i).key c.args.text.now l.place (row l.i).limit f r.result.value r.result.end) r.result.found c.if-not-line.true r.ensures)
 
 pub loop-i-preserved : goal.loop-i-preserved
 loop-i-preserved c =
     let l = c.loop-i in
     let r = c.read_row-line in
     rows_more r.result.value r.result.end l.invariant c.loop-i-test.true
-    (subst (λ (f : Bool). LineIs (row l.i).key c.args.text.now l.place (row l.i).limit f r.result.value r.result.end) c.if-not-line.false r.ensures)
+    (flag_true (λ (f : Bool). LineIs (row l.i).key c.args.text.now l.place (row l.i).limit f r.result.value r.result.end) r.result.found c.if-not-line.false r.ensures)
 
 pub returns : goal.returns
 returns c = rows_all c.loop-i.invariant c.loop-i-test.false

@@ -1,0 +1,17 @@
+-- `branch_metrics::soft_decision::write_sixteens` meets its contract.
+-- Assumes nothing.
+use borrow.Author.Rules.{rules}
+use mathlib.Core.Path.{refl, sym}
+use Prim.Native.Nat.{◌-◌, ◌≤◌}
+use native.Mathlib.Omega.{arith}
+use lib.ListN.{length}
+use Rattle.common.proofs.Each.{Each, each_none}
+use Rattle.branch_metrics.specs.SoftPairs.{symbol_at}
+use Rattle.branch_metrics.proofs.Runs.{Holds, pairs_more}
+use Rattle.branch_metrics.proofs.soft_decision.write_sixteens.Given as goal
+
+abbrev pub invariant-loop-k : goal.invariant-loop-k
+invariant-loop-k l = (l.k ≤ length l.is) × Each (Holds (symbol_at l.is l.qs l.lost)) (length l.initial.output) l.output l.k
+
+abbrev pub decreases-loop-k : goal.decreases-loop-k
+decreases-loop-k l = length l.is - l.k

@@ -1,0 +1,64 @@
+-- `inner_code::InnerCoder::encode` meets its contract.
+-- Assumes nothing.
+use mathlib.Core.Path.{◌≡◌, refl, sym, ◌∙◌}
+use mathlib.Core.Bool.{true}
+use borrow.Author.Tests.{eq-eqb, ne_eqb, lt-ltb, le-ltb, not-true, not-false}
+use lib.ListN.{length}
+use Rattle.puncturing.specs.Mode.{mode_of}
+use Rattle.inner_code.specs.Step.{coder_in_range}
+use Rattle.inner_code.specs.Encode.{block_symbols}
+use Rattle.inner_code.proofs.Coder.{range_by_mode, in_range_lem, length_block}
+use borrow.Author.Rules.{rules}
+use Rattle.inner_code.proofs.InnerCoder.encode.Goals as goal
+
+pub returns-then-not-in_range : goal.returns-then-not-in_range
+returns-then-not-in_range c = simp (sym c.in_range.ensures ∙ c.if-not-in_range.true) (refl, refl, refl, refl)
+
+pub returns-then-not-is_sent : goal.returns-then-not-is_sent
+returns-then-not-is_sent c =
+    let good : coder_in_range c.args.self ≡ true = sym c.in_range.ensures ∙ c.if-not-in_range.false in
+    simp (good, sym c.is_sent.ensures ∙ c.if-not-is_sent.true) (refl, refl, refl, refl)
+
+pub returns-then-block-ne-BLOCK_LENGTH : goal.returns-then-block-ne-BLOCK_LENGTH
+returns-then-block-ne-BLOCK_LENGTH c =
+    let good : coder_in_range c.args.self ≡ true = sym c.in_range.ensures ∙ c.if-not-in_range.false in
+    let sent : (mode_of c.args.self.rate).sent ≡ true = sym c.is_sent.ensures ∙ c.if-not-is_sent.false in
+    simp (good, sent, ne_eqb _ _ c.if-block-ne-BLOCK_LENGTH.true) (refl, refl, refl, refl)
+
+pub returns-then-output-symbol_count : goal.returns-then-output-symbol_count
+returns-then-output-symbol_count c =
+    let good : coder_in_range c.args.self ≡ true = sym c.in_range.ensures ∙ c.if-not-in_range.false in
+    let sent : (mode_of c.args.self.rate).sent ≡ true = sym c.is_sent.ensures ∙ c.if-not-is_sent.false in
+    let count : let a = c.args in
+    length (block_symbols a.self a.block.now) ≡ c.symbol_count.result = let a = c.args in
+    let g = good in
+    length_block a.self a.block.now (in_range_lem a.self g) c.if-block-ne-BLOCK_LENGTH.false ∙ sym (c.symbol_count.ensures ∙ simp (sym (range_by_mode a.self) ∙ g)) in
+    simp
+    (good, sent, eq-eqb _ _ c.if-block-ne-BLOCK_LENGTH.false, lt-ltb _ _ (rw (← count) at c.if-output-symbol_count.true))
+    (refl, refl, refl, refl)
+
+pub encode_block-requires : goal.encode_block-requires
+encode_block-requires c =
+    let good : coder_in_range c.args.self ≡ true = sym c.in_range.ensures ∙ c.if-not-in_range.false in
+    let count : let a = c.args in
+    length (block_symbols a.self a.block.now) ≡ c.symbol_count.result = let a = c.args in
+    let g = good in
+    length_block a.self a.block.now (in_range_lem a.self g) c.if-block-ne-BLOCK_LENGTH.false ∙ sym (c.symbol_count.ensures ∙ simp (sym (range_by_mode a.self) ∙ g)) in
+    record {
+      range = in_range_lem c.args.self (good);
+      size = c.if-block-ne-BLOCK_LENGTH.false;
+      enough = rw (count) c.if-output-symbol_count.false;
+    }
+
+pub returns : goal.returns
+returns c =
+    let good : coder_in_range c.args.self ≡ true = sym c.in_range.ensures ∙ c.if-not-in_range.false in
+    let sent : (mode_of c.args.self.rate).sent ≡ true = sym c.is_sent.ensures ∙ c.if-not-is_sent.false in
+    let count : let a = c.args in
+    length (block_symbols a.self a.block.now) ≡ c.symbol_count.result = let a = c.args in
+    let g = good in
+    length_block a.self a.block.now (in_range_lem a.self g) c.if-block-ne-BLOCK_LENGTH.false ∙ sym (c.symbol_count.ensures ∙ simp (sym (range_by_mode a.self) ∙ g)) in
+    let r = c.encode_block.ensures in
+    simp
+    (good, sent, eq-eqb _ _ c.if-block-ne-BLOCK_LENGTH.false, le-ltb _ _ (rw (← count) at c.if-output-symbol_count.false))
+    (r.number, r.coder, r.count, r.written)

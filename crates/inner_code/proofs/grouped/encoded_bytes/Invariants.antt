@@ -1,0 +1,16 @@
+-- `inner_code::grouped::encoded_bytes` meets its contract.
+-- Assumes nothing.
+use mathlib.Core.Path.{◌≡◌, sym, ◌∙◌}
+use Prim.Native.Nat.{◌+◌, ◌-◌, ◌*◌, ◌≤◌, ◌<◌}
+use native.Mathlib.Omega.{arith}
+use lib.ListN.{length}
+use Rattle.common.proofs.Written.{Written, written_none, written_next, written_length, written_whole}
+use Rattle.inner_code.specs.Groups.{firsts}
+use Rattle.inner_code.proofs.Groups.{length_firsts, firsts_at, part_fits}
+use Rattle.inner_code.proofs.grouped.encoded_bytes.Given as goal
+
+abbrev pub invariant-loop-i : goal.invariant-loop-i
+invariant-loop-i l = (l.i ≤ length l.initial.bytes) × Written 0 l.initial.bytes (firsts l.size (length l.initial.bytes) l.block) l.bytes l.i
+
+abbrev pub decreases-loop-i : goal.decreases-loop-i
+decreases-loop-i l = length l.initial.bytes - l.i

@@ -1,0 +1,22 @@
+-- `inner_code::grouped::uncoded_digits` meets its contract.
+-- Assumes nothing.
+use mathlib.Core.Path.{◌≡◌, ap, sym, ◌∙◌}
+use mathlib.Core.List.{List}
+use Prim.Native.Nat.{ℕ, suc, ◌+◌, ◌-◌, ◌*◌, ◌≤◌}
+use native.Mathlib.Nat.{add-sub_cancel_left}
+use native.Mathlib.Omega.{arith}
+use borrow.Rule.Slice.PartMut.{mid_of, mid_len, same_len_mid}
+use lib.ListN.{length, get_or}
+use Rattle.inner_code.specs.Groups.{joined, digit_list}
+use Rattle.inner_code.proofs.Groups.{length_digits, length_joined, joined_same, Filled, filled_none, filled_more, filled_all, part_fits, part_digits}
+use Rattle.inner_code.proofs.grouped.uncoded_digits.Given as goal
+
+-- the digits of a group
+abbrev pub group : List ℕ → ℕ → ℕ → ℕ → ℕ → List ℕ
+group block others base per i = joined others (λ j. digit_list base per (get_or block ((others + 1) * i + suc j) 0))
+
+abbrev pub invariant-loop-i : goal.invariant-loop-i
+invariant-loop-i l = (l.i ≤ l.groups) × (length l.uncoded ≡ 8 * l.groups) × Filled 8 (group l.block l.others l.base l.per) l.uncoded l.i
+
+abbrev pub decreases-loop-i : goal.decreases-loop-i
+decreases-loop-i l = l.groups - l.i

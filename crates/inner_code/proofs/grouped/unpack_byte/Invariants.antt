@@ -1,0 +1,12 @@
+-- `inner_code::grouped::unpack_byte` meets its contract.
+-- Assumes nothing.
+use native.Mathlib.Omega.{arith}
+use lib.ListN.{length}
+use Rattle.inner_code.proofs.Groups.{Cutting, cutting_none, cutting_more, cutting_all}
+use Rattle.inner_code.proofs.grouped.unpack_byte.Given as goal
+
+abbrev pub invariant-loop-k : goal.invariant-loop-k
+invariant-loop-k l = Cutting l.base l.b (length l.initial.output) l.output l.rest l.k
+
+abbrev pub decreases-loop-k : goal.decreases-loop-k
+decreases-loop-k l = l.k
