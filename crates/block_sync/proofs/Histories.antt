@@ -190,7 +190,7 @@ finish_came {k} {start} {given} {skipped} {t} c r (feed.FinishesSync.turned h b)
     } in
     subst (λ (f : SyncStep). EndCame k start (given ++ step_given r) (skipped + r.skipped) f.sync) (sym y) z
 
-endings_came : {bits : List ℕ} {given more : List GivenBlock} {skipped n : ℕ} {s t : BlockSync} → SyncCame bits given skipped s → SyncEndings s more n t → EndCame unlocked bits (given ++ more) (skipped + n) t
+endings_came : {bits : List ℕ} {given : List GivenBlock} {skipped : ℕ} {s : BlockSync} {more : List GivenBlock} {n : ℕ} {t : BlockSync} → SyncCame bits given skipped s → SyncEndings s more n t → EndCame unlocked bits (given ++ more) (skipped + n) t
 endings_came {bits} {given} {skipped = skipped} {s = s} c none = record {
   parts = c.parts;
   left = c.left;

@@ -139,7 +139,16 @@ with_history n es = record {
 }
 
 event_history : (n : Counts) (e : Event) (es : List Event) → with_history (with_event n e) es ≡ with_history n (e ∷ es)
-event_history n e es = simp add_assoc
+event_history n e es = λ i. record {
+  taken = add_assoc n.taken (taken_by e.number) (total (λ e. taken_by e.number) es) i;
+  filling = add_assoc n.filling (indicator (eqb e.number 9)) (answered 9 es) i;
+  delivered = add_assoc n.delivered (indicator (eqb e.number 0)) (answered 0 es) i;
+  lost = add_assoc n.lost (indicator (eqb e.number 8)) (answered 8 es) i;
+  waiting = add_assoc n.waiting (indicator (eqb e.number 10)) (answered 10 es) i;
+  outofstep = add_assoc n.outofstep (indicator (eqb e.number 11)) (answered 11 es) i;
+  changed = add_assoc n.changed (accepted_by e.number * e.changed.bytes) (over_accepted (λ c. c.bytes) es) i;
+  bits = add_assoc n.bits (accepted_by e.number * e.changed.bits) (over_accepted (λ c. c.bits) es) i;
+}
 
 none_history : (n : Counts) → n ≡ with_history n []
 none_history n = simp add-zero

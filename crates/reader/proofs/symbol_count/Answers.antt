@@ -7,18 +7,11 @@ use Rattle.common.proofs.Computed.{agree_at}
 use Rattle.puncturing.specs.Mode.{mode_of, qpsk_count}
 use Rattle.reader.specs.Read.{symbols_per_pattern}
 use borrow.Author.Rules.{rules}
-use Rattle.reader.proofs.symbol_count.Statement.{statement}
-use Rattle.reader.proofs.symbol_count.Tie as tie
-
-array-read-result : tie.Need-array-read-result
-array-read-result c = search rules
+use Rattle.reader.proofs.symbol_count.Goals as goal
 
 counts : List ℕ
 counts = 1 ∷ 3 ∷ 2 ∷ 3 ∷ 4 ∷ []
 
-returns : tie.Need-returns
+pub returns : goal.returns
 unfolding counts symbols_per_pattern mode_of
 returns c = agree_at (λ r. get_or counts r 0) symbols_per_pattern qpsk_count tt c.args.rate (search rules)
-
-pub symbol-count-spec : {M : Type 1} → statement M
-symbol-count-spec = tie.close (tie.spec array-read-result returns)

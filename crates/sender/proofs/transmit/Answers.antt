@@ -1,0 +1,28 @@
+-- `sender::transmit` meets its contract.
+-- Assumes nothing.
+use mathlib.Core.Path.{refl}
+use Prim.Native.Nat.{◌+◌, ◌%◌}
+use native.Mathlib.Omega.{arith}
+use lib.ListN.{replicate}
+use Rattle.puncturing.specs.Mode.{mode_of}
+use Rattle.sender.specs.Send.{sender_after}
+use Rattle.sender.proofs.Stages.{in_range_lem, randomizing, coding, interleaving, modulating}
+use borrow.Author.Rules.{rules}
+use Rattle.sender.proofs.transmit.Goals as goal
+
+pub overflow_add-result : goal.overflow_add-result
+overflow_add-result c =
+    omega (arith, (in_range_lem mode_of c.args.sender c.requires.0).place)
+
+pub returns : goal.returns
+unfolding sender_after
+returns c =
+    let s = c.args.sender in
+    let packet = c.args.packet.now in
+    let g = in_range_lem mode_of s c.requires.0 in
+    let m = randomizing s packet g c.requires.2 (replicate 188 0) c.randomize.new.output refl c.requires.3 c.randomize.ensures.1 in
+    let k = coding s packet g c.requires.2 (replicate 204 0) c.encode.new.output _ refl m c.encode.ensures.1 in
+    let b = interleaving s packet g c.requires.2 (replicate 204 0) c.interleave-interleaved.new.output _ _ refl k c.interleave-interleaved.ensures.1 c.interleave-interleaved.ensures.2 in
+    let t = c.encode-encoded.ensures in
+    let w = modulating s packet g c.requires.2 c.requires.1 c.args.output.now _ _ _ _ _ c.requires.4 b.1 t.0 t.2 t.1 t.3 in
+    (w.0, w.1, (λ (goal.at.returns c).After-interleave-interleaved. record { place = (s.place + 1) % 8; interleaver = record { branches = b.0 (goal.at.returns c).After-interleave-interleaved }; coder = w.2 (goal.at.returns c).After-interleave-interleaved }), w.3)
