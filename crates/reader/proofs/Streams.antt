@@ -10,7 +10,7 @@ use lib.ListN.{length, take, drop, length-append, take-append-drop}
 use lib.Seq.{take_at, drop_at, take-add, length-take-le}
 use Rattle.common.specs.Lists.{All}
 use Rattle.convolutional_code.specs.Bits.{Bits}
-use Rattle.convolutional_code.specs.Code.{memory_after}
+use Rattle.convolutional_code.specs.Code.{memory_after, next_memory}
 use Rattle.convolutional_code.proofs.Bits.{bits_take, bits_drop}
 use Rattle.puncturing.specs.Mode.{qpsk_count}
 use Rattle.puncturing.specs.Step.{pattern_length, symbols_in}
@@ -31,7 +31,7 @@ use Rattle.reader.proofs.Laws.{unharmed}
 pub memory_append : (m : ℕ) (a b : List ℕ) → memory_after m (a ++ b) ≡ memory_after (memory_after m a) b
 unfolding memory_after
 memory_append m [] b = refl
-memory_append m (x ∷ a) b = memory_append _ a b
+memory_append m (x ∷ a) b = memory_append (next_memory m x) a b
 
 -- ---- how many symbols bits give
 

@@ -27,7 +27,7 @@ decode-requires c =
     let steps = s.new.output in (
       omega (arith, length-take (c.args.count - 0) c.args.output.now, length-take (c.args.count - 0) steps, s.ensures.0, c.requires.0.most, c.requires.1),
       omega (arith, length-take (c.args.count - 0) c.args.output.now, c.requires.0.most, c.requires.1),
-      c.requires.0.in_range,
+      c.requires.0.in_range_lem,
       steps_pairs c.requires.0 c.args.count c.requires.1 steps (omega (arith, s.ensures.0, c.requires.0.most, c.requires.1)) s.ensures.1,
     )
 

@@ -25,4 +25,4 @@ returns c =
     let b = interleaving s packet g c.requires.2 (replicate 204 0) c.interleave-interleaved.new.output _ _ refl k c.interleave-interleaved.ensures.1 c.interleave-interleaved.ensures.2 in
     let t = c.encode-encoded.ensures in
     let w = modulating s packet g c.requires.2 c.requires.1 c.args.output.now _ _ _ _ _ c.requires.4 b.1 t.0 t.2 t.1 t.3 in
-    (w.0, w.1, (λ (goal.at.returns c).After-interleave-interleaved. record { place = (s.place + 1) % 8; interleaver = record { branches = b.0 (goal.at.returns c).After-interleave-interleaved }; coder = w.2 (goal.at.returns c).After-interleave-interleaved }), w.3)
+    (w.0, w.1, (λ i. record { place = (s.place + 1) % 8; interleaver = record { branches = b.0 i }; coder = w.2 i }), w.3)
