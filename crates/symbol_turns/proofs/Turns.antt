@@ -93,7 +93,7 @@ module _ {R : Type 0} (cost : R → ℕ → ℕ) (t : ℕ) (ht : t < 8) where
 
   pub clear_turned : {rs : List R} (ss : List ℕ) → All (λ s. s < 4) ss → AllClear cost rs (map (turned t) ss) → AllClear (turned_cost cost t) rs ss
   clear_turned [] w none = none
-  clear_turned (s ∷ ss) w (more c g) = more (clear_one w.0 c) (clear_turned ss w.1 g)
+  clear_turned (s ∷ ss) w (more {r = r} {rs = rs} c g) = more (clear_one w.0 c) (clear_turned {rs = rs} ss w.1 g)
 
   -- the decisions turned back are those on the symbols before the turn
   pub costed_turned : {rs : List R} {l : List ℕ} → All (λ p. p < 81) l → Costed cost rs l → Costed (turned_cost cost t) rs (map (turned_pair (undoing t)) l)

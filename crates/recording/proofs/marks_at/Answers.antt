@@ -23,40 +23,28 @@ filled l n =
     ∙ ap (λ (r : List ℕ). l ++ r) (drop_of_length-le no_marks {i = 204} (omega (arith, length-replicate {A = ℕ} 204 0)))
     ∙ append-nil l
 
+some_marks : (n at : ℕ) → (n ≡ 0 → ⊥) → (n ≡ 0) ⊎ (at + 204 ≤ n) → at + 204 ≤ n
+some_marks n at f (inl e) = absurd (f e)
+some_marks n at f (inr h) = h
+
 pub overflow_add-end : goal.overflow_add-end
 overflow_add-end c =
-    let enough : let a = c.args in a.at + 204 ≤ length a.marks.now = by c.requires
-  where
-    by : let a = c.args in (length a.marks.now ≡ 0) ⊎ (a.at + 204 ≤ length a.marks.now) → a.at + 204 ≤ length a.marks.now
-    by (inl e) = absurd (c.if-marks-ne0.true e)
-    by (inr h) = h in
+    let enough : c.args.at + 204 ≤ length c.args.marks.now = some_marks (length c.args.marks.now) c.args.at c.if-marks-ne0.true c.requires in
     let e = enough in search rules
 
 pub slice_bounds-put-end : goal.slice_bounds-put-end
 slice_bounds-put-end c =
-    let enough : let a = c.args in a.at + 204 ≤ length a.marks.now = by c.requires
-  where
-    by : let a = c.args in (length a.marks.now ≡ 0) ⊎ (a.at + 204 ≤ length a.marks.now) → a.at + 204 ≤ length a.marks.now
-    by (inl e) = absurd (c.if-marks-ne0.true e)
-    by (inr h) = h in
+    let enough : c.args.at + 204 ≤ length c.args.marks.now = some_marks (length c.args.marks.now) c.args.at c.if-marks-ne0.true c.requires in
     omega (arith, enough)
 
 pub put-requires : goal.put-requires
 put-requires c =
-    let enough : let a = c.args in a.at + 204 ≤ length a.marks.now = by c.requires
-  where
-    by : let a = c.args in (length a.marks.now ≡ 0) ⊎ (a.at + 204 ≤ length a.marks.now) → a.at + 204 ≤ length a.marks.now
-    by (inl e) = absurd (c.if-marks-ne0.true e)
-    by (inr h) = h in
+    let enough : c.args.at + 204 ≤ length c.args.marks.now = some_marks (length c.args.marks.now) c.args.at c.if-marks-ne0.true c.requires in
     omega (arith, whole c.args.marks.now c.args.at (enough), length-replicate {A = ℕ} 204 0)
 
 pub returns-then-marks-ne0 : goal.returns-then-marks-ne0
 returns-then-marks-ne0 c =
-    let enough : let a = c.args in a.at + 204 ≤ length a.marks.now = by c.requires
-  where
-    by : let a = c.args in (length a.marks.now ≡ 0) ⊎ (a.at + 204 ≤ length a.marks.now) → a.at + 204 ≤ length a.marks.now
-    by (inl e) = absurd (c.if-marks-ne0.true e)
-    by (inr h) = h in
+    let enough : c.args.at + 204 ≤ length c.args.marks.now = some_marks (length c.args.marks.now) c.args.at c.if-marks-ne0.true c.requires in
     let a = c.args in
     let h = enough in
     c.put.ensures

@@ -15,4 +15,4 @@ returns c =
     let p =
     subst (λ (s : Receiver). ReceivesRecording s a.bytes.now a.output.now (number_of k.result.answer) k.result.count k.result.receiver k.new.output)
     c.new-receiver.ensures k.ensures in
-    (p, returned a.bytes.now a.output.now (number_of k.result.answer) k.result.count k.result.receiver k.new.output p)
+    record { receives_recording = p; returns = returned a.bytes.now a.output.now (number_of k.result.answer) k.result.count k.result.receiver k.new.output p }

@@ -1,0 +1,15 @@
+-- `sender_stream::run::is_synced` meets its contract.
+-- Assumes nothing.
+use mathlib.Core.Path.{sym}
+use Prim.Native.Nat.{◌-◌}
+use native.Mathlib.Omega.{arith}
+use lib.ListN.{length}
+use Rattle.sender_stream.proofs.Buffers.{scanning_left, Synced, synced_start, synced_more, synced_bad, synced_all}
+use borrow.Author.Rules.{rules}
+use Rattle.sender_stream.proofs.run.is_synced.Given as goal
+
+abbrev pub invariant-loop-start : goal.invariant-loop-start
+invariant-loop-start l = Synced l.packets l.start
+
+abbrev pub decreases-loop-start : goal.decreases-loop-start
+decreases-loop-start l = length l.packets - l.start
