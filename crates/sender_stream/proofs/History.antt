@@ -158,7 +158,7 @@ module _ (rate : ℕ) (h : (mode_of rate).sent ≡ true) where
     state = t.state ∙ ap (λ (l : List ℕ). holding (sender_of mode_of rate (packets_for (chunks_of 188 l))) (rest_of 188 l)) (sym (append-nil bytes));
   }
   transmitted_feedings {bytes} {symbols} {numbers} t (feeding {bytes = b} {symbols = s} {numbers = n} piece output answers left told number count packets f g) =
-      let r = transmitted_feedings (transmitted_feeds t piece output answers f) g in
+      let r = transmitted_feedings {bytes = bytes ++ pick (eqb number 0) piece []} {symbols = symbols ++ take count left} {numbers = numbers ++ take packets told} (transmitted_feeds t piece output answers f) g in
       rw (append_assoc bytes (pick (eqb number 0) piece []) b, append_assoc symbols (take count left) s, append_assoc numbers (take packets told) n) at r
 
   -- whatever the pieces

@@ -7,18 +7,11 @@ use Rattle.losses.specs.Feed.{fresh_loss_stream}
 use Rattle.losses.specs.declared.Certainty.TheVariants.{Unsure}
 use Rattle.losses.specs.declared.LossStream.{LossStream}
 use borrow.Author.Rules.{rules}
-use Rattle.losses.proofs.LossStream.new.Statement.{statement}
-use Rattle.losses.proofs.LossStream.new.Tie as tie
+use Rattle.losses.proofs.LossStream.new.Goals as goal
 
-new-requires : tie.Need-new-requires
-new-requires c κs = search rules
-
-returns : tie.Need-returns
+pub returns : goal.returns
 unfolding fresh_loss_stream
-returns c = ap from c.new.ensures
+returns c = ap from c.new-receiver.ensures
   where
     from : Receiver → LossStream
     from s = record { receiver = s; certainty = Unsure 0; pending = replicate 204 0; marks = replicate 204 0; held = 0 }
-
-pub new_spec : {M : Type 1} → statement M
-new_spec = tie.close (tie.spec new-requires returns)

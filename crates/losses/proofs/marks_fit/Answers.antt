@@ -1,0 +1,11 @@
+-- `losses::marks_fit` meets its contract.
+-- Assumes nothing.
+use borrow.Author.Tests.{eq-eqb, ne_eqb}
+use borrow.Author.Rules.{rules}
+use Rattle.losses.proofs.marks_fit.Goals as goal
+
+pub returns-then-marks-eq0 : goal.returns-then-marks-eq0
+returns-then-marks-eq0 c = simp (eq-eqb _ _ c.if-marks-eq0.true)
+
+pub returns : goal.returns
+returns c = simp (ne_eqb _ _ c.if-marks-eq0.false, c.are_marks_for.ensures)

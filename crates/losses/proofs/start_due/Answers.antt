@@ -1,0 +1,7 @@
+-- `losses::start_due` meets its contract.
+-- Assumes nothing.
+use borrow.Author.Rules.{rules}
+use Rattle.losses.proofs.start_due.Goals as goal
+
+pub returns-in-Known : goal.returns-in-Known
+returns-in-Known c = simp c.in-Known.is
