@@ -309,7 +309,8 @@ came_calls_more {bytes} {marks} {lines} {last = last} r (feeding {next = next} {
     subst₂ (λ (x y : List ℕ). LossesCame x y (lines ++ (take count exit ++ l)) last)
     (append_assoc bytes (pick (eqb number 0) piece []) b) (append_assoc marks (pick (eqb number 0) (marks_of piece own) []) m)
     (subst (λ (z : List ℕ). LossesCame ((bytes ++ pick (eqb number 0) piece []) ++ b) ((marks ++ pick (eqb number 0) (marks_of piece own) []) ++ m) z last) (append_assoc lines (take count exit) l)
-    (came_calls_more (came_feeds r piece own output exit number count next f) h))
+    (came_calls_more {bytes = bytes ++ pick (eqb number 0) piece []} {marks = marks ++ pick (eqb number 0) (marks_of piece own) []} {lines = lines ++ take count exit}
+    (came_feeds r piece own output exit number count next f) h))
 
 pub every_history : {bytes marks lines : List ℕ} {last : LossStream} → LossFeedings fresh_loss_stream bytes marks lines last → LossesCame bytes marks lines last
 every_history h = came_calls_more came_none h

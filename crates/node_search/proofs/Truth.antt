@@ -146,11 +146,15 @@ back_floor : (c : ℕ) → c < 8 → (pairs ss : List ℕ) → All (λ p. p < 81
     → total_cost (map by_pair (map (turned_pair (undoing c)) pairs)) ss ≡ floor_of pairs
 unfolding total_cost
 back_floor c hc [] [] w v none = refl
+back_floor c hc [] (s ∷ ss) w v x = elim x [ ]
+back_floor c hc (p ∷ pairs) [] w v x = elim x [ ]
 back_floor c hc (p ∷ pairs) (s ∷ ss) w v (more f g) =
     omega (arith, back_cost c p s hc w.0 v.0, (preferred_cost p (turned c s) w.0 (turned_small c s hc v.0) f).0, back_floor c hc pairs ss w.1 v.1 g)
 
 some_weight : (pairs ss : List ℕ) → All (λ p. p < 81) pairs → All (λ s. s < 4) ss → AllPrefer by_pair pairs ss → 0 < length pairs → 1 ≤ weight_of pairs
 some_weight [] [] w v none h = absurd (omega arith)
+some_weight [] (s ∷ ss) w v x h = elim x [ ]
+some_weight (p ∷ pairs) [] w v x h = elim x [ ]
 some_weight (p ∷ pairs) (s ∷ ss) w v (more f g) h = omega (arith, (preferred_cost p s w.0 v.0 f).1)
 
 floor_fits : (rate : ℕ) → rate < 5 → (pairs : List ℕ) (cost : ℕ) → cost ≤ floor_of pairs → 1 ≤ weight_of pairs → fits rate pairs cost ≡ true

@@ -14,31 +14,23 @@ use Rattle.losses.proofs.Pieces.{part_is}
 use borrow.Author.Rules.{rules}
 use Rattle.losses.proofs.marks_at.Goals as goal
 
+some_marks : (n at size : ℕ) → (n ≡ 0 → ⊥) → (n ≡ 0) ⊎ (at + size ≤ n) → at + size ≤ n
+some_marks n at size f (inl e) = absurd (f e)
+some_marks n at size f (inr h) = h
+
 pub overflow_add-end : goal.overflow_add-end
 overflow_add-end c =
-    let enough : let a = c.args in a.at + a.size ≤ length a.marks.now = by c.requires.1
-  where
-    by : let a = c.args in (length a.marks.now ≡ 0) ⊎ (a.at + a.size ≤ length a.marks.now) → a.at + a.size ≤ length a.marks.now
-    by (inl e) = absurd (c.if-marks-ne0.true e)
-    by (inr h) = h in
+    let enough : c.args.at + c.args.size ≤ length c.args.marks.now = some_marks (length c.args.marks.now) c.args.at c.args.size c.if-marks-ne0.true c.requires.1 in
     let e = enough in search rules
 
 pub slice_bounds-put-end : goal.slice_bounds-put-end
 slice_bounds-put-end c =
-    let enough : let a = c.args in a.at + a.size ≤ length a.marks.now = by c.requires.1
-  where
-    by : let a = c.args in (length a.marks.now ≡ 0) ⊎ (a.at + a.size ≤ length a.marks.now) → a.at + a.size ≤ length a.marks.now
-    by (inl e) = absurd (c.if-marks-ne0.true e)
-    by (inr h) = h in
+    let enough : c.args.at + c.args.size ≤ length c.args.marks.now = some_marks (length c.args.marks.now) c.args.at c.args.size c.if-marks-ne0.true c.requires.1 in
     omega (arith, enough)
 
 pub put-requires : goal.put-requires
 put-requires c =
-    let enough : let a = c.args in a.at + a.size ≤ length a.marks.now = by c.requires.1
-  where
-    by : let a = c.args in (length a.marks.now ≡ 0) ⊎ (a.at + a.size ≤ length a.marks.now) → a.at + a.size ≤ length a.marks.now
-    by (inl e) = absurd (c.if-marks-ne0.true e)
-    by (inr h) = h in
+    let enough : c.args.at + c.args.size ≤ length c.args.marks.now = some_marks (length c.args.marks.now) c.args.at c.args.size c.if-marks-ne0.true c.requires.1 in
     let a = c.args in
     let h = enough in
     let n : length (take a.size (drop a.at a.marks.now)) ≡ a.size = length-take-le a.size (drop a.at a.marks.now) (omega (arith, h, length-drop a.at a.marks.now)) in

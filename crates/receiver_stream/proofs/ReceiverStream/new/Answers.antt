@@ -6,18 +6,11 @@ use Rattle.receiver.specs.declared.Receiver.{Receiver}
 use Rattle.receiver_stream.specs.declared.ReceiverStream.{ReceiverStream}
 use Rattle.receiver_stream.specs.Feed.{fresh_receiver_stream}
 use borrow.Author.Rules.{rules}
-use Rattle.receiver_stream.proofs.ReceiverStream.new.Statement.{statement}
-use Rattle.receiver_stream.proofs.ReceiverStream.new.Tie as tie
+use Rattle.receiver_stream.proofs.ReceiverStream.new.Goals as goal
 
-new-requires : tie.Need-new-requires
-new-requires c κs = search rules
-
-returns : tie.Need-returns
+pub returns : goal.returns
 unfolding fresh_receiver_stream
-returns c = ap from c.new.ensures
+returns c = ap from c.new-receiver.ensures
   where
     from : Receiver → ReceiverStream
     from s = record { receiver = s; pending = replicate 204 0; marks = replicate 204 0; held = 0 }
-
-pub new_spec : {M : Type 1} → statement M
-new_spec = tie.close (tie.spec new-requires returns)

@@ -1,0 +1,31 @@
+-- `receiver_stream::ReceiverStream::capacity` meets its contract.
+-- Assumes nothing.
+use mathlib.Core.Path.{◌≡◌, sym, ◌∙◌}
+use mathlib.Core.Bool.{true}
+use native.Mathlib.Omega.{arith}
+use borrow.Author.Tests.{not-true, not-false}
+use Rattle.common.proofs.Choice.{both_true}
+use Rattle.reception_counts.proofs.Ranges.{counts_range}
+use Rattle.receiver.proofs.Calls.{state_range}
+use Rattle.receiver_stream.specs.Feed.{receiver_stream_in_range}
+use borrow.Author.Rules.{rules}
+use Rattle.receiver_stream.proofs.ReceiverStream.capacity.Goals as goal
+
+pub returns-then-not-in_range : goal.returns-then-not-in_range
+returns-then-not-in_range c = simp (sym c.in_range.ensures ∙ c.if-not-in_range.true)
+
+pub overflow_sub-bytes : goal.overflow_sub-bytes
+overflow_sub-bytes c =
+    let good : receiver_stream_in_range c.args.self ≡ true = sym c.in_range.ensures ∙ c.if-not-in_range.false in
+    let s = c.args.self.receiver in
+    (counts_range s.counts (state_range s (both_true _ _ (good)).0).counts).most
+
+pub returns-then-bytes-held : goal.returns-then-bytes-held
+returns-then-bytes-held c =
+    let good : receiver_stream_in_range c.args.self ≡ true = sym c.in_range.ensures ∙ c.if-not-in_range.false in
+    simp (good) (omega arith)
+
+pub returns : goal.returns
+returns c =
+    let good : receiver_stream_in_range c.args.self ≡ true = sym c.in_range.ensures ∙ c.if-not-in_range.false in
+    simp (good)
