@@ -9,18 +9,8 @@ use Rattle.reader.specs.Read.{symbols_per_pattern}
 use Rattle.reader_stream.specs.Runs.{run_patterns}
 use Rattle.free_start.specs.Lead.{lead_patterns}
 use Rattle.node_search.specs.Weight.{tried_symbols}
-use Rattle.node_search.proofs.tried_symbols.Statement.{statement}
-use Rattle.node_search.proofs.tried_symbols.Tie as tie
+use Rattle.node_search.proofs.tried_symbols.Goals as goal
 
-mul-result : tie.Need-overflow-mul-result
-mul-result c = search rules
-
-array-read-result : tie.Need-array-read-result
-array-read-result c = search rules
-
-returns : tie.Need-returns
+pub returns : goal.returns
 unfolding tried_symbols run_patterns lead_patterns symbols_per_pattern mode_of
 returns c = agree_at (λ r. get_or (1626 ∷ 1218 ∷ 1084 ∷ 972 ∷ 928 ∷ []) r 0) tried_symbols 5 tt c.args.rate (search rules)
-
-pub tried-symbols-spec : {M : Type 1} → statement M
-tried-symbols-spec = tie.close (tie.spec mul-result array-read-result returns)
