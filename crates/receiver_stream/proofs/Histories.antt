@@ -77,7 +77,7 @@ reception_calls {bytes} {marks} {written} {last = last} r (feeding {next = next}
     let p = pick (eqb number 0) piece [] in
     subst (λ (z : List ℕ). Reception (bytes ++ (p ++ more)) z (written ++ (take count exit ++ out)) last) (append_assoc marks (pick (eqb number 0) own []) mores)
     (subst₂ (λ (x y : List ℕ). Reception x ((marks ++ pick (eqb number 0) own []) ++ mores) y last) (append_assoc bytes p more) (append_assoc written (take count exit) out)
-    (reception_calls (reception_feeds r piece own output number count next exit f) h))
+    (reception_calls {bytes = bytes ++ p} {marks = marks ++ pick (eqb number 0) own []} {written = written ++ take count exit} (reception_feeds r piece own output number count next exit f) h))
 
 pub every_history : {bytes marks written : List ℕ} {last : ReceiverStream} → ReceiverFeedings fresh_receiver_stream bytes marks written last
     → Reception bytes marks written last

@@ -1,0 +1,11 @@
+-- `acquisition::event_of` meets its contract.
+-- Assumes nothing.
+use borrow.Author.Tests.{lt-ltb, le-ltb}
+use borrow.Author.Rules.{rules}
+use Rattle.acquisition.proofs.event_of.Goals as goal
+
+pub returns-then-skipped-gt0 : goal.returns-then-skipped-gt0
+returns-then-skipped-gt0 c = simp (c.if-given.false, lt-ltb _ _ c.if-skipped-gt0.true)
+
+pub returns : goal.returns
+returns c = simp (c.if-given.false, le-ltb _ _ c.if-skipped-gt0.false)
