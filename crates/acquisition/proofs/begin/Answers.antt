@@ -27,7 +27,7 @@ slice_bounds-feed-end c =
 pub feed-led-requires : goal.feed-led-requires
 feed-led-requires c =
     let lost : take {A = ℕ} c.lead_symbols-count.result (replicate 8 80) ≡ replicate c.lead_symbols-count.result 80 = lost_front c.lead_symbols-count.result (omega (arith, c.lead_symbols-count.ensures, (rate_numbers c.args.hypothesis.rate c.requires.0).few_leads)) in
-    ((goal.at.feed-led-requires c).After-open-open.«open».ensures.0, subst (All (λ p. p < 81)) (sym (lost)) (small c.lead_symbols-count.result), omega arith)
+    (c.open-open.ensures.0, subst (All (λ p. p < 81)) (sym (lost)) (small c.lead_symbols-count.result), omega arith)
 
 pub returns : goal.returns
 returns c =
@@ -36,7 +36,7 @@ returns c =
     let few : length (replicate {A = ℕ} n 80) ≤ 8 =
     omega (arith, length-replicate {A = ℕ} n 80, c.lead_symbols-count.ensures, (rate_numbers c.args.hypothesis.rate c.requires.0).few_leads) in
     let f = c.feed-led in
-    let o = (goal.at.returns c).After-open-open.«open» in
+    let o = c.open-open in
     let x : FeedsSymbols o.result (replicate n 80) (replicate 1632 0) f.result.runs f.result.taken f.result.count f.new.output =
     subst (λ (l : List ℕ). FeedsSymbols o.result l (replicate 1632 0) f.result.runs f.result.taken f.result.count f.new.output) (lost) f.ensures.0 in
     record {

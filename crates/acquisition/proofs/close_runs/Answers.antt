@@ -27,4 +27,4 @@ settle-requires c =
     (c.requires, omega (arith, front_length c.close-closed.result.count c.close-closed.new.output (within).1, (within).0))
 
 pub returns : goal.returns
-returns c = let o = (goal.at.returns c).After-open-opened.«open» in record { output = replicate 1632 0; exit = c.close-closed.new.output; count = c.close-closed.result.count; rest = c.close-closed.result.rest; closes = c.close-closed.ensures; opened = o.result; ready = o.ensures.0; empty = o.ensures.1; settles = c.settle.ensures }
+returns c = let o = c.open-opened in record { output = replicate 1632 0; exit = c.close-closed.new.output; count = c.close-closed.result.count; rest = c.close-closed.result.rest; closes = c.close-closed.ensures; opened = o.result; ready = o.ensures.0; empty = o.ensures.1; settles = c.settle.ensures }

@@ -1,0 +1,15 @@
+-- `dvbs::dvbs_losses_run` meets its contract.
+-- Assumes nothing.
+use mathlib.Core.Path.{refl, ap}
+use lib.ListN.{set}
+use Rattle.dvbs.specs.LossesRun.{untold, listed}
+use borrow.Author.Rules.{rules}
+use Rattle.dvbs.proofs.dvbs_losses_run.Goals as goal
+
+pub returns-then-answer-lt1 : goal.returns-then-answer-lt1
+returns-then-answer-lt1 c = untold c.if-answer-lt1.true refl refl refl
+
+pub returns : goal.returns
+returns c =
+    let a = c.args in
+    listed c.if-answer-lt1.false _ c.list_losses-listed.ensures (ap (set a.answer.now 0) c.number.ensures)

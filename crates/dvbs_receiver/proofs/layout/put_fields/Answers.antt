@@ -1,0 +1,14 @@
+-- `dvbs_receiver::layout::put_fields` meets its contract.
+-- Assumes nothing.
+use Rattle.dvbs_receiver.proofs.States.{all_put}
+use borrow.Author.Rules.{rules}
+use Rattle.dvbs_receiver.proofs.layout.put_fields.Goals as goal
+
+pub returns : goal.returns
+returns c =
+    let a = c.args in
+    let p = c.requires in
+    all_put a.receiver.now a.pending.now a.marks.now a.held.now a.bytes.now
+    c.put.new.output c.put-2.new.output c.put-3.new.output c.put-4.new.output
+    p.0 p.1 p.2 p.3 p.4
+    c.put.ensures c.put-2.ensures c.put-3.ensures c.put-4.ensures
