@@ -13,6 +13,10 @@ use Rattle.lock_receiver.proofs.Settling.{settles_none, settles_confirmed, settl
 use borrow.Author.Rules.{rules}
 use Rattle.lock_receiver.proofs.settle.Goals as goal
 
+room_by : (k : Certainty) → is_sure k ≡ false → waiting_of (and_one_more k) ≤ 7 → waiting_of k ≤ 6
+room_by Sure e h = omega arith
+room_by (Unsure n) e h = omega arith
+
 pub returns-then-number-ne0 : goal.returns-then-number-ne0
 returns-then-number-ne0 c =
     let whole : length c.args.held ≡ 1316 = search rules in
@@ -55,20 +59,12 @@ returns-then-is_sure c =
 pub put-requires-2 : goal.put-requires-2
 put-requires-2 c =
     let whole : length c.args.held ≡ 1316 = search rules in
-    let room : waiting_of c.args.certainty ≤ 6 = by c.args.certainty (sym c.is_sure.ensures ∙ c.if-is_sure.false) (c.requires.1 c.if-number-ne0.false c.if-start.false)
-  where
-    by : (k : Certainty) → is_sure k ≡ false → waiting_of (and_one_more k) ≤ 7 → waiting_of k ≤ 6
-    by Sure e h = omega arith
-    by (Unsure n) e h = omega arith in
+    let room : waiting_of c.args.certainty ≤ 6 = room_by c.args.certainty (sym c.is_sure.ensures ∙ c.if-is_sure.false) (c.requires.1 c.if-number-ne0.false c.if-start.false) in
     omega (arith, room, c.waiting-count.ensures, whole, c.requires.2)
 
 pub returns : goal.returns
 returns c =
     let whole : length c.args.held ≡ 1316 = search rules in
-    let room : waiting_of c.args.certainty ≤ 6 = by c.args.certainty (sym c.is_sure.ensures ∙ c.if-is_sure.false) (c.requires.1 c.if-number-ne0.false c.if-start.false)
-  where
-    by : (k : Certainty) → is_sure k ≡ false → waiting_of (and_one_more k) ≤ 7 → waiting_of k ≤ 6
-    by Sure e h = omega arith
-    by (Unsure n) e h = omega arith in
+    let room : waiting_of c.args.certainty ≤ 6 = room_by c.args.certainty (sym c.is_sure.ensures ∙ c.if-is_sure.false) (c.requires.1 c.if-number-ne0.false c.if-start.false) in
     let a = c.args in
     settles_waits a.certainty a.number a.due a.start a.packet.now a.held a.output.now c.requires.2 (whole) c.if-number-ne0.false c.if-start.false (sym c.is_sure.ensures ∙ c.if-is_sure.false) (room) _ c.waiting-count.ensures _ c.put-2.ensures
