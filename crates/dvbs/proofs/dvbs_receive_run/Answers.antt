@@ -35,4 +35,4 @@ returns c =
     = sym (ap (λ (t : Bool). pick t 4 (recording_number fresh_receiver a.blocks.now a.output.now)) (le-ltb _ _ c.if-counts-lt64.false)) in
     run_exported a.blocks.now [] a.output.now k.new.output a.counts.now p.new.counts a.answer.now p.new.answer _ _ (number_of k.result.answer) k.result.count k.result.receiver c.if-answer-lt1.false
     p.ensures.0 p.ensures.1 p.ensures.2
-    (subst (λ (n : ℕ). AnswersRecording fresh_receiver a.blocks.now [] a.output.now n (number_of k.result.answer) k.result.count k.result.receiver k.new.output) e k.ensures.0)
+    (subst (λ (n : ℕ). AnswersRecording fresh_receiver a.blocks.now [] a.output.now n (number_of k.result.answer) k.result.count k.result.receiver k.new.output) e k.ensures.receives_recording)

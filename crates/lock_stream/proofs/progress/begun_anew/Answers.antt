@@ -1,0 +1,23 @@
+-- `lock_stream::progress::begun_anew` meets its contract.
+-- Assumes nothing.
+use mathlib.Core.Path.{sym, ap, ap₂}
+use mathlib.Core.Bool.{Bool, true}
+use borrow.Author.Tests.{not-true, not-false}
+use lib.Dec.{leb}
+use Rattle.common.specs.Choice.{pick}
+use Rattle.lock_stream.proofs.progress.begun_anew.Goals as goal
+
+pub returns-then-begins : goal.returns-then-begins
+returns-then-begins c =
+    let p = c.args.progress in
+    ap (λ (t : Bool). pick t true (pick p.locked (leb 4294967295 p.receiver.receiver.counts.taken) true)) (sym c.if-begins.true)
+
+pub returns-then-not-locked : goal.returns-then-not-locked
+returns-then-not-locked c =
+    let p = c.args.progress in
+    ap₂ (λ (s t : Bool). pick s true (pick t (leb 4294967295 p.receiver.receiver.counts.taken) true)) (sym c.if-begins.false) (sym c.if-not-locked.true)
+
+pub returns : goal.returns
+returns c =
+    let p = c.args.progress in
+    ap₂ (λ (s t : Bool). pick s true (pick t (leb 4294967295 p.receiver.receiver.counts.taken) true)) (sym c.if-begins.false) (sym c.if-not-locked.false)
