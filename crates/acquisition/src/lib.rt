@@ -2,6 +2,7 @@
 // reads by what it found, and finds the blocks by their sync bytes. docs/ACQUISITION.md says exactly what is decided.
 // Inner: its functions may require what the crates above have tested. docs/ARCHITECTURE.md names the public surface.
 #![tactic(auto)]
+
 ghost use Rattle.std.specs.Prelude.{◌≡◌, [], ◌++◌, ◌+◌, ◌<◌, ◌≤◌, length};
 ghost use Rattle.common.specs.Lists.{All, padded};
 ghost use Rattle.node_search.specs.Search.{FoundKnown};

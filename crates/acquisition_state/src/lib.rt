@@ -2,6 +2,7 @@
 // in range. specs/State.antt has the layout as a table, and docs/STATES.md lists it with the range of each field.
 // Inner: its functions may require what the crates above have tested. docs/ARCHITECTURE.md names the public surface.
 #![tactic(auto)]
+
 ghost use Rattle.std.specs.Prelude.{◌≡◌, ◌++◌, ◌≤◌, ◌<◌, length, take, drop};
 ghost use Rattle.reception_counts.specs.Bytes.{to_bytes};
 ghost use Rattle.acquisition_state.specs.State.{phase_of, is_reading, flags_byte, plain_of, low_of, high_of, runs_idle, sync_idle, bits_in_range, pending_in_range, counts_in_range, reading_in_range, phase_in_range, in_range, cleared, field_bytes, Writable};

@@ -1,5 +1,6 @@
 // The answer of a public call. specs/Number.antt gives each case its number.
 #![tactic(auto)]
+
 ghost use Rattle.std.specs.Prelude.{◌≡◌};
 ghost use Rattle.answer.specs.Number.{number_of};
 

@@ -1,6 +1,7 @@
 // The lines that programs tell about a block: one put at the start of an output, or the list of what to ask for again at a place of a text.
 // Inner: its functions may require what the crates above have tested. docs/ARCHITECTURE.md names the public surface.
 #![tactic(auto)]
+
 ghost use Rattle.std.specs.Prelude.{◌+◌, ◌*◌, ◌≤◌, length, take};
 ghost use Rattle.report_lines.specs.Line.{Appended};
 ghost use Rattle.answer_lines.specs.Lines.{refusal_text, block_text, entry_text, list_text};

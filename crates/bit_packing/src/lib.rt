@@ -1,6 +1,7 @@
 // Bits packed into bytes, eight to a byte, the first on top. They come in pieces, and those that fill no byte yet are carried from one call to the next.
 // Inner: its functions may require what the crates above have tested. docs/ARCHITECTURE.md names the public surface.
 #![tactic(auto)]
+
 ghost use Rattle.std.specs.Prelude.{◌≡◌, [], ◌++◌, ◌+◌, ◌*◌, ◌/◌, ◌%◌, ◌<◌, ◌≤◌, length, get_or, drop};
 ghost use Rattle.convolutional_code.specs.Bits.{Bits};
 ghost use Rattle.bit_packing.specs.Packing.{packed_bytes, carried_bits, Packs};

@@ -1,6 +1,7 @@
 // Blocks found in decoded bits: bits come in pieces of any length and begin anywhere, blocks of 204 bytes go out. A bit is the lowest of its byte.
 // A decision is made only when the buffer of 8,168 bits, five blocks and a sync byte, is full, so that it does not depend on the pieces.
 #![tactic(auto)]
+
 ghost use Rattle.std.specs.Prelude.{◌≡◌, ◌++◌, ◌+◌, ◌-◌, ◌≤◌, length, take};
 ghost use Rattle.common.specs.Lists.{padded};
 ghost use Rattle.block_sync.specs.Decision.{is_sync, sync_or_end, in_a_step, polarity_at, keeps, block_of, Decides, used_bits, block_given};

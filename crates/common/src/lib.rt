@@ -1,6 +1,7 @@
 // Shared helpers: lemmas, copying bytes, the bytes of a number, the smaller of two, the maximum of a slice.
 // Inner: its functions may require what the crates above have tested. docs/ARCHITECTURE.md names the public surface.
 #![tactic(auto)]
+
 ghost use Rattle.std.specs.Prelude.{◌≡◌, ◌++◌, ◌+◌, ◌≤◌, min, max, length, take, drop};
 ghost use Rattle.common.specs.Bytes.{byte_at};
 ghost use Rattle.common.specs.Lists.{largest};

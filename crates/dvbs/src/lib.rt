@@ -1,6 +1,7 @@
 // Functions for C and Rust on packets and blocks, over numbers and byte slices. A slice is a pointer and a length; slices of one call must not overlap.
 // Their declarations for C are in include/dvbs.h.
 #![tactic(auto)]
+
 ghost use Rattle.std.specs.Prelude.{◌≡◌, ◌≤◌, ◌++◌, eqb, length, drop, set};
 ghost use Rattle.reed_solomon.specs.Encode.{encode_number, encode_output};
 ghost use Rattle.randomizer.specs.Packet.{randomize_number, randomize_output, derandomize_number, derandomize_output};

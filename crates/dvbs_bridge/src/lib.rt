@@ -1,6 +1,7 @@
 // A part for the bridge: document 02, P14. A receiver whose state is bytes that the firmware keeps, as functions for C.
 // Their declarations are in include/dvbs_bridge.h, and docs/BRIDGE.md lists the layout of the state.
 #![tactic(auto)]
+
 ghost use Rattle.std.specs.Prelude.{◌≡◌};
 ghost use Rattle.dvbs_bridge.specs.Calls.{fresh_number, fresh_bytes, refuses, BridgeTakes, BridgeCounts};
 

@@ -1,6 +1,7 @@
 // Functions for C and Rust that read symbols, on numbers and slices. A slice is a pointer and a length; slices of one call must not overlap.
 // Their declarations for C are in include/dvbs.h.
 #![tactic(auto)]
+
 ghost use Rattle.std.specs.Prelude.{◌≡◌, ◌++◌, ◌≤◌, length, drop};
 ghost use Rattle.dvbs_reader.specs.ReadRun.{result_bytes, ReadRunExported, SoftRunExported};
 

@@ -1,6 +1,7 @@
 // A reader of received symbols, by hard or by soft decisions, whose state is bytes that the firmware keeps, as functions for C.
 // Their declarations are in include/dvbs.h, and docs/STATES.md lists the layout of the state.
 #![tactic(auto)]
+
 ghost use Rattle.std.specs.Prelude.{◌≡◌};
 ghost use Rattle.answer.specs.Number.{number_of};
 ghost use Rattle.dvbs_reader_stream.specs.Calls.{fresh_number, fresh_bytes, symbols_due, points_due, end_due, FeedsHard, FeedsSoft, EndsState};

@@ -1,6 +1,7 @@
 // A sender whose state is bytes that the firmware keeps, as functions for C.
 // Their declarations are in include/dvbs.h, and docs/STATES.md lists the layout of the state.
 #![tactic(auto)]
+
 ghost use Rattle.std.specs.Prelude.{◌≡◌};
 ghost use Rattle.dvbs_sender.specs.Calls.{fresh_number, fresh_bytes, refuses, SendsPacket};
 

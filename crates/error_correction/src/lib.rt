@@ -1,6 +1,7 @@
 // Where the errors are, and what they are. At an erasure, a byte that is marked, there may be one.
 // Inner: its functions may require what the crates above have tested. docs/ARCHITECTURE.md names the public surface.
 #![tactic(auto)]
+
 ghost use Rattle.std.specs.Prelude.{◌≡◌, ◌∷◌, ℕ, ◌+◌, ◌-◌, ◌<◌, ◌≤◌, eqb, length, get_or, take, drop};
 ghost use Rattle.common.specs.Choice.{indicator};
 ghost use Rattle.algebra.proofs.Polynomial.{Zero};

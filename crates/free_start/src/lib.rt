@@ -1,6 +1,7 @@
 // Reading symbols that begin with an unknown memory: how many symbols of which nothing is known go in front of them, and how many bits these stand for.
 // Inner: its functions may require what the crates above have tested. docs/ARCHITECTURE.md names the public surface.
 #![tactic(auto)]
+
 ghost use Rattle.std.specs.Prelude.{◌≡◌, ◌<◌};
 ghost use Rattle.free_start.specs.Lead.{lead_symbols, bits_of_lead};
 

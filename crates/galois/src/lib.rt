@@ -1,5 +1,6 @@
 // Arithmetic in GF(256) by 11D hex, with no table and no branch on a value.
 #![tactic(auto)]
+
 ghost use Rattle.std.specs.Prelude.{◌≡◌};
 ghost use Rattle.galois.specs.Field256.{times_x as times_x_of, mul as mul_of};
 

@@ -1,5 +1,6 @@
 // How the receiver keeps step with the groups of eight packets: EN 300 421, 4.4.1, inverts the sync byte of the first packet of each group.
 #![tactic(auto)]
+
 ghost use Rattle.std.specs.Prelude.{◌≡◌};
 ghost use Rattle.group_sync.specs.Group.{later_place, known_after, byte_at_first, step, step_odd, searching, start_due, packet_due, accepted_step, group_step, sync_in_range, fresh_sync};
 

@@ -1,5 +1,6 @@
 // The inner coder: convolutional mother code, puncturing and the mapping to symbols. EN 300 421, 4.4.3 and 4.5, and EN 301 210, 4.6.3.
 #![tactic(auto)]
+
 ghost use Rattle.std.specs.Prelude.{◌≡◌, ◌<◌};
 ghost use Rattle.answer.specs.Number.{number_of};
 ghost use Rattle.puncturing.specs.Mode.{mode_of, qpsk_count};

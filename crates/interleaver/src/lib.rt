@@ -1,5 +1,6 @@
 // Convolutional interleaving and its removal: EN 300 421, 4.4.2.
 #![tactic(auto)]
+
 ghost use Rattle.std.specs.Prelude.{◌≡◌};
 ghost use Rattle.answer.specs.Number.{number_of};
 ghost use Rattle.interleaver.specs.Branch.{branches_in_range};

@@ -1,6 +1,7 @@
 // Stages that the library does not export, for the benchmark and the tests alone. They are functions for C, and take whatever they are lent.
 // A slice is a pointer and a length; slices of one call must not overlap.
 #![tactic(auto)]
+
 ghost use Rattle.std.specs.Prelude.{◌≡◌};
 ghost use Rattle.interleaver.specs.declared.branches.Side.TheVariants.{Sending};
 ghost use Rattle.kernels.specs.Scale.{scale_output};

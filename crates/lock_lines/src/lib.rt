@@ -2,6 +2,7 @@
 // symbols, or in bits where decoded bits come.
 // Inner: its functions may require what the crates above have tested. docs/ARCHITECTURE.md names the public surface.
 #![tactic(auto)]
+
 ghost use Rattle.std.specs.Prelude.{◌++◌, ◌+◌, ◌≤◌, length};
 ghost use Rattle.report_lines.specs.Line.{Appended};
 ghost use Rattle.lock_lines.specs.Lines.{place_text, found_text, lock_text, lost_text, closing_word, skipped_text, end_text};

@@ -1,6 +1,7 @@
 // A receiver for one lock: a fresh one for each, whose packets in doubt wait for the B8 that confirms them. The rule is that of crate losses: a packet that
 // its list has as doubtful is not given but told.
 #![tactic(auto)]
+
 ghost use Rattle.std.specs.Prelude.{◌≡◌, false, ◌≤◌, length};
 ghost use Rattle.answer.specs.Number.{number_of};
 ghost use Rattle.losses.specs.Watch.{waiting_of, is_sure, and_one_more};

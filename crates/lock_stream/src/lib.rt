@@ -2,6 +2,7 @@
 // after step. docs/ACQUISITION.md says what is decided and told.
 // Inner: its functions may require what the crates above have tested. docs/ARCHITECTURE.md names the public surface.
 #![tactic(auto)]
+
 ghost use Rattle.std.specs.Prelude.{◌≡◌, true, ◌+◌, ◌<◌, ◌≤◌, length};
 ghost use Rattle.common.specs.Lists.{All};
 ghost use Rattle.report_lines.specs.Line.{Appended};

@@ -1,6 +1,7 @@
 // What to ask for again: the list of a recording's losses. A line for each block of which no packet was given, and for each packet whose place in
 // its group is in doubt, as numbers. It is decided by the receiver's own calls.
 #![tactic(auto)]
+
 ghost use Rattle.std.specs.Prelude.{◌≡◌, ◌++◌, ◌⊎◌, ◌+◌, ◌-◌, ◌/◌, ◌≤◌, ◌<◌, min, length, take, drop};
 ghost use Rattle.common.specs.Choice.{pick};
 ghost use Rattle.answer.specs.Number.{number_of};

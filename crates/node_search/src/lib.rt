@@ -2,6 +2,7 @@
 // inner decoder can tell it.
 // Inner: its functions may require what the crates above have tested. docs/ARCHITECTURE.md names the public surface.
 #![tactic(auto)]
+
 ghost use Rattle.std.specs.Prelude.{◌≡◌, List, ◌++◌, ◌*◌, ◌<◌, ◌≤◌, length, get_or, take};
 ghost use Rattle.answer.specs.Number.{number_of};
 ghost use Rattle.common.specs.Choice.{pick};

@@ -1,5 +1,6 @@
 // Randomizing for energy dispersal, and its removal: EN 300 421, 4.4.1.
 #![tactic(auto)]
+
 ghost use Rattle.std.specs.Prelude.{◌≡◌, true, ◌++◌, ◌+◌, ◌*◌, ◌≤◌, ◌<◌, length, take, drop};
 ghost use Rattle.answer.specs.Number.{number_of};
 ghost use Rattle.randomizer.specs.Masks.{are_masks, Table, Begun};

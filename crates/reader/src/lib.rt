@@ -1,5 +1,6 @@
 // Reading runs of received symbols: the bits whose coding costs the least, by hard or by soft decisions. The two differ in the costs alone.
 #![tactic(auto)]
+
 ghost use Rattle.std.specs.Prelude.{◌≡◌, ℕ, ◌<◌, ◌≤◌, length, get_or};
 ghost use Rattle.answer.specs.Number.{number_of};
 ghost use Rattle.common.specs.Lists.{All};

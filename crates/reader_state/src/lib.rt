@@ -1,6 +1,7 @@
 // The runs of a reader as bytes: the cells that hold symbols, read of bytes, cleared where they hold nothing, and whether all is in range.
 // Inner: its functions may require what the crates above have tested. docs/ARCHITECTURE.md names the public surface.
 #![tactic(auto)]
+
 ghost use Rattle.std.specs.Prelude.{◌≡◌, ◌+◌, ◌*◌, ◌≤◌, length, get_or, take, drop};
 ghost use Rattle.common.specs.Lists.{padded};
 ghost use Rattle.reader_stream.specs.Runs.{held_of};

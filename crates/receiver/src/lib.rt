@@ -1,5 +1,6 @@
 // The receiving chain: interleaved blocks in, transport packets out. EN 300 421, 4.4, taken backwards.
 #![tactic(auto)]
+
 ghost use Rattle.std.specs.Prelude.{◌≡◌, true, false, ◌≤◌, ltb, length, replicate};
 ghost use Rattle.common.specs.Choice.{pick};
 ghost use Rattle.common.specs.Lists.{largest};

@@ -2,6 +2,7 @@
 // specs/State.antt has the layout as a table, and docs/BRIDGE.md lists it with the range of each field.
 // Inner: its functions may require what the crates above have tested. docs/ARCHITECTURE.md names the public surface.
 #![tactic(auto)]
+
 ghost use Rattle.std.specs.Prelude.{◌≡◌, ◌++◌, ◌≤◌, length};
 ghost use Rattle.receiver_state.specs.State.{place_byte, state_bytes};
 ghost use Rattle.receiver_state.specs.Reading.{place_of, state_of};

@@ -1,6 +1,7 @@
 // A reception in progress: a receiver that takes received bytes, with a mark for each, in pieces of any length, and holds those of a block that is not
 // whole yet.
 #![tactic(auto)]
+
 ghost use Rattle.std.specs.Prelude.{◌≡◌, ◌++◌, ◌+◌, ◌-◌, ◌*◌, ◌/◌, ◌%◌, ◌≤◌, ◌<◌, length, take};
 ghost use Rattle.answer.specs.Number.{number_of};
 ghost use Rattle.common.specs.Choice.{pick};

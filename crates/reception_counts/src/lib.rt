@@ -1,6 +1,7 @@
 // The counts of a receiver.
 // Inner: its functions may require what the crates above have tested. docs/ARCHITECTURE.md names the public surface.
 #![tactic(auto)]
+
 ghost use Rattle.std.specs.Prelude.{◌≡◌};
 ghost use Rattle.reception_counts.specs.Counts.{CountsFit, zero_counts, counts_in_range, outcome_number, counted};
 

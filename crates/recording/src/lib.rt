@@ -1,5 +1,6 @@
 // A recording of received bytes: its whole blocks, one after the other.
 #![tactic(auto)]
+
 ghost use Rattle.std.specs.Prelude.{◌≡◌, true, ◌⊎◌, ◌+◌, ◌*◌, ◌/◌, ◌≤◌, length, take, drop, replicate};
 ghost use Rattle.answer.specs.Number.{number_of};
 ghost use Rattle.receiver.specs.Receive.{fresh_receiver, receiver_of, receiver_in_range, ReceivesParts};

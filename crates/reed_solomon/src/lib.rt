@@ -1,5 +1,6 @@
 // The outer code: Reed-Solomon RS(204,188), EN 300 421, 4.4.2.
 #![tactic(auto)]
+
 ghost use Rattle.std.specs.Prelude.{◌≡◌, ◌≤◌, length};
 ghost use Rattle.answer.specs.Number.{number_of};
 ghost use Rattle.reed_solomon.specs.Encode.{encode_number, encode_output};

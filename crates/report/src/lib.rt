@@ -1,6 +1,7 @@
 // Pass reports in both forms: written, read, and moved from one form to the other.
 // Of its public functions only `read_front` has a requires: it is a part, for readers of many reports.
 #![tactic(auto)]
+
 ghost use Rattle.std.specs.Prelude.{◌≡◌, true, ◌+◌, ◌≤◌, ◌<◌, min, length, drop};
 ghost use Rattle.answer.specs.Number.{number_of};
 ghost use Rattle.report_lines.specs.Line.{line_text, Appended};

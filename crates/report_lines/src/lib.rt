@@ -1,6 +1,7 @@
 // Lines of a report: a key with its equals sign, a number in decimal and a line feed; written and read.
 // Inner: its functions may require what the crates above have tested. docs/ARCHITECTURE.md names the public surface.
 #![tactic(auto)]
+
 ghost use Rattle.std.specs.Prelude.{◌+◌, ◌≤◌, ◌<◌, length};
 ghost use Rattle.report_lines.specs.Line.{decimal, field_text, line_text, Appended};
 ghost use Rattle.report_lines.specs.Reading.{DigitIs, WordIs, NumberRead, LineIs};

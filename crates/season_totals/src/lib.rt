@@ -3,6 +3,7 @@
 // Of its public functions `product`, `below` and `read_season` require nothing. A season in progress is a part, for programs, and its functions
 // require that it came of feeding a fresh one.
 #![tactic(auto)]
+
 ghost use Rattle.std.specs.Prelude.{◌≡◌, true, ◌++◌, ◌+◌, ◌*◌, ◌≤◌, ◌<◌, min, ltb, length, get_or, take};
 ghost use Rattle.answer.specs.Number.{number_of};
 ghost use Rattle.report_lines.specs.Line.{Appended};

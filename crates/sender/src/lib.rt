@@ -1,5 +1,6 @@
 // The sending chain: randomizing, outer code, interleaving and inner code, packet by packet. EN 300 421, 4.4 and 4.5, and for 16QAM EN 301 210, 4.6.
 #![tactic(auto)]
+
 ghost use Rattle.std.specs.Prelude.{◌≡◌, true, ◌++◌, ◌≤◌, length, get_or, drop};
 ghost use Rattle.answer.specs.Number.{number_of};
 ghost use Rattle.puncturing.specs.Mode.{mode_of};

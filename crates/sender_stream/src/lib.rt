@@ -1,5 +1,6 @@
 // Sending in progress: transport packets from pieces of any length. The bytes of a packet that is not whole yet are held until the rest of it comes.
 #![tactic(auto)]
+
 ghost use Rattle.std.specs.Prelude.{◌≡◌, ◌++◌, ◌+◌, ◌/◌, ◌<◌, ◌≤◌, length, take};
 ghost use Rattle.answer.specs.Number.{number_of};
 ghost use Rattle.common.specs.Lists.{padded};

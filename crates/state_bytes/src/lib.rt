@@ -1,6 +1,7 @@
 // States as bytes: the tables of their fields, with the laws of any such table, and the arrays of delay branches copied out of bytes.
 // Inner: its functions may require what the crates above have tested. docs/ARCHITECTURE.md names the public surface.
 #![tactic(auto)]
+
 ghost use Rattle.std.specs.Prelude.{◌≡◌, ◌+◌, ◌≤◌, length, take, drop};
 
 // A byte for each cell of the delay branches: those in them, or their marks.

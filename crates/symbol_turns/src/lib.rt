@@ -1,6 +1,7 @@
 // Turns of the QPSK points, on the decisions on I and Q of received symbols.
 // Inner: its functions may require what the crates above have tested. docs/ARCHITECTURE.md names the public surface.
 #![tactic(auto)]
+
 ghost use Rattle.std.specs.Prelude.{◌≡◌, ◌++◌, map, ◌<◌, ◌≤◌, length, drop};
 ghost use Rattle.common.specs.Choice.{pick};
 ghost use Rattle.common.specs.Lists.{All};

@@ -1,6 +1,7 @@
 // Where blocks begin in a list of bits, by their sync bytes.
 // Inner: its functions may require what the crates above have tested. docs/ARCHITECTURE.md names the public surface.
 #![tactic(auto)]
+
 ghost use Rattle.std.specs.Prelude.{◌≡◌, ◌+◌, ◌≤◌, length};
 ghost use Rattle.sync_search.specs.Sync.{byte_at, is_at, count_at, sync_at, FirstSync};
 

@@ -1,6 +1,7 @@
 // The Viterbi decoder of the mother code, on 64 metrics of a byte each.
 // Inner: its functions may require what the crates above have tested. docs/ARCHITECTURE.md names the public surface.
 #![tactic(auto)]
+
 ghost use Rattle.std.specs.Prelude.{◌≡◌, [], ◌++◌, reverse, ℕ, ◌+◌, ◌-◌, ◌*◌, ◌/◌, ◌%◌, ◌<◌, ◌≤◌, eqb, length, get_or, take, drop};
 ghost use Rattle.common.specs.Choice.{pick};
 ghost use Rattle.viterbi_decoder.specs.Best.{Decoded};

@@ -2,7 +2,6 @@
 -- Assumes nothing.
 use mathlib.Core.Path.{sym, ap, ◌∙◌}
 use Rattle.acquisition.specs.Step.{after_reading}
-use borrow.Author.Rules.{rules}
 use Rattle.acquisition.proofs.after_reading.Goals as goal
 
 pub returns-in-Waits : goal.returns-in-Waits

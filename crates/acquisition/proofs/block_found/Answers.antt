@@ -1,7 +1,6 @@
 -- `acquisition::block_found` meets its contract.
 -- Assumes nothing.
 use Rattle.acquisition.proofs.Numbers.{found_is}
-use borrow.Author.Rules.{rules}
 use Rattle.acquisition.proofs.block_found.Goals as goal
 
 pub returns : goal.returns

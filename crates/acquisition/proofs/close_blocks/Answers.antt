@@ -4,7 +4,6 @@ use mathlib.Core.Path.{refl, ap}
 use Prim.Native.Nat.{ℕ, ◌+◌}
 use native.Mathlib.Omega.{arith}
 use Rattle.acquisition.proofs.Ends.{finish_counts}
-use borrow.Author.Rules.{rules}
 use Rattle.acquisition.proofs.close_blocks.Goals as goal
 
 pub block_found-block-requires : goal.block_found-block-requires

@@ -5,7 +5,6 @@ use native.Mathlib.Omega.{arith}
 use lib.ListN.{length, replicate}
 use Rattle.acquisition.proofs.Symbols.{front_length}
 use Rattle.acquisition.proofs.Ends.{close_counts}
-use borrow.Author.Rules.{rules}
 use Rattle.acquisition.proofs.close_runs.Goals as goal
 
 pub slice_bounds-bits-end : goal.slice_bounds-bits-end

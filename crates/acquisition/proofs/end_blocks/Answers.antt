@@ -5,7 +5,6 @@ use mathlib.Core.Bool.{false}
 use Rattle.acquisition.specs.End.{over_with, end_of_blocks}
 use Rattle.acquisition.specs.declared.Acquisition.{Acquisition}
 use Rattle.acquisition.specs.declared.Event.{Event}
-use borrow.Author.Rules.{rules}
 use Rattle.acquisition.proofs.end_blocks.Goals as goal
 
 pub returns-in-Waits : goal.returns-in-Waits

@@ -1,6 +1,5 @@
 -- `acquisition::ends_reading` meets its contract.
 -- Assumes nothing.
-use borrow.Author.Rules.{rules}
 use Rattle.acquisition.proofs.ends_reading.Goals as goal
 
 pub returns : goal.returns

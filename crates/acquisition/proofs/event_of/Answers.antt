@@ -1,7 +1,6 @@
 -- `acquisition::event_of` meets its contract.
 -- Assumes nothing.
 use borrow.Author.Tests.{lt-ltb, le-ltb}
-use borrow.Author.Rules.{rules}
 use Rattle.acquisition.proofs.event_of.Goals as goal
 
 pub returns-then-skipped-gt0 : goal.returns-then-skipped-gt0

@@ -3,7 +3,6 @@
 use mathlib.Core.Path.{ap}
 use mathlib.Core.Bool.{false}
 use Rattle.acquisition.specs.declared.Acquisition.{Acquisition}
-use borrow.Author.Rules.{rules}
 use Rattle.acquisition.proofs.goes_on.Goals as goal
 
 pub returns : goal.returns

@@ -4,7 +4,6 @@ use Rattle.acquisition.specs.Reading.{idle_reading}
 use Rattle.block_sync.specs.declared.BlockSync.{BlockSync}
 use lib.ListN.{replicate}
 use mathlib.Core.Path.{ap}
-use borrow.Author.Rules.{rules}
 use Rattle.acquisition.proofs.idle.Goals as goal
 
 pub returns : goal.returns

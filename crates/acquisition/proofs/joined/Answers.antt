@@ -3,7 +3,6 @@
 use Rattle.common.proofs.Padded.{padded_two}
 use lib.ListN.{length}
 use mathlib.Core.Path.{refl}
-use borrow.Author.Rules.{rules}
 use Rattle.acquisition.proofs.joined.Goals as goal
 
 pub returns : goal.returns

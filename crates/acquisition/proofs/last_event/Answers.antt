@@ -1,7 +1,6 @@
 -- `acquisition::last_event` meets its contract.
 -- Assumes nothing.
 use borrow.Author.Tests.{lt-ltb, le-ltb}
-use borrow.Author.Rules.{rules}
 use Rattle.acquisition.proofs.last_event.Goals as goal
 
 pub returns-then-held-lt1632 : goal.returns-then-held-lt1632

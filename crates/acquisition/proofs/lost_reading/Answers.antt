@@ -3,7 +3,6 @@
 use mathlib.Core.Path.{sym, ap, ◌∙◌}
 use mathlib.Core.Bool.{Bool}
 use Rattle.acquisition.specs.Step.{searching_on, lost_reading}
-use borrow.Author.Rules.{rules}
 use Rattle.acquisition.proofs.lost_reading.Goals as goal
 
 pub returns-then-ends_reading : goal.returns-then-ends_reading

@@ -4,7 +4,6 @@ use mathlib.Core.Path.{ap}
 use mathlib.Core.Bool.{true}
 use Rattle.acquisition.specs.declared.Step.{Step}
 use Rattle.acquisition.specs.declared.Event.TheVariants.{Waits}
-use borrow.Author.Rules.{rules}
 use Rattle.acquisition.proofs.over.Goals as goal
 
 pub returns : goal.returns

@@ -9,7 +9,6 @@ use Rattle.reader_stream.proofs.Runs.{all_drop}
 use Rattle.acquisition.specs.Step.{pending_of, AcquisitionReady, after_reading}
 use Rattle.acquisition.specs.declared.Acquisition.{Acquisition}
 use Rattle.acquisition.proofs.Ready.{after_reading_ready, pending_length, read_taken, take-drop}
-use borrow.Author.Rules.{rules}
 use Rattle.acquisition.proofs.pending_step.Goals as goal
 
 pub slice_bounds-read-end : goal.slice_bounds-read-end

@@ -11,7 +11,6 @@ use Rattle.acquisition.specs.Step.{AcquisitionReady}
 use Rattle.acquisition.specs.declared.Acquisition.{Acquisition}
 use Rattle.acquisition.proofs.Symbols.{front_length}
 use Rattle.acquisition.proofs.Ready.{after_reading_ready, read_taken, front_is}
-use borrow.Author.Rules.{rules}
 use Rattle.acquisition.proofs.piece_step.Goals as goal
 
 pub slice_bounds-read-end : goal.slice_bounds-read-end

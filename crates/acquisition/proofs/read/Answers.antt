@@ -10,7 +10,6 @@ use Rattle.symbol_turns.specs.Turn.{undoing, turned_pair}
 use Rattle.symbol_turns.proofs.Turns.{undoing_small, pairs_small}
 use Rattle.reader_stream.specs.Runs.{FeedsSymbols}
 use Rattle.acquisition.proofs.Symbols.{run_counts, turned_front, front_length}
-use borrow.Author.Rules.{rules}
 use Rattle.acquisition.proofs.read.Goals as goal
 
 pub turn_pairs-requires : goal.turn_pairs-requires

@@ -6,7 +6,6 @@ use lib.ListN.{length}
 use Prim.Native.Nat.{ℕ}
 use mathlib.Core.List.{List, append-nil}
 use mathlib.Core.Path.{ap, ◌∙◌}
-use borrow.Author.Rules.{rules}
 use Rattle.acquisition.proofs.reading_on.Goals as goal
 
 pub returns : goal.returns

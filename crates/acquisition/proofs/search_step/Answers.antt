@@ -17,7 +17,6 @@ use Rattle.acquisition.specs.declared.Acquisition.{Acquisition}
 use Rattle.acquisition.specs.declared.Step.{Step}
 use Rattle.acquisition.proofs.Symbols.{front_length}
 use Rattle.acquisition.proofs.Ready.{searching_ready, after_search_ready, pending_length, gathered_front, window_length_lem}
-use borrow.Author.Rules.{rules}
 use Rattle.acquisition.proofs.search_step.Goals as goal
 
 pub slice_bounds-joined-end : goal.slice_bounds-joined-end

@@ -8,7 +8,6 @@ use mathlib.Core.List.{List}
 use mathlib.Core.Path.{ap, sym, ◌∙◌, subst}
 use Rattle.node_search.specs.declared.Search.{Search}
 use Rattle.node_search.specs.Search.{FoundKnown}
-use borrow.Author.Rules.{rules}
 use Rattle.acquisition.proofs.searched.Goals as goal
 
 pub begin-begun-requires : goal.begin-begun-requires

@@ -7,7 +7,6 @@ use lib.ListN.{length}
 use Prim.Native.Nat.{ℕ}
 use mathlib.Core.List.{List, append-nil}
 use mathlib.Core.Path.{ap, ap₂, ◌∙◌}
-use borrow.Author.Rules.{rules}
 use Rattle.acquisition.proofs.searching_on.Goals as goal
 
 pub returns : goal.returns

@@ -4,7 +4,6 @@ use Rattle.acquisition.proofs.Bits.{taken_few}
 use native.Mathlib.Omega.{arith}
 use Prim.Native.Nat.{ℕ, ◌+◌}
 use mathlib.Core.Path.{refl, ap}
-use borrow.Author.Rules.{rules}
 use Rattle.acquisition.proofs.settle.Goals as goal
 
 pub block_found-block-requires : goal.block_found-block-requires

@@ -5,7 +5,6 @@ use Prim.Native.Nat.{◌-◌, ◌*◌, ◌/◌, ◌≤◌}
 use native.Mathlib.Omega.{arith}
 use Rattle.acquisition.specs.Reading.{symbol_at}
 use Rattle.acquisition.proofs.Numbers.{rate_numbers, symbols_fit, symbol_before}
-use borrow.Author.Rules.{rules}
 use Rattle.acquisition.proofs.symbol_at.Goals as goal
 
 pub returns-then-bit-lead : goal.returns-then-bit-lead

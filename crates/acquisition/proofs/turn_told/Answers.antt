@@ -1,6 +1,5 @@
 -- `acquisition::turn_told` meets its contract.
 -- Assumes nothing.
-use borrow.Author.Rules.{rules}
 use Rattle.acquisition.proofs.turn_told.Goals as goal
 
 pub returns-then-inverted : goal.returns-then-inverted

@@ -1,7 +1,6 @@
 -- `acquisition::used_by` meets its contract.
 -- Assumes nothing.
 use native.Mathlib.Omega.{arith}
-use borrow.Author.Rules.{rules}
 use Rattle.acquisition.proofs.used_by.Goals as goal
 
 pub returns-then-given : goal.returns-then-given

@@ -8,7 +8,6 @@ use lib.Dec.{eqb, ltb}
 use lib.ListN.{drop, length-drop}
 use lib.Seq.{take_all}
 use Rattle.common.specs.Lists.{largest}
-use borrow.Author.Rules.{rules}
 use Rattle.acquisition_state.proofs.bits_in_range.Goals as goal
 
 pub returns-then-held-ge8168 : goal.returns-then-held-ge8168

@@ -2,7 +2,6 @@
 -- Assumes nothing.
 use mathlib.Core.Path.{sym}
 use borrow.Author.Tests.{lt-ltb, le-ltb}
-use borrow.Author.Rules.{rules}
 use Rattle.acquisition_state.proofs.counts_in_range.Goals as goal
 
 pub returns-then-came-first : goal.returns-then-came-first

@@ -2,7 +2,6 @@
 -- Assumes nothing.
 use native.Mathlib.Omega.{arith}
 use Rattle.acquisition_state.proofs.Table.{flag_small}
-use borrow.Author.Rules.{rules}
 use Rattle.acquisition_state.proofs.flags_byte.Goals as goal
 
 pub overflow_mul-result : goal.overflow_mul-result

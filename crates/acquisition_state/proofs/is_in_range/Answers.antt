@@ -2,10 +2,9 @@
 -- Assumes nothing.
 use mathlib.Core.Path.{sym, ◌∙◌}
 use native.Mathlib.Omega.{arith}
-use borrow.Author.Tests.{lt-ltb, le-ltb, ltb-true, not-true, not-false}
+use borrow.Author.Tests.{lt-ltb, le-ltb, ltb-true}
 use lib.Dec.{ltb}
 use Rattle.common.proofs.Choice.{both_true}
-use borrow.Author.Rules.{rules}
 use Rattle.acquisition_state.proofs.is_in_range.Goals as goal
 
 pub returns-then-rate-ge6 : goal.returns-then-rate-ge6

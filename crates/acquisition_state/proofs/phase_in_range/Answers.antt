@@ -1,9 +1,8 @@
 -- `acquisition_state::phase_in_range` meets its contract.
 -- Assumes nothing.
 use mathlib.Core.Path.{sym, ap, ◌∙◌}
-use borrow.Author.Tests.{lt-ltb, le-ltb, not-true, not-false}
+use borrow.Author.Tests.{lt-ltb, le-ltb}
 use Rattle.acquisition_state.specs.State.{phase_in_range}
-use borrow.Author.Rules.{rules}
 use Rattle.acquisition_state.proofs.phase_in_range.Goals as goal
 
 pub returns-then-held-ge1632 : goal.returns-then-held-ge1632

@@ -4,7 +4,6 @@ use native.Mathlib.Omega.{arith}
 use Rattle.reception_counts.specs.Bytes.{to_bytes}
 use Rattle.reception_counts.proofs.Numbers.{length_to}
 use Rattle.acquisition_state.proofs.Table.{all_put}
-use borrow.Author.Rules.{rules}
 use Rattle.acquisition_state.proofs.put_fields.Goals as goal
 
 pub put-requires-5 : goal.put-requires-5

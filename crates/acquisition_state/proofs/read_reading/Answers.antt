@@ -2,7 +2,6 @@
 -- Assumes nothing.
 use lib.ListN.{get_or}
 use Rattle.acquisition_state.specs.Reading.{state_of}
-use borrow.Author.Rules.{rules}
 use Rattle.acquisition_state.proofs.read_reading.Goals as goal
 
 pub returns : goal.returns

@@ -3,7 +3,6 @@
 use mathlib.Core.Path.{ap, ◌∙◌}
 use Rattle.acquisition_state.specs.State.{phase_of}
 use Rattle.acquisition_state.specs.Reading.{state_of}
-use borrow.Author.Rules.{rules}
 use Rattle.acquisition_state.proofs.read_state.Goals as goal
 
 pub returns : goal.returns

@@ -2,12 +2,11 @@
 -- Assumes nothing.
 use mathlib.Core.Path.{sym, ◌∙◌}
 use native.Mathlib.Omega.{arith}
-use borrow.Author.Tests.{lt-ltb, le-ltb, ltb-true, not-true, not-false}
+use borrow.Author.Tests.{lt-ltb, le-ltb, ltb-true}
 use Rattle.common.proofs.Choice.{both_true}
 use lib.Dec.{ltb}
 use Rattle.reader_stream.proofs.Runs.{numbers}
 use Rattle.reader_state.proofs.Cleared.{runs_ready}
-use borrow.Author.Rules.{rules}
 use Rattle.acquisition_state.proofs.reading_in_range.Goals as goal
 
 pub returns-then-not-are_in_range : goal.returns-then-not-are_in_range

@@ -4,7 +4,6 @@ use mathlib.Core.Path.{sym, ap}
 use Prim.Native.Nat.{ℕ}
 use borrow.Author.Tests.{eq-eqb, ne_eqb}
 use lib.Dec.{eqb}
-use borrow.Author.Rules.{rules}
 use Rattle.acquisition_state.proofs.runs_idle.Goals as goal
 
 pub returns-then-turn-ne0 : goal.returns-then-turn-ne0

@@ -4,7 +4,6 @@ use mathlib.Core.Path.{sym, ap}
 use Prim.Native.Nat.{ℕ}
 use borrow.Author.Tests.{eq-eqb, ne_eqb}
 use lib.Dec.{eqb}
-use borrow.Author.Rules.{rules}
 use Rattle.acquisition_state.proofs.sync_idle.Goals as goal
 
 pub returns-then-held-ne0 : goal.returns-then-held-ne0

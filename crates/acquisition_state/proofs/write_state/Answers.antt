@@ -5,7 +5,6 @@ use lib.ListN.{length}
 use Rattle.reader_state.proofs.Cleared.{padded_length}
 use Rattle.acquisition_state.specs.State.{flags_byte}
 use Rattle.acquisition_state.proofs.Table.{fields_put}
-use borrow.Author.Rules.{rules}
 use Rattle.acquisition_state.proofs.write_state.Goals as goal
 
 pub slice_bounds-put_fields-end-3 : goal.slice_bounds-put_fields-end-3

@@ -4,7 +4,6 @@ use native.Mathlib.Omega.{arith}
 use Rattle.report_lines.proofs.Lines.{joined_appended}
 use Rattle.answer_lines.specs.Lines.{block_text}
 use Rattle.answer_lines.proofs.Bounds.{larger}
-use borrow.Author.Rules.{rules}
 use Rattle.answer_lines.proofs.block_line.Goals as goal
 
 pub returns : goal.returns

@@ -10,7 +10,6 @@ use Rattle.common.specs.Choice.{pick}
 use Rattle.report_lines.specs.Line.{field_text, line_text, Appended}
 use Rattle.answer_lines.specs.Lines.{block_key, doubt_key, answer_key}
 use Rattle.answer_lines.proofs.Lists.{appended_both}
-use borrow.Author.Rules.{rules}
 use Rattle.answer_lines.proofs.put_entry.Goals as goal
 
 pub put_line-requires : goal.put_line-requires

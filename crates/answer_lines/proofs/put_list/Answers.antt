@@ -1,13 +1,12 @@
 -- `answer_lines::put_list` meets its contract.
 -- Assumes nothing.
 use mathlib.Core.Path.{◌≡◌, refl, subst}
-use Prim.Native.Nat.{ℕ, ◌+◌, ◌-◌, ◌*◌, ◌≤◌}
+use Prim.Native.Nat.{ℕ, ◌+◌, ◌-◌, ◌*◌}
 use native.Mathlib.Omega.{arith}
 use lib.ListN.{take}
 use Rattle.report_lines.specs.Line.{Appended}
 use Rattle.answer_lines.specs.Lines.{list_text}
-use Rattle.answer_lines.proofs.Lists.{Listing, listing_none, listing_more}
-use borrow.Author.Rules.{rules}
+use Rattle.answer_lines.proofs.Lists.{listing_none, listing_more}
 use Rattle.answer_lines.proofs.put_list.Goals as goal
 
 pub loop-i-init : goal.loop-i-init

@@ -2,7 +2,6 @@
 -- Assumes nothing.
 use Prim.Native.Nat.{◌+◌}
 use Rattle.convolutional_code.proofs.Bits.{bits_at}
-use borrow.Author.Rules.{rules}
 use Rattle.bit_packing.proofs.four_bits.Goals as goal
 
 pub gathered-requires : goal.gathered-requires

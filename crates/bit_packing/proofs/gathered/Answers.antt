@@ -2,7 +2,6 @@
 -- Assumes nothing.
 use native.Mathlib.Omega.{arith}
 use Rattle.bit_packing.proofs.Whole.{gathers}
-use borrow.Author.Rules.{rules}
 use Rattle.bit_packing.proofs.gathered.Goals as goal
 
 pub returns : goal.returns

@@ -10,7 +10,6 @@ use lib.Seq.{length-take-le, take_all}
 use Rattle.convolutional_code.proofs.Bits.{bits_take, bits_drop}
 use Rattle.bit_packing.specs.Packing.{Packs, carried_bits}
 use Rattle.bit_packing.proofs.Packing.{carried_length, carried_none, packs_put, packs_fit, packs_all}
-use borrow.Author.Rules.{rules}
 use Rattle.bit_packing.proofs.pack.Goals as goal
 
 pub slice_bounds-pack_bits-end : goal.slice_bounds-pack_bits-end

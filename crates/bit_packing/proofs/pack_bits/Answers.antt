@@ -1,12 +1,11 @@
 -- `bit_packing::pack_bits` meets its contract.
 -- Assumes nothing.
-use mathlib.Core.Path.{◌≡◌, refl, ap, ◌∙◌}
+use mathlib.Core.Path.{refl, ap, ◌∙◌}
 use Prim.Native.Nat.{◌-◌}
 use native.Mathlib.Omega.{arith}
 use lib.ListN.{length, length-set}
 use Rattle.convolutional_code.proofs.Bits.{bits_at}
-use Rattle.bit_packing.specs.Packing.{carried_bits}
-use Rattle.bit_packing.proofs.Packing.{Packing, carried_length, packing_start, packing_held, packing_whole, packing_as, packing_done}
+use Rattle.bit_packing.proofs.Packing.{carried_length, packing_start, packing_held, packing_whole, packing_as, packing_done}
 use Rattle.bit_packing.proofs.pack_bits.Goals as goal
 use Rattle.bit_packing.proofs.pack_bits.Goals.{then-n-eq8, else-n-eq8}
 
@@ -34,7 +33,7 @@ loop-i-preserved c =
     let here = c.loop-i-test.true in
     let bit = bits_at c.requires.1 l.i in
     elim c.if-n-eq8.branch [
-      then-n-eq8 w ↦ (
+      | then-n-eq8 w ↦ (
         packing_as w.output-is w.n-is w.k-is
             (packing_whole g here bit w.if-n-eq8.true (omega (arith, g.counted, carried_length c.args.carry c.args.held (omega arith))) (omega (arith, bit))),
         ap length w.output-is ∙ simp length-set l.invariant.1,

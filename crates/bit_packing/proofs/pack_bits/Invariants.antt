@@ -1,13 +1,10 @@
 -- `bit_packing::pack_bits` meets its contract.
 -- Assumes nothing.
-use mathlib.Core.Path.{◌≡◌, refl, ap, ◌∙◌}
-use mathlib.Core.Logic.{⊎_elim}
+use mathlib.Core.Path.{◌≡◌}
 use Prim.Native.Nat.{◌-◌}
-use native.Mathlib.Omega.{arith}
-use lib.ListN.{length, length-set}
-use Rattle.convolutional_code.proofs.Bits.{bits_at}
+use lib.ListN.{length}
 use Rattle.bit_packing.specs.Packing.{carried_bits}
-use Rattle.bit_packing.proofs.Packing.{Packing, carried_length, packing_start, packing_held, packing_whole, packing_as, packing_done}
+use Rattle.bit_packing.proofs.Packing.{Packing}
 use Rattle.bit_packing.proofs.pack_bits.Given as goal
 
 abbrev pub invariant-loop-i : goal.invariant-loop-i

@@ -1,14 +1,10 @@
 -- `bit_packing::pack_bytes` meets its contract.
 -- Assumes nothing.
-use mathlib.Core.Path.{◌≡◌, refl, ◌∙◌}
+use mathlib.Core.Path.{◌≡◌}
 use mathlib.Core.List.{◌++◌}
-use Prim.Native.Nat.{◌+◌, ◌-◌, ◌*◌, ◌/◌, ◌≤◌, ◌<◌}
-use native.Mathlib.Omega.{arith}
-use lib.ListN.{length, take, drop, length-set}
-use lib.Seq.{take_all}
+use Prim.Native.Nat.{◌+◌, ◌-◌, ◌*◌, ◌≤◌}
+use lib.ListN.{length, take, drop}
 use Rattle.bit_packing.specs.Packing.{packed_bytes}
-use Rattle.bit_packing.proofs.Bytes.{packed_few}
-use Rattle.bit_packing.proofs.Whole.{whole_more}
 use Rattle.bit_packing.proofs.pack_bytes.Given as goal
 
 abbrev pub invariant-loop-k : goal.invariant-loop-k

@@ -10,7 +10,6 @@ use lib.Seq.{length-take-le, take_all}
 use Rattle.convolutional_code.proofs.Bits.{bits_take, bits_drop}
 use Rattle.bit_packing.specs.Packing.{Packs}
 use Rattle.bit_packing.proofs.Packing.{packs_whole, packs_put, packs_fit}
-use borrow.Author.Rules.{rules}
 use Rattle.bit_packing.proofs.pack_fresh.Goals as goal
 
 pub slice_bounds-pack_bytes-end : goal.slice_bounds-pack_bytes-end

@@ -1,9 +1,7 @@
 -- `block_sync::block_given` meets its contract.
 -- Assumes nothing.
 use native.Mathlib.Omega.{arith}
-use borrow.Author.Tests.{not-true, not-false}
 use Rattle.block_sync.proofs.Buffers.{given_used, given_block, given_none}
-use borrow.Author.Rules.{rules}
 use Rattle.block_sync.proofs.block_given.Goals as goal
 
 pub returns-then-not-given : goal.returns-then-not-given

@@ -4,7 +4,6 @@ use mathlib.Core.Path.{subst}
 use native.Mathlib.Omega.{arith}
 use Rattle.sync_search.specs.Sync.{FirstSync}
 use Rattle.block_sync.proofs.Decisions.{first_enough, does_follow, does_begin, does_search}
-use borrow.Author.Rules.{rules}
 use Rattle.block_sync.proofs.decide.Goals as goal
 
 pub returns-then-keeps_lock : goal.returns-then-keeps_lock

@@ -1,7 +1,6 @@
 -- `block_sync::in_step` meets its contract.
 -- Assumes nothing.
 use Rattle.block_sync.proofs.Tests.{four_0, four_1, four_2, four_3}
-use borrow.Author.Rules.{rules}
 use Rattle.block_sync.proofs.in_step.Goals as goal
 
 pub returns-then-sync_or_end : goal.returns-then-sync_or_end

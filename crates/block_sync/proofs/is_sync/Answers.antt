@@ -1,7 +1,6 @@
 -- `block_sync::is_sync` meets its contract.
 -- Assumes nothing.
 use Rattle.block_sync.proofs.Tests.{sync_first, sync_second}
-use borrow.Author.Rules.{rules}
 use Rattle.block_sync.proofs.is_sync.Goals as goal
 
 pub returns-then-byte-eq71 : goal.returns-then-byte-eq71

@@ -2,7 +2,6 @@
 -- Assumes nothing.
 use borrow.Author.Tests.{not-true, not-false}
 use Rattle.block_sync.proofs.Tests.{keeps_not, keeps_short, keeps_step}
-use borrow.Author.Rules.{rules}
 use Rattle.block_sync.proofs.keeps_lock.Goals as goal
 
 pub returns-then-not-lock : goal.returns-then-not-lock

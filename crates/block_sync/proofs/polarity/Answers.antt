@@ -2,7 +2,6 @@
 -- Assumes nothing.
 use native.Mathlib.Omega.{arith}
 use Rattle.block_sync.proofs.Tests.{three, polarity_short, polarity_not, polarity_all}
-use borrow.Author.Rules.{rules}
 use Rattle.block_sync.proofs.polarity.Goals as goal
 
 pub returns-then-bits-at : goal.returns-then-bits-at

@@ -1,7 +1,6 @@
 -- `block_sync::sync_or_end` meets its contract.
 -- Assumes nothing.
 use Rattle.block_sync.proofs.Tests.{end_true, end_sync}
-use borrow.Author.Rules.{rules}
 use Rattle.block_sync.proofs.sync_or_end.Goals as goal
 
 pub returns-then-bits-at : goal.returns-then-bits-at

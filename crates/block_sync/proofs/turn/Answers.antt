@@ -3,7 +3,6 @@
 use native.Mathlib.Omega.{arith}
 use Rattle.block_sync.proofs.Decisions.{used_within, skipped_within}
 use Rattle.block_sync.proofs.Buffers.{turn_is}
-use borrow.Author.Rules.{rules}
 use Rattle.block_sync.proofs.turn.Goals as goal
 
 pub used_bits-used-requires : goal.used_bits-used-requires

@@ -3,7 +3,6 @@
 use mathlib.Core.Path.{sym, ap}
 use mathlib.Core.Bool.{Bool}
 use Rattle.block_sync.specs.Grid.{turned_byte}
-use borrow.Author.Rules.{rules}
 use Rattle.block_sync.proofs.turned_byte.Goals as goal
 
 pub returns-then-inverted : goal.returns-then-inverted

@@ -5,7 +5,6 @@ use mathlib.Core.Bool.{Bool}
 use Prim.Native.Nat.{◌+◌}
 use native.Mathlib.Nat.{add-zero}
 use Rattle.common.specs.Choice.{pick}
-use borrow.Author.Rules.{rules}
 use Rattle.block_sync.proofs.used_bits.Goals as goal
 
 pub returns-then-given : goal.returns-then-given

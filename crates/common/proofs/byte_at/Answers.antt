@@ -4,7 +4,6 @@ use mathlib.Core.Path.{◌≡◌, ap, ◌∙◌}
 use Prim.Native.Nat.{ℕ, suc, ◌+◌, ◌-◌, ◌/◌, ◌%◌, ◌≤◌, ◌<◌}
 use native.Mathlib.Omega.{arith}
 use Rattle.common.specs.Bytes.{byte_at}
-use borrow.Author.Rules.{rules}
 use Rattle.common.proofs.byte_at.Invariants.{Divided}
 use Rattle.common.proofs.byte_at.Goals as goal
 

@@ -1,10 +1,8 @@
 -- `common::byte_at` meets its contract.
 -- Assumes nothing.
-use mathlib.Core.Path.{◌≡◌, ap, ◌∙◌}
-use Prim.Native.Nat.{ℕ, suc, ◌+◌, ◌-◌, ◌/◌, ◌%◌, ◌≤◌, ◌<◌}
-use native.Mathlib.Omega.{arith}
+use mathlib.Core.Path.{◌≡◌}
+use Prim.Native.Nat.{ℕ, ◌-◌, ◌≤◌}
 use Rattle.common.specs.Bytes.{byte_at}
-use borrow.Author.Rules.{rules}
 use Rattle.common.proofs.byte_at.Given as goal
 
 -- the byte that is wanted is byte k - j of what is left

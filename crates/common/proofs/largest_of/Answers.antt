@@ -1,8 +1,8 @@
 -- `common::largest_of` meets its contract: the largest of the first i bytes.
 -- Assumes nothing.
-use mathlib.Core.Path.{◌≡◌, refl, sym, ap, ◌∙◌}
-use Prim.Native.Nat.{ℕ, ◌-◌, ◌≤◌, max}
-use lib.ListN.{length, get_or, take}
+use mathlib.Core.Path.{refl, sym, ap, ◌∙◌}
+use Prim.Native.Nat.{ℕ, max}
+use lib.ListN.{get_or}
 use Rattle.common.specs.Lists.{largest}
 use Rattle.common.proofs.Largest.{largest_more, largest_whole}
 use borrow.Author.Rules.{rules}

@@ -1,11 +1,9 @@
 -- `common::largest_of` meets its contract: the largest of the first i bytes.
 -- Assumes nothing.
-use mathlib.Core.Path.{◌≡◌, refl, sym, ap, ◌∙◌}
-use Prim.Native.Nat.{ℕ, ◌-◌, ◌≤◌, max}
-use lib.ListN.{length, get_or, take}
+use mathlib.Core.Path.{◌≡◌}
+use Prim.Native.Nat.{◌-◌, ◌≤◌}
+use lib.ListN.{length, take}
 use Rattle.common.specs.Lists.{largest}
-use Rattle.common.proofs.Largest.{largest_more, largest_whole}
-use borrow.Author.Rules.{rules}
 use Rattle.common.proofs.largest_of.Given as goal
 
 abbrev pub invariant-loop-i : goal.invariant-loop-i

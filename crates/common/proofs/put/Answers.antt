@@ -1,10 +1,9 @@
 -- `common::put` meets its contract: after i turns the first i elements are written.
 -- Assumes nothing.
 use mathlib.Core.Path.{◌≡◌, refl}
-use Prim.Native.Nat.{◌-◌}
 use native.Mathlib.Omega.{arith}
 use lib.ListN.{length}
-use Rattle.common.proofs.Written.{Written, written_none, written_more, written_length, written_all}
+use Rattle.common.proofs.Written.{written_none, written_more, written_length, written_all}
 use borrow.Author.Rules.{rules}
 use Rattle.common.proofs.put.Goals as goal
 

@@ -1,11 +1,8 @@
 -- `common::put` meets its contract: after i turns the first i elements are written.
 -- Assumes nothing.
-use mathlib.Core.Path.{◌≡◌, refl}
 use Prim.Native.Nat.{◌-◌}
-use native.Mathlib.Omega.{arith}
 use lib.ListN.{length}
-use Rattle.common.proofs.Written.{Written, written_none, written_more, written_length, written_all}
-use borrow.Author.Rules.{rules}
+use Rattle.common.proofs.Written.{Written}
 use Rattle.common.proofs.put.Given as goal
 
 abbrev pub invariant-loop-i : goal.invariant-loop-i

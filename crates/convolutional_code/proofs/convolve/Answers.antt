@@ -2,11 +2,11 @@
 -- Assumes nothing.
 use mathlib.Core.Path.{◌≡◌, refl, ap, sym, ◌∙◌}
 use mathlib.Core.List.{List, [], ◌∷◌}
-use Prim.Native.Nat.{ℕ, ◌+◌, ◌-◌, ◌%◌, ◌≤◌, ◌<◌}
+use Prim.Native.Nat.{ℕ, ◌+◌, ◌%◌, ◌<◌}
 use native.Mathlib.Nat.{zero-add}
 use native.Mathlib.Omega.{arith}
 use lib.ListN.{length, get_or}
-use Rattle.common.proofs.Written.{Written, written_none, written_more, written_length}
+use Rattle.common.proofs.Written.{written_none, written_more, written_length}
 use Rattle.common.proofs.Outputs.{placed_all}
 use Rattle.convolutional_code.specs.Sweep.{sweep, total_at}
 use Rattle.convolutional_code.proofs.Bits.{bits_at}

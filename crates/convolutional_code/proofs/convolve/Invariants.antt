@@ -1,16 +1,9 @@
 -- `convolutional_code::convolve` meets its contract.
 -- Assumes nothing.
-use mathlib.Core.Path.{◌≡◌, refl, ap, sym, ◌∙◌}
-use mathlib.Core.List.{List, [], ◌∷◌}
-use Prim.Native.Nat.{ℕ, ◌+◌, ◌-◌, ◌%◌, ◌≤◌, ◌<◌}
-use native.Mathlib.Nat.{zero-add}
-use native.Mathlib.Omega.{arith}
-use lib.ListN.{length, get_or}
-use Rattle.common.proofs.Written.{Written, written_none, written_more, written_length}
-use Rattle.common.proofs.Outputs.{placed_all}
-use Rattle.convolutional_code.specs.Sweep.{sweep, total_at}
-use Rattle.convolutional_code.proofs.Bits.{bits_at}
-use Rattle.convolutional_code.proofs.Sweep.{length_sweep, sweep_at}
+use mathlib.Core.List.{[], ◌∷◌}
+use Prim.Native.Nat.{◌-◌, ◌≤◌}
+use Rattle.common.proofs.Written.{Written}
+use Rattle.convolutional_code.specs.Sweep.{sweep}
 use Rattle.convolutional_code.proofs.convolve.Given as goal
 
 abbrev pub invariant-loop-n : goal.invariant-loop-n

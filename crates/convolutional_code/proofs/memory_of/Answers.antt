@@ -1,9 +1,7 @@
 -- `convolutional_code::memory_of` meets its contract.
 -- Assumes nothing.
 use Prim.Native.Nat.{◌+◌}
-use native.Mathlib.Omega.{arith}
 use Rattle.convolutional_code.proofs.Bits.{bits_at}
-use borrow.Author.Rules.{rules}
 use Rattle.convolutional_code.proofs.memory_of.Goals as goal
 
 pub six_bits-requires : goal.six_bits-requires

@@ -9,7 +9,6 @@ use Rattle.common.specs.Lists.{placed}
 use Rattle.common.proofs.Outputs.{placed_append, placed_full}
 use Rattle.convolutional_code.specs.Sweep.{offsets_x, offsets_y, sweep}
 use Rattle.convolutional_code.proofs.Sweep.{length_sweep}
-use borrow.Author.Rules.{rules}
 use Rattle.convolutional_code.proofs.mother.Goals as goal
 
 pub returns : goal.returns

@@ -1,10 +1,10 @@
 -- `convolutional_code::unpack` meets its contract.
 -- Assumes nothing.
 use mathlib.Core.Path.{sym, ◌∙◌}
-use Prim.Native.Nat.{◌+◌, ◌-◌, ◌*◌, ◌≤◌}
+use Prim.Native.Nat.{◌+◌, ◌-◌, ◌*◌}
 use native.Mathlib.Omega.{arith}
 use lib.ListN.{length, length-take, length-drop}
-use Rattle.convolutional_code.proofs.Unpacked.{Unpacked, unpacked_none, unpacked_more, unpacked_all}
+use Rattle.convolutional_code.proofs.Unpacked.{unpacked_none, unpacked_more, unpacked_all}
 use Rattle.convolutional_code.proofs.unpack.Goals as goal
 
 pub loop-i-init : goal.loop-i-init

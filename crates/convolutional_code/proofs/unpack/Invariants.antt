@@ -1,10 +1,8 @@
 -- `convolutional_code::unpack` meets its contract.
 -- Assumes nothing.
-use mathlib.Core.Path.{sym, ◌∙◌}
-use Prim.Native.Nat.{◌+◌, ◌-◌, ◌*◌, ◌≤◌}
-use native.Mathlib.Omega.{arith}
-use lib.ListN.{length, length-take, length-drop}
-use Rattle.convolutional_code.proofs.Unpacked.{Unpacked, unpacked_none, unpacked_more, unpacked_all}
+use Prim.Native.Nat.{◌-◌, ◌≤◌}
+use lib.ListN.{length}
+use Rattle.convolutional_code.proofs.Unpacked.{Unpacked}
 use Rattle.convolutional_code.proofs.unpack.Given as goal
 
 abbrev pub invariant-loop-i : goal.invariant-loop-i

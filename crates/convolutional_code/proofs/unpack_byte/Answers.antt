@@ -5,7 +5,6 @@ use native.Mathlib.Omega.{arith}
 use lib.ListN.{length-set}
 use lib.Seq.{sets-eq}
 use Rattle.convolutional_code.specs.Bits.{bits_of}
-use borrow.Author.Rules.{rules}
 use Rattle.convolutional_code.proofs.unpack_byte.Goals as goal
 
 pub bounds-output-1 : goal.bounds-output-1

@@ -4,7 +4,6 @@ use native.Mathlib.Omega.{arith}
 use lib.ListN.{length-set}
 use lib.Seq.{sets-eq}
 use Rattle.convolutional_code.specs.Sweep.{oldest}
-use borrow.Author.Rules.{rules}
 use Rattle.convolutional_code.proofs.unpack_memory.Goals as goal
 
 pub bounds-output-1 : goal.bounds-output-1

@@ -3,7 +3,6 @@
 use mathlib.Core.Path.{refl, ap}
 use lib.ListN.{set}
 use Rattle.dvbs.specs.LossesRun.{untold, listed}
-use borrow.Author.Rules.{rules}
 use Rattle.dvbs.proofs.dvbs_losses_run.Goals as goal
 
 pub returns-then-answer-lt1 : goal.returns-then-answer-lt1

@@ -13,7 +13,6 @@ use Rattle.receiver.specs.Receive.{fresh_receiver}
 use Rattle.recording.specs.Recording.{AnswersRecording, recording_number}
 use Rattle.dvbs.specs.ReceiveRun.{receive_run_number, untold, refused}
 use Rattle.dvbs.proofs.Runs.{run_exported}
-use borrow.Author.Rules.{rules}
 use Rattle.dvbs.proofs.dvbs_receive_run.Goals as goal
 
 pub returns-then-answer-lt1 : goal.returns-then-answer-lt1

@@ -4,7 +4,7 @@ use mathlib.Core.Path.{◌≡◌, refl, sym, ap, subst, ◌∙◌}
 use mathlib.Core.Bool.{true}
 use Prim.Native.Nat.{ℕ, ◌<◌}
 use native.Mathlib.Omega.{arith}
-use borrow.Author.Tests.{lt-ltb, le-ltb, not-true, not-false}
+use borrow.Author.Tests.{lt-ltb, le-ltb}
 use lib.ListN.{set}
 use Rattle.answer.specs.Number.{number_of}
 use Rattle.receiver.specs.Receive.{fresh_receiver}
@@ -12,7 +12,6 @@ use Rattle.receiver.proofs.Reached.{sound_range, sound_fresh}
 use Rattle.recording.specs.Recording.{AnswersRecording, marks_for, marked_number}
 use Rattle.dvbs.specs.ReceiveRun.{marked_run_number, untold, refused}
 use Rattle.dvbs.proofs.Runs.{run_exported}
-use borrow.Author.Rules.{rules}
 use Rattle.dvbs.proofs.dvbs_receive_run_marked.Goals as goal
 
 pub returns-then-answer-lt1 : goal.returns-then-answer-lt1

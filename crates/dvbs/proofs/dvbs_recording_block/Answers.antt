@@ -12,7 +12,6 @@ use Rattle.answer.specs.Number.{number_of}
 use Rattle.recording.specs.Block.{block_count, block_refusal, GivesBlock, block_refused, block_decoded}
 use Rattle.recording.specs.declared.block.DecodedBlock.{DecodedBlock}
 use Rattle.dvbs.specs.RecordingBlock.{no_count, called}
-use borrow.Author.Rules.{rules}
 use Rattle.dvbs.proofs.dvbs_recording_block.Goals as goal
 
 -- with no room at all, some test refuses

@@ -3,7 +3,6 @@
 use mathlib.Core.Path.{sym, ap, ◌∙◌}
 use borrow.Author.Tests.{lt-ltb, le-ltb}
 use lib.ListN.{set}
-use borrow.Author.Rules.{rules}
 use Rattle.dvbs.proofs.dvbs_send_run.Goals as goal
 
 pub returns-then-answer-lt1 : goal.returns-then-answer-lt1

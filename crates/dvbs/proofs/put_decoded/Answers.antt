@@ -3,7 +3,6 @@
 use mathlib.Core.Path.{sym, ap}
 use Rattle.reed_solomon.specs.Decode.{decoded_number}
 use Rattle.dvbs.specs.Decode.{count_after}
-use borrow.Author.Rules.{rules}
 use Rattle.dvbs.proofs.put_decoded.Goals as goal
 
 pub returns-in-Corrected : goal.returns-in-Corrected

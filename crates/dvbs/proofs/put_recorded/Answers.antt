@@ -4,7 +4,6 @@ use mathlib.Core.Path.{sym, ap, ◌∙◌}
 use borrow.Author.Tests.{eq-eqb, ne_eqb}
 use lib.ListN.{set}
 use Rattle.answer.specs.Number.{number_of}
-use borrow.Author.Rules.{rules}
 use Rattle.dvbs.proofs.put_recorded.Goals as goal
 
 pub returns-then-number-ne0 : goal.returns-then-number-ne0

@@ -4,7 +4,6 @@ use mathlib.Core.Path.{◌≡◌, refl, sym, ap, ◌∙◌}
 use mathlib.Core.List.{List, ◌++◌}
 use Prim.Native.Nat.{ℕ, ◌+◌, ◌*◌}
 use native.Mathlib.Omega.{arith}
-use borrow.Author.Tests.{not-true, not-false}
 use lib.ListN.{drop}
 use Rattle.state_bytes.proofs.Copies.{front}
 use Rattle.state_bytes.proofs.States.{stands_read, none_stands}
@@ -13,7 +12,6 @@ use Rattle.receiver_state.specs.State.{StandsFor}
 use Rattle.receiver_state.specs.Reading.{state_of}
 use Rattle.dvbs_bridge.specs.Calls.{other_length, unknown, none_read, short, counted}
 use Rattle.receiver_state.proofs.States.{reads, count_held}
-use borrow.Author.Rules.{rules}
 use Rattle.dvbs_bridge.proofs.dvbs_bridge_count.Goals as goal
 
 pub returns-then-state-ne-STATE_LENGTH : goal.returns-then-state-ne-STATE_LENGTH

@@ -3,7 +3,6 @@
 use mathlib.Core.Path.{refl, ap, ◌∙◌}
 use borrow.Author.Tests.{eq-eqb, ne_eqb}
 use Rattle.receiver_state.specs.State.{state_bytes}
-use borrow.Author.Rules.{rules}
 use Rattle.dvbs_bridge.proofs.dvbs_bridge_fresh.Goals as goal
 
 pub returns-then-state-ne-STATE_LENGTH : goal.returns-then-state-ne-STATE_LENGTH

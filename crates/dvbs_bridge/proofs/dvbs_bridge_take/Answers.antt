@@ -7,7 +7,6 @@ use Rattle.receiver.specs.Receive.{Receives}
 use Rattle.receiver.specs.declared.Receiver.{Receiver}
 use Rattle.dvbs_bridge.specs.Calls.{BridgeTakes, wrong_length}
 use Rattle.dvbs_bridge.proofs.Takes.{refused_takes, taken_takes}
-use borrow.Author.Rules.{rules}
 use Rattle.dvbs_bridge.proofs.dvbs_bridge_take.Goals as goal
 
 pub returns-then-state-ne-STATE_LENGTH : goal.returns-then-state-ne-STATE_LENGTH

@@ -6,7 +6,6 @@ use Prim.Native.Nat.{ℕ}
 use lib.ListN.{drop}
 use Rattle.answer.specs.Number.{number_of}
 use Rattle.dvbs_reader.specs.ReadRun.{result_bytes, result_short, answered}
-use borrow.Author.Rules.{rules}
 use Rattle.dvbs_reader.proofs.dvbs_read_soft_run.Goals as goal
 
 pub returns-then-res-lt6 : goal.returns-then-res-lt6

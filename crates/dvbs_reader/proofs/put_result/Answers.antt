@@ -4,8 +4,7 @@ use mathlib.Core.Path.{◌≡◌, refl, ◌∙◌}
 use mathlib.Core.List.{List, [], ◌∷◌}
 use Prim.Native.Nat.{ℕ, ◌≤◌}
 use native.Mathlib.Omega.{arith}
-use lib.ListN.{length, set, drop, length-set}
-use borrow.Author.Rules.{rules}
+use lib.ListN.{length, set, drop}
 use Rattle.dvbs_reader.proofs.put_result.Goals as goal
 
 -- six bytes stored from the front on

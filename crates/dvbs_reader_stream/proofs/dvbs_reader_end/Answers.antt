@@ -2,7 +2,6 @@
 -- Assumes nothing.
 use mathlib.Core.Path.{◌≡◌, refl, sym, ap, subst, ◌∙◌}
 use mathlib.Core.Bool.{true}
-use borrow.Author.Tests.{not-true, not-false}
 use lib.ListN.{length, set, length-set}
 use Rattle.state_bytes.specs.Calls.{no_answer, wrong_length}
 use Rattle.dvbs_reader_stream.specs.State.{in_range}
@@ -11,7 +10,6 @@ use native.Mathlib.Omega.{arith}
 use Rattle.reader_stream.specs.Stream.{ReaderReady, FinishesReader}
 use Rattle.reader_stream.specs.declared.ReaderStream.{ReaderStream}
 use Rattle.dvbs_reader_stream.proofs.Feeding.{few_symbols, end_pass, none_called, read_ready, refused_ends, ends}
-use borrow.Author.Rules.{rules}
 use Rattle.dvbs_reader_stream.proofs.dvbs_reader_end.Goals as goal
 
 pub returns-then-answer-lt1 : goal.returns-then-answer-lt1

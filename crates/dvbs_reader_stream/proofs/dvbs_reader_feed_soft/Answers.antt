@@ -2,7 +2,6 @@
 -- Assumes nothing.
 use mathlib.Core.Path.{◌≡◌, refl, sym, ap, subst, ◌∙◌}
 use mathlib.Core.Bool.{true}
-use borrow.Author.Tests.{not-true, not-false}
 use lib.ListN.{length, set}
 use Rattle.state_bytes.specs.Calls.{no_answer, wrong_length}
 use Rattle.dvbs_reader_stream.specs.State.{in_range}
@@ -15,7 +14,6 @@ use Rattle.reader_stream.specs.declared.ReaderStream.{ReaderStream}
 use Rattle.reader_stream.proofs.Feeding.{room_enough}
 use Rattle.dvbs_reader_stream.specs.Calls.{points_due}
 use Rattle.dvbs_reader_stream.proofs.Feeding.{points_pass, none_called, read_ready, refused_pairs, fed_pairs}
-use borrow.Author.Rules.{rules}
 use Rattle.dvbs_reader_stream.proofs.dvbs_reader_feed_soft.Goals as goal
 
 pub returns-then-answer-lt1 : goal.returns-then-answer-lt1

@@ -4,7 +4,6 @@ use mathlib.Core.Path.{refl, ap, ◌∙◌}
 use borrow.Author.Tests.{eq-eqb, ne_eqb, lt-ltb, le-ltb}
 use Rattle.dvbs_reader_stream.specs.State.{state_bytes}
 use Rattle.dvbs_reader_stream.proofs.States.{fresh_cleared}
-use borrow.Author.Rules.{rules}
 use Rattle.dvbs_reader_stream.proofs.dvbs_reader_fresh.Goals as goal
 
 pub returns-then-state-ne-STATE_LENGTH : goal.returns-then-state-ne-STATE_LENGTH

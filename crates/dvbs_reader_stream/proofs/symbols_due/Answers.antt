@@ -4,7 +4,6 @@ use mathlib.Core.Path.{sym, ap, ◌∙◌}
 use Prim.Native.Nat.{ℕ}
 use borrow.Author.Tests.{lt-ltb, le-ltb}
 use lib.Dec.{ltb}
-use borrow.Author.Rules.{rules}
 use Rattle.dvbs_reader_stream.proofs.symbols_due.Goals as goal
 
 pub returns-then-largest_of-ge4 : goal.returns-then-largest_of-ge4

@@ -3,7 +3,6 @@
 use mathlib.Core.Path.{◌≡◌, refl, sym, ap, subst, ◌∙◌}
 use mathlib.Core.Bool.{true, false}
 use native.Mathlib.Omega.{arith}
-use borrow.Author.Tests.{not-true, not-false}
 use lib.Dec.{ltb}
 use lib.ListN.{set}
 use Rattle.common.specs.Choice.{pick}
@@ -14,7 +13,6 @@ use Rattle.receiver_stream.specs.declared.ReceiverStream.{ReceiverStream}
 use Rattle.dvbs_receiver.specs.State.{is_clear}
 use Rattle.dvbs_receiver.specs.Reading.{state_of}
 use Rattle.dvbs_receiver.proofs.Feeding.{unclear, refused_feeds, taken_feeds, held_few}
-use borrow.Author.Rules.{rules}
 use Rattle.dvbs_receiver.proofs.dvbs_receiver_feed.Goals as goal
 
 pub returns-then-answer-lt1 : goal.returns-then-answer-lt1

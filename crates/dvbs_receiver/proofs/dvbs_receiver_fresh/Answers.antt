@@ -7,7 +7,6 @@ use borrow.Author.Tests.{eq-eqb, ne_eqb}
 use Rattle.receiver_stream.specs.Feed.{fresh_receiver_stream}
 use Rattle.receiver_stream.specs.declared.ReceiverStream.{ReceiverStream}
 use Rattle.dvbs_receiver.specs.State.{state_bytes}
-use borrow.Author.Rules.{rules}
 use Rattle.dvbs_receiver.proofs.dvbs_receiver_fresh.Goals as goal
 
 pub returns-then-state-ne-STATE_LENGTH : goal.returns-then-state-ne-STATE_LENGTH

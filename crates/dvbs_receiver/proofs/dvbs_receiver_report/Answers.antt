@@ -2,7 +2,6 @@
 -- Assumes nothing.
 use mathlib.Core.Path.{◌≡◌, refl, sym, ap, subst, ◌∙◌}
 use mathlib.Core.Bool.{false}
-use borrow.Author.Tests.{not-true, not-false}
 use lib.Dec.{ltb}
 use lib.ListN.{set}
 use Rattle.common.specs.Choice.{pick}
@@ -13,7 +12,6 @@ use Rattle.receiver_stream.specs.declared.ReceiverStream.{ReceiverStream}
 use Rattle.dvbs_receiver.specs.State.{is_clear}
 use Rattle.dvbs_receiver.specs.Reading.{state_of}
 use Rattle.dvbs_receiver.proofs.Feeding.{unclear, reports_state}
-use borrow.Author.Rules.{rules}
 use Rattle.dvbs_receiver.proofs.dvbs_receiver_report.Goals as goal
 
 pub returns-then-answer-lt1 : goal.returns-then-answer-lt1

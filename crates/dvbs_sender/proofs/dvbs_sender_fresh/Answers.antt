@@ -4,7 +4,6 @@ use mathlib.Core.Path.{◌≡◌, refl, ap, sym, ◌∙◌}
 use borrow.Author.Tests.{eq-eqb, ne_eqb}
 use Rattle.dvbs_sender.specs.State.{state_bytes}
 use Rattle.dvbs_sender.specs.Calls.{fresh_number}
-use borrow.Author.Rules.{rules}
 use Rattle.dvbs_sender.proofs.dvbs_sender_fresh.Goals as goal
 
 pub returns-then-state-ne-STATE_LENGTH : goal.returns-then-state-ne-STATE_LENGTH

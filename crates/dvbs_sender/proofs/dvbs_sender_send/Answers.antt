@@ -9,7 +9,6 @@ use Rattle.sender.specs.declared.Sender.{Sender}
 use Rattle.state_bytes.specs.Calls.{no_answer, wrong_length}
 use Rattle.dvbs_sender.specs.Calls.{refuses}
 use Rattle.dvbs_sender.proofs.Sends.{refused_sends, sent_sends}
-use borrow.Author.Rules.{rules}
 use Rattle.dvbs_sender.proofs.dvbs_sender_send.Goals as goal
 
 pub returns-then-answer-lt1 : goal.returns-then-answer-lt1

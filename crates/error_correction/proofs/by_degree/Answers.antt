@@ -1,11 +1,10 @@
 -- `error_correction::by_degree` meets its contract: after d turns the marks of the first d degrees are stored.
 -- Assumes nothing.
-use mathlib.Core.Path.{◌≡◌, refl, sym, ◌∙◌}
-use Prim.Native.Nat.{◌-◌, ◌≤◌}
+use mathlib.Core.Path.{refl, sym, ◌∙◌}
+use Prim.Native.Nat.{◌-◌}
 use native.Mathlib.Omega.{arith}
-use lib.ListN.{get_or}
 use Rattle.common.proofs.Lists.{zeros_at}
-use Rattle.common.proofs.Each.{Updated, updated_none, updated_more}
+use Rattle.common.proofs.Each.{updated_none, updated_more}
 use borrow.Author.Rules.{rules}
 use Rattle.error_correction.proofs.by_degree.Goals as goal
 

@@ -1,12 +1,9 @@
 -- `error_correction::by_degree` meets its contract: after d turns the marks of the first d degrees are stored.
 -- Assumes nothing.
-use mathlib.Core.Path.{◌≡◌, refl, sym, ◌∙◌}
+use mathlib.Core.Path.{◌≡◌}
 use Prim.Native.Nat.{◌-◌, ◌≤◌}
-use native.Mathlib.Omega.{arith}
 use lib.ListN.{get_or}
-use Rattle.common.proofs.Lists.{zeros_at}
-use Rattle.common.proofs.Each.{Updated, updated_none, updated_more}
-use borrow.Author.Rules.{rules}
+use Rattle.common.proofs.Each.{Updated}
 use Rattle.error_correction.proofs.by_degree.Given as goal
 
 abbrev pub invariant-loop-d : goal.invariant-loop-d

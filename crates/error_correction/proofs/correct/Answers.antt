@@ -1,7 +1,7 @@
 -- `error_correction::correct` meets its contract: the errors from l on are left to do.
 -- Assumes nothing.
 use mathlib.Core.Path.{sym, subst}
-use Prim.Native.Nat.{◌+◌, ◌-◌}
+use Prim.Native.Nat.{◌+◌}
 use native.Mathlib.Omega.{arith}
 use Rattle.error_correction.proofs.CorrectedBlock.{Correcting, correcting_none, changed_fits, fixed, correcting_same, correcting_more, correcting_count, correcting_block}
 use borrow.Author.Rules.{rules}
@@ -34,10 +34,10 @@ loop-l-preserved c =
     let n = c.well_formed.1.0.1.0.1 in
     let m = c.well_formed.1.1.0.1.0.1 in
     elim c.if-e-ne0.branch [
-      then-e-ne0 w ↦ subst (λ k. Correcting c.args.block.now (fixed _ _ _ _ _ _ _ n m c.requires.1 (omega arith) l.invariant) c.args.degrees c.args.values c.args.count k (l.l + 1)) (sym w.changed-is)
-    (correcting_more _ _ _ _ _ _ _ n m c.requires.1 (omega arith) l.invariant w.if-e-ne0.true)
+      | then-e-ne0 w ↦ subst (λ k. Correcting c.args.block.now (fixed _ _ _ _ _ _ _ n m c.requires.1 (omega arith) l.invariant) c.args.degrees c.args.values c.args.count k (l.l + 1)) (sym w.changed-is)
+          (correcting_more _ _ _ _ _ _ _ n m c.requires.1 (omega arith) l.invariant w.if-e-ne0.true)
       | else-e-ne0 w ↦ subst (λ k. Correcting c.args.block.now (fixed _ _ _ _ _ _ _ n m c.requires.1 (omega arith) l.invariant) c.args.degrees c.args.values c.args.count k (l.l + 1)) (sym w.changed-is)
-    (correcting_same _ _ _ _ _ _ _ n m c.requires.1 (omega arith) l.invariant w.if-e-ne0.false)
+          (correcting_same _ _ _ _ _ _ _ n m c.requires.1 (omega arith) l.invariant w.if-e-ne0.false)
     ]
 
 pub shape_of-block : goal.shape_of-block

@@ -1,11 +1,7 @@
 -- `error_correction::correct` meets its contract: the errors from l on are left to do.
 -- Assumes nothing.
-use mathlib.Core.Path.{sym, subst}
-use mathlib.Core.Logic.{⊎_elim}
-use Prim.Native.Nat.{◌+◌, ◌-◌}
-use native.Mathlib.Omega.{arith}
-use Rattle.error_correction.proofs.CorrectedBlock.{Correcting, correcting_none, changed_fits, fixed, correcting_same, correcting_more, correcting_count, correcting_block}
-use borrow.Author.Rules.{rules}
+use Prim.Native.Nat.{◌-◌}
+use Rattle.error_correction.proofs.CorrectedBlock.{Correcting}
 use Rattle.error_correction.proofs.correct.Given as goal
 
 abbrev pub invariant-loop-l : goal.invariant-loop-l

@@ -1,8 +1,6 @@
 -- `error_correction::degree` meets its contract: the coefficients above d are zero.
 -- Assumes nothing.
 use native.Mathlib.Omega.{arith}
-use lib.ListN.{take}
-use Rattle.error_correction.specs.Correction.{EndsAt}
 use Rattle.error_correction.proofs.RootSearch.{ends_none, ends_less}
 use borrow.Author.Rules.{rules}
 use Rattle.error_correction.proofs.degree.Goals as goal

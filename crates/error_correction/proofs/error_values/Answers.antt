@@ -1,12 +1,11 @@
 -- `error_correction::error_values` meets its contract: the values of the first l errors are stored.
 -- Assumes nothing.
-use mathlib.Core.Path.{◌≡◌, refl, ap, ◌∙◌, subst⁻¹}
+use mathlib.Core.Path.{refl, ap, ◌∙◌, subst⁻¹}
 use Prim.{tt}
-use Prim.Native.Nat.{ℕ, ◌-◌, ◌≤◌, ◌<◌}
+use Prim.Native.Nat.{ℕ, ◌<◌}
 use native.Mathlib.Omega.{arith}
-use lib.ListN.{get_or}
 use Rattle.common.proofs.Lists.{zeros_at}
-use Rattle.common.proofs.Each.{Updated, updated_none, updated_more}
+use Rattle.common.proofs.Each.{updated_none, updated_more}
 use Rattle.galois.proofs.Instance.{byte}
 use Rattle.error_correction.specs.Correction.{monic}
 use Rattle.error_correction.proofs.ErrorValues.{value_small, value_of, value_alone}

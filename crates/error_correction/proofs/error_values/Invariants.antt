@@ -1,17 +1,9 @@
 -- `error_correction::error_values` meets its contract: the values of the first l errors are stored.
 -- Assumes nothing.
-use mathlib.Core.Path.{◌≡◌, refl, ap, ◌∙◌, subst⁻¹}
-use Prim.{tt}
-use Prim.Native.Nat.{ℕ, ◌-◌, ◌≤◌, ◌<◌}
-use native.Mathlib.Omega.{arith}
+use mathlib.Core.Path.{◌≡◌}
+use Prim.Native.Nat.{◌-◌, ◌≤◌}
 use lib.ListN.{get_or}
-use Rattle.common.proofs.Lists.{zeros_at}
-use Rattle.common.proofs.Each.{Updated, updated_none, updated_more}
-use Rattle.galois.proofs.Instance.{byte}
-use Rattle.error_correction.specs.Correction.{monic}
-use Rattle.error_correction.proofs.ErrorValues.{value_small, value_of, value_alone}
-use borrow.Author.Rules.{rules, elem_Fits}
-use mir.Syntax.{w8}
+use Rattle.common.proofs.Each.{Updated}
 use Rattle.error_correction.proofs.error_values.Given as goal
 
 abbrev pub invariant-loop-l : goal.invariant-loop-l

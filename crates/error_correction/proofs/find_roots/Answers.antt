@@ -1,13 +1,12 @@
 -- `error_correction::find_roots` meets its contract: the roots among the first i degrees are listed, and x has the next sixteen places.
 -- Assumes nothing.
 use mathlib.Core.Path.{◌≡◌, sym}
-use Prim.Native.Nat.{◌-◌, ◌%◌, ◌≤◌}
+use Prim.Native.Nat.{◌-◌}
 use native.Mathlib.Omega.{arith}
-use lib.ListN.{length, take, drop}
-use Rattle.galois.specs.Lanes.{PowersFrom}
+use lib.ListN.{take, drop}
 use Rattle.galois.proofs.LanePowers.{powers_next}
 use Rattle.error_correction.specs.Correction.{values_of}
-use Rattle.error_correction.proofs.RootSearch.{ends_of, length_prefix, lanes_next, Searched, searched_none, searched_fits, searched_more, searched_all, searched_stop, listed_nothing}
+use Rattle.error_correction.proofs.RootSearch.{ends_of, length_prefix, lanes_next, searched_none, searched_fits, searched_more, searched_all, searched_stop, listed_nothing}
 use Rattle.error_correction.proofs.RootCount.{ends_most}
 use borrow.Author.Rules.{rules}
 use Rattle.error_correction.proofs.find_roots.Goals as goal
@@ -58,16 +57,15 @@ loop-i-preserved c =
     let l = c.loop-i in
     lanes_next c.args.u.now c.args.q l.x c.evaluate.result c.with_erasures-v.result l.i d.result (omega (arith, l.invariant.1)) l.invariant.3 c.evaluate.ensures
     (ends_of c.args.q d.result c.well_formed.1.1.0.1.0.1 d.ensures.0) c.with_erasures-v.ensures c.with_erasures-v.type_inv.1.0.1 in
-    let l = c.loop-i in
-    (
+    let l = c.loop-i in (
       omega (arith, l.invariant.1),
       omega (arith, l.invariant.1),
       c.next_powers-y.type_inv.1.0.1,
       powers_next _ _ _ l.invariant.2 c.next_powers-y.ensures l.invariant.3,
       elim c.if-zero_lanes-ne0.branch [
-          then-zero_lanes-ne0 w ↦ rw w.found-is (searched_more _ _ _ _ _ _ l.invariant.4 _ _ (omega (arith, l.invariant.1)) l.invariant.3 (next) _ _ _ w.list_zeros-r.ensures)
-          | else-zero_lanes-ne0 w ↦ rw w.found-is (searched_more _ _ _ _ _ _ l.invariant.4 _ _ (omega (arith, l.invariant.1)) l.invariant.3 (next) _ _ _ (listed_nothing _ _ _ _ _ _ c.with_erasures-v.type_inv.1.0.1 (c.zero_lanes.ensures w.if-zero_lanes-ne0.false)))
-          ],
+        | then-zero_lanes-ne0 w ↦ rw w.found-is (searched_more _ _ _ _ _ _ l.invariant.4 _ _ (omega (arith, l.invariant.1)) l.invariant.3 (next) _ _ _ w.list_zeros-r.ensures)
+        | else-zero_lanes-ne0 w ↦ rw w.found-is (searched_more _ _ _ _ _ _ l.invariant.4 _ _ (omega (arith, l.invariant.1)) l.invariant.3 (next) _ _ _ (listed_nothing _ _ _ _ _ _ c.with_erasures-v.type_inv.1.0.1 (c.zero_lanes.ensures w.if-zero_lanes-ne0.false)))
+      ],
     )
 
 pub returns : goal.returns

@@ -1,7 +1,6 @@
 -- `error_correction::is_zero` meets its contract.
 -- Assumes nothing.
 use lib.Dec.{eqb}
-use borrow.Author.Rules.{rules}
 use Rattle.error_correction.proofs.RootSearch.{byte_is}
 use Rattle.error_correction.proofs.is_zero.Goals as goal
 

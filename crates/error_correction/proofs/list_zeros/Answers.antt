@@ -2,11 +2,11 @@
 -- Assumes nothing.
 use mathlib.Core.Path.{◌≡◌, sym, ◌∙◌}
 use mathlib.Core.List.{List}
-use Prim.Native.Nat.{ℕ, ◌+◌, ◌-◌, ◌≤◌, ◌<◌}
+use Prim.Native.Nat.{ℕ, ◌+◌, ◌-◌, ◌<◌}
 use native.Mathlib.Omega.{arith}
 use lib.ListN.{length, get_or, take, length-take}
 use lib.Seq.{get_or-take}
-use Rattle.error_correction.proofs.RootSearch.{ListedTo, listed_none, listed_as, listed_past, listed_skip, listed_more, listed_fits, listed_all}
+use Rattle.error_correction.proofs.RootSearch.{listed_none, listed_as, listed_past, listed_skip, listed_more, listed_fits, listed_all}
 use borrow.Author.Rules.{rules}
 use Rattle.error_correction.proofs.list_zeros.Goals as goal
 use Rattle.error_correction.proofs.list_zeros.Goals.{then-d-lt204+then-v-at-eq0, then-d-lt204+else-v-at-eq0, else-d-lt204}
@@ -50,10 +50,10 @@ loop-l-preserved c =
     let n = c.well_formed.1.1.1.0.1.0.1 in (
       search rules,
       elim c.if-d-lt204.branch [
-          then-d-lt204+then-v-at-eq0 w ↦ listed_as w.degrees-is w.places-is w.count-is (listed_more _ _ _ _ _ _ _ _ _ _ l.invariant.1 (counts _ i l.l n (search rules) w.if-d-lt204.true) (lane _ i l.l n (search rules) w.if-d-lt204.true ∙ w.if-v-at-eq0.true) c.requires.1)
-          | then-d-lt204+else-v-at-eq0 w ↦ listed_as w.degrees-is w.places-is w.count-is (listed_skip _ _ _ _ _ _ _ _ _ _ l.invariant.1 (counts _ i l.l n (search rules) w.if-d-lt204.true) (λ z. w.if-v-at-eq0.false (sym (lane _ i l.l n (search rules) w.if-d-lt204.true) ∙ z)))
-          | else-d-lt204 w ↦ listed_as w.degrees-is w.places-is w.count-is (listed_past _ _ _ _ _ _ _ _ _ _ l.invariant.1 (omega (arith, length-take (204 - i) c.args.v, w.if-d-lt204.false)))
-          ],
+        | then-d-lt204+then-v-at-eq0 w ↦ listed_as w.degrees-is w.places-is w.count-is (listed_more _ _ _ _ _ _ _ _ _ _ l.invariant.1 (counts _ i l.l n (search rules) w.if-d-lt204.true) (lane _ i l.l n (search rules) w.if-d-lt204.true ∙ w.if-v-at-eq0.true) c.requires.1)
+        | then-d-lt204+else-v-at-eq0 w ↦ listed_as w.degrees-is w.places-is w.count-is (listed_skip _ _ _ _ _ _ _ _ _ _ l.invariant.1 (counts _ i l.l n (search rules) w.if-d-lt204.true) (λ z. w.if-v-at-eq0.false (sym (lane _ i l.l n (search rules) w.if-d-lt204.true) ∙ z)))
+        | else-d-lt204 w ↦ listed_as w.degrees-is w.places-is w.count-is (listed_past _ _ _ _ _ _ _ _ _ _ l.invariant.1 (omega (arith, length-take (204 - i) c.args.v, w.if-d-lt204.false)))
+      ],
     )
 
 pub returns : goal.returns

@@ -1,14 +1,8 @@
 -- `error_correction::list_zeros` meets its contract: the zeros among the first l lanes are listed.
 -- Assumes nothing.
-use mathlib.Core.Path.{◌≡◌, sym, ◌∙◌}
-use mathlib.Core.List.{List}
-use mathlib.Core.Logic.{⊎_elim}
-use Prim.Native.Nat.{ℕ, ◌+◌, ◌-◌, ◌≤◌, ◌<◌}
-use native.Mathlib.Omega.{arith}
-use lib.ListN.{length, get_or, take, length-take}
-use lib.Seq.{get_or-take}
-use Rattle.error_correction.proofs.RootSearch.{ListedTo, listed_none, listed_as, listed_past, listed_skip, listed_more, listed_fits, listed_all}
-use borrow.Author.Rules.{rules}
+use Prim.Native.Nat.{◌-◌, ◌≤◌}
+use lib.ListN.{take}
+use Rattle.error_correction.proofs.RootSearch.{ListedTo}
 use Rattle.error_correction.proofs.list_zeros.Given as goal
 
 abbrev pub invariant-loop-l : goal.invariant-loop-l

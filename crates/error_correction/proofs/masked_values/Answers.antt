@@ -1,10 +1,7 @@
 -- `error_correction::masked_values` meets its contract: after j turns the first j lanes are stored.
 -- Assumes nothing.
-use mathlib.Core.Path.{◌≡◌, refl}
-use Prim.Native.Nat.{◌-◌}
-use lib.ListN.{get_or}
-use Rattle.common.proofs.Each.{Each, each_none, each_more, each_all}
-use Rattle.error_correction.specs.Correction.{masked}
+use mathlib.Core.Path.{refl}
+use Rattle.common.proofs.Each.{each_none, each_more, each_all}
 use borrow.Author.Rules.{rules}
 use Rattle.error_correction.proofs.masked_values.Goals as goal
 

@@ -1,11 +1,10 @@
 -- `error_correction::masked_values` meets its contract: after j turns the first j lanes are stored.
 -- Assumes nothing.
-use mathlib.Core.Path.{◌≡◌, refl}
+use mathlib.Core.Path.{◌≡◌}
 use Prim.Native.Nat.{◌-◌}
 use lib.ListN.{get_or}
-use Rattle.common.proofs.Each.{Each, each_none, each_more, each_all}
+use Rattle.common.proofs.Each.{Each}
 use Rattle.error_correction.specs.Correction.{masked}
-use borrow.Author.Rules.{rules}
 use Rattle.error_correction.proofs.masked_values.Given as goal
 
 abbrev pub invariant-loop-j : goal.invariant-loop-j

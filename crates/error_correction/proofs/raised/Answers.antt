@@ -2,12 +2,11 @@
 -- Assumes nothing.
 use mathlib.Core.Path.{◌≡◌, sym, ◌∙◌}
 use mathlib.Core.List.{◌∷◌, append-nil}
-use Prim.Native.Nat.{◌-◌}
 use native.Mathlib.Nat.{add_comm}
 use native.Mathlib.Omega.{arith}
 use lib.ListN.{length, take}
 use lib.Seq.{length-take-le, get_or-take}
-use Rattle.common.proofs.Written.{Written, written_none, written_more, written_all}
+use Rattle.common.proofs.Written.{written_none, written_more, written_all}
 use borrow.Author.Rules.{rules}
 use Rattle.error_correction.proofs.raised.Goals as goal
 

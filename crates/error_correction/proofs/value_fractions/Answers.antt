@@ -11,7 +11,7 @@ use Rattle.algebra.specs.Polynomial.{plus}
 use Rattle.galois.specs.Field256.{numbers}
 use Rattle.galois.specs.Lanes.{horner_step}
 use Rattle.error_correction.specs.Correction.{monic}
-use Rattle.error_correction.proofs.ErrorValues.{SummedLanes, lanes_none, lanes_more, lanes_all}
+use Rattle.error_correction.proofs.ErrorValues.{lanes_none, lanes_more, lanes_all}
 use borrow.Author.Rules.{rules}
 use Rattle.error_correction.proofs.value_fractions.Goals as goal
 

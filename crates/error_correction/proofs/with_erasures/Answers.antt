@@ -8,7 +8,6 @@ use lib.ListN.{get_or, take, drop}
 use lib.Seq.{get_or-take, get_or-drop}
 use Rattle.common.specs.Choice.{pick}
 use Rattle.error_correction.specs.Correction.{Masked}
-use borrow.Author.Rules.{rules}
 use Rattle.error_correction.proofs.with_erasures.Goals as goal
 
 pub returns-then-f-eq0 : goal.returns-then-f-eq0

@@ -1,9 +1,7 @@
 -- `error_correction::zero_lanes` meets its contract.
 -- Assumes nothing.
-use Prim.Native.Nat.{◌-◌}
 use native.Mathlib.Omega.{arith}
-use borrow.Author.Rules.{rules}
-use Rattle.error_correction.proofs.RootSearch.{Counted, counted_none, counted_more}
+use Rattle.error_correction.proofs.RootSearch.{counted_none, counted_more}
 use Rattle.error_correction.proofs.zero_lanes.Goals as goal
 
 pub loop-j-init : goal.loop-j-init

@@ -4,7 +4,6 @@ use mathlib.Core.Path.{ap₂, ◌∙◌}
 use Rattle.algebra.specs.Polynomial.{plus}
 use Rattle.galois.specs.Field256.{numbers}
 use Rattle.error_locator.proofs.KeyEquations.{added_row}
-use borrow.Author.Rules.{rules}
 use Rattle.error_locator.proofs.add_row.Goals as goal
 
 pub returns : goal.returns

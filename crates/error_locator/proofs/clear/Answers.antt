@@ -2,13 +2,11 @@
 -- Assumes nothing.
 use mathlib.Core.Path.{sym, ap₂, ◌∙◌, subst}
 use mathlib.Core.List.{List}
-use mathlib.Core.Logic.{⊎_elim}
 use Prim.Native.Nat.{ℕ, ◌+◌, ◌*◌, ◌-◌}
 use native.Mathlib.Omega.{arith}
 use lib.ListN.{get_or, replicate}
 use Rattle.error_locator.specs.Locator.{combined_of, Cleared}
 use Rattle.error_locator.proofs.KeyEquations.{combined_row, cleared_start, cleared_step_lem, cleared_skip, cleared_done}
-use borrow.Author.Rules.{rules}
 use Rattle.error_locator.proofs.clear.Goals as goal
 use Rattle.error_locator.proofs.clear.Goals.{then-i-k, else-i-k}
 
@@ -23,11 +21,11 @@ loop-i-preserved c =
     let k = c.args.k in
     let n = c.args.size in
     elim c.if-i-k.branch [
-      then-i-k w ↦ subst (λ m. Cleared o m n k (l.i + 1)) (sym w.m-is)
-      (cleared_step_lem o l.m _ n k l.i c.requires.1 (omega arith) c.requires.2 w.if-i-k.true c.requires.3 (w.put.auto.output ∙ C.len)
-      (combined_row o l.m _ w.combined-w.result l.i k (get_or o (k * 16 + k) 0) (get_or l.m (l.i * 16 + k) 0) c.requires.0 C.len (omega arith) (omega arith) C.swept.own
-      (w.combined-w.ensures ∙ ap₂ (λ (a b : List ℕ). combined_of (replicate 16 (get_or o (k * 16 + k) 0)) a b (replicate 16 (get_or l.m (l.i * 16 + k) 0))) w.sixteen.ensures c.sixteen-row.ensures)
-      w.put.ensures) C)
+      | then-i-k w ↦ subst (λ m. Cleared o m n k (l.i + 1)) (sym w.m-is)
+          (cleared_step_lem o l.m _ n k l.i c.requires.1 (omega arith) c.requires.2 w.if-i-k.true c.requires.3 (w.put.auto.output ∙ C.len)
+          (combined_row o l.m _ w.combined-w.result l.i k (get_or o (k * 16 + k) 0) (get_or l.m (l.i * 16 + k) 0) c.requires.0 C.len (omega arith) (omega arith) C.swept.own
+          (w.combined-w.ensures ∙ ap₂ (λ (a b : List ℕ). combined_of (replicate 16 (get_or o (k * 16 + k) 0)) a b (replicate 16 (get_or l.m (l.i * 16 + k) 0))) w.sixteen.ensures c.sixteen-row.ensures)
+          w.put.ensures) C)
       | else-i-k w ↦ subst (λ m. Cleared o m n k (l.i + 1)) (sym w.m-is) (cleared_skip o l.m n k l.i (omega arith) w.if-i-k.false C)
     ]
 

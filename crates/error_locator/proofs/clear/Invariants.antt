@@ -1,14 +1,7 @@
 -- `error_locator::clear` meets its contract: the rows below i are cleared in column k.
 -- Assumes nothing.
-use mathlib.Core.Path.{sym, ap₂, ◌∙◌, subst}
-use mathlib.Core.List.{List}
-use mathlib.Core.Logic.{⊎_elim}
-use Prim.Native.Nat.{ℕ, ◌+◌, ◌*◌, ◌-◌}
-use native.Mathlib.Omega.{arith}
-use lib.ListN.{get_or, replicate}
-use Rattle.error_locator.specs.Locator.{combined_of, Cleared}
-use Rattle.error_locator.proofs.KeyEquations.{combined_row, cleared_start, cleared_step_lem, cleared_skip, cleared_done}
-use borrow.Author.Rules.{rules}
+use Prim.Native.Nat.{◌-◌}
+use Rattle.error_locator.specs.Locator.{Cleared}
 use Rattle.error_locator.proofs.clear.Given as goal
 
 abbrev pub invariant-loop-i : goal.invariant-loop-i

@@ -5,7 +5,7 @@ use Prim.Native.Nat.{◌-◌}
 use native.Mathlib.Omega.{arith}
 use lib.Bits.{bit_xor}
 use lib.ListN.{length}
-use Rattle.common.proofs.Written.{Written, written_none, written_next, written_whole}
+use Rattle.common.proofs.Written.{written_none, written_next, written_whole}
 use Rattle.error_locator.specs.Locator.{combined_of}
 use Rattle.error_locator.proofs.KeyEquations.{length_combined, combined_at}
 use borrow.Author.Rules.{rules}

@@ -1,13 +1,8 @@
 -- `error_locator::eliminate` meets its contract: the first k columns are those of d times the unit matrix.
 -- Assumes nothing.
-use mathlib.Core.Path.{refl, ◌∙◌}
 use Prim.Native.Nat.{◌-◌, ◌≤◌}
-use native.Mathlib.Omega.{arith}
-use Rattle.common.proofs.Choice.{flag_false, flag_true}
 use Rattle.galois.proofs.Instance.{byte}
-use Rattle.error_locator.specs.Locator.{Reduced, Pivoted}
-use Rattle.error_locator.proofs.KeyEquations.{kept_start, kept_more, eliminated, eliminated_all}
-use borrow.Author.Rules.{rules}
+use Rattle.error_locator.specs.Locator.{Reduced}
 use Rattle.error_locator.proofs.eliminate.Given as goal
 
 abbrev pub invariant-loop-k : goal.invariant-loop-k

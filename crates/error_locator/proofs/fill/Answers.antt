@@ -5,7 +5,7 @@ use Prim.Native.Nat.{ℕ, ◌+◌, ◌-◌}
 use native.Mathlib.Omega.{arith}
 use lib.ListN.{length, take, drop, length-drop}
 use lib.Seq.{length-take-le}
-use Rattle.error_locator.proofs.KeyEquations.{FilledTo, filled_none, filled_more, filled_all}
+use Rattle.error_locator.proofs.KeyEquations.{filled_none, filled_more, filled_all}
 use borrow.Author.Rules.{rules}
 use Rattle.error_locator.proofs.fill.Goals as goal
 

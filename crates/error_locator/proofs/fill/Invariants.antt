@@ -1,12 +1,7 @@
 -- `error_locator::fill` meets its contract: the first r rows are filled in.
 -- Assumes nothing.
-use mathlib.Core.Path.{◌≡◌, sym, ap, ◌∙◌}
-use Prim.Native.Nat.{ℕ, ◌+◌, ◌-◌}
-use native.Mathlib.Omega.{arith}
-use lib.ListN.{length, take, drop, length-drop}
-use lib.Seq.{length-take-le}
-use Rattle.error_locator.proofs.KeyEquations.{FilledTo, filled_none, filled_more, filled_all}
-use borrow.Author.Rules.{rules}
+use Prim.Native.Nat.{◌-◌}
+use Rattle.error_locator.proofs.KeyEquations.{FilledTo}
 use Rattle.error_locator.proofs.fill.Given as goal
 
 abbrev pub invariant-loop-r : goal.invariant-loop-r

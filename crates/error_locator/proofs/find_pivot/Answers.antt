@@ -2,8 +2,7 @@
 -- Assumes nothing.
 use Prim.Native.Nat.{◌*◌, ◌+◌, ◌-◌}
 use native.Mathlib.Omega.{arith}
-use Rattle.error_locator.proofs.KeyEquations.{Looked, looked_start, looked_step, looked_found, looked_none}
-use borrow.Author.Rules.{rules}
+use Rattle.error_locator.proofs.KeyEquations.{looked_start, looked_step, looked_found, looked_none}
 use Rattle.error_locator.proofs.find_pivot.Goals as goal
 
 pub loop-p-init : goal.loop-p-init

@@ -1,9 +1,7 @@
 -- `error_locator::find_pivot` meets its contract: the rows from k up to p are zero in column k.
 -- Assumes nothing.
-use Prim.Native.Nat.{◌*◌, ◌+◌, ◌-◌}
-use native.Mathlib.Omega.{arith}
-use Rattle.error_locator.proofs.KeyEquations.{Looked, looked_start, looked_step, looked_found, looked_none}
-use borrow.Author.Rules.{rules}
+use Prim.Native.Nat.{◌-◌}
+use Rattle.error_locator.proofs.KeyEquations.{Looked}
 use Rattle.error_locator.proofs.find_pivot.Given as goal
 
 abbrev pub invariant-loop-p : goal.invariant-loop-p

@@ -1,12 +1,12 @@
 -- `error_locator::lowered` meets its contract: the first j bytes are moved.
 -- Assumes nothing.
 use mathlib.Core.Path.{◌≡◌, refl, sym, ◌∙◌}
-use Prim.Native.Nat.{ℕ, ◌+◌, ◌-◌, ◌≤◌, ◌<◌}
+use Prim.Native.Nat.{ℕ, ◌+◌, ◌-◌, ◌<◌}
 use native.Mathlib.Omega.{arith}
 use native.Mathlib.Decide.{dec_lt}
 use lib.ListN.{get_or, get_or-eq_default}
 use Rattle.common.proofs.Lists.{zeros_at}
-use Rattle.common.proofs.Each.{Updated, updated_none, updated_more}
+use Rattle.common.proofs.Each.{updated_none, updated_more}
 use borrow.Author.Rules.{rules}
 use Rattle.error_locator.proofs.lowered.Goals as goal
 

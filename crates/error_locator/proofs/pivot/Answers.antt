@@ -3,7 +3,6 @@
 use mathlib.Core.Path.{◌∙◌}
 use native.Mathlib.Omega.{arith}
 use Rattle.error_locator.proofs.KeyEquations.{pivoted_same, pivoted_add, pivoted_none}
-use borrow.Author.Rules.{rules}
 use Rattle.error_locator.proofs.pivot.Goals as goal
 
 pub returns-then-p-size : goal.returns-then-p-size

@@ -3,7 +3,6 @@
 use mathlib.Core.Path.{ap, ◌∙◌}
 use Rattle.galois.specs.Field256.{scaled}
 use Rattle.error_locator.proofs.KeyEquations.{scaled_row}
-use borrow.Author.Rules.{rules}
 use Rattle.error_locator.proofs.scale_row.Goals as goal
 
 pub returns : goal.returns

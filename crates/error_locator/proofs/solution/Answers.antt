@@ -2,8 +2,7 @@
 -- Assumes nothing.
 use mathlib.Core.Path.{refl}
 use Prim.Native.Nat.{◌-◌}
-use Rattle.common.proofs.Each.{Each, each_none, each_more, each_all}
-use Rattle.error_locator.specs.Locator.{SolutionAt}
+use Rattle.common.proofs.Each.{each_none, each_more, each_all}
 use borrow.Author.Rules.{rules}
 use Rattle.error_locator.proofs.solution.Goals as goal
 

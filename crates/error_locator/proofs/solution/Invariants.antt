@@ -1,10 +1,8 @@
 -- `error_locator::solution` meets its contract.
 -- Assumes nothing.
-use mathlib.Core.Path.{refl}
 use Prim.Native.Nat.{◌-◌}
-use Rattle.common.proofs.Each.{Each, each_none, each_more, each_all}
+use Rattle.common.proofs.Each.{Each}
 use Rattle.error_locator.specs.Locator.{SolutionAt}
-use borrow.Author.Rules.{rules}
 use Rattle.error_locator.proofs.solution.Given as goal
 
 abbrev pub invariant-loop-c : goal.invariant-loop-c

@@ -1,7 +1,6 @@
 -- `error_locator::solution_at` meets its contract.
 -- Assumes nothing.
 use Rattle.error_locator.proofs.KeyEquations.{solution_below, solution_own, solution_above}
-use borrow.Author.Rules.{rules}
 use Rattle.error_locator.proofs.solution_at.Goals as goal
 
 pub returns-then-c-k : goal.returns-then-c-k

@@ -8,7 +8,7 @@ use lib.Bits.{bit_xor, bit_and, and_mask, xor_comm, xor_zero_l, xor_zero_r}
 use lib.Pow.{shr-shr}
 use Rattle.common.proofs.Xor.{xor_assoc}
 use Rattle.galois.specs.Field256.{times_x, rounds, mul}
-use Rattle.galois.proofs.Laws.{bit_times_lt, rounds_times_x}
+use Rattle.galois.proofs.Laws.{rounds_times_x}
 use borrow.Author.Rules.{rules}
 use Rattle.galois.proofs.mul.Goals as goal
 

@@ -3,7 +3,6 @@
 use Prim.Native.Nat.{◌*◌, ◌/◌, ◌%◌}
 use lib.Bits.{bit_xor}
 use native.Mathlib.Omega.{arith}
-use borrow.Author.Rules.{rules}
 use Rattle.galois.specs.Field256.{times_x}
 use Rattle.common.proofs.Computed.{agree_at}
 use Rattle.galois.proofs.times_x.Goals as goal

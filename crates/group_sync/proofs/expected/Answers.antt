@@ -1,7 +1,6 @@
 -- `group_sync::expected` meets its contract.
 -- Assumes nothing.
 use borrow.Author.Tests.{eq-eqb, ne_eqb}
-use borrow.Author.Rules.{rules}
 use Rattle.group_sync.proofs.expected.Goals as goal
 
 pub returns-then-place-eq0 : goal.returns-then-place-eq0

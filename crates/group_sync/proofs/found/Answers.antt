@@ -1,6 +1,5 @@
 -- `group_sync::found` meets its contract.
 -- Assumes nothing.
-use borrow.Author.Rules.{rules}
 use Rattle.group_sync.proofs.found.Goals as goal
 
 pub returns-in-InvertedSync : goal.returns-in-InvertedSync

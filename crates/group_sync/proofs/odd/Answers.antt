@@ -1,7 +1,6 @@
 -- `group_sync::odd` meets its contract.
 -- Assumes nothing.
 use borrow.Author.Tests.{eq-eqb, ne_eqb}
-use borrow.Author.Rules.{rules}
 use Rattle.group_sync.proofs.odd.Goals as goal
 
 pub returns-then-missed-eq0 : goal.returns-then-missed-eq0

@@ -1,6 +1,5 @@
 -- `group_sync::packet_due` meets its contract.
 -- Assumes nothing.
-use borrow.Author.Rules.{rules}
 use Rattle.group_sync.proofs.packet_due.Goals as goal
 
 pub returns-in-InvertedSync : goal.returns-in-InvertedSync

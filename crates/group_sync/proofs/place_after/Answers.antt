@@ -1,7 +1,6 @@
 -- `group_sync::place_after` meets its contract.
 -- Assumes nothing.
 use borrow.Author.Tests.{lt-ltb, le-ltb}
-use borrow.Author.Rules.{rules}
 use Rattle.group_sync.proofs.place_after.Goals as goal
 
 pub returns-then-place : goal.returns-then-place

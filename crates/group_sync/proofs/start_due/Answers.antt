@@ -1,6 +1,5 @@
 -- `group_sync::start_due` meets its contract.
 -- Assumes nothing.
-use borrow.Author.Rules.{rules}
 use Rattle.group_sync.proofs.start_due.Goals as goal
 
 pub returns-in-InvertedSync : goal.returns-in-InvertedSync

@@ -3,7 +3,6 @@
 use mathlib.Core.Path.{◌≡◌, sym, subst}
 use Prim.Native.Nat.{ℕ}
 use native.Mathlib.Omega.{arith}
-use borrow.Author.Rules.{rules}
 use Rattle.puncturing.specs.Mode.{mode_of}
 use Rattle.inner_code.specs.Groups.{Grouped}
 use Rattle.inner_code.proofs.Coder.{rate_known}

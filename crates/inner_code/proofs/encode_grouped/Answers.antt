@@ -3,7 +3,6 @@
 use mathlib.Core.Path.{refl, ap₂, sym, ◌∙◌}
 use mathlib.Core.List.{List, ◌++◌}
 use Prim.Native.Nat.{ℕ}
-use borrow.Author.Rules.{rules}
 use lib.ListN.{drop}
 use Rattle.inner_code.proofs.Coder.{formed}
 use Rattle.inner_code.proofs.Groups.{grouped_count, grouped_symbols, grouped_after}

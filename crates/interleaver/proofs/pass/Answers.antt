@@ -2,9 +2,8 @@
 -- Assumes nothing.
 use mathlib.Core.Path.{◌≡◌, refl, sym, ◌∙◌}
 use mathlib.Core.Bool.{true}
-use borrow.Author.Tests.{eq-eqb, ne_eqb, lt-ltb, le-ltb, not-true, not-false}
+use borrow.Author.Tests.{eq-eqb, ne_eqb, lt-ltb, le-ltb}
 use Rattle.interleaver.specs.Branch.{branches_in_range}
-use borrow.Author.Rules.{rules}
 use Rattle.interleaver.proofs.pass.Goals as goal
 
 pub returns-then-not-positions_within : goal.returns-then-not-positions_within

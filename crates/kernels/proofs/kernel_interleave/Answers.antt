@@ -1,7 +1,6 @@
 -- `kernels::kernel_interleave` meets its contract.
 -- Assumes nothing.
 use borrow.Author.Tests.{lt-ltb, le-ltb}
-use borrow.Author.Rules.{rules}
 use Rattle.kernels.proofs.kernel_interleave.Goals as goal
 
 pub returns-then-output-blocks : goal.returns-then-output-blocks

@@ -7,7 +7,6 @@ use native.Mathlib.Omega.{arith}
 use borrow.Author.Tests.{lt-ltb, le-ltb}
 use lib.ListN.{length, drop}
 use Rattle.kernels.specs.Scale.{scaled_by}
-use borrow.Author.Rules.{rules}
 use Rattle.kernels.proofs.kernel_scale.Goals as goal
 
 pub returns-then-lanes-lt16 : goal.returns-then-lanes-lt16

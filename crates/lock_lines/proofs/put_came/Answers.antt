@@ -7,7 +7,6 @@ use Prim.Native.Nat.{◌+◌}
 use native.Mathlib.Omega.{arith}
 use Rattle.report_lines.proofs.Lines.{restated}
 use Rattle.lock_lines.specs.Lines.{place_text, closing_word}
-use borrow.Author.Rules.{rules}
 use Rattle.lock_lines.proofs.put_came.Goals as goal
 
 -- src/lib.rt:86:9

@@ -4,7 +4,6 @@ use mathlib.Core.Path.{refl}
 use Prim.Native.Nat.{◌+◌}
 use native.Mathlib.Omega.{arith}
 use Rattle.report_lines.proofs.Lines.{joined_appended, restated}
-use borrow.Author.Rules.{rules}
 use Rattle.lock_lines.proofs.put_lock.Goals as goal
 
 -- src/lib.rt:55:1

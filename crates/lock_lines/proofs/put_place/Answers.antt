@@ -8,7 +8,6 @@ use Rattle.common.specs.Choice.{pick}
 use Rattle.report_lines.specs.Line.{field_text}
 use Rattle.report_lines.proofs.Lines.{restated}
 use Rattle.lock_lines.specs.Lines.{bit_key, symbol_key}
-use borrow.Author.Rules.{rules}
 use Rattle.lock_lines.proofs.put_place.Goals as goal
 
 -- src/lib.rt:19:9

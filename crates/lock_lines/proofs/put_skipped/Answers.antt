@@ -6,7 +6,6 @@ use Prim.Native.Nat.{◌+◌}
 use native.Mathlib.Omega.{arith}
 use Rattle.report_lines.proofs.Lines.{joined_appended, restated}
 use Rattle.lock_lines.specs.Lines.{skipped_text}
-use borrow.Author.Rules.{rules}
 use Rattle.lock_lines.proofs.put_skipped.Goals as goal
 
 -- src/lib.rt:97:9

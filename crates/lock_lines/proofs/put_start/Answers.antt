@@ -7,7 +7,6 @@ use native.Mathlib.Omega.{arith}
 use lib.ListN.{length}
 use Rattle.report_lines.specs.Line.{Appended}
 use Rattle.report_lines.proofs.Lines.{put_appended, joined_appended, restated}
-use borrow.Author.Rules.{rules}
 use Rattle.lock_lines.proofs.put_start.Goals as goal
 
 -- src/lib.rt:25:1

@@ -8,7 +8,6 @@ use Rattle.losses.proofs.Decisions.{most_seven}
 use Rattle.lock_receiver.specs.Take.{Settles}
 use Rattle.lock_receiver.proofs.Ranges.{lock_range}
 use Rattle.lock_receiver.proofs.Taking.{more_waits, takes_one}
-use borrow.Author.Rules.{rules}
 use Rattle.lock_receiver.proofs.take_block.Goals as goal
 
 pub take_block-taken-requires : goal.take_block-taken-requires

@@ -5,7 +5,6 @@ use native.Mathlib.Omega.{arith}
 use Rattle.acquisition.specs.declared.Event.{Event}
 use Rattle.lock_stream.specs.Progress.{nothing_told, TellsEvent}
 use Rattle.lock_stream.specs.Stream.{event_of}
-use borrow.Author.Rules.{rules}
 use Rattle.lock_stream.proofs.tell.Goals as goal
 
 pub returns-in-Waits : goal.returns-in-Waits

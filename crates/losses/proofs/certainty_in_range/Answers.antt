@@ -1,7 +1,6 @@
 -- `losses::certainty_in_range` meets its contract.
 -- Assumes nothing.
 use borrow.Author.Tests.{lt-ltb, le-ltb}
-use borrow.Author.Rules.{rules}
 use Rattle.losses.proofs.certainty_in_range.Goals as goal
 
 pub returns-then-most_waiting-count : goal.returns-then-most_waiting-count

@@ -3,11 +3,10 @@
 use mathlib.Core.Path.{◌≡◌, sym, ◌∙◌}
 use mathlib.Core.Bool.{true, false}
 use native.Mathlib.Omega.{arith}
-use borrow.Author.Tests.{eq-eqb, ne_eqb, not-true, not-false}
+use borrow.Author.Tests.{eq-eqb, ne_eqb}
 use Rattle.losses.specs.List.{line}
 use Rattle.losses.specs.Watch.{waiting_lines}
 use Rattle.losses.proofs.Decisions.{writes_none, writes_waiting, writes_behind}
-use borrow.Author.Rules.{rules}
 use Rattle.losses.proofs.decide.Goals as goal
 
 pub returns-then-number-ne0 : goal.returns-then-number-ne0

@@ -6,7 +6,6 @@ use Rattle.answer.specs.Number.{number_of}
 use Rattle.losses.specs.Feed.{fresh_loss_stream, FeedsLosses}
 use Rattle.losses.specs.declared.LossStream.{LossStream}
 use Rattle.losses.proofs.Runs.{Left, run_refused, run_fed, left_count, run_closed, run_count_lem}
-use borrow.Author.Rules.{rules}
 use Rattle.losses.proofs.list_losses.Goals as goal
 
 pub returns-then-number-ne0 : goal.returns-then-number-ne0

@@ -1,7 +1,6 @@
 -- `losses::marks_fit` meets its contract.
 -- Assumes nothing.
 use borrow.Author.Tests.{eq-eqb, ne_eqb}
-use borrow.Author.Rules.{rules}
 use Rattle.losses.proofs.marks_fit.Goals as goal
 
 pub returns-then-marks-eq0 : goal.returns-then-marks-eq0

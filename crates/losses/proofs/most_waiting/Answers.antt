@@ -1,6 +1,5 @@
 -- `losses::most_waiting` meets its contract.
 -- Assumes nothing.
-use borrow.Author.Rules.{rules}
 use Rattle.losses.proofs.most_waiting.Goals as goal
 
 pub returns-in-Known : goal.returns-in-Known

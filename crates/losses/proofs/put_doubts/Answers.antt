@@ -6,10 +6,9 @@ use Prim.Native.Nat.{ℕ, ◌-◌}
 use native.Mathlib.Nat.{zero-add}
 use native.Mathlib.Omega.{arith}
 use lib.ListN.{drop}
-use Rattle.common.proofs.Written.{Written, written_none, written_next, written_length, written_all}
+use Rattle.common.proofs.Written.{written_none, written_next, written_length, written_all}
 use Rattle.losses.specs.List.{doubts}
 use Rattle.losses.proofs.Lines.{length_doubts, doubts_at}
-use borrow.Author.Rules.{rules}
 use Rattle.losses.proofs.put_doubts.Goals as goal
 
 pub loop-i-init : goal.loop-i-init

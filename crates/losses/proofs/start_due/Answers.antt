@@ -1,6 +1,5 @@
 -- `losses::start_due` meets its contract.
 -- Assumes nothing.
-use borrow.Author.Rules.{rules}
 use Rattle.losses.proofs.start_due.Goals as goal
 
 pub returns-in-Known : goal.returns-in-Known

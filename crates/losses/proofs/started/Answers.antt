@@ -1,6 +1,5 @@
 -- `losses::started` meets its contract.
 -- Assumes nothing.
-use borrow.Author.Rules.{rules}
 use Rattle.losses.proofs.started.Goals as goal
 
 pub returns-in-Known : goal.returns-in-Known

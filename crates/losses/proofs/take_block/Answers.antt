@@ -3,7 +3,6 @@
 use native.Mathlib.Omega.{arith}
 use Rattle.losses.proofs.Decisions.{range_fits, most_seven}
 use Rattle.losses.proofs.Blocks.{filling_block, decided_block}
-use borrow.Author.Rules.{rules}
 use Rattle.losses.proofs.take_block.Goals as goal
 
 pub returns-then-taken-lt11 : goal.returns-then-taken-lt11

@@ -5,7 +5,7 @@ use Prim.Native.Nat.{◌-◌, ◌≤◌}
 use native.Mathlib.Omega.{arith}
 use lib.ListN.{length, take}
 use lib.Seq.{length-take-le}
-use Rattle.losses.proofs.Pieces.{Progress, progress_start, progress_count, progress_length, progress_end, progress_small, part_within, part_some, part_ready, progress_more, marks_part, marks_enough, part_is, count_fits}
+use Rattle.losses.proofs.Pieces.{progress_start, progress_count, progress_length, progress_end, progress_small, part_within, part_some, part_ready, progress_more, marks_part, marks_enough, part_is, count_fits}
 use borrow.Author.Rules.{rules}
 use Rattle.losses.proofs.take_piece.Goals as goal
 

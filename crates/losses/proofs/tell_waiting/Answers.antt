@@ -9,7 +9,6 @@ use lib.ListN.{length, drop}
 use Rattle.losses.specs.List.{doubts}
 use Rattle.losses.specs.Watch.{waiting_of}
 use Rattle.losses.proofs.Decisions.{writes_none, writes_waiting}
-use borrow.Author.Rules.{rules}
 use Rattle.losses.proofs.tell_waiting.Goals as goal
 
 pub returns-then-lines-count : goal.returns-then-lines-count

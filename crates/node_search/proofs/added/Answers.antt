@@ -1,6 +1,5 @@
 -- `node_search::added` meets its contract.
 -- Assumes nothing.
-use borrow.Author.Rules.{rules}
 use Rattle.node_search.proofs.added.Goals as goal
 
 pub returns-in-Nothing : goal.returns-in-Nothing

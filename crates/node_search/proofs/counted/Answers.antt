@@ -1,6 +1,5 @@
 -- `node_search::counted` meets its contract.
 -- Assumes nothing.
-use borrow.Author.Rules.{rules}
 use Rattle.node_search.proofs.counted.Goals as goal
 
 pub returns-then-below : goal.returns-then-below

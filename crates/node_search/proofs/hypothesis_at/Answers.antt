@@ -1,8 +1,7 @@
 -- `node_search::hypothesis_at` meets its contract.
 -- Assumes nothing.
 use native.Mathlib.Omega.{arith}
-use borrow.Author.Rules.{rules}
-use Rattle.node_search.proofs.Verdicts.{some_turns, turn_place, hypothesis_is}
+use Rattle.node_search.proofs.Verdicts.{some_turns, hypothesis_is}
 use Rattle.node_search.proofs.hypothesis_at.Goals as goal
 
 pub nonzero_div-result : goal.nonzero_div-result

@@ -3,7 +3,6 @@
 use mathlib.Core.Path.{refl, ◌∙◌, ap₂}
 use Prim.Native.Nat.{ℕ, ◌+◌, ◌*◌}
 use native.Mathlib.Omega.{arith}
-use borrow.Author.Rules.{rules}
 use lib.Dec.{ltb}
 use Rattle.node_search.proofs.Numbers.{numbers, product}
 use Rattle.node_search.proofs.Tables.{cheaper_small, apart_small, cheaper_total, apart_total}

@@ -2,7 +2,6 @@
 -- Assumes nothing.
 use Prim.Native.Nat.{◌-◌}
 use native.Mathlib.Omega.{arith}
-use borrow.Author.Rules.{rules}
 use lib.ListN.{length, drop, length-take, length-drop}
 use Rattle.symbol_turns.proofs.Turns.{undoing_small}
 use Rattle.node_search.proofs.Numbers.{numbers}

@@ -1,7 +1,6 @@
 -- `node_search::least_cost` meets its contract.
 -- Assumes nothing.
 use native.Mathlib.Omega.{arith}
-use borrow.Author.Rules.{rules}
 use Rattle.node_search.proofs.Numbers.{numbers}
 use Rattle.node_search.proofs.Runs.{led_readable, led_cost, led_is}
 use Rattle.node_search.proofs.least_cost.Goals as goal

@@ -1,13 +1,13 @@
 -- `node_search::search_rate` meets its contract.
 -- Assumes nothing.
 use mathlib.Core.Path.{◌≡◌, sym, ap, ap₂, subst}
-use Prim.Native.Nat.{ℕ, ◌*◌, ◌-◌, ◌≤◌, ◌<◌}
+use Prim.Native.Nat.{ℕ, ◌*◌, ◌-◌, ◌<◌}
 use native.Mathlib.Omega.{arith}
 use Rattle.node_search.specs.Hypotheses.{hypothesis_count}
 use Rattle.node_search.specs.Weight.{Measured, tried_pairs}
 use Rattle.node_search.specs.declared.Hypothesis.{Hypothesis}
 use Rattle.node_search.proofs.Numbers.{numbers}
-use Rattle.node_search.proofs.Verdicts.{Searching, searching_none, searching_more, searching_all, count_most}
+use Rattle.node_search.proofs.Verdicts.{searching_none, searching_more, searching_all, count_most}
 use Rattle.node_search.proofs.search_rate.Goals as goal
 
 pub symbol_count-requires : goal.symbol_count-requires

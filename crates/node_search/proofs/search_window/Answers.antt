@@ -2,7 +2,6 @@
 -- Assumes nothing.
 use mathlib.Core.Path.{ap}
 use native.Mathlib.Omega.{arith}
-use borrow.Author.Rules.{rules}
 use Rattle.answer.specs.Number.{number_of}
 use Rattle.node_search.proofs.Calls.{another_rate, another_length, no_decisions, at_rate_lem, at_any, window_small}
 use Rattle.node_search.proofs.search_window.Goals as goal

@@ -3,8 +3,8 @@
 use Prim.Native.Nat.{◌-◌}
 use native.Mathlib.Omega.{arith}
 use mathlib.Core.Path.{refl}
-use lib.ListN.{length, get_or}
-use Rattle.node_search.proofs.Tables.{Summing, summing_none, summing_more, summing_all, pair_lt, entries}
+use lib.ListN.{get_or}
+use Rattle.node_search.proofs.Tables.{summing_none, summing_more, summing_all, pair_lt, entries}
 use Rattle.node_search.proofs.total_of.Goals as goal
 
 pub loop-k-init : goal.loop-k-init

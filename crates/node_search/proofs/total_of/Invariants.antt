@@ -1,10 +1,8 @@
 -- `node_search::total_of` meets its contract.
 -- Assumes nothing.
 use Prim.Native.Nat.{◌-◌}
-use native.Mathlib.Omega.{arith}
-use mathlib.Core.Path.{refl}
-use lib.ListN.{length, get_or}
-use Rattle.node_search.proofs.Tables.{Summing, summing_none, summing_more, summing_all, pair_lt, entries}
+use lib.ListN.{length}
+use Rattle.node_search.proofs.Tables.{Summing}
 use Rattle.node_search.proofs.total_of.Given as goal
 
 abbrev pub invariant-loop-k : goal.invariant-loop-k

@@ -2,7 +2,6 @@
 -- Assumes nothing.
 use mathlib.Core.Path.{ap, ◌∙◌}
 use Prim.Native.Nat.{ℕ}
-use borrow.Author.Rules.{rules}
 use lib.ListN.{get_or}
 use Rattle.puncturing.proofs.BlockCounts.{table, block_symbols_lem}
 use Rattle.puncturing.proofs.block_count.Goals as goal

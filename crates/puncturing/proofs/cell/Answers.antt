@@ -1,7 +1,6 @@
 -- `puncturing::cell` meets its contract: a pattern has at most seven bits.
 -- Assumes nothing.
 use native.Mathlib.Omega.{arith}
-use borrow.Author.Rules.{rules}
 use Rattle.puncturing.proofs.Places.{length_le}
 use Rattle.puncturing.proofs.cell.Goals as goal
 

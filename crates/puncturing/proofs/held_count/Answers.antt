@@ -3,7 +3,6 @@
 use mathlib.Core.Path.{ap, ◌∙◌}
 use mathlib.Core.List.{List, [], ◌∷◌}
 use Prim.Native.Nat.{ℕ, ◌+◌, ◌*◌}
-use borrow.Author.Rules.{rules}
 use lib.ListN.{get_or}
 use Rattle.puncturing.specs.Mode.{mode_of, mode_count, longest_pattern}
 use Rattle.puncturing.specs.Step.{held_count, held_count_by}

@@ -3,7 +3,6 @@
 use mathlib.Core.Path.{◌≡◌, refl, ap, sym, ◌∙◌}
 use Prim.Native.Nat.{ℕ, zero, suc, ◌+◌, ◌*◌, ◌≤◌, ◌<◌}
 use native.Mathlib.Omega.{arith}
-use borrow.Author.Rules.{rules}
 use Rattle.puncturing.specs.Step.{place_next, held_count}
 use Rattle.puncturing.specs.Run.{by_kind, puncture_step}
 use Rattle.puncturing.specs.declared.Symbol.{Symbol}
@@ -43,7 +42,7 @@ other (suc (suc (suc (suc k)))) x y h a b c d = refl
 
 pub returns-then-kind-eq0 : goal.returns-then-kind-eq0
 returns-then-kind-eq0 c =
-    let made :  (s : Symbol)
+    let made : (s : Symbol)
     → let a = c.args in
     s ≡ by_kind c.completed_at-kind.result a.x a.y a.held
     → ◌≡◌ {A = Punctured}
@@ -60,7 +59,7 @@ returns-then-kind-eq0 c =
 
 pub returns-then-kind-eq1 : goal.returns-then-kind-eq1
 returns-then-kind-eq1 c =
-    let made :  (s : Symbol)
+    let made : (s : Symbol)
     → let a = c.args in
     s ≡ by_kind c.completed_at-kind.result a.x a.y a.held
     → ◌≡◌ {A = Punctured}
@@ -77,7 +76,7 @@ returns-then-kind-eq1 c =
 
 pub returns-then-kind-eq2 : goal.returns-then-kind-eq2
 returns-then-kind-eq2 c =
-    let made :  (s : Symbol)
+    let made : (s : Symbol)
     → let a = c.args in
     s ≡ by_kind c.completed_at-kind.result a.x a.y a.held
     → ◌≡◌ {A = Punctured}
@@ -94,7 +93,7 @@ returns-then-kind-eq2 c =
 
 pub returns-then-kind-eq3 : goal.returns-then-kind-eq3
 returns-then-kind-eq3 c =
-    let made :  (s : Symbol)
+    let made : (s : Symbol)
     → let a = c.args in
     s ≡ by_kind c.completed_at-kind.result a.x a.y a.held
     → ◌≡◌ {A = Punctured}
@@ -111,7 +110,7 @@ returns-then-kind-eq3 c =
 
 pub returns : goal.returns
 returns c =
-    let made :  (s : Symbol)
+    let made : (s : Symbol)
     → let a = c.args in
     s ≡ by_kind c.completed_at-kind.result a.x a.y a.held
     → ◌≡◌ {A = Punctured}

@@ -3,14 +3,13 @@
 use mathlib.Core.Path.{ap, sym, ◌∙◌}
 use Prim.Native.Nat.{◌+◌, ◌-◌, ◌<◌}
 use native.Mathlib.Omega.{arith}
-use borrow.Author.Rules.{rules}
 use lib.ListN.{length}
 use Rattle.common.proofs.Written.{written_length}
 use Rattle.convolutional_code.proofs.Bits.{bits_at}
 use Rattle.puncturing.specs.declared.Punctured.{Punctured}
 use Rattle.puncturing.proofs.Places.{up}
 use Rattle.puncturing.proofs.Steps.{held_le}
-use Rattle.puncturing.proofs.Run.{Going, going_start, going_none, going_one, going_fits, going_end}
+use Rattle.puncturing.proofs.Run.{going_start, going_none, going_one, going_fits, going_end}
 use Rattle.puncturing.proofs.puncture_bits.Goals as goal
 use Rattle.puncturing.proofs.puncture_bits.Goals.{in-One, in_default}
 
@@ -49,7 +48,7 @@ loop-n-preserved c =
     let held = ap (λ (x : Punctured). x.held) e in
     let symbol = ap (λ (x : Punctured). x.symbol) e in
     elim c.match-symbol.branch [
-      in-One w ↦ rw (w.output-is, w.count-is) (going_one g bits (omega arith) place held (sym w.in-One.is ∙ symbol))
+      | in-One w ↦ rw (w.output-is, w.count-is) (going_one g bits (omega arith) place held (sym w.in-One.is ∙ symbol))
       | in_default w ↦ rw (w.output-is, w.count-is) (going_none g bits (omega arith) place held (sym w.in_default.is ∙ symbol))
     ]
 

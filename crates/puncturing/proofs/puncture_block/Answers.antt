@@ -9,7 +9,6 @@ use Rattle.puncturing.specs.Step.{pattern_length}
 use Rattle.puncturing.specs.Run.{pattern_place_after}
 use Rattle.puncturing.proofs.Places.{length_le, up}
 use Rattle.puncturing.proofs.Parts.{to_start}
-use borrow.Author.Rules.{rules}
 use Rattle.puncturing.proofs.puncture_block.Goals as goal
 
 pub overflow_sub-turns : goal.overflow_sub-turns

@@ -11,7 +11,6 @@ use Rattle.puncturing.specs.Step.{pattern_length}
 use Rattle.puncturing.specs.Run.{punctured_symbols, held_behind, patterns_symbols, i_bits, q_bits}
 use Rattle.puncturing.specs.declared.Progress.{Progress}
 use Rattle.puncturing.proofs.Parts.{length_patterns, parts_symbols, parts_place, parts_held}
-use borrow.Author.Rules.{rules}
 use Rattle.puncturing.proofs.puncture_parts.Goals as goal
 
 pub puncture_bits-first-requires : goal.puncture_bits-first-requires

@@ -2,7 +2,6 @@
 -- Assumes nothing.
 use mathlib.Core.Path.{◌≡◌}
 use native.Mathlib.Omega.{arith}
-use borrow.Author.Rules.{rules}
 use Rattle.randomizer.proofs.Sixteens.{placed}
 use Rattle.randomizer.proofs.apply.Goals as goal
 

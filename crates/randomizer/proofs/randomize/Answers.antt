@@ -1,7 +1,6 @@
 -- `randomizer::randomize` meets its contract.
 -- Assumes nothing.
 use mathlib.Core.Path.{refl}
-use borrow.Author.Rules.{rules}
 use borrow.Author.Tests.{lt-ltb, le-ltb, eq-eqb, ne_eqb}
 use Rattle.randomizer.proofs.randomize.Goals as goal
 

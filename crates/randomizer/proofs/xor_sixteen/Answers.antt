@@ -1,10 +1,9 @@
 -- `randomizer::xor_sixteen` meets its contract: after j turns j bytes more are there.
 -- Assumes nothing.
 use mathlib.Core.Path.{◌≡◌, sym, subst}
-use Prim.Native.Nat.{ℕ, ◌+◌, ◌*◌, ◌-◌, ◌≤◌}
+use Prim.Native.Nat.{ℕ, ◌+◌, ◌*◌}
 use native.Mathlib.Nat.{add-zero}
 use native.Mathlib.Omega.{arith}
-use lib.ListN.{length}
 use Rattle.randomizer.specs.Masks.{Begun}
 use Rattle.randomizer.proofs.Sixteens.{begun_more, begun_less, begun_rounded}
 use borrow.Author.Rules.{rules}

@@ -3,8 +3,7 @@
 use mathlib.Core.Path.{sym}
 use native.Mathlib.Omega.{arith}
 use borrow.Author.Tests.{lt-ltb, le-ltb}
-use Rattle.reader.proofs.Outcome.{not_true, not_false, bits_some, pattern_some, broken, long, count_le, bad_symbol, too_short, space_enough}
-use borrow.Author.Rules.{rules}
+use Rattle.reader.proofs.Outcome.{bits_some, pattern_some, broken, long, count_le, bad_symbol, too_short, space_enough}
 use Rattle.reader.proofs.answer_due.Goals as goal
 
 pub returns-then-rate-ge-QPSK_MODES : goal.returns-then-rate-ge-QPSK_MODES

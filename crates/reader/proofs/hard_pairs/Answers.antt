@@ -1,11 +1,10 @@
 -- `reader::hard_pairs` meets its contract.
 -- Assumes nothing.
-use mathlib.Core.Path.{◌≡◌, refl}
-use Prim.Native.Nat.{◌-◌, ◌≤◌, ◌<◌}
+use mathlib.Core.Path.{refl}
+use Prim.Native.Nat.{◌-◌, ◌<◌}
 use native.Mathlib.Omega.{arith}
-use lib.ListN.{length, get_or}
-use Rattle.common.proofs.Each.{Each, each_none, each_more}
-use Rattle.reader.specs.Decisions.{hard_pair}
+use lib.ListN.{get_or}
+use Rattle.common.proofs.Each.{each_none, each_more}
 use Rattle.reader.proofs.Decisions.{symbol_lt}
 use Rattle.reader.proofs.hard_pairs.Goals as goal
 

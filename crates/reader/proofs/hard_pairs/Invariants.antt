@@ -1,12 +1,10 @@
 -- `reader::hard_pairs` meets its contract.
 -- Assumes nothing.
-use mathlib.Core.Path.{◌≡◌, refl}
-use Prim.Native.Nat.{◌-◌, ◌≤◌, ◌<◌}
-use native.Mathlib.Omega.{arith}
+use mathlib.Core.Path.{◌≡◌}
+use Prim.Native.Nat.{◌-◌, ◌≤◌}
 use lib.ListN.{length, get_or}
-use Rattle.common.proofs.Each.{Each, each_none, each_more}
+use Rattle.common.proofs.Each.{Each}
 use Rattle.reader.specs.Decisions.{hard_pair}
-use Rattle.reader.proofs.Decisions.{symbol_lt}
 use Rattle.reader.proofs.hard_pairs.Given as goal
 
 abbrev pub invariant-loop-i : goal.invariant-loop-i

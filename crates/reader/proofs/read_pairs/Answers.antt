@@ -3,7 +3,6 @@
 use native.Mathlib.Omega.{arith}
 use lib.ListN.{length}
 use Rattle.reader.proofs.Patterns.{some_symbols, run_count_lem}
-use borrow.Author.Rules.{rules}
 use Rattle.reader.proofs.read_pairs.Goals as goal
 
 pub nonzero_div-count : goal.nonzero_div-count

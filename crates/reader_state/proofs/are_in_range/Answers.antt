@@ -11,7 +11,6 @@ use lib.Seq.{take_all}
 use Rattle.common.specs.Lists.{largest}
 use Rattle.reader_stream.specs.Runs.{full_symbols}
 use Rattle.reader_stream.proofs.Runs.{numbers}
-use borrow.Author.Rules.{rules}
 use Rattle.reader_state.proofs.are_in_range.Goals as goal
 
 pub returns-then-rate-ge-QPSK_MODES : goal.returns-then-rate-ge-QPSK_MODES

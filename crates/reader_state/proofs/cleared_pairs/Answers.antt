@@ -5,7 +5,6 @@ use native.Mathlib.Omega.{arith}
 use lib.ListN.{length, take}
 use lib.Seq.{length-take-le}
 use Rattle.reader_state.proofs.Cleared.{put_zeros}
-use borrow.Author.Rules.{rules}
 use Rattle.reader_state.proofs.cleared_pairs.Goals as goal
 
 pub slice_bounds-put-end : goal.slice_bounds-put-end

@@ -2,7 +2,6 @@
 -- Assumes nothing.
 use native.Mathlib.Omega.{arith}
 use Prim.Native.Nat.{◌+◌}
-use borrow.Author.Rules.{rules}
 use Rattle.reader_state.proofs.number_at.Goals as goal
 
 pub overflow_cast-result : goal.overflow_cast-result

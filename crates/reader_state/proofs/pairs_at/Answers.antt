@@ -4,7 +4,6 @@ use mathlib.Core.Path.{refl, ◌∙◌}
 use Prim.Native.Nat.{ℕ, ◌+◌}
 use lib.ListN.{replicate, length-replicate}
 use Rattle.state_bytes.proofs.Copies.{whole}
-use borrow.Author.Rules.{rules}
 use Rattle.reader_state.proofs.pairs_at.Goals as goal
 
 pub returns : goal.returns

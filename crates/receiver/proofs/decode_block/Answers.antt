@@ -5,7 +5,6 @@ use mathlib.Core.List.{List}
 use Prim.Native.Nat.{ℕ}
 use Rattle.reed_solomon.specs.Marks.{DecodesMarked}
 use Rattle.reed_solomon.proofs.MarkedDistance.{as_without_marks}
-use borrow.Author.Rules.{rules}
 use Rattle.receiver.proofs.decode_block.Goals as goal
 
 pub returns-then-none : goal.returns-then-none

@@ -1,6 +1,5 @@
 -- `receiver::decoding_of` meets its contract.
 -- Assumes nothing.
-use borrow.Author.Rules.{rules}
 use Rattle.receiver.proofs.decoding_of.Goals as goal
 
 pub returns-in-Corrected : goal.returns-in-Corrected

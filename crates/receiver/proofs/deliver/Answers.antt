@@ -6,7 +6,6 @@ use lib.ListN.{length, take}
 use lib.Seq.{length-take-le}
 use Rattle.randomizer.proofs.Laws.{derandomize_done}
 use Rattle.group_sync.specs.Group.{PlaceOf}
-use borrow.Author.Rules.{rules}
 use Rattle.receiver.proofs.deliver.Goals as goal
 
 pub slice_bounds-derandomize-end : goal.slice_bounds-derandomize-end

@@ -1,8 +1,7 @@
 -- `receiver::none_at_all` meets its contract.
 -- Assumes nothing.
 use mathlib.Core.Path.{sym, ◌∙◌}
-use borrow.Author.Rules.{rules}
-use borrow.Author.Tests.{not-false, eqb-true}
+use borrow.Author.Tests.{eqb-true}
 use Rattle.receiver.proofs.none_at_all.Goals as goal
 
 pub returns-then-not-clean : goal.returns-then-not-clean

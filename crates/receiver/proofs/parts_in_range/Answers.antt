@@ -1,8 +1,7 @@
 -- `receiver::parts_in_range` meets its contract.
 -- Assumes nothing.
 use mathlib.Core.Path.{sym, ◌∙◌}
-use borrow.Author.Tests.{not-true, not-false, lt-ltb, le-ltb}
-use borrow.Author.Rules.{rules}
+use borrow.Author.Tests.{lt-ltb, le-ltb}
 use Rattle.receiver.proofs.parts_in_range.Goals as goal
 
 pub returns-then-not-positions_within : goal.returns-then-not-positions_within

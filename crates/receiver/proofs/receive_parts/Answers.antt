@@ -3,7 +3,7 @@
 use mathlib.Core.Path.{◌≡◌, sym, ap, ◌∙◌}
 use mathlib.Core.Bool.{true}
 use Prim.Native.Nat.{ℕ}
-use borrow.Author.Tests.{eq-eqb, ne_eqb, lt-ltb, le-ltb, not-true, not-false}
+use borrow.Author.Tests.{eq-eqb, ne_eqb, lt-ltb, le-ltb}
 use lib.ListN.{replicate}
 use Rattle.common.proofs.Largest.{largest_none}
 use Rattle.reed_solomon.specs.Marks.{are_marks}
@@ -11,7 +11,6 @@ use Rattle.reed_solomon.proofs.Marks.{marks_of_lem}
 use Rattle.receiver.specs.Receive.{receiver_of, receiver_in_range}
 use Rattle.receiver.specs.declared.Receiver.{Receiver}
 use Rattle.receiver.proofs.Calls.{refused_range, refused_length, refused_marks, refused_output, refused_full}
-use borrow.Author.Rules.{rules}
 use Rattle.receiver.proofs.receive_parts.Goals as goal
 
 pub returns-then-not-valid : goal.returns-then-not-valid

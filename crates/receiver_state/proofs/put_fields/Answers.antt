@@ -1,7 +1,6 @@
 -- `receiver_state::put_fields` meets its contract.
 -- Assumes nothing.
 use Rattle.receiver_state.proofs.States.{all_put}
-use borrow.Author.Rules.{rules}
 use Rattle.receiver_state.proofs.put_fields.Goals as goal
 
 pub returns : goal.returns

@@ -2,7 +2,6 @@
 -- Assumes nothing.
 use lib.ListN.{get_or}
 use Rattle.receiver_state.specs.Reading.{state_of}
-use borrow.Author.Rules.{rules}
 use Rattle.receiver_state.proofs.read_state.Goals as goal
 
 pub returns : goal.returns

@@ -1,7 +1,6 @@
 -- `receiver_state::write_state` meets its contract.
 -- Assumes nothing.
 use Rattle.receiver_state.proofs.States.{fields_put}
-use borrow.Author.Rules.{rules}
 use Rattle.receiver_state.proofs.write_state.Goals as goal
 
 pub returns : goal.returns

@@ -5,7 +5,6 @@ use native.Mathlib.Omega.{arith}
 use lib.ListN.{take}
 use lib.Seq.{length-take-le}
 use Rattle.common.proofs.Padded.{padded_two}
-use borrow.Author.Rules.{rules}
 use Rattle.receiver_stream.proofs.joined.Goals as goal
 
 pub slice_bounds-put-end : goal.slice_bounds-put-end

@@ -1,7 +1,6 @@
 -- `reception_counts::count` meets its contract.
 -- Assumes nothing.
 use native.Mathlib.Nat.{add-zero}
-use borrow.Author.Rules.{rules}
 use Rattle.reception_counts.proofs.count.Goals as goal
 
 pub returns-in-Filling : goal.returns-in-Filling

@@ -4,7 +4,6 @@ use mathlib.Core.Path.{sym, ap, ◌∙◌}
 use Prim.Native.Nat.{ℕ}
 use borrow.Author.Tests.{eq-eqb, ne_eqb}
 use lib.Dec.{ltb}
-use borrow.Author.Rules.{rules}
 use Rattle.recording.proofs.are_marks_for.Goals as goal
 
 pub returns-then-marks-bytes : goal.returns-then-marks-bytes

@@ -2,7 +2,6 @@
 -- Assumes nothing.
 use mathlib.Core.Path.{sym, ◌∙◌}
 use borrow.Author.Tests.{eq-eqb, ne_eqb}
-use borrow.Author.Rules.{rules}
 use Rattle.recording.proofs.given_bytes.Goals as goal
 
 pub returns-then-number-eq0 : goal.returns-then-number-eq0

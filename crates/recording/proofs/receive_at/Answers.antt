@@ -8,7 +8,6 @@ use native.Mathlib.Omega.{arith}
 use lib.ListN.{length}
 use Rattle.receiver.specs.Receive.{ReceivesParts}
 use Rattle.recording.proofs.Recordings.{one_block}
-use borrow.Author.Rules.{rules}
 use Rattle.recording.proofs.receive_at.Goals as goal
 
 -- no marks, or enough of them

@@ -3,12 +3,11 @@
 use mathlib.Core.Path.{sym, ap, ◌∙◌}
 use Prim.Native.Nat.{ℕ, ◌-◌}
 use native.Mathlib.Omega.{arith}
-use lib.ListN.{length, replicate}
+use lib.ListN.{replicate}
 use Rattle.answer.specs.Number.{number_of}
 use Rattle.common.proofs.Largest.{largest_none}
-use Rattle.receiver.specs.Receive.{receiver_of}
 use Rattle.receiver.proofs.Parts.{Sized}
-use Rattle.recording.proofs.Recordings.{Taking, progress_start, progress_end, progress_fits, progress_length, progress_count, taking_more}
+use Rattle.recording.proofs.Recordings.{progress_start, progress_end, progress_fits, progress_length, progress_count, taking_more}
 use borrow.Author.Rules.{rules}
 use borrow.Author.Tests.{eqb-true}
 use Rattle.recording.proofs.receive_marked_blocks.Goals as goal

@@ -5,12 +5,11 @@ use mathlib.Core.Bool.{true}
 use mathlib.Core.Logic.{inr}
 use Prim.Native.Nat.{ℕ}
 use native.Mathlib.Omega.{arith}
-use borrow.Author.Tests.{not-true, not-false, eqb-true}
+use borrow.Author.Tests.{eqb-true}
 use Rattle.common.proofs.Choice.{both_true}
 use Rattle.answer.specs.Number.{number_of}
 use Rattle.receiver.specs.Receive.{receiver_in_range}
 use Rattle.recording.specs.Recording.{recording_number, marked_number, AnswersRecording, refused, marks_for}
-use borrow.Author.Rules.{rules}
 use Rattle.recording.proofs.receive_marked_recording.Goals as goal
 
 pub returns-then-not-in_range : goal.returns-then-not-in_range

@@ -4,7 +4,6 @@ use mathlib.Core.Path.{subst}
 use Rattle.answer.specs.Number.{number_of}
 use Rattle.receiver.specs.declared.Receiver.{Receiver}
 use Rattle.recording.specs.Recording.{ReceivesMarkedRecording}
-use borrow.Author.Rules.{rules}
 use Rattle.recording.proofs.receive_marked_run.Goals as goal
 
 pub returns : goal.returns

@@ -2,7 +2,6 @@
 -- Assumes nothing.
 use mathlib.Core.Path.{refl}
 use mathlib.Core.Logic.{inl}
-use borrow.Author.Rules.{rules}
 use Rattle.recording.proofs.receive_recording.Goals as goal
 
 pub take_recording-requires : goal.take_recording-requires

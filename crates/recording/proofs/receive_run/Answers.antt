@@ -5,7 +5,6 @@ use Rattle.answer.specs.Number.{number_of}
 use Rattle.receiver.specs.declared.Receiver.{Receiver}
 use Rattle.recording.specs.Recording.{ReceivesRecording}
 use Rattle.recording.proofs.Returned.{returned}
-use borrow.Author.Rules.{rules}
 use Rattle.recording.proofs.receive_run.Goals as goal
 
 pub returns : goal.returns

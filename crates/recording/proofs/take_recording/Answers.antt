@@ -3,12 +3,11 @@
 use mathlib.Core.Path.{◌≡◌, refl, sym, ◌∙◌}
 use mathlib.Core.Bool.{true}
 use native.Mathlib.Omega.{arith}
-use borrow.Author.Tests.{lt-ltb, le-ltb, not-true, not-false}
+use borrow.Author.Tests.{lt-ltb, le-ltb}
 use Rattle.reception_counts.proofs.Ranges.{counts_range}
 use Rattle.receiver.specs.Receive.{receiver_in_range}
 use Rattle.receiver.proofs.Calls.{state_range}
 use Rattle.recording.specs.Recording.{refused, taken}
-use borrow.Author.Rules.{rules}
 use Rattle.recording.proofs.take_recording.Goals as goal
 
 pub returns-then-not-in_range : goal.returns-then-not-in_range

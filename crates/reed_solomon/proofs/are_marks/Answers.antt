@@ -4,7 +4,6 @@ use mathlib.Core.Path.{sym, ap, ◌∙◌}
 use Prim.Native.Nat.{ℕ}
 use borrow.Author.Tests.{eq-eqb, ne_eqb}
 use lib.Dec.{ltb}
-use borrow.Author.Rules.{rules}
 use Rattle.reed_solomon.proofs.are_marks.Goals as goal
 
 pub returns-then-marks-ne204 : goal.returns-then-marks-ne204

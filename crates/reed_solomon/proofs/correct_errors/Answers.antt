@@ -5,7 +5,6 @@ use mathlib.Core.List.{List}
 use Prim.Native.Nat.{ℕ, ◌-◌, ◌/◌, ◌≤◌}
 use native.Mathlib.Omega.{arith}
 use lib.ListN.{length, take}
-use Rattle.common.proofs.Choice.{flag_false, flag_true}
 use Rattle.common.proofs.Entries.{bytes_of}
 use Rattle.reed_solomon.specs.Steps.{SyndromesOf, Recurring}
 use Rattle.error_locator.specs.Locator.{Modified}
@@ -14,7 +13,6 @@ use Rattle.reed_solomon.proofs.Completeness.{roots_sixteen}
 use Rattle.reed_solomon.proofs.Marks.{marked_zero}
 use Rattle.reed_solomon.proofs.Outcome.{Decoding, rejected, corrected, degrees_range}
 use Rattle.reed_solomon.proofs.Erasures.{unmarked_degrees, erasures_count}
-use borrow.Author.Rules.{rules}
 use Rattle.reed_solomon.proofs.correct_errors.Goals as goal
 
 pub by_degree-by_degree-requires : goal.by_degree-by_degree-requires

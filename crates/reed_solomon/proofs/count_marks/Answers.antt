@@ -1,8 +1,7 @@
 -- `reed_solomon::count_marks` meets its contract: the first i marks are counted.
 -- Assumes nothing.
-use Prim.Native.Nat.{◌-◌}
 use native.Mathlib.Omega.{arith}
-use Rattle.reed_solomon.proofs.Marks.{CountedTo, counted_none, counted_more, counted_all}
+use Rattle.reed_solomon.proofs.Marks.{counted_none, counted_more, counted_all}
 use borrow.Author.Rules.{rules}
 use Rattle.reed_solomon.proofs.count_marks.Goals as goal
 

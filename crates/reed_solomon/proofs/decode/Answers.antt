@@ -10,7 +10,6 @@ use Rattle.reed_solomon.specs.declared.Decoded.TheVariants.{Corrected}
 use Rattle.reed_solomon.proofs.Marks.{no_marks_lem}
 use Rattle.reed_solomon.proofs.MarkedDistance.{marked_none, without_marks}
 use Rattle.reed_solomon.proofs.Outcome.{clean}
-use borrow.Author.Rules.{rules}
 use Rattle.reed_solomon.proofs.decode.Goals as goal
 
 pub returns-then-is_zero : goal.returns-then-is_zero

@@ -2,13 +2,11 @@
 -- Assumes nothing.
 use mathlib.Core.Path.{refl, sym, ap, ◌∙◌}
 use native.Mathlib.Omega.{arith}
-use borrow.Author.Tests.{not-true, not-false}
 use Rattle.common.proofs.Entries.{bytes_of}
 use Rattle.reed_solomon.specs.Marks.{Marks}
 use Rattle.reed_solomon.specs.Steps.{all_zero}
 use Rattle.reed_solomon.proofs.Marks.{marks_of_lem, marks_not}
 use Rattle.reed_solomon.proofs.Outcome.{clean}
-use borrow.Author.Rules.{rules}
 use Rattle.reed_solomon.proofs.decode_marked.Goals as goal
 
 pub returns-then-not-are_marks : goal.returns-then-not-are_marks

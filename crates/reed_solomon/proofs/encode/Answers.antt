@@ -9,7 +9,6 @@ use lib.ListN.{length, take, drop}
 use Rattle.common.proofs.Lists.{put_after}
 use Rattle.reed_solomon.specs.Encode.{check_bytes}
 use Rattle.reed_solomon.proofs.LongDivision.{check_remainder}
-use borrow.Author.Rules.{rules}
 use Rattle.reed_solomon.proofs.encode.Goals as goal
 
 -- the two parts, one after the other

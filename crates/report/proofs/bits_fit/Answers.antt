@@ -2,7 +2,6 @@
 -- Assumes nothing.
 use mathlib.Core.Path.{refl}
 use Rattle.report.specs.Text.{row}
-use borrow.Author.Rules.{rules}
 use Rattle.report.proofs.bits_fit.Goals as goal
 
 pub returns-in-Number : goal.returns-in-Number

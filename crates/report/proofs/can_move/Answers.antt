@@ -1,7 +1,6 @@
 -- `report::can_move` meets its contract.
 -- Assumes nothing.
 use mathlib.Core.Path.{refl}
-use borrow.Author.Rules.{rules}
 use Rattle.report.proofs.can_move.Goals as goal
 
 pub returns-in-Absent : goal.returns-in-Absent

@@ -7,7 +7,6 @@ use native.Mathlib.Omega.{arith}
 use Rattle.report_lines.specs.Line.{line_text}
 use Rattle.report_lines.proofs.Lines.{joined_appended, restated}
 use Rattle.report.specs.Text.{row, lines_text, bits_text, report_text}
-use borrow.Author.Rules.{rules}
 use Rattle.report.proofs.compose.Goals as goal
 
 pub returns : goal.returns

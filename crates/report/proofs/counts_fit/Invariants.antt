@@ -1,13 +1,9 @@
 -- `report::counts_fit` meets its contract.
 -- Assumes nothing.
-use mathlib.Core.Path.{◌≡◌, refl, sym, subst}
+use mathlib.Core.Path.{◌≡◌}
 use mathlib.Core.Bool.{true}
-use Prim.Native.Nat.{ℕ, ◌-◌, ◌≤◌}
-use native.Mathlib.Omega.{arith}
-use borrow.Author.Rules.{rules}
+use Prim.Native.Nat.{◌-◌, ◌≤◌}
 use Rattle.report.specs.Text.{numbers_within}
-use Rattle.report.proofs.Table.{table}
-use Rattle.report.proofs.LineRuns.{within_more, within_fails}
 use Rattle.report.proofs.counts_fit.Given as goal
 
 abbrev pub invariant-loop-i : goal.invariant-loop-i

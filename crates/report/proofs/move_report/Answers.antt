@@ -1,10 +1,8 @@
 -- `report::move_report` meets its contract.
 -- Assumes nothing.
 use mathlib.Core.Path.{sym, ◌∙◌}
-use borrow.Author.Tests.{not-true, not-false}
 use Rattle.answer.specs.Number.{number_of}
 use Rattle.report.proofs.Moving.{move_unread, move_refused, move_done}
-use borrow.Author.Rules.{rules}
 use Rattle.report.proofs.move_report.Goals as goal
 
 pub returns-then-number-ne0 : goal.returns-then-number-ne0

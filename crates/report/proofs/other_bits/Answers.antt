@@ -1,7 +1,6 @@
 -- `report::other_bits` meets its contract.
 -- Assumes nothing.
 use mathlib.Core.Path.{refl}
-use borrow.Author.Rules.{rules}
 use Rattle.report.proofs.other_bits.Goals as goal
 
 pub returns-in-Number : goal.returns-in-Number

@@ -5,7 +5,6 @@ use native.Mathlib.Omega.{arith}
 use Rattle.report_lines.proofs.Lines.{put_appended}
 use Rattle.report.proofs.Fronts.{dash_is}
 use Rattle.report.proofs.Counting.{appended_none}
-use borrow.Author.Rules.{rules}
 use Rattle.report.proofs.put_bits.Goals as goal
 
 pub returns-in-Absent : goal.returns-in-Absent

@@ -1,13 +1,8 @@
 -- `report::put_rows` meets its contract.
 -- Assumes nothing.
-use mathlib.Core.Path.{◌≡◌, ap}
-use Prim.Native.Nat.{ℕ, ◌-◌, ◌*◌, ◌≤◌}
-use native.Mathlib.Omega.{arith}
-use borrow.Author.Rules.{rules}
+use Prim.Native.Nat.{◌-◌, ◌*◌, ◌≤◌}
 use Rattle.report_lines.specs.Line.{Appended}
 use Rattle.report.specs.Text.{lines_text}
-use Rattle.report_lines.proofs.Lines.{restated}
-use Rattle.report.proofs.Counting.{no_lines, line_more}
 use Rattle.report.proofs.put_rows.Given as goal
 
 abbrev pub invariant-loop-i : goal.invariant-loop-i

@@ -3,7 +3,6 @@
 use mathlib.Core.Path.{refl, sym, ◌∙◌}
 use mathlib.Core.Bool.{Bool, true}
 use native.Mathlib.Omega.{arith}
-use borrow.Author.Tests.{not-true, not-false}
 use Rattle.common.proofs.Choice.{flag_true, flag_false}
 use Rattle.report.specs.Steps.{Front}
 use Rattle.report.proofs.Answers.{read_none, read-wrong, read_done}

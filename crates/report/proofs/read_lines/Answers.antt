@@ -9,7 +9,6 @@ use Rattle.report_lines.specs.Reading.{LineIs}
 use Rattle.report.specs.Text.{row}
 use Rattle.report.specs.Steps.{RowsRead, BitsIs}
 use Rattle.report.proofs.Fronts.{front_rows, front_bits, front_rest, front_found}
-use borrow.Author.Rules.{rules}
 use Rattle.report.proofs.read_lines.Goals as goal
 
 pub returns-then-not-rows : goal.returns-then-not-rows

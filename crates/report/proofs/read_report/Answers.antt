@@ -6,7 +6,6 @@ use native.Mathlib.Omega.{arith}
 use lib.ListN.{length, drop, length-drop, drop_of_length-le}
 use Rattle.answer.specs.Number.{number_of}
 use Rattle.report.proofs.Answers.{whole-longer, whole_all}
-use borrow.Author.Rules.{rules}
 use Rattle.report.proofs.read_report.Goals as goal
 
 pub returns-then-end-text : goal.returns-then-end-text

@@ -8,7 +8,7 @@ use borrow.Author.Rules.{rules}
 use Rattle.common.proofs.Choice.{flag_true, flag_false}
 use Rattle.report_lines.specs.Reading.{LineIs}
 use Rattle.report.specs.Text.{row}
-use Rattle.report.proofs.LineRuns.{RowsTo, rows_none, rows_more, rows_stop, rows_all}
+use Rattle.report.proofs.LineRuns.{rows_none, rows_more, rows_stop, rows_all}
 use Rattle.report.proofs.read_rows.Goals as goal
 
 pub loop-i-init : goal.loop-i-init

@@ -1,14 +1,7 @@
 -- `report::read_rows` meets its contract.
 -- Assumes nothing.
-use mathlib.Core.Path.{refl}
-use mathlib.Core.Bool.{Bool}
 use Prim.Native.Nat.{◌-◌}
-use native.Mathlib.Omega.{arith}
-use borrow.Author.Rules.{rules}
-use Rattle.common.proofs.Choice.{flag_true, flag_false}
-use Rattle.report_lines.specs.Reading.{LineIs}
-use Rattle.report.specs.Text.{row}
-use Rattle.report.proofs.LineRuns.{RowsTo, rows_none, rows_more, rows_stop, rows_all}
+use Rattle.report.proofs.LineRuns.{RowsTo}
 use Rattle.report.proofs.read_rows.Given as goal
 
 abbrev pub invariant-loop-i : goal.invariant-loop-i

@@ -2,9 +2,7 @@
 -- Assumes nothing.
 use mathlib.Core.Path.{◌≡◌, sym, ap, ◌∙◌}
 use mathlib.Core.Bool.{true, false}
-use borrow.Author.Tests.{not-true, not-false}
 use Rattle.report.specs.Text.{row, numbers_within, fields, bits_within, fits}
-use borrow.Author.Rules.{rules}
 use Rattle.report.proofs.report_fits.Goals as goal
 
 pub returns-then-not-counts_fit : goal.returns-then-not-counts_fit

@@ -4,7 +4,6 @@ use native.Mathlib.Omega.{arith}
 use borrow.Author.Tests.{eq-eqb, ne_eqb}
 use Rattle.report.specs.Text.{sums}
 use Rattle.report.proofs.Counting.{fits_small}
-use borrow.Author.Rules.{rules}
 use Rattle.report.proofs.sums_right.Goals as goal
 
 pub overflow_add-filling : goal.overflow_add-filling

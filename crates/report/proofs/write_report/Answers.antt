@@ -6,11 +6,10 @@ use mathlib.Core.List.{List, ◌++◌}
 use Prim.Native.Nat.{ℕ, ◌+◌, ◌≤◌}
 use native.Mathlib.Omega.{arith}
 use lib.ListN.{length, take, drop}
-use borrow.Author.Tests.{not-true, not-false, lt-ltb, le-ltb}
+use borrow.Author.Tests.{lt-ltb, le-ltb}
 use native.Mathlib.Nat.{zero-add}
 use lib.Seq.{length-take-le}
 use Rattle.report.specs.Text.{fits, sums, report_text}
-use borrow.Author.Rules.{rules}
 use Rattle.report.proofs.write_report.Goals as goal
 
 pub returns-then-not-report_fits : goal.returns-then-not-report_fits

@@ -2,9 +2,7 @@
 -- Assumes nothing.
 use Prim.Native.Nat.{◌-◌}
 use native.Mathlib.Omega.{arith}
-use lib.ListN.{length}
-use borrow.Author.Rules.{rules}
-use Rattle.report_lines.proofs.Numbers.{WordTo, word_none, word_more, word_all, word_short, word_differs}
+use Rattle.report_lines.proofs.Numbers.{word_none, word_more, word_all, word_short, word_differs}
 use Rattle.report_lines.proofs.matches.Goals as goal
 
 pub returns-then-text-at : goal.returns-then-text-at

@@ -1,10 +1,8 @@
 -- `report_lines::matches` meets its contract.
 -- Assumes nothing.
 use Prim.Native.Nat.{◌-◌}
-use native.Mathlib.Omega.{arith}
 use lib.ListN.{length}
-use borrow.Author.Rules.{rules}
-use Rattle.report_lines.proofs.Numbers.{WordTo, word_none, word_more, word_all, word_short, word_differs}
+use Rattle.report_lines.proofs.Numbers.{WordTo}
 use Rattle.report_lines.proofs.matches.Given as goal
 
 abbrev pub invariant-loop-i : goal.invariant-loop-i

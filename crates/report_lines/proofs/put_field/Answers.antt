@@ -7,7 +7,6 @@ use native.Mathlib.Omega.{arith}
 use lib.ListN.{length, length-set}
 use Rattle.report_lines.specs.Line.{Appended, decimal, field_text}
 use Rattle.report_lines.proofs.Lines.{put_appended, byte_appended, joined_appended}
-use borrow.Author.Rules.{rules}
 use Rattle.report_lines.proofs.put_field.Goals as goal
 
 pub shape_of-output : goal.shape_of-output

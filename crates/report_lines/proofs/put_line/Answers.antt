@@ -1,7 +1,6 @@
 -- `report_lines::put_line` meets its contract.
 -- Assumes nothing.
 use Rattle.report_lines.specs.Line.{field_text, line_text}
-use borrow.Author.Rules.{rules}
 use Rattle.report_lines.proofs.put_line.Goals as goal
 
 pub returns : goal.returns

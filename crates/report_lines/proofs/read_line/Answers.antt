@@ -1,9 +1,7 @@
 -- `report_lines::read_line` meets its contract.
 -- Assumes nothing.
-use Rattle.common.proofs.Choice.{flag_true, flag_false}
 use Rattle.report_lines.specs.Reading.{WordIs}
 use Rattle.report_lines.proofs.Numbers.{line_none, line_found}
-use borrow.Author.Rules.{rules}
 use mathlib.Core.Path.{subst}
 use Rattle.report_lines.proofs.read_line.Goals as goal
 

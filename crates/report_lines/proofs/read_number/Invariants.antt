@@ -2,8 +2,7 @@
 -- Assumes nothing.
 use Prim.Native.Nat.{◌-◌}
 use lib.ListN.{length}
-use borrow.Author.Rules.{rules}
-use Rattle.report_lines.proofs.Numbers.{NumberTo, none_left, none_first, none_first_large, number_first, none_end, number_found, none_other, none_zero, none_large, number_more}
+use Rattle.report_lines.proofs.Numbers.{NumberTo}
 use Rattle.report_lines.proofs.read_number.Given as goal
 
 abbrev pub invariant-loop-i : goal.invariant-loop-i

@@ -2,7 +2,6 @@
 -- Assumes nothing.
 use native.Mathlib.Omega.{arith}
 use Rattle.report.proofs.Counting.{fits_small}
-use borrow.Author.Rules.{rules}
 use Rattle.season_totals.proofs.accepted_of.Goals as goal
 
 pub overflow_add-result : goal.overflow_add-result

@@ -7,7 +7,6 @@ use borrow.Author.Tests.{eq-eqb, ne_eqb}
 use Rattle.report_lines.specs.Line.{line_text}
 use Rattle.report_lines.proofs.Lines.{joined_appended, restated}
 use Rattle.season_totals.specs.Season.{taken_key, lost_key, changed_key, worst_key}
-use borrow.Author.Rules.{rules}
 use Rattle.season_totals.proofs.compose.Goals as goal
 
 pub returns-then-number-ne0 : goal.returns-then-number-ne0

@@ -5,7 +5,6 @@ use mathlib.Core.Bool.{true, false}
 use native.Mathlib.Omega.{arith}
 use Rattle.season_totals.specs.Totals.{beats}
 use Rattle.report.proofs.Counting.{fits_small}
-use borrow.Author.Rules.{rules}
 use Rattle.season_totals.proofs.count_report.Goals as goal
 
 pub overflow_add-taken : goal.overflow_add-taken

@@ -4,11 +4,9 @@ use mathlib.Core.Path.{◌≡◌, sym, ◌∙◌, subst}
 use mathlib.Core.List.{List}
 use Prim.Native.Nat.{ℕ, ◌-◌}
 use native.Mathlib.Omega.{arith}
-use lib.ListN.{length}
 use Rattle.answer.specs.Number.{number_of}
 use Rattle.report.proofs.Answers.{read-report}
 use Rattle.season_totals.proofs.Progress.{CountedTo, counted_none, counted_many, counted_bad, counted_fits, counted_next, counted_done, past}
-use borrow.Author.Rules.{rules}
 use Rattle.season_totals.proofs.count_rest.Goals as goal
 
 pub loop-at-init : goal.loop-at-init

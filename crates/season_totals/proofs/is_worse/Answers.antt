@@ -6,7 +6,6 @@ use lib.Dec.{ltb}
 use lib.ListN.{get_or}
 use borrow.Author.Tests.{eq-eqb, ne_eqb}
 use Rattle.season_totals.specs.Totals.{accepted}
-use borrow.Author.Rules.{rules}
 use Rattle.season_totals.proofs.is_worse.Goals as goal
 
 pub returns-then-own-eq0 : goal.returns-then-own-eq0

@@ -3,7 +3,6 @@
 use Prim.Native.Nat.{ℕ, ◌+◌, ◌*◌, ◌/◌, ◌%◌, ◌<◌}
 use native.Mathlib.Omega.{arith}
 use Rattle.season_totals.proofs.Products.{Halves, halves, product_halves, high_fits}
-use borrow.Author.Rules.{rules}
 use Rattle.season_totals.proofs.product.Goals as goal
 
 pub overflow_mul-low : goal.overflow_mul-low

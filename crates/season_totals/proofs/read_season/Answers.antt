@@ -4,7 +4,6 @@ use mathlib.Core.Path.{sym, subst}
 use mathlib.Core.List.{[], ◌++◌}
 use Rattle.season_totals.specs.Progress.{CameTo}
 use Rattle.season_totals.proofs.Histories.{fresh_came}
-use borrow.Author.Rules.{rules}
 use Rattle.season_totals.proofs.read_season.Goals as goal
 
 pub feed-season-requires : goal.feed-season-requires

@@ -2,7 +2,6 @@
 -- Assumes nothing.
 use mathlib.Core.Path.{sym}
 use Rattle.sender.proofs.Inputs.{nothing_synced}
-use borrow.Author.Rules.{rules}
 use Rattle.sender.proofs.is_synced.Goals as goal
 
 pub returns-then-input-eq0 : goal.returns-then-input-eq0

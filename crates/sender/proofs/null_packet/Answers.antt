@@ -2,7 +2,6 @@
 -- Assumes nothing.
 use mathlib.Core.Path.{refl}
 use Rattle.sender.specs.Input.{null_packet}
-use borrow.Author.Rules.{rules}
 use Rattle.sender.proofs.null_packet.Goals as goal
 
 pub returns : goal.returns

@@ -7,7 +7,6 @@ use lib.ListN.{replicate}
 use Rattle.puncturing.specs.Mode.{mode_of}
 use Rattle.sender.specs.Send.{sender_after}
 use Rattle.sender.proofs.Stages.{in_range_lem, randomizing, coding, interleaving, modulating}
-use borrow.Author.Rules.{rules}
 use Rattle.sender.proofs.transmit.Goals as goal
 
 pub overflow_add-result : goal.overflow_add-result

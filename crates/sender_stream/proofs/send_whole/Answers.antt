@@ -1,11 +1,11 @@
 -- `sender_stream::send_whole` meets its contract. The measure is what is left of the piece, with the bytes held.
 -- Assumes nothing.
 use mathlib.Core.Path.{◌≡◌}
-use Prim.Native.Nat.{◌+◌, ◌-◌}
+use Prim.Native.Nat.{◌-◌}
 use native.Mathlib.Omega.{arith}
 use lib.ListN.{length}
 use Rattle.sender_stream.proofs.Laws.{sending_range}
-use Rattle.sender_stream.proofs.Progress.{ready_of, Progress, progress_start, output_length, answers_length, count_within, packets_fit, progress_total, progress_more, progress_end}
+use Rattle.sender_stream.proofs.Progress.{ready_of, progress_start, output_length, answers_length, count_within, packets_fit, progress_total, progress_more, progress_end}
 use borrow.Author.Rules.{rules}
 use Rattle.sender_stream.proofs.send_whole.Goals as goal
 

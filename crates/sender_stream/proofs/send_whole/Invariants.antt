@@ -1,12 +1,8 @@
 -- `sender_stream::send_whole` meets its contract. The measure is what is left of the piece, with the bytes held.
 -- Assumes nothing.
-use mathlib.Core.Path.{◌≡◌}
 use Prim.Native.Nat.{◌+◌, ◌-◌}
-use native.Mathlib.Omega.{arith}
 use lib.ListN.{length}
-use Rattle.sender_stream.proofs.Laws.{sending_range}
-use Rattle.sender_stream.proofs.Progress.{ready_of, Progress, progress_start, output_length, answers_length, count_within, packets_fit, progress_total, progress_more, progress_end}
-use borrow.Author.Rules.{rules}
+use Rattle.sender_stream.proofs.Progress.{Progress}
 use Rattle.sender_stream.proofs.send_whole.Given as goal
 
 abbrev pub invariant-loop-held : goal.invariant-loop-held

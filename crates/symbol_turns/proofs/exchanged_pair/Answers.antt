@@ -2,7 +2,6 @@
 -- Assumes nothing.
 use mathlib.Core.Path.{◌≡◌, ◌∙◌, ap, ap₂}
 use Prim.Native.Nat.{ℕ, ◌+◌, ◌*◌}
-use borrow.Author.Rules.{rules}
 use Rattle.common.specs.Choice.{pick}
 use Rattle.symbol_turns.specs.Turn.{inverse_level, exchanged_pair}
 use Rattle.symbol_turns.proofs.exchanged_pair.Goals as goal

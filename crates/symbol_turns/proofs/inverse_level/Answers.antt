@@ -1,7 +1,6 @@
 -- `symbol_turns::inverse_level` meets its contract.
 -- Assumes nothing.
 use native.Mathlib.Omega.{arith}
-use borrow.Author.Rules.{rules}
 use borrow.Author.Tests.{lt-ltb, le-ltb}
 use Rattle.symbol_turns.proofs.inverse_level.Goals as goal
 

@@ -5,10 +5,9 @@ use mathlib.Core.List.{List, ◌++◌, map}
 use Prim.Native.Nat.{ℕ, ◌-◌, ◌<◌}
 use native.Mathlib.Nat.{zero-add}
 use native.Mathlib.Omega.{arith}
-use borrow.Author.Rules.{rules}
 use lib.ListN.{length, get_or, drop, length-map}
 use Rattle.common.proofs.Lists.{All-at, get_d_map_in}
-use Rattle.common.proofs.Written.{Written, written_none, written_next, written_length, written_all}
+use Rattle.common.proofs.Written.{written_none, written_next, written_length, written_all}
 use Rattle.symbol_turns.specs.Turn.{turned_pair}
 use Rattle.symbol_turns.proofs.Turns.{exchanged}
 use Rattle.symbol_turns.proofs.turn_pairs.Goals as goal

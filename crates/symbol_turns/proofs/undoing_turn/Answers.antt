@@ -1,6 +1,5 @@
 -- `symbol_turns::undoing_turn` meets its contract.
 -- Assumes nothing.
-use borrow.Author.Rules.{rules}
 use borrow.Author.Tests.{lt-ltb, le-ltb}
 use Rattle.symbol_turns.specs.Turn.{undoing}
 use Rattle.symbol_turns.proofs.undoing_turn.Goals as goal

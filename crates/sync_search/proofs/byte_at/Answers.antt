@@ -2,7 +2,6 @@
 -- Assumes nothing.
 use mathlib.Core.Path.{refl}
 use Rattle.sync_search.specs.Sync.{byte_at}
-use borrow.Author.Rules.{rules}
 use Rattle.sync_search.proofs.byte_at.Goals as goal
 
 pub returns : goal.returns

@@ -2,7 +2,6 @@
 -- Assumes nothing.
 use native.Mathlib.Omega.{arith}
 use Rattle.sync_search.specs.Sync.{count_at}
-use borrow.Author.Rules.{rules}
 use Rattle.sync_search.proofs.count_at.Goals as goal
 
 pub returns : goal.returns

@@ -1,11 +1,10 @@
 -- `sync_search::find_sync` meets its contract.
 -- Assumes nothing.
-use mathlib.Core.Path.{◌≡◌, sym, ◌∙◌}
-use Prim.Native.Nat.{◌+◌, ◌-◌, ◌≤◌}
+use mathlib.Core.Path.{sym, ◌∙◌}
+use Prim.Native.Nat.{◌-◌}
 use native.Mathlib.Omega.{arith}
-use lib.ListN.{length}
 use Rattle.sync_search.specs.Sync.{first, nowhere}
-use Rattle.sync_search.proofs.Syncs.{Passed, passed_none, passed_more}
+use Rattle.sync_search.proofs.Syncs.{passed_none, passed_more}
 use Rattle.sync_search.proofs.find_sync.Goals as goal
 
 pub returns-then-bits-lt6536 : goal.returns-then-bits-lt6536

@@ -1,11 +1,9 @@
 -- `sync_search::find_sync` meets its contract.
 -- Assumes nothing.
-use mathlib.Core.Path.{◌≡◌, sym, ◌∙◌}
+use mathlib.Core.Path.{◌≡◌}
 use Prim.Native.Nat.{◌+◌, ◌-◌, ◌≤◌}
-use native.Mathlib.Omega.{arith}
 use lib.ListN.{length}
-use Rattle.sync_search.specs.Sync.{first, nowhere}
-use Rattle.sync_search.proofs.Syncs.{Passed, passed_none, passed_more}
+use Rattle.sync_search.proofs.Syncs.{Passed}
 use Rattle.sync_search.proofs.find_sync.Given as goal
 
 abbrev pub invariant-loop-at : goal.invariant-loop-at

@@ -5,7 +5,6 @@ use native.Mathlib.Omega.{arith}
 use borrow.Author.Tests.{eq-eqb, ne_eqb}
 use Rattle.common.specs.Choice.{indicator}
 use Rattle.sync_search.specs.Sync.{is_at}
-use borrow.Author.Rules.{rules}
 use Rattle.sync_search.proofs.is_at.Goals as goal
 
 pub returns-then-byte_at-value : goal.returns-then-byte_at-value

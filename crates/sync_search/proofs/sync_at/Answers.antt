@@ -2,7 +2,6 @@
 -- Assumes nothing.
 use mathlib.Core.Path.{sym, ◌∙◌}
 use Rattle.sync_search.proofs.Syncs.{sync_by_lem, by_not, by_few, by_other}
-use borrow.Author.Rules.{rules}
 use Rattle.sync_search.proofs.sync_at.Goals as goal
 
 pub returns-then-plain-inverted-ne5 : goal.returns-then-plain-inverted-ne5

@@ -1,11 +1,9 @@
 -- `viterbi_decoder::all_above_84` meets its contract.
 -- Assumes nothing.
-use mathlib.Core.Path.{◌≡◌, refl}
-use Prim.Native.Nat.{◌-◌, ◌≤◌}
+use mathlib.Core.Path.{refl}
+use Prim.Native.Nat.{◌-◌}
 use native.Mathlib.Omega.{arith}
-use borrow.Author.Rules.{rules}
-use Rattle.common.proofs.Each.{Each, each_none, each_more, each_all}
-use Rattle.convolutional_code.specs.Costs.{at}
+use Rattle.common.proofs.Each.{each_none, each_more, each_all}
 use Rattle.viterbi_decoder.proofs.all_above_84.Goals as goal
 
 pub loop-s-init : goal.loop-s-init

@@ -1,10 +1,8 @@
 -- `viterbi_decoder::all_above_84` meets its contract.
 -- Assumes nothing.
-use mathlib.Core.Path.{◌≡◌, refl}
+use mathlib.Core.Path.{◌≡◌}
 use Prim.Native.Nat.{◌-◌, ◌≤◌}
-use native.Mathlib.Omega.{arith}
-use borrow.Author.Rules.{rules}
-use Rattle.common.proofs.Each.{Each, each_none, each_more, each_all}
+use Rattle.common.proofs.Each.{Each}
 use Rattle.convolutional_code.specs.Costs.{at}
 use Rattle.viterbi_decoder.proofs.all_above_84.Given as goal
 

@@ -8,7 +8,6 @@ use borrow.Author.Tests.{ltb-true}
 use lib.Dec.{ltb}
 use Rattle.common.specs.Choice.{pick}
 use Rattle.viterbi_decoder.specs.Lanes.{lesser, chosen}
-use borrow.Author.Rules.{rules}
 use Rattle.viterbi_decoder.proofs.chosen.Goals as goal
 
 first-lesser : (a b p q : ℕ) → lesser a b ≡ a → chosen a b p q ≡ p

@@ -5,7 +5,6 @@ use Rattle.convolutional_code.specs.Costs.{step_costs}
 use Rattle.viterbi_decoder.specs.Lanes.{row_costs}
 use Rattle.viterbi_decoder.proofs.Butterfly.{sums_fit, rows_bounded, row_cost_lem}
 use Rattle.viterbi_decoder.proofs.Sweeps.{decoded_by}
-use borrow.Author.Rules.{rules}
 use Rattle.viterbi_decoder.proofs.decode.Goals as goal
 
 pub write_sums-requires : goal.write_sums-requires

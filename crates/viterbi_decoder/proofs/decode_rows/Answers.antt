@@ -4,7 +4,6 @@ use Prim.Native.Nat.{◌<◌}
 use native.Mathlib.Omega.{arith}
 use Rattle.viterbi_decoder.proofs.Butterfly.{lane_lt}
 use Rattle.viterbi_decoder.proofs.Sweeps.{small_costs, decoded, rows_small, total_le}
-use borrow.Author.Rules.{rules}
 use Rattle.viterbi_decoder.proofs.decode_rows.Goals as goal
 
 pub forward-last-requires : goal.forward-last-requires

@@ -1,10 +1,9 @@
 -- `viterbi_decoder::first_least` meets its contract: the first of the memories so far with the least metric.
 -- Assumes nothing.
 use mathlib.Core.Path.{◌≡◌}
-use Prim.Native.Nat.{◌-◌, ◌≤◌}
+use Prim.Native.Nat.{◌-◌}
 use native.Mathlib.Omega.{arith}
 use Rattle.convolutional_code.specs.Costs.{at}
-use Rattle.viterbi_decoder.specs.Metric.{FirstLeast}
 use Rattle.viterbi_decoder.proofs.Ends.{ends_one, ends_new, ends_old}
 use Rattle.viterbi_decoder.proofs.first_least.Goals as goal
 use Rattle.viterbi_decoder.proofs.first_least.Goals.{then-metrics-s, else-metrics-s}

@@ -2,11 +2,11 @@
 -- Assumes nothing.
 use borrow.Author.Rules.{rules}
 use mathlib.Core.Path.{◌≡◌, sym}
-use Prim.Native.Nat.{◌+◌, ◌-◌}
+use Prim.Native.Nat.{◌-◌}
 use native.Mathlib.Omega.{arith}
 use lib.ListN.{length}
 use Rattle.viterbi_decoder.specs.Lanes.{row_costs}
-use Rattle.viterbi_decoder.proofs.Sweeps.{small_costs, InBlock, in_block_none, in_block_fits, in_block_more, in_block_all, Going, going_none, offset_le, going_first, close, going_more, going_all}
+use Rattle.viterbi_decoder.proofs.Sweeps.{small_costs, in_block_none, in_block_fits, in_block_more, in_block_all, going_none, offset_le, going_first, close, going_more, going_all}
 use Rattle.viterbi_decoder.proofs.forward.Goals as goal
 use Rattle.viterbi_decoder.proofs.forward.Goals.{then-end-ge6, else-end-ge6}
 
@@ -57,8 +57,8 @@ loop-end-preserved c =
     let e : c.loop-k.k ≡ c.loop-end.end = omega (arith, c.loop-k.invariant.most) in
     rw e
     (elim c.if-end-ge6.branch [
-      then-end-ge6 w ↦ rw (w.rows-is, w.metrics-is, w.offset-is, w.put.ensures)
-      (going_more g small c.requires.2 b (omega arith) (omega (arith, w.if-end-ge6.true)) c.loop-k.invariant.size c.requires.5 w.levelled-level.result.metrics w.levelled-level.result.offset w.levelled-level.ensures.0 w.levelled-level.ensures.1)
+      | then-end-ge6 w ↦ rw (w.rows-is, w.metrics-is, w.offset-is, w.put.ensures)
+          (going_more g small c.requires.2 b (omega arith) (omega (arith, w.if-end-ge6.true)) c.loop-k.invariant.size c.requires.5 w.levelled-level.result.metrics w.levelled-level.result.offset w.levelled-level.ensures.0 w.levelled-level.ensures.1)
       | else-end-ge6 w ↦ rw (w.rows-is, w.metrics-is, w.offset-is) (going_first g small c.requires.2 b (omega arith) (omega (arith, w.if-end-ge6.false)))
     ])
 

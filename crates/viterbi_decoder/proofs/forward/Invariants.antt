@@ -1,13 +1,9 @@
 -- `viterbi_decoder::forward` meets its contract: proofs/Sweeps.antt has what holds as the loops go.
 -- Assumes nothing.
-use borrow.Author.Rules.{rules}
-use mathlib.Core.Path.{◌≡◌, sym}
-use mathlib.Core.Logic.{⊎_elim}
 use Prim.Native.Nat.{◌+◌, ◌-◌}
-use native.Mathlib.Omega.{arith}
 use lib.ListN.{length}
 use Rattle.viterbi_decoder.specs.Lanes.{row_costs}
-use Rattle.viterbi_decoder.proofs.Sweeps.{small_costs, InBlock, in_block_none, in_block_fits, in_block_more, in_block_all, Going, going_none, offset_le, going_first, close, going_more, going_all}
+use Rattle.viterbi_decoder.proofs.Sweeps.{InBlock, Going}
 use Rattle.viterbi_decoder.proofs.forward.Given as goal
 
 abbrev pub invariant-loop-k : goal.invariant-loop-k

@@ -1,10 +1,9 @@
 -- `viterbi_decoder::halves` meets its contract.
 -- Assumes nothing.
-use mathlib.Core.Path.{◌≡◌, refl}
-use Prim.Native.Nat.{◌+◌, ◌-◌}
+use mathlib.Core.Path.{refl}
+use Prim.Native.Nat.{◌-◌}
 use native.Mathlib.Omega.{arith}
-use Rattle.common.proofs.Each.{Each, each_none, each_more, each_all}
-use Rattle.convolutional_code.specs.Costs.{at}
+use Rattle.common.proofs.Each.{each_none, each_more, each_all}
 use Rattle.viterbi_decoder.proofs.halves.Goals as goal
 
 pub loop-i-init : goal.loop-i-init

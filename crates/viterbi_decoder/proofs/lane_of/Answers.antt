@@ -1,6 +1,5 @@
 -- `viterbi_decoder::lane_of` meets its contract.
 -- Assumes nothing.
-use borrow.Author.Rules.{rules}
 use mathlib.Core.Path.{refl}
 use Rattle.viterbi_decoder.specs.Lanes.{lane}
 use Rattle.viterbi_decoder.proofs.lane_of.Goals as goal

@@ -1,9 +1,8 @@
 -- `viterbi_decoder::lesser_ways` meets its contract.
 -- Assumes nothing.
-use mathlib.Core.Path.{◌≡◌, refl}
+use mathlib.Core.Path.{◌≡◌}
 use Prim.Native.Nat.{◌+◌, ◌-◌}
-use native.Mathlib.Omega.{arith}
-use Rattle.common.proofs.Each.{Each, each_none, each_more, each_all}
+use Rattle.common.proofs.Each.{Each}
 use Rattle.convolutional_code.specs.Costs.{at}
 use Rattle.viterbi_decoder.specs.Lanes.{lesser}
 use Rattle.viterbi_decoder.proofs.lesser_ways.Given as goal

@@ -1,6 +1,5 @@
 -- `viterbi_decoder::levelled` meets its contract.
 -- Assumes nothing.
-use borrow.Author.Rules.{rules}
 use mathlib.Core.Path.{◌≡◌, ◌∙◌, ap}
 use Prim.Native.Nat.{ℕ, ◌-◌, ◌<◌}
 use native.Mathlib.Omega.{arith}
@@ -10,7 +9,7 @@ use Rattle.viterbi_decoder.proofs.levelled.Goals as goal
 
 pub lowered-lower-requires : goal.lowered-lower-requires
 lowered-lower-requires c =
-    let by_is :  (t : ℕ) → t < 64 → at c.all_above_84-by.result t ≡ at c.args.metrics.now 0 - 84 = λ t h. (c.all_above_84-by.ensures t h).0 ∙ ap (λ (x : ℕ). x - 84) (get_or-replicate 64 t (at c.args.metrics.now 0) 0 h) in
+    let by_is : (t : ℕ) → t < 64 → at c.all_above_84-by.result t ≡ at c.args.metrics.now 0 - 84 = λ t h. (c.all_above_84-by.ensures t h).0 ∙ ap (λ (x : ℕ). x - 84) (get_or-replicate 64 t (at c.args.metrics.now 0) 0 h) in
     let z : 0 < 64 = omega arith in λ t h. omega (arith, by_is t h, c.requires.1 0 t z h)
 
 pub overflow_add-result : goal.overflow_add-result
@@ -18,7 +17,7 @@ overflow_add-result c = let z : 0 < 64 = omega arith in omega (arith, (c.all_abo
 
 pub returns : goal.returns
 returns c =
-    let by_is :  (t : ℕ) → t < 64 → at c.all_above_84-by.result t ≡ at c.args.metrics.now 0 - 84 = λ t h. (c.all_above_84-by.ensures t h).0 ∙ ap (λ (x : ℕ). x - 84) (get_or-replicate 64 t (at c.args.metrics.now 0) 0 h) in
+    let by_is : (t : ℕ) → t < 64 → at c.all_above_84-by.result t ≡ at c.args.metrics.now 0 - 84 = λ t h. (c.all_above_84-by.ensures t h).0 ∙ ap (λ (x : ℕ). x - 84) (get_or-replicate 64 t (at c.args.metrics.now 0) 0 h) in
     let z : 0 < 64 = omega arith in
     let p = c.requires.1 in
     let b = by_is in

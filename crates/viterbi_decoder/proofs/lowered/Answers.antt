@@ -1,10 +1,9 @@
 -- `viterbi_decoder::lowered` meets its contract.
 -- Assumes nothing.
-use mathlib.Core.Path.{◌≡◌, refl}
+use mathlib.Core.Path.{refl}
 use Prim.Native.Nat.{◌-◌}
 use native.Mathlib.Omega.{arith}
-use Rattle.common.proofs.Each.{Each, each_none, each_more, each_all}
-use Rattle.convolutional_code.specs.Costs.{at}
+use Rattle.common.proofs.Each.{each_none, each_more, each_all}
 use Rattle.viterbi_decoder.proofs.lowered.Goals as goal
 
 pub loop-s-init : goal.loop-s-init

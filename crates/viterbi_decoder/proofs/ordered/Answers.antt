@@ -1,11 +1,10 @@
 -- `viterbi_decoder::ordered` meets its contract.
 -- Assumes nothing.
-use mathlib.Core.Path.{◌≡◌, refl, ap}
+use mathlib.Core.Path.{refl, ap}
 use Prim.Native.Nat.{◌-◌}
 use native.Mathlib.Omega.{arith}
-use Rattle.common.proofs.Each.{Each, each_none, each_more, each_all}
+use Rattle.common.proofs.Each.{each_none, each_more, each_all}
 use Rattle.convolutional_code.specs.Costs.{at}
-use Rattle.viterbi_decoder.specs.Lanes.{held}
 use Rattle.viterbi_decoder.proofs.Butterfly.{lane_lt}
 use Rattle.viterbi_decoder.proofs.ordered.Goals as goal
 

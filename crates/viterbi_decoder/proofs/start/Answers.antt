@@ -1,6 +1,5 @@
 -- `viterbi_decoder::start` meets its contract.
 -- Assumes nothing.
-use borrow.Author.Rules.{rules}
 use Rattle.viterbi_decoder.proofs.Butterfly.{lane_lt}
 use Rattle.viterbi_decoder.proofs.Sweeps.{started}
 use Rattle.viterbi_decoder.proofs.start.Goals as goal

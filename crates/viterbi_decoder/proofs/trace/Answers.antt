@@ -1,12 +1,9 @@
 -- `viterbi_decoder::trace` meets its contract.
 -- Assumes nothing.
-use mathlib.Core.Path.{◌≡◌, refl, ◌∙◌}
-use mathlib.Core.List.{reverse}
-use Prim.Native.Nat.{◌+◌, ◌-◌, ◌*◌, ◌/◌, ◌%◌, ◌≤◌, ◌<◌}
+use mathlib.Core.Path.{refl, ◌∙◌}
+use Prim.Native.Nat.{◌+◌, ◌-◌, ◌*◌}
 use native.Mathlib.Omega.{arith}
-use lib.ListN.{length}
-use Rattle.viterbi_decoder.specs.Lanes.{traced}
-use Rattle.viterbi_decoder.proofs.Sweeps.{Whole, trace_none, trace_more, trace_all}
+use Rattle.viterbi_decoder.proofs.Sweeps.{trace_none, trace_more, trace_all}
 use Rattle.viterbi_decoder.proofs.trace.Goals as goal
 
 pub loop-b-init : goal.loop-b-init

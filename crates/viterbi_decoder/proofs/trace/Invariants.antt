@@ -1,12 +1,11 @@
 -- `viterbi_decoder::trace` meets its contract.
 -- Assumes nothing.
-use mathlib.Core.Path.{◌≡◌, refl, ◌∙◌}
+use mathlib.Core.Path.{◌≡◌}
 use mathlib.Core.List.{reverse}
-use Prim.Native.Nat.{◌+◌, ◌-◌, ◌*◌, ◌/◌, ◌%◌, ◌≤◌, ◌<◌}
-use native.Mathlib.Omega.{arith}
+use Prim.Native.Nat.{◌-◌, ◌/◌, ◌%◌, ◌≤◌, ◌<◌}
 use lib.ListN.{length}
 use Rattle.viterbi_decoder.specs.Lanes.{traced}
-use Rattle.viterbi_decoder.proofs.Sweeps.{Whole, trace_none, trace_more, trace_all}
+use Rattle.viterbi_decoder.proofs.Sweeps.{Whole}
 use Rattle.viterbi_decoder.proofs.trace.Given as goal
 
 abbrev pub invariant-loop-b : goal.invariant-loop-b

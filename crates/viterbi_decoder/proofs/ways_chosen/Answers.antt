@@ -1,10 +1,9 @@
 -- `viterbi_decoder::ways_chosen` meets its contract.
 -- Assumes nothing.
-use mathlib.Core.Path.{◌≡◌, refl}
-use Prim.Native.Nat.{◌+◌, ◌-◌}
+use mathlib.Core.Path.{refl}
+use Prim.Native.Nat.{◌-◌}
 use native.Mathlib.Omega.{arith}
-use Rattle.common.proofs.Each.{Each, each_none, each_more, each_all}
-use Rattle.convolutional_code.specs.Costs.{at}
+use Rattle.common.proofs.Each.{each_none, each_more, each_all}
 use Rattle.viterbi_decoder.specs.Lanes.{chosen}
 use Rattle.viterbi_decoder.proofs.ways_chosen.Goals as goal
 

@@ -3,7 +3,7 @@
 use mathlib.Core.Path.{refl}
 use Prim.Native.Nat.{◌-◌}
 use native.Mathlib.Omega.{arith}
-use Rattle.viterbi_decoder.proofs.Loops.{Woven, woven_none, woven_more, woven_all}
+use Rattle.viterbi_decoder.proofs.Loops.{woven_none, woven_more, woven_all}
 use Rattle.viterbi_decoder.proofs.woven.Goals as goal
 
 pub loop-i-init : goal.loop-i-init

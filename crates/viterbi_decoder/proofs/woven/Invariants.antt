@@ -1,9 +1,7 @@
 -- `viterbi_decoder::woven` meets its contract.
 -- Assumes nothing.
-use mathlib.Core.Path.{refl}
 use Prim.Native.Nat.{◌-◌}
-use native.Mathlib.Omega.{arith}
-use Rattle.viterbi_decoder.proofs.Loops.{Woven, woven_none, woven_more, woven_all}
+use Rattle.viterbi_decoder.proofs.Loops.{Woven}
 use Rattle.viterbi_decoder.proofs.woven.Given as goal
 
 abbrev pub invariant-loop-i : goal.invariant-loop-i

@@ -1,11 +1,10 @@
 -- `viterbi_decoder::write_costs` meets its contract.
 -- Assumes nothing.
-use mathlib.Core.Path.{◌≡◌, ◌∙◌, ap₂}
-use Prim.Native.Nat.{ℕ, ◌-◌, ◌<◌}
+use mathlib.Core.Path.{◌∙◌, ap₂}
+use Prim.Native.Nat.{ℕ, ◌-◌}
 use native.Mathlib.Omega.{arith}
-use borrow.Author.Rules.{rules}
-use Rattle.convolutional_code.specs.Costs.{at, decided, decision_cost}
-use Rattle.viterbi_decoder.proofs.Butterfly.{Written, written_none, written_more}
+use Rattle.convolutional_code.specs.Costs.{at, decided}
+use Rattle.viterbi_decoder.proofs.Butterfly.{written_none, written_more}
 use Rattle.viterbi_decoder.proofs.write_costs.Goals as goal
 
 pub loop-n-init : goal.loop-n-init

@@ -1,11 +1,9 @@
 -- `viterbi_decoder::write_costs` meets its contract.
 -- Assumes nothing.
-use mathlib.Core.Path.{◌≡◌, ◌∙◌, ap₂}
+use mathlib.Core.Path.{◌≡◌}
 use Prim.Native.Nat.{ℕ, ◌-◌, ◌<◌}
-use native.Mathlib.Omega.{arith}
-use borrow.Author.Rules.{rules}
-use Rattle.convolutional_code.specs.Costs.{at, decided, decision_cost}
-use Rattle.viterbi_decoder.proofs.Butterfly.{Written, written_none, written_more}
+use Rattle.convolutional_code.specs.Costs.{at, decision_cost}
+use Rattle.viterbi_decoder.proofs.Butterfly.{Written}
 use Rattle.viterbi_decoder.proofs.write_costs.Given as goal
 
 abbrev pub invariant-loop-n : goal.invariant-loop-n

@@ -1,7 +1,7 @@
 -- `viterbi_decoder::write_low` meets its contract: the bits still to be written, then what is written, are all.
 -- Assumes nothing.
 use native.Mathlib.Omega.{arith}
-use Rattle.viterbi_decoder.proofs.Sweeps.{Lowering, lowering_none, lowering_more, lowering_all}
+use Rattle.viterbi_decoder.proofs.Sweeps.{lowering_none, lowering_more, lowering_all}
 use Rattle.viterbi_decoder.proofs.write_low.Goals as goal
 
 pub loop-i-init : goal.loop-i-init

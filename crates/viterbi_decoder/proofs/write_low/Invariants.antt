@@ -1,7 +1,6 @@
 -- `viterbi_decoder::write_low` meets its contract: the bits still to be written, then what is written, are all.
 -- Assumes nothing.
-use native.Mathlib.Omega.{arith}
-use Rattle.viterbi_decoder.proofs.Sweeps.{Lowering, lowering_none, lowering_more, lowering_all}
+use Rattle.viterbi_decoder.proofs.Sweeps.{Lowering}
 use Rattle.viterbi_decoder.proofs.write_low.Given as goal
 
 abbrev pub invariant-loop-i : goal.invariant-loop-i

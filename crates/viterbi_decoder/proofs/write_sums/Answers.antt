@@ -1,12 +1,8 @@
 -- `viterbi_decoder::write_sums` meets its contract.
 -- Assumes nothing.
-use mathlib.Core.Path.{◌≡◌}
-use mathlib.Core.List.{[]}
-use Prim.Native.Nat.{ℕ, ◌+◌, ◌-◌, ◌/◌, ◌%◌, ◌<◌}
+use Prim.Native.Nat.{◌-◌, ◌/◌, ◌%◌}
 use native.Mathlib.Omega.{arith}
-use lib.ListN.{get_or}
-use Rattle.convolutional_code.specs.Costs.{at}
-use Rattle.viterbi_decoder.proofs.Butterfly.{Written, written_none, written_more}
+use Rattle.viterbi_decoder.proofs.Butterfly.{written_none, written_more}
 use Rattle.viterbi_decoder.proofs.write_sums.Goals as goal
 
 pub loop-n-init : goal.loop-n-init

@@ -3,10 +3,9 @@
 use mathlib.Core.Path.{◌≡◌}
 use mathlib.Core.List.{[]}
 use Prim.Native.Nat.{ℕ, ◌+◌, ◌-◌, ◌/◌, ◌%◌, ◌<◌}
-use native.Mathlib.Omega.{arith}
 use lib.ListN.{get_or}
 use Rattle.convolutional_code.specs.Costs.{at}
-use Rattle.viterbi_decoder.proofs.Butterfly.{Written, written_none, written_more}
+use Rattle.viterbi_decoder.proofs.Butterfly.{Written}
 use Rattle.viterbi_decoder.proofs.write_sums.Given as goal
 
 abbrev pub invariant-loop-n : goal.invariant-loop-n

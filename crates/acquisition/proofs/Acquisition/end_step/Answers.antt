@@ -10,7 +10,6 @@ use Rattle.acquisition.specs.declared.EndStep.{EndStep}
 use Rattle.acquisition.proofs.Ready.{phase_of_lem}
 use Rattle.acquisition.proofs.Counts.{closed_ready, runs_closed}
 use Rattle.acquisition.proofs.Ending.{over_counts, pending_end_counts, runs_end_counts, blocks_end_counts, blocks_ready}
-use borrow.Author.Rules.{rules}
 use Rattle.acquisition.proofs.Acquisition.end_step.Goals as goal
 
 pub pending_step-step-requires : goal.pending_step-step-requires

@@ -5,7 +5,6 @@ use Rattle.acquisition.specs.Step.{hunts, drains, reads}
 use Rattle.acquisition.specs.declared.Phase.TheVariants.{Searches, Reads}
 use Rattle.acquisition.proofs.Ready.{phase_of_lem}
 use Rattle.acquisition.proofs.Counts.{searches_counts, pending_counts, piece_counts}
-use borrow.Author.Rules.{rules}
 use Rattle.acquisition.proofs.Acquisition.step.Goals as goal
 
 pub search_step-requires : goal.search_step-requires

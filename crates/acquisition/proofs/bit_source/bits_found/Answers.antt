@@ -2,7 +2,6 @@
 -- Assumes nothing.
 use mathlib.Core.Path.{ap}
 use Prim.Native.Nat.{ℕ, ◌+◌}
-use borrow.Author.Rules.{rules}
 use Rattle.acquisition.proofs.bit_source.bits_found.Goals as goal
 
 -- src/bit_source.rt:41:1

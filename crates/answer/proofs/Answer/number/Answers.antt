@@ -2,7 +2,6 @@
 -- Assumes nothing.
 use mathlib.Core.Path.{sym, ap}
 use Rattle.answer.specs.Number.{number_of}
-use borrow.Author.Rules.{rules}
 use Rattle.answer.proofs.Answer.number.Goals as goal
 
 pub returns-in-Done : goal.returns-in-Done

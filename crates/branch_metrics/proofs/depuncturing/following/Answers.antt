@@ -4,7 +4,6 @@ use mathlib.Core.Path.{◌≡◌, sym}
 use Prim.Native.Nat.{◌+◌}
 use native.Mathlib.Nat.{mod-eq_of_lt, mod_self}
 use native.Mathlib.Omega.{arith}
-use borrow.Author.Rules.{rules}
 use Rattle.branch_metrics.proofs.depuncturing.following.Goals as goal
 
 pub returns-then-next-pattern : goal.returns-then-next-pattern

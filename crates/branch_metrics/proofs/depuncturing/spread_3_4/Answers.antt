@@ -3,7 +3,7 @@
 use Prim.Native.Nat.{◌+◌, ◌-◌}
 use native.Mathlib.Omega.{arith}
 use lib.ListN.{length-set}
-use Rattle.branch_metrics.proofs.Facts.{Threes, threes_none, threes_more}
+use Rattle.branch_metrics.proofs.Facts.{threes_none, threes_more}
 use Rattle.branch_metrics.proofs.depuncturing.spread_3_4.Goals as goal
 
 pub loop-k-init : goal.loop-k-init

@@ -1,9 +1,7 @@
 -- `branch_metrics::depuncturing::spread_3_4` meets its contract: proofs/Facts.antt has what holds as the loop goes.
 -- Assumes nothing.
-use Prim.Native.Nat.{◌+◌, ◌-◌}
-use native.Mathlib.Omega.{arith}
-use lib.ListN.{length-set}
-use Rattle.branch_metrics.proofs.Facts.{Threes, threes_none, threes_more}
+use Prim.Native.Nat.{◌-◌}
+use Rattle.branch_metrics.proofs.Facts.{Threes}
 use Rattle.branch_metrics.proofs.depuncturing.spread_3_4.Given as goal
 
 abbrev pub invariant-loop-k : goal.invariant-loop-k

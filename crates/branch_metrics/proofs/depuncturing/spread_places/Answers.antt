@@ -2,7 +2,7 @@
 -- Assumes nothing.
 use Prim.Native.Nat.{◌-◌}
 use native.Mathlib.Omega.{arith}
-use Rattle.branch_metrics.proofs.Facts.{Spreading, spreading_none, spreading_more, in_pattern, asks, table_is}
+use Rattle.branch_metrics.proofs.Facts.{spreading_none, spreading_more, in_pattern, asks, table_is}
 use Rattle.branch_metrics.proofs.depuncturing.spread_places.Goals as goal
 
 pub loop-k-init : goal.loop-k-init

@@ -1,8 +1,7 @@
 -- `branch_metrics::depuncturing::spread_places` meets its contract: proofs/Facts.antt has what holds as the loop goes.
 -- Assumes nothing.
 use Prim.Native.Nat.{◌-◌}
-use native.Mathlib.Omega.{arith}
-use Rattle.branch_metrics.proofs.Facts.{Spreading, spreading_none, spreading_more, in_pattern, asks, table_is}
+use Rattle.branch_metrics.proofs.Facts.{Spreading}
 use Rattle.branch_metrics.proofs.depuncturing.spread_places.Given as goal
 
 abbrev pub invariant-loop-k : goal.invariant-loop-k

@@ -4,7 +4,6 @@ use mathlib.Core.Path.{refl, ap, ap₂}
 use Prim.Native.Nat.{ℕ, ◌+◌, ◌*◌}
 use native.Mathlib.Omega.{arith}
 use Rattle.branch_metrics.proofs.Facts.{wide, three, width_three}
-use borrow.Author.Rules.{rules}
 use Rattle.branch_metrics.proofs.depuncturing.step_of.Goals as goal
 
 pub decision_at-a-requires : goal.decision_at-a-requires

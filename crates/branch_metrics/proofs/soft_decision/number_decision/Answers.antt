@@ -4,7 +4,6 @@ use mathlib.Core.Path.{◌∙◌, ap}
 use mathlib.Core.Bool.{cond}
 use Prim.Native.Nat.{ℕ}
 use lib.Ieee.{is_nan}
-use borrow.Author.Rules.{rules}
 use Rattle.branch_metrics.specs.SoftPairs.{number_decision}
 use Rattle.branch_metrics.proofs.soft_decision.number_decision.Goals as goal
 

@@ -3,7 +3,6 @@
 use native.Mathlib.Omega.{arith}
 use lib.Ieee.{of_bits, neg}
 use Rattle.branch_metrics.specs.Level.{level_of}
-use borrow.Author.Rules.{rules}
 use Rattle.branch_metrics.proofs.soft_decision.number_level.Goals as goal
 
 pub returns : goal.returns

@@ -1,10 +1,9 @@
 -- `branch_metrics::soft_decision::paired` meets its contract.
 -- Assumes nothing.
-use mathlib.Core.Path.{◌≡◌, refl}
+use mathlib.Core.Path.{◌≡◌}
 use Prim.Native.Nat.{◌+◌, ◌-◌, ◌*◌}
-use native.Mathlib.Omega.{arith}
 use lib.ListN.{get_or}
-use Rattle.common.proofs.Each.{Each, each_none, each_more, each_all}
+use Rattle.common.proofs.Each.{Each}
 use Rattle.branch_metrics.proofs.soft_decision.paired.Given as goal
 
 abbrev pub invariant-loop-k : goal.invariant-loop-k

@@ -1,13 +1,10 @@
 -- `branch_metrics::soft_decision::raised` meets its contract.
 -- Assumes nothing.
-use borrow.Author.Rules.{rules}
-use mathlib.Core.Path.{◌≡◌, refl, ap}
-use Prim.Native.Nat.{ℕ, ◌+◌, ◌-◌, ◌≤◌}
+use mathlib.Core.Path.{refl, ap}
+use Prim.Native.Nat.{ℕ, ◌+◌, ◌-◌}
 use native.Mathlib.Omega.{arith}
-use lib.Ieee.{le, nan}
 use lib.ListN.{get_or}
-use Rattle.common.specs.Choice.{indicator}
-use Rattle.common.proofs.Each.{Each, each_none, each_more, each_all}
+use Rattle.common.proofs.Each.{each_none, each_more, each_all}
 use Rattle.branch_metrics.proofs.soft_decision.raised.Goals as goal
 
 pub loop-i-init : goal.loop-i-init

@@ -1,13 +1,11 @@
 -- `branch_metrics::soft_decision::raised` meets its contract.
 -- Assumes nothing.
-use borrow.Author.Rules.{rules}
-use mathlib.Core.Path.{◌≡◌, refl, ap}
-use Prim.Native.Nat.{ℕ, ◌+◌, ◌-◌, ◌≤◌}
-use native.Mathlib.Omega.{arith}
+use mathlib.Core.Path.{◌≡◌}
+use Prim.Native.Nat.{◌+◌, ◌-◌, ◌≤◌}
 use lib.Ieee.{le, nan}
 use lib.ListN.{get_or}
 use Rattle.common.specs.Choice.{indicator}
-use Rattle.common.proofs.Each.{Each, each_none, each_more, each_all}
+use Rattle.common.proofs.Each.{Each}
 use Rattle.branch_metrics.proofs.soft_decision.raised.Given as goal
 
 abbrev pub invariant-loop-i : goal.invariant-loop-i

@@ -2,7 +2,6 @@
 -- Assumes nothing.
 use lib.Ieee.{le}
 use Rattle.branch_metrics.proofs.Numbers.{byte_is}
-use borrow.Author.Rules.{rules}
 use Rattle.branch_metrics.proofs.soft_decision.reaches.Goals as goal
 
 pub returns : goal.returns

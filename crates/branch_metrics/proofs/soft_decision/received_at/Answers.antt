@@ -1,7 +1,6 @@
 -- `branch_metrics::soft_decision::received_at` meets its contract.
 -- Assumes nothing.
 use Rattle.branch_metrics.proofs.Runs.{is_lost}
-use borrow.Author.Rules.{rules}
 use Rattle.branch_metrics.proofs.soft_decision.received_at.Goals as goal
 
 pub returns-then-lost-at-eq0 : goal.returns-then-lost-at-eq0

@@ -1,13 +1,12 @@
 -- `branch_metrics::soft_decision::sixteen_decisions` meets its contract.
 -- Assumes nothing.
-use borrow.Author.Rules.{rules}
 use mathlib.Core.Bool.{cond}
-use mathlib.Core.Path.{◌≡◌, refl, ◌∙◌, ap}
-use Prim.Native.Nat.{ℕ, ◌+◌, ◌-◌, ◌≤◌, ◌<◌}
+use mathlib.Core.Path.{refl, ◌∙◌, ap}
+use Prim.Native.Nat.{ℕ, ◌+◌, ◌-◌, ◌<◌}
 use native.Mathlib.Omega.{arith}
 use lib.Ieee.{nan, is_nan}
 use lib.ListN.{get_or}
-use Rattle.common.proofs.Each.{Each, each_none, each_more, each_all}
+use Rattle.common.proofs.Each.{each_none, each_more, each_all}
 use Rattle.branch_metrics.specs.SoftPairs.{number_decision, marked}
 use Rattle.branch_metrics.proofs.soft_decision.sixteen_decisions.Goals as goal
 

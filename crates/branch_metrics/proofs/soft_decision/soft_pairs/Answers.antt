@@ -1,13 +1,10 @@
 -- `branch_metrics::soft_decision::soft_pairs` meets its contract.
 -- Assumes nothing.
-use borrow.Author.Rules.{rules}
 use mathlib.Core.Path.{refl, ◌∙◌, ap}
-use Prim.Native.Nat.{◌-◌, ◌≤◌}
+use Prim.Native.Nat.{◌-◌}
 use native.Mathlib.Omega.{arith}
-use lib.ListN.{length}
-use Rattle.common.proofs.Each.{Each, each_more}
-use Rattle.branch_metrics.specs.SoftPairs.{symbol_pair, symbol_at}
-use Rattle.branch_metrics.proofs.Runs.{Holds}
+use Rattle.common.proofs.Each.{each_more}
+use Rattle.branch_metrics.specs.SoftPairs.{symbol_pair}
 use Rattle.branch_metrics.proofs.soft_decision.soft_pairs.Goals as goal
 
 pub loop-k-init : goal.loop-k-init

@@ -2,7 +2,6 @@
 -- Assumes nothing.
 use mathlib.Core.Path.{sym, ap, ◌∙◌}
 use Rattle.branch_metrics.specs.SoftPairs.{symbol_pair}
-use borrow.Author.Rules.{rules}
 use Rattle.branch_metrics.proofs.soft_decision.symbol_pair.Goals as goal
 
 pub returns-in-At : goal.returns-in-At

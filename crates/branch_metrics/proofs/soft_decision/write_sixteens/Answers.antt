@@ -2,12 +2,10 @@
 -- Assumes nothing.
 use borrow.Author.Rules.{rules}
 use mathlib.Core.Path.{refl, sym}
-use Prim.Native.Nat.{◌-◌, ◌≤◌}
+use Prim.Native.Nat.{◌-◌}
 use native.Mathlib.Omega.{arith}
-use lib.ListN.{length}
-use Rattle.common.proofs.Each.{Each, each_none}
-use Rattle.branch_metrics.specs.SoftPairs.{symbol_at}
-use Rattle.branch_metrics.proofs.Runs.{Holds, pairs_more}
+use Rattle.common.proofs.Each.{each_none}
+use Rattle.branch_metrics.proofs.Runs.{pairs_more}
 use Rattle.branch_metrics.proofs.soft_decision.write_sixteens.Goals as goal
 
 pub loop-k-init : goal.loop-k-init

@@ -1,13 +1,10 @@
 -- `branch_metrics::soft_decision::write_sixteens` meets its contract.
 -- Assumes nothing.
-use borrow.Author.Rules.{rules}
-use mathlib.Core.Path.{refl, sym}
 use Prim.Native.Nat.{◌-◌, ◌≤◌}
-use native.Mathlib.Omega.{arith}
 use lib.ListN.{length}
-use Rattle.common.proofs.Each.{Each, each_none}
+use Rattle.common.proofs.Each.{Each}
 use Rattle.branch_metrics.specs.SoftPairs.{symbol_at}
-use Rattle.branch_metrics.proofs.Runs.{Holds, pairs_more}
+use Rattle.branch_metrics.proofs.Runs.{Holds}
 use Rattle.branch_metrics.proofs.soft_decision.write_sixteens.Given as goal
 
 abbrev pub invariant-loop-k : goal.invariant-loop-k

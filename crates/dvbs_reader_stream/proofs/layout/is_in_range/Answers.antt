@@ -1,9 +1,8 @@
 -- `dvbs_reader_stream::layout::is_in_range` meets its contract.
 -- Assumes nothing.
 use mathlib.Core.Path.{sym, ap, ◌∙◌}
-use borrow.Author.Tests.{lt-ltb, le-ltb, not-true, not-false}
+use borrow.Author.Tests.{lt-ltb, le-ltb}
 use lib.Dec.{ltb}
-use borrow.Author.Rules.{rules}
 use Rattle.dvbs_reader_stream.proofs.layout.is_in_range.Goals as goal
 
 pub returns-then-not-are_in_range : goal.returns-then-not-are_in_range

@@ -3,7 +3,6 @@
 use mathlib.Core.Path.{refl}
 use Rattle.dvbs_reader_stream.specs.State.{power_of}
 use Rattle.dvbs_reader_stream.proofs.States.{some_power}
-use borrow.Author.Rules.{rules}
 use Rattle.dvbs_reader_stream.proofs.layout.power_of.Goals as goal
 
 pub returns : goal.returns

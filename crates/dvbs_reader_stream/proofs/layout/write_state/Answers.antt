@@ -3,7 +3,6 @@
 use native.Mathlib.Omega.{arith}
 use Rattle.reader_stream.proofs.Runs.{numbers}
 use Rattle.dvbs_reader_stream.proofs.States.{fields_put}
-use borrow.Author.Rules.{rules}
 use Rattle.dvbs_reader_stream.proofs.layout.write_state.Goals as goal
 
 pub cleared_pairs-pairs-requires : goal.cleared_pairs-pairs-requires

@@ -9,8 +9,7 @@ use lib.Seq.{length-take-le}
 use Rattle.branch_metrics.specs.Cost.{received_of}
 use Rattle.branch_metrics.specs.SoftPairs.{symbol_pair}
 use Rattle.branch_metrics.proofs.Runs.{length_received}
-use Rattle.dvbs_reader_stream.proofs.Parts.{Fed, fed_none, fed_all, within, room_left, fed_more, count_within, soft_part, soft_small}
-use borrow.Author.Rules.{rules}
+use Rattle.dvbs_reader_stream.proofs.Parts.{fed_none, fed_all, within, room_left, fed_more, count_within, soft_part, soft_small}
 use Rattle.dvbs_reader_stream.proofs.pieces.feed_points.Goals as goal
 
 pub loop-at-init : goal.loop-at-init
@@ -114,12 +113,11 @@ loop-at-preserved c =
     let all_length : length (map symbol_pair (received_of c.args.is.now c.args.qs.now c.args.lost.now)) ≡ length c.args.is.now = length-map (received_of c.args.is.now c.args.qs.now c.args.lost.now) symbol_pair ∙ length_received c.args.is.now c.args.qs.now c.args.lost.now c.requires.1 c.requires.2 in
     let next : (0 < c.least-some.result) × (c.least-some.result ≤ 1632) × (c.loop-at.at + c.least-some.result ≤ length c.args.is.now) = (omega (arith, c.least-some.ensures), omega (arith, c.least-some.ensures), omega (arith, c.least-some.ensures)) in
     let long : c.least-some.result ≤ length c.soft_pairs.new.output = omega (arith, (next).1, c.loop-at.invariant.1, c.soft_pairs.auto) in
-    let part_is : take c.least-some.result c.soft_pairs.new.output ≡ take c.least-some.result (drop c.loop-at.at (map symbol_pair (received_of c.args.is.now c.args.qs.now c.args.lost.now))) = soft_part c.loop-at.at c.least-some.result c.soft_pairs.new.output (long) c.args.is.now c.args.qs.now c.args.lost.now c.requires.1 c.requires.2 (next).2 (c.loop-at.at + c.least-some.result - c.loop-at.at) (omega arith) c.soft_pairs.ensures in
-    (
-  fed_more c.requires.0 (omega (arith, c.requires.3, all_length)) c.loop-at.invariant.0 _ c.least-some.result (part_is) (omega (arith, (next).2, all_length)) c.feed-fed.ensures c.feed-fed.auto.output,
-  omega (arith, c.loop-at.invariant.1, c.soft_pairs.auto),
-  c.feed-fed.auto.bits ∙ c.loop-at.invariant.2,
-)
+    let part_is : take c.least-some.result c.soft_pairs.new.output ≡ take c.least-some.result (drop c.loop-at.at (map symbol_pair (received_of c.args.is.now c.args.qs.now c.args.lost.now))) = soft_part c.loop-at.at c.least-some.result c.soft_pairs.new.output (long) c.args.is.now c.args.qs.now c.args.lost.now c.requires.1 c.requires.2 (next).2 (c.loop-at.at + c.least-some.result - c.loop-at.at) (omega arith) c.soft_pairs.ensures in (
+      fed_more c.requires.0 (omega (arith, c.requires.3, all_length)) c.loop-at.invariant.0 _ c.least-some.result (part_is) (omega (arith, (next).2, all_length)) c.feed-fed.ensures c.feed-fed.auto.output,
+      omega (arith, c.loop-at.invariant.1, c.soft_pairs.auto),
+      c.feed-fed.auto.bits ∙ c.loop-at.invariant.2,
+    )
 
 pub shape_of-output : goal.shape_of-output
 shape_of-output c = c.loop-at.invariant.0.same

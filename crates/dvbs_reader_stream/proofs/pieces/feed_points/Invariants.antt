@@ -1,16 +1,12 @@
 -- `dvbs_reader_stream::pieces::feed_points` meets its contract.
 -- Assumes nothing.
-use mathlib.Core.Path.{◌≡◌, sym, ◌∙◌}
+use mathlib.Core.Path.{◌≡◌}
 use mathlib.Core.List.{map}
-use Prim.Native.Nat.{ℕ, ◌+◌, ◌-◌, ◌≤◌, ◌<◌}
-use native.Mathlib.Omega.{arith}
-use lib.ListN.{length, take, drop, length-map, length-replicate, length-drop}
-use lib.Seq.{length-take-le}
+use Prim.Native.Nat.{◌-◌}
+use lib.ListN.{length}
 use Rattle.branch_metrics.specs.Cost.{received_of}
 use Rattle.branch_metrics.specs.SoftPairs.{symbol_pair}
-use Rattle.branch_metrics.proofs.Runs.{length_received}
-use Rattle.dvbs_reader_stream.proofs.Parts.{Fed, fed_none, fed_all, within, room_left, fed_more, count_within, soft_part, soft_small}
-use borrow.Author.Rules.{rules}
+use Rattle.dvbs_reader_stream.proofs.Parts.{Fed}
 use Rattle.dvbs_reader_stream.proofs.pieces.feed_points.Given as goal
 
 abbrev pub invariant-loop-at : goal.invariant-loop-at

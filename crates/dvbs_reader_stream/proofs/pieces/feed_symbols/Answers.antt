@@ -7,8 +7,7 @@ use native.Mathlib.Omega.{arith}
 use lib.ListN.{length, take, drop, length-map, length-replicate, length-drop}
 use lib.Seq.{length-take-le}
 use Rattle.reader.specs.Decisions.{hard_pair}
-use Rattle.dvbs_reader_stream.proofs.Parts.{Fed, fed_none, fed_all, within, room_left, fed_more, count_within, part_valid, hard_part, hard_small}
-use borrow.Author.Rules.{rules}
+use Rattle.dvbs_reader_stream.proofs.Parts.{fed_none, fed_all, within, room_left, fed_more, count_within, part_valid, hard_part, hard_small}
 use Rattle.dvbs_reader_stream.proofs.pieces.feed_symbols.Goals as goal
 
 pub loop-at-init : goal.loop-at-init
@@ -80,12 +79,11 @@ pub loop-at-preserved : goal.loop-at-preserved
 loop-at-preserved c =
     let next : (0 < c.least-some.result) × (c.least-some.result ≤ 1632) × (c.loop-at.at + c.least-some.result ≤ length c.args.symbols.now) = (omega (arith, c.least-some.ensures), omega (arith, c.least-some.ensures), omega (arith, c.least-some.ensures)) in
     let long : c.least-some.result ≤ length c.hard_pairs.new.output = omega (arith, (next).1, c.loop-at.invariant.1, c.hard_pairs.auto) in
-    let part_is : take c.least-some.result c.hard_pairs.new.output ≡ take c.least-some.result (drop c.loop-at.at (map hard_pair c.args.symbols.now)) = hard_part c.loop-at.at c.least-some.result c.hard_pairs.new.output (long) c.args.symbols.now (next).2 (c.loop-at.at + c.least-some.result - c.loop-at.at) (omega arith) c.hard_pairs.ensures in
-    (
-  fed_more c.requires.0 (omega (arith, c.requires.2, length-map c.args.symbols.now hard_pair)) c.loop-at.invariant.0 _ c.least-some.result (part_is) (omega (arith, (next).2, length-map c.args.symbols.now hard_pair)) c.feed-fed.ensures c.feed-fed.auto.output,
-  omega (arith, c.loop-at.invariant.1, c.hard_pairs.auto),
-  c.feed-fed.auto.bits ∙ c.loop-at.invariant.2,
-)
+    let part_is : take c.least-some.result c.hard_pairs.new.output ≡ take c.least-some.result (drop c.loop-at.at (map hard_pair c.args.symbols.now)) = hard_part c.loop-at.at c.least-some.result c.hard_pairs.new.output (long) c.args.symbols.now (next).2 (c.loop-at.at + c.least-some.result - c.loop-at.at) (omega arith) c.hard_pairs.ensures in (
+      fed_more c.requires.0 (omega (arith, c.requires.2, length-map c.args.symbols.now hard_pair)) c.loop-at.invariant.0 _ c.least-some.result (part_is) (omega (arith, (next).2, length-map c.args.symbols.now hard_pair)) c.feed-fed.ensures c.feed-fed.auto.output,
+      omega (arith, c.loop-at.invariant.1, c.hard_pairs.auto),
+      c.feed-fed.auto.bits ∙ c.loop-at.invariant.2,
+    )
 
 pub shape_of-output : goal.shape_of-output
 shape_of-output c = c.loop-at.invariant.0.same

@@ -1,14 +1,11 @@
 -- `dvbs_reader_stream::pieces::feed_symbols` meets its contract.
 -- Assumes nothing.
-use mathlib.Core.Path.{◌≡◌, sym, ◌∙◌}
+use mathlib.Core.Path.{◌≡◌}
 use mathlib.Core.List.{map}
-use Prim.Native.Nat.{ℕ, ◌+◌, ◌-◌, ◌≤◌, ◌<◌}
-use native.Mathlib.Omega.{arith}
-use lib.ListN.{length, take, drop, length-map, length-replicate, length-drop}
-use lib.Seq.{length-take-le}
+use Prim.Native.Nat.{◌-◌}
+use lib.ListN.{length}
 use Rattle.reader.specs.Decisions.{hard_pair}
-use Rattle.dvbs_reader_stream.proofs.Parts.{Fed, fed_none, fed_all, within, room_left, fed_more, count_within, part_valid, hard_part, hard_small}
-use borrow.Author.Rules.{rules}
+use Rattle.dvbs_reader_stream.proofs.Parts.{Fed}
 use Rattle.dvbs_reader_stream.proofs.pieces.feed_symbols.Given as goal
 
 abbrev pub invariant-loop-at : goal.invariant-loop-at

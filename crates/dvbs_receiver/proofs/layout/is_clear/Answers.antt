@@ -2,9 +2,8 @@
 -- Assumes nothing.
 use mathlib.Core.Path.{sym, ap, ◌∙◌}
 use Prim.Native.Nat.{ℕ}
-use borrow.Author.Tests.{lt-ltb, le-ltb, not-true, not-false}
+use borrow.Author.Tests.{lt-ltb, le-ltb}
 use lib.Dec.{ltb}
-use borrow.Author.Rules.{rules}
 use Rattle.dvbs_receiver.proofs.layout.is_clear.Goals as goal
 
 pub returns-then-held-ge204 : goal.returns-then-held-ge204

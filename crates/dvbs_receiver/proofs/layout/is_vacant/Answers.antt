@@ -7,7 +7,6 @@ use lib.Dec.{eqb}
 use lib.ListN.{length, drop, length-drop}
 use lib.Seq.{take_all}
 use Rattle.common.specs.Lists.{largest}
-use borrow.Author.Rules.{rules}
 use Rattle.dvbs_receiver.proofs.layout.is_vacant.Goals as goal
 
 pub returns : goal.returns

@@ -1,7 +1,6 @@
 -- `dvbs_receiver::layout::put_fields` meets its contract.
 -- Assumes nothing.
 use Rattle.dvbs_receiver.proofs.States.{all_put}
-use borrow.Author.Rules.{rules}
 use Rattle.dvbs_receiver.proofs.layout.put_fields.Goals as goal
 
 pub returns : goal.returns

@@ -3,7 +3,6 @@
 use native.Mathlib.Omega.{arith}
 use lib.ListN.{get_or}
 use Rattle.dvbs_receiver.specs.Reading.{state_of}
-use borrow.Author.Rules.{rules}
 use Rattle.dvbs_receiver.proofs.layout.read_state.Goals as goal
 
 pub overflow_cast-held : goal.overflow_cast-held

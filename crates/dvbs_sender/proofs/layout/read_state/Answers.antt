@@ -2,7 +2,6 @@
 -- Assumes nothing.
 use lib.ListN.{get_or}
 use Rattle.dvbs_sender.specs.Reading.{state_of}
-use borrow.Author.Rules.{rules}
 use Rattle.dvbs_sender.proofs.layout.read_state.Goals as goal
 
 pub returns : goal.returns

@@ -1,7 +1,6 @@
 -- `dvbs_sender::layout::write_state` meets its contract.
 -- Assumes nothing.
 use Rattle.dvbs_sender.proofs.States.{fields_put}
-use borrow.Author.Rules.{rules}
 use Rattle.dvbs_sender.proofs.layout.write_state.Goals as goal
 
 pub returns : goal.returns

@@ -5,7 +5,7 @@ use Prim.Native.Nat.{ℕ, ◌-◌}
 use native.Mathlib.Omega.{arith}
 use lib.Bits.{bit_xor}
 use lib.ListN.{length}
-use Rattle.common.proofs.Written.{Written, written_none, written_next, written_whole}
+use Rattle.common.proofs.Written.{written_none, written_next, written_whole}
 use Rattle.galois.specs.Lanes.{horner_step}
 use Rattle.galois.proofs.LanePowers.{length_advanced, advanced_at}
 use borrow.Author.Rules.{rules}

@@ -1,12 +1,11 @@
 -- `galois::lanes::evaluate` meets its contract: v has the values of the coefficients from k on.
 -- Assumes nothing.
 use mathlib.Core.Path.{◌≡◌, subst}
-use Prim.Native.Nat.{ℕ, ◌+◌, ◌-◌, ◌<◌}
+use Prim.Native.Nat.{ℕ, ◌+◌, ◌-◌}
 use native.Mathlib.Omega.{arith}
 use lib.ListN.{length, drop}
 use Rattle.galois.specs.Lanes.{ValuesAt}
 use Rattle.galois.proofs.LanePowers.{values_none, values_more}
-use borrow.Author.Rules.{rules}
 use Rattle.galois.proofs.lanes.evaluate.Goals as goal
 
 pub bounds-q-k : goal.bounds-q-k

@@ -1,12 +1,8 @@
 -- `galois::lanes::evaluate` meets its contract: v has the values of the coefficients from k on.
 -- Assumes nothing.
-use mathlib.Core.Path.{◌≡◌, subst}
-use Prim.Native.Nat.{ℕ, ◌+◌, ◌-◌, ◌<◌}
-use native.Mathlib.Omega.{arith}
+use Prim.Native.Nat.{◌-◌, ◌<◌}
 use lib.ListN.{length, drop}
 use Rattle.galois.specs.Lanes.{ValuesAt}
-use Rattle.galois.proofs.LanePowers.{values_none, values_more}
-use borrow.Author.Rules.{rules}
 use Rattle.galois.proofs.lanes.evaluate.Given as goal
 
 abbrev pub invariant-loop-k : goal.invariant-loop-k

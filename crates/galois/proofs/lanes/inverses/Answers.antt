@@ -5,7 +5,6 @@ use mathlib.Core.List.{List}
 use Prim.Native.Nat.{ℕ}
 use Rattle.galois.specs.Field256.{inv}
 use Rattle.galois.proofs.LanePowers.{first_products, one_more, times_powers}
-use borrow.Author.Rules.{rules}
 use Rattle.galois.proofs.lanes.inverses.Goals as goal
 
 pub returns : goal.returns

@@ -2,9 +2,8 @@
 -- Assumes nothing.
 use mathlib.Core.Path.{refl, ◌∙◌}
 use Prim.Native.Nat.{◌-◌}
-use Rattle.common.proofs.Written.{Written}
 use Rattle.algebra.specs.Polynomial.{scale}
-use Rattle.galois.specs.Field256.{mul, scaled}
+use Rattle.galois.specs.Field256.{mul}
 use Rattle.galois.proofs.Laws.{mul_comm}
 use Rattle.galois.proofs.Words.{mapped_none, mapped_more, mapped_all}
 use borrow.Author.Rules.{rules}

@@ -1,13 +1,8 @@
 -- `galois::lanes::next_powers` meets its contract: after i turns the first i lanes are written.
 -- Assumes nothing.
-use mathlib.Core.Path.{refl, ◌∙◌}
 use Prim.Native.Nat.{◌-◌}
 use Rattle.common.proofs.Written.{Written}
-use Rattle.algebra.specs.Polynomial.{scale}
-use Rattle.galois.specs.Field256.{mul, scaled}
-use Rattle.galois.proofs.Laws.{mul_comm}
-use Rattle.galois.proofs.Words.{mapped_none, mapped_more, mapped_all}
-use borrow.Author.Rules.{rules}
+use Rattle.galois.specs.Field256.{scaled}
 use Rattle.galois.proofs.lanes.next_powers.Given as goal
 
 abbrev pub invariant-loop-i : goal.invariant-loop-i

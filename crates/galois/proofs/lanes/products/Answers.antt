@@ -4,10 +4,9 @@ use mathlib.Core.Path.{◌≡◌, refl, sym, ◌∙◌}
 use Prim.Native.Nat.{◌-◌}
 use native.Mathlib.Omega.{arith}
 use lib.ListN.{length}
-use Rattle.common.proofs.Written.{Written, written_none, written_next, written_whole}
+use Rattle.common.proofs.Written.{written_none, written_next, written_whole}
 use Rattle.galois.specs.Lanes.{products_of}
 use Rattle.galois.proofs.Words.{length_products, products_at}
-use borrow.Author.Rules.{rules}
 use Rattle.galois.proofs.lanes.products.Goals as goal
 
 pub loop-l-init : goal.loop-l-init

@@ -1,13 +1,8 @@
 -- `galois::lanes::products` meets its contract: after l turns the first l products are written.
 -- Assumes nothing.
-use mathlib.Core.Path.{◌≡◌, refl, sym, ◌∙◌}
 use Prim.Native.Nat.{◌-◌}
-use native.Mathlib.Omega.{arith}
-use lib.ListN.{length}
-use Rattle.common.proofs.Written.{Written, written_none, written_next, written_whole}
+use Rattle.common.proofs.Written.{Written}
 use Rattle.galois.specs.Lanes.{products_of}
-use Rattle.galois.proofs.Words.{length_products, products_at}
-use borrow.Author.Rules.{rules}
 use Rattle.galois.proofs.lanes.products.Given as goal
 
 abbrev pub invariant-loop-l : goal.invariant-loop-l

@@ -1,7 +1,6 @@
 -- `galois::lanes::scale` meets its contract.
 -- Assumes nothing.
 use mathlib.Core.Path.{◌∙◌}
-use borrow.Author.Rules.{rules}
 use Rattle.galois.proofs.LanePowers.{products_scaled}
 use Rattle.galois.proofs.lanes.scale.Goals as goal
 

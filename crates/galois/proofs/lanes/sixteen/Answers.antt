@@ -6,7 +6,7 @@ use Prim.Native.Nat.{ℕ, ◌-◌, ◌≤◌, ◌+◌}
 use native.Mathlib.Omega.{arith}
 use lib.ListN.{length, take, drop, length-drop}
 use lib.Seq.{length-take-le, get_or-take, get_or-drop}
-use Rattle.common.proofs.Written.{Written, written_none, written_next, written_whole}
+use Rattle.common.proofs.Written.{written_none, written_next, written_whole}
 use borrow.Author.Rules.{rules}
 use Rattle.galois.proofs.lanes.sixteen.Goals as goal
 

@@ -6,9 +6,8 @@ use native.Mathlib.Omega.{arith}
 use lib.ListN.{length}
 use Rattle.algebra.specs.Polynomial.{plus}
 use Rattle.galois.specs.Field256.{numbers}
-use Rattle.common.proofs.Written.{Written, written_none, written_next, written_whole}
+use Rattle.common.proofs.Written.{written_none, written_next, written_whole}
 use Rattle.galois.proofs.Words.{length-sum, sum_at}
-use borrow.Author.Rules.{rules}
 use Rattle.galois.proofs.lanes.sum.Goals as goal
 
 pub loop-j-init : goal.loop-j-init

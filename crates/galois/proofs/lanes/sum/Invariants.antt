@@ -1,14 +1,9 @@
 -- `galois::lanes::sum` meets its contract: after j turns the first j bytes are those of the sum.
 -- Assumes nothing.
-use mathlib.Core.Path.{◌≡◌, refl, sym, ◌∙◌}
 use Prim.Native.Nat.{◌-◌}
-use native.Mathlib.Omega.{arith}
-use lib.ListN.{length}
 use Rattle.algebra.specs.Polynomial.{plus}
 use Rattle.galois.specs.Field256.{numbers}
-use Rattle.common.proofs.Written.{Written, written_none, written_next, written_whole}
-use Rattle.galois.proofs.Words.{length-sum, sum_at}
-use borrow.Author.Rules.{rules}
+use Rattle.common.proofs.Written.{Written}
 use Rattle.galois.proofs.lanes.sum.Given as goal
 
 abbrev pub invariant-loop-j : goal.invariant-loop-j

@@ -1,6 +1,5 @@
 -- `group_sync::GroupSync::accepted` meets its contract.
 -- Assumes nothing.
-use borrow.Author.Rules.{rules}
 use Rattle.group_sync.proofs.GroupSync.accepted.Goals as goal
 
 pub returns-in-NotKnown : goal.returns-in-NotKnown

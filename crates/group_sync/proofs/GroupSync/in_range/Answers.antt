@@ -1,7 +1,6 @@
 -- `group_sync::GroupSync::in_range` meets its contract.
 -- Assumes nothing.
 use borrow.Author.Tests.{lt-ltb, le-ltb}
-use borrow.Author.Rules.{rules}
 use Rattle.group_sync.proofs.GroupSync.in_range.Goals as goal
 
 pub returns-in-NotKnown : goal.returns-in-NotKnown

@@ -1,6 +1,5 @@
 -- `group_sync::GroupSync::moved` meets its contract.
 -- Assumes nothing.
-use borrow.Author.Rules.{rules}
 use Rattle.group_sync.proofs.GroupSync.moved.Goals as goal
 
 pub returns-in-NotKnown : goal.returns-in-NotKnown

@@ -1,6 +1,5 @@
 -- `group_sync::GroupSync::step` meets its contract.
 -- Assumes nothing.
-use borrow.Author.Rules.{rules}
 use Rattle.group_sync.proofs.GroupSync.step.Goals as goal
 
 pub returns-in-Lost : goal.returns-in-Lost

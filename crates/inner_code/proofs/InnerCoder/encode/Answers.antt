@@ -2,13 +2,12 @@
 -- Assumes nothing.
 use mathlib.Core.Path.{◌≡◌, refl, sym, ◌∙◌}
 use mathlib.Core.Bool.{true}
-use borrow.Author.Tests.{eq-eqb, ne_eqb, lt-ltb, le-ltb, not-true, not-false}
+use borrow.Author.Tests.{eq-eqb, ne_eqb, lt-ltb, le-ltb}
 use lib.ListN.{length}
 use Rattle.puncturing.specs.Mode.{mode_of}
 use Rattle.inner_code.specs.Step.{coder_in_range}
 use Rattle.inner_code.specs.Encode.{block_symbols}
 use Rattle.inner_code.proofs.Coder.{range_by_mode, in_range_lem, length_block}
-use borrow.Author.Rules.{rules}
 use Rattle.inner_code.proofs.InnerCoder.encode.Goals as goal
 
 pub returns-then-not-in_range : goal.returns-then-not-in_range

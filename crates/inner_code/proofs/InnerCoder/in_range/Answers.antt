@@ -1,7 +1,6 @@
 -- `inner_code::InnerCoder::in_range` meets its contract.
 -- Assumes nothing.
 use Prim.Native.Nat.{◌≤◌, ◌<◌}
-use borrow.Author.Rules.{rules}
 use borrow.Author.Tests.{lt-ltb, le-ltb}
 use lib.ListN.{get_or}
 use Rattle.puncturing.specs.Step.{pattern_length}

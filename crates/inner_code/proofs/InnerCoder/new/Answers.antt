@@ -1,7 +1,6 @@
 -- `inner_code::InnerCoder::new` meets its contract.
 -- Assumes nothing.
 use mathlib.Core.Path.{refl, sym, ◌∙◌}
-use borrow.Author.Rules.{rules}
 use Rattle.inner_code.proofs.InnerCoder.new.Goals as goal
 
 pub returns-then-is_sent : goal.returns-then-is_sent

@@ -4,7 +4,6 @@ use mathlib.Core.Path.{◌≡◌, refl, ap, ap₂, sym, ◌∙◌}
 use mathlib.Core.Bool.{Bool, true, false}
 use Prim.Native.Nat.{◌<◌}
 use native.Mathlib.Omega.{arith}
-use borrow.Author.Tests.{not-true, not-false}
 use Rattle.convolutional_code.specs.Code.{taps_x, taps_y, coded, next_memory}
 use Rattle.puncturing.specs.Mode.{mode_of}
 use Rattle.puncturing.specs.Run.{puncture_step}
@@ -12,7 +11,6 @@ use Rattle.puncturing.proofs.Steps.{held_le}
 use Rattle.inner_code.specs.Step.{coder_in_range}
 use Rattle.common.specs.Choice.{indicator}
 use Rattle.inner_code.proofs.Coder.{in_range_lem, rate_known}
-use borrow.Author.Rules.{rules}
 use Rattle.inner_code.proofs.InnerCoder.step.Goals as goal
 
 pub returns-then-not-in_range : goal.returns-then-not-in_range

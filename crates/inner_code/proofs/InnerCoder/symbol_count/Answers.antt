@@ -2,10 +2,8 @@
 -- Assumes nothing.
 use mathlib.Core.Path.{◌≡◌, sym, ◌∙◌}
 use mathlib.Core.Bool.{true}
-use borrow.Author.Tests.{not-true, not-false}
 use Rattle.inner_code.specs.Step.{coder_in_range}
 use Rattle.inner_code.proofs.Coder.{range_by_mode, in_range_lem, rate_known}
-use borrow.Author.Rules.{rules}
 use Rattle.inner_code.proofs.InnerCoder.symbol_count.Goals as goal
 
 pub returns-then-not-in_range : goal.returns-then-not-in_range

@@ -4,7 +4,6 @@ use mathlib.Core.Path.{ap, sym, subst, ◌∙◌}
 use mathlib.Core.List.{◌++◌}
 use Prim.Native.Nat.{ℕ, ◌+◌, ◌*◌, ◌/◌, ◌≤◌}
 use native.Mathlib.Omega.{arith}
-use borrow.Author.Rules.{rules}
 use lib.ListN.{length, drop}
 use lib.Seq.{length-take-le}
 use Rattle.convolutional_code.specs.Bits.{bits_of}
@@ -40,11 +39,11 @@ code_groups-requires c =
       subst (λ (k : ℕ). Fitting (grouping c.args.others c.args.base c.args.c2 c.args.c1) (8 / c.args.others) k) n c.requires.1,
       c.requires.2,
       sym ((let h : 8 * (204 / (c.args.others + 1)) ≤ 8 * most_groups = omega (arith, c.requires.1.few) in
-    sym (length-take-le _ _ h))) ∙ ap (λ (k : ℕ). 8 * k) n,
+          sym (length-take-le _ _ h))) ∙ ap (λ (k : ℕ). 8 * k) n,
       sym ((let h : 8 * (204 / (c.args.others + 1)) + 6 ≤ 8 * most_groups + 6 = omega (arith, c.requires.1.few) in
-    sym (length-take-le _ _ h))) ∙ ap (λ (k : ℕ). 8 * k + 6) n,
+          sym (length-take-le _ _ h))) ∙ ap (λ (k : ℕ). 8 * k + 6) n,
       sym ((let h : 16 * (204 / (c.args.others + 1)) ≤ 16 * most_groups = omega (arith, c.requires.1.few) in
-    sym (length-take-le _ _ h))) ∙ ap (λ (k : ℕ). 16 * k) n,
+          sym (length-take-le _ _ h))) ∙ ap (λ (k : ℕ). 16 * k) n,
       subst (λ (k : ℕ). 8 * k ≤ length c.args.output.now) n c.requires.3,
     )
 

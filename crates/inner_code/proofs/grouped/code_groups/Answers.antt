@@ -4,7 +4,6 @@ use mathlib.Core.Path.{ap, ◌∙◌}
 use mathlib.Core.List.{List, ◌++◌}
 use Prim.Native.Nat.{ℕ}
 use native.Mathlib.Omega.{arith}
-use borrow.Author.Rules.{rules}
 use lib.ListN.{drop}
 use Rattle.convolutional_code.specs.Bits.{bits_of}
 use Rattle.convolutional_code.specs.Code.{taps_x, taps_y, memory_after, block_mother}

@@ -4,8 +4,7 @@ use mathlib.Core.Path.{◌≡◌, sym, ◌∙◌}
 use Prim.Native.Nat.{◌+◌, ◌-◌, ◌*◌, ◌≤◌, ◌<◌}
 use native.Mathlib.Omega.{arith}
 use lib.ListN.{length}
-use Rattle.common.proofs.Written.{Written, written_none, written_next, written_length, written_whole}
-use Rattle.inner_code.specs.Groups.{firsts}
+use Rattle.common.proofs.Written.{written_none, written_next, written_length, written_whole}
 use Rattle.inner_code.proofs.Groups.{length_firsts, firsts_at, part_fits}
 use Rattle.inner_code.proofs.grouped.encoded_bytes.Goals as goal
 

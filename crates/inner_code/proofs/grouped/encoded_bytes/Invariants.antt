@@ -1,12 +1,9 @@
 -- `inner_code::grouped::encoded_bytes` meets its contract.
 -- Assumes nothing.
-use mathlib.Core.Path.{◌≡◌, sym, ◌∙◌}
-use Prim.Native.Nat.{◌+◌, ◌-◌, ◌*◌, ◌≤◌, ◌<◌}
-use native.Mathlib.Omega.{arith}
+use Prim.Native.Nat.{◌-◌, ◌≤◌}
 use lib.ListN.{length}
-use Rattle.common.proofs.Written.{Written, written_none, written_next, written_length, written_whole}
+use Rattle.common.proofs.Written.{Written}
 use Rattle.inner_code.specs.Groups.{firsts}
-use Rattle.inner_code.proofs.Groups.{length_firsts, firsts_at, part_fits}
 use Rattle.inner_code.proofs.grouped.encoded_bytes.Given as goal
 
 abbrev pub invariant-loop-i : goal.invariant-loop-i

@@ -2,12 +2,11 @@
 -- Assumes nothing.
 use mathlib.Core.Path.{◌≡◌, ap, ap₂, sym, ◌∙◌}
 use mathlib.Core.List.{◌++◌}
-use Prim.Native.Nat.{ℕ, ◌+◌, ◌-◌, ◌*◌, ◌≤◌, ◌<◌}
+use Prim.Native.Nat.{ℕ, ◌+◌, ◌-◌, ◌*◌, ◌<◌}
 use native.Mathlib.Nat.{zero-add}
 use native.Mathlib.Omega.{arith}
-use borrow.Author.Rules.{rules}
 use lib.ListN.{length, get_or, drop}
-use Rattle.common.proofs.Written.{Written, written_none, written_next, written_length, written_all}
+use Rattle.common.proofs.Written.{written_none, written_next, written_length, written_all}
 use Rattle.convolutional_code.proofs.Bits.{bits_at}
 use Rattle.inner_code.specs.Groups.{coded_as, numbered}
 use Rattle.inner_code.proofs.Groups.{coded_small, length_numbered, numbered_at}

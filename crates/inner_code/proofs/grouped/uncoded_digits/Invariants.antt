@@ -1,14 +1,11 @@
 -- `inner_code::grouped::uncoded_digits` meets its contract.
 -- Assumes nothing.
-use mathlib.Core.Path.{◌≡◌, ap, sym, ◌∙◌}
+use mathlib.Core.Path.{◌≡◌}
 use mathlib.Core.List.{List}
 use Prim.Native.Nat.{ℕ, suc, ◌+◌, ◌-◌, ◌*◌, ◌≤◌}
-use native.Mathlib.Nat.{add-sub_cancel_left}
-use native.Mathlib.Omega.{arith}
-use borrow.Rule.Slice.PartMut.{mid_of, mid_len, same_len_mid}
 use lib.ListN.{length, get_or}
 use Rattle.inner_code.specs.Groups.{joined, digit_list}
-use Rattle.inner_code.proofs.Groups.{length_digits, length_joined, joined_same, Filled, filled_none, filled_more, filled_all, part_fits, part_digits}
+use Rattle.inner_code.proofs.Groups.{Filled}
 use Rattle.inner_code.proofs.grouped.uncoded_digits.Given as goal
 
 -- the digits of a group

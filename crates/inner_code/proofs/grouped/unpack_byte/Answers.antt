@@ -1,8 +1,7 @@
 -- `inner_code::grouped::unpack_byte` meets its contract.
 -- Assumes nothing.
 use native.Mathlib.Omega.{arith}
-use lib.ListN.{length}
-use Rattle.inner_code.proofs.Groups.{Cutting, cutting_none, cutting_more, cutting_all}
+use Rattle.inner_code.proofs.Groups.{cutting_none, cutting_more, cutting_all}
 use Rattle.inner_code.proofs.grouped.unpack_byte.Goals as goal
 
 pub loop-k-init : goal.loop-k-init

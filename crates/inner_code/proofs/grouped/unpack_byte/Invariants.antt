@@ -1,8 +1,7 @@
 -- `inner_code::grouped::unpack_byte` meets its contract.
 -- Assumes nothing.
-use native.Mathlib.Omega.{arith}
 use lib.ListN.{length}
-use Rattle.inner_code.proofs.Groups.{Cutting, cutting_none, cutting_more, cutting_all}
+use Rattle.inner_code.proofs.Groups.{Cutting}
 use Rattle.inner_code.proofs.grouped.unpack_byte.Given as goal
 
 abbrev pub invariant-loop-k : goal.invariant-loop-k

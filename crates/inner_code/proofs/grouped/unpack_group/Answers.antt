@@ -7,7 +7,7 @@ use native.Mathlib.Omega.{arith}
 use borrow.Rule.Slice.PartMut.{mid_of, mid_len, same_len_mid}
 use lib.ListN.{length, get_or}
 use Rattle.inner_code.specs.Groups.{digit_list}
-use Rattle.inner_code.proofs.Groups.{length_digits, Filled, filled_none, filled_more, filled_all, part_fits}
+use Rattle.inner_code.proofs.Groups.{length_digits, filled_none, filled_more, filled_all, part_fits}
 use Rattle.inner_code.proofs.grouped.unpack_group.Goals as goal
 
 pub loop-j-init : goal.loop-j-init

@@ -1,11 +1,10 @@
 -- `interleaver::branches::copy_column` meets its contract.
 -- Assumes nothing.
 use mathlib.Core.Path.{◌≡◌, ◌∙◌, sym}
-use Prim.Native.Nat.{◌-◌, ◌≤◌, ◌<◌}
+use Prim.Native.Nat.{◌<◌}
 use native.Mathlib.Omega.{arith}
 use borrow.Author.Rules.{rules}
-use Rattle.interleaver.specs.Column.{column}
-use Rattle.interleaver.proofs.Columns.{Placing, placing_none, placing_more, placing_all, length_column, get_d_column}
+use Rattle.interleaver.proofs.Columns.{placing_none, placing_more, placing_all, length_column, get_d_column}
 use Rattle.interleaver.proofs.branches.copy_column.Goals as goal
 
 pub loop-k-init : goal.loop-k-init

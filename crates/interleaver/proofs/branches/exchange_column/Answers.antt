@@ -1,6 +1,5 @@
 -- `interleaver::branches::exchange_column` meets its contract.
 -- Assumes nothing.
-use borrow.Author.Rules.{rules}
 use Rattle.interleaver.proofs.branches.exchange_column.Goals as goal
 
 pub returns-then-cells-position-ge17 : goal.returns-then-cells-position-ge17

@@ -2,15 +2,15 @@
 -- Assumes nothing.
 use mathlib.Core.Path.{◌≡◌, refl, ◌∙◌, ap, sym}
 use mathlib.Core.List.{◌++◌}
-use Prim.Native.Nat.{ℕ, ◌-◌, ◌≤◌, ◌<◌}
+use Prim.Native.Nat.{ℕ, ◌≤◌, ◌<◌}
 use native.Mathlib.Omega.{arith}
 use borrow.Author.Rules.{rules}
-use lib.ListN.{length, take}
+use lib.ListN.{length}
 use lib.Seq.{get_or-take}
 use Rattle.interleaver.specs.Branch.{turned}
 use Rattle.interleaver.specs.Column.{column}
-use Rattle.interleaver.proofs.Columns.{Placing, placing_none, placing_more, placing_all, length_column, get_d_column}
-use Rattle.interleaver.proofs.Rings.{next_of, length_leaving, Turning, turning_none, turning_out, turning_more, turning_all}
+use Rattle.interleaver.proofs.Columns.{placing_none, placing_more, placing_all, length_column, get_d_column}
+use Rattle.interleaver.proofs.Rings.{next_of, length_leaving, turning_none, turning_out, turning_more, turning_all}
 use Rattle.interleaver.proofs.branches.exchange_round.Goals as goal
 
 pub loop-k-init : goal.loop-k-init

@@ -1,18 +1,13 @@
 -- `interleaver::branches::exchange_row` meets its contract.
 -- Assumes nothing.
-use mathlib.Core.Path.{◌≡◌, ◌∙◌, ap, sym}
 use mathlib.Core.List.{◌++◌}
-use Prim.Native.Nat.{ℕ, ◌+◌, ◌-◌, ◌≤◌, ◌<◌}
-use native.Mathlib.Omega.{arith}
-use borrow.Author.Rules.{rules}
-use borrow.Author.Tests.{lt-ltb}
+use Prim.Native.Nat.{◌-◌, ◌≤◌}
 use lib.ListN.{length, take}
-use lib.Seq.{get_or-take}
 use Rattle.interleaver.specs.Branch.{turned}
 use Rattle.interleaver.specs.Block.{position_advanced}
 use Rattle.interleaver.specs.Column.{column}
-use Rattle.interleaver.proofs.Columns.{Placing, placing_none, placing_more, placing_all, length_column, get_d_column}
-use Rattle.interleaver.proofs.Rings.{next_of, length_leaving, advanced_next, Turning, turning_none, turning_out, turning_more, turning_all}
+use Rattle.interleaver.proofs.Columns.{Placing}
+use Rattle.interleaver.proofs.Rings.{Turning}
 use Rattle.interleaver.proofs.branches.exchange_row.Given as goal
 
 abbrev pub invariant-loop-k : goal.invariant-loop-k

@@ -1,6 +1,5 @@
 -- `interleaver::branches::next_of` meets its contract.
 -- Assumes nothing.
-use borrow.Author.Rules.{rules}
 use borrow.Author.Tests.{eq-eqb, ne_eqb}
 use Rattle.interleaver.proofs.branches.next_of.Goals as goal
 

@@ -8,7 +8,7 @@ use lib.ListN.{length, take, drop}
 use Rattle.interleaver.specs.Branch.{laid, delay_of, size_of, cells_of}
 use Rattle.interleaver.proofs.Blocks.{Good, good_after, position_bound, enough}
 use Rattle.interleaver.proofs.Cells.{delay_small, cells_fit, length_cells}
-use Rattle.interleaver.proofs.Passing.{Passing, passing_none, passing_length, passing_cells, passing_position, passing_more, passing_all}
+use Rattle.interleaver.proofs.Passing.{passing_none, passing_length, passing_cells, passing_position, passing_more, passing_all}
 use Rattle.interleaver.proofs.branches.pass_cells.Goals as goal
 
 pub loop-j-init : goal.loop-j-init

@@ -1,14 +1,8 @@
 -- `interleaver::branches::pass_cells` meets its contract.
 -- Assumes nothing.
-use mathlib.Core.Path.{◌≡◌, refl, ap, sym, ◌∙◌}
-use Prim.Native.Nat.{ℕ, ◌+◌, ◌-◌, ◌*◌, ◌≤◌, ◌<◌}
-use native.Mathlib.Omega.{arith}
-use borrow.Author.Rules.{rules}
-use lib.ListN.{length, take, drop}
-use Rattle.interleaver.specs.Branch.{laid, delay_of, size_of, cells_of}
-use Rattle.interleaver.proofs.Blocks.{Good, good_after, position_bound, enough}
-use Rattle.interleaver.proofs.Cells.{delay_small, cells_fit, length_cells}
-use Rattle.interleaver.proofs.Passing.{Passing, passing_none, passing_length, passing_cells, passing_position, passing_more, passing_all}
+use Prim.Native.Nat.{◌-◌, ◌≤◌}
+use Rattle.interleaver.specs.Branch.{laid}
+use Rattle.interleaver.proofs.Passing.{Passing}
 use Rattle.interleaver.proofs.branches.pass_cells.Given as goal
 
 abbrev pub invariant-loop-j : goal.invariant-loop-j

@@ -10,7 +10,6 @@ use Rattle.interleaver.specs.Column.{column, scattered}
 use Rattle.interleaver.specs.Block.{position_after}
 use Rattle.interleaver.proofs.Columns.{length_column}
 use Rattle.interleaver.proofs.Rings.{through, advanced_small}
-use borrow.Author.Rules.{rules}
 use Rattle.interleaver.proofs.branches.pass_column.Goals as goal
 
 pub returns-then-cells-eq0 : goal.returns-then-cells-eq0

@@ -1,13 +1,9 @@
 -- `interleaver::branches::positions_within` meets its contract.
 -- Assumes nothing.
-use mathlib.Core.Path.{◌≡◌, refl, ap, sym, ◌∙◌}
+use mathlib.Core.Path.{◌≡◌}
 use mathlib.Core.Bool.{true}
-use Prim.Native.Nat.{ℕ, ◌-◌, ◌*◌, ◌≤◌, max}
-use native.Mathlib.Omega.{arith}
-use borrow.Author.Rules.{rules}
-use Rattle.interleaver.specs.Branch.{size_of, positions_within}
-use Rattle.interleaver.proofs.Cells.{delay_small}
-use Rattle.interleaver.proofs.Positions.{within_more, within_fails}
+use Prim.Native.Nat.{◌-◌, ◌≤◌}
+use Rattle.interleaver.specs.Branch.{positions_within}
 use Rattle.interleaver.proofs.branches.positions_within.Given as goal
 
 abbrev pub invariant-loop-j : goal.invariant-loop-j

@@ -2,9 +2,7 @@
 -- Assumes nothing.
 use Prim.Native.Nat.{◌-◌}
 use native.Mathlib.Omega.{arith}
-use lib.ListN.{length}
-use Rattle.kernels.proofs.Codes.{Coding, coding_start, coding_length, coding_fits, coding_end, coding_total, coding_more}
-use borrow.Author.Rules.{rules}
+use Rattle.kernels.proofs.Codes.{coding_start, coding_length, coding_fits, coding_end, coding_total, coding_more}
 use Rattle.kernels.proofs.code.code_blocks.Goals as goal
 
 pub loop-at-init : goal.loop-at-init

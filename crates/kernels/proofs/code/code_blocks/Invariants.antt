@@ -1,10 +1,8 @@
 -- `kernels::code::code_blocks` meets its contract.
 -- Assumes nothing.
 use Prim.Native.Nat.{◌-◌}
-use native.Mathlib.Omega.{arith}
 use lib.ListN.{length}
-use Rattle.kernels.proofs.Codes.{Coding, coding_start, coding_length, coding_fits, coding_end, coding_total, coding_more}
-use borrow.Author.Rules.{rules}
+use Rattle.kernels.proofs.Codes.{Coding}
 use Rattle.kernels.proofs.code.code_blocks.Given as goal
 
 abbrev pub invariant-loop-at : goal.invariant-loop-at

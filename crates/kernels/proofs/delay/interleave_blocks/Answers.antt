@@ -2,10 +2,8 @@
 -- Assumes nothing.
 use Prim.Native.Nat.{◌-◌}
 use native.Mathlib.Omega.{arith}
-use lib.ListN.{length}
 use Rattle.interleaver.specs.declared.branches.Side.TheVariants.{Sending}
-use Rattle.kernels.proofs.Delays.{Passing, passing_start, passing_length, passing_end, passing_more}
-use borrow.Author.Rules.{rules}
+use Rattle.kernels.proofs.Delays.{passing_start, passing_length, passing_end, passing_more}
 use Rattle.kernels.proofs.delay.interleave_blocks.Goals as goal
 
 pub loop-at-init : goal.loop-at-init

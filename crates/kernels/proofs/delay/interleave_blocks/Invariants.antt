@@ -1,11 +1,9 @@
 -- `kernels::delay::interleave_blocks` meets its contract.
 -- Assumes nothing.
 use Prim.Native.Nat.{◌-◌}
-use native.Mathlib.Omega.{arith}
 use lib.ListN.{length}
 use Rattle.interleaver.specs.declared.branches.Side.TheVariants.{Sending}
-use Rattle.kernels.proofs.Delays.{Passing, passing_start, passing_length, passing_end, passing_more}
-use borrow.Author.Rules.{rules}
+use Rattle.kernels.proofs.Delays.{Passing}
 use Rattle.kernels.proofs.delay.interleave_blocks.Given as goal
 
 abbrev pub invariant-loop-at : goal.invariant-loop-at

@@ -1,9 +1,7 @@
 -- `kernels::lanes::scale_by` meets its contract.
 -- Assumes nothing.
 use Prim.Native.Nat.{◌-◌}
-use lib.ListN.{length}
-use Rattle.kernels.proofs.Factors.{Scaling, scaling_none, scaling_more, scaling_all}
-use borrow.Author.Rules.{rules}
+use Rattle.kernels.proofs.Factors.{scaling_none, scaling_more, scaling_all}
 use Rattle.kernels.proofs.lanes.scale_by.Goals as goal
 
 pub loop-i-init : goal.loop-i-init

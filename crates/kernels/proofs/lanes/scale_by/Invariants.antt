@@ -2,8 +2,7 @@
 -- Assumes nothing.
 use Prim.Native.Nat.{◌-◌}
 use lib.ListN.{length}
-use Rattle.kernels.proofs.Factors.{Scaling, scaling_none, scaling_more, scaling_all}
-use borrow.Author.Rules.{rules}
+use Rattle.kernels.proofs.Factors.{Scaling}
 use Rattle.kernels.proofs.lanes.scale_by.Given as goal
 
 abbrev pub invariant-loop-i : goal.invariant-loop-i

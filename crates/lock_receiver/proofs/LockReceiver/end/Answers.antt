@@ -3,11 +3,9 @@
 use mathlib.Core.Path.{◌≡◌, sym, ◌∙◌}
 use mathlib.Core.Bool.{true}
 use native.Mathlib.Omega.{arith}
-use borrow.Author.Tests.{not-true, not-false}
 use Rattle.losses.proofs.Decisions.{writes_none, most_seven}
 use Rattle.lock_receiver.specs.Take.{lock_in_range}
 use Rattle.lock_receiver.proofs.Ranges.{lock_range}
-use borrow.Author.Rules.{rules}
 use Rattle.lock_receiver.proofs.LockReceiver.end.Goals as goal
 
 pub returns-then-not-in_range : goal.returns-then-not-in_range

@@ -6,7 +6,6 @@ use Rattle.receiver.specs.declared.Receiver.{Receiver}
 use Rattle.losses.specs.declared.Certainty.TheVariants.{Unsure}
 use Rattle.lock_receiver.specs.Take.{fresh_lock}
 use Rattle.lock_receiver.specs.declared.LockReceiver.{LockReceiver}
-use borrow.Author.Rules.{rules}
 use Rattle.lock_receiver.proofs.LockReceiver.new.Goals as goal
 
 pub returns : goal.returns

@@ -3,10 +3,9 @@
 use mathlib.Core.Path.{◌≡◌, refl, sym, ◌∙◌}
 use mathlib.Core.Bool.{true}
 use native.Mathlib.Omega.{arith}
-use borrow.Author.Tests.{eq-eqb, ne_eqb, lt-ltb, le-ltb, not-true, not-false}
+use borrow.Author.Tests.{eq-eqb, ne_eqb, lt-ltb, le-ltb}
 use Rattle.answer.specs.declared.Answer.TheVariants.{StateRange, BlockLength, OutputLength, CountsFull}
 use Rattle.lock_receiver.specs.Take.{lock_in_range, refused, taken}
-use borrow.Author.Rules.{rules}
 use Rattle.lock_receiver.proofs.LockReceiver.take.Goals as goal
 
 pub returns-then-not-in_range : goal.returns-then-not-in_range
@@ -36,12 +35,12 @@ pub take_block-requires : goal.take_block-requires
 take_block-requires c =
     let good : lock_in_range c.args.self ≡ true = sym c.in_range.ensures ∙ c.if-not-in_range.false in
     record {
-  range = good;
-  size = c.if-block-ne-BLOCK_LENGTH.false;
-  enough = c.if-output-lt-OUTPUT_LENGTH.false;
-  room = c.if-lines-lt-LINES.false;
-  more = c.if-taken-ge-MOST.false;
-}
+      range = good;
+      size = c.if-block-ne-BLOCK_LENGTH.false;
+      enough = c.if-output-lt-OUTPUT_LENGTH.false;
+      room = c.if-lines-lt-LINES.false;
+      more = c.if-taken-ge-MOST.false;
+    }
 
 pub returns : goal.returns
 returns c =

@@ -4,7 +4,6 @@ use mathlib.Core.Path.{ap}
 use Prim.Native.Nat.{ℕ}
 use Rattle.report_lines.proofs.Lines.{restated}
 use Rattle.lock_stream.specs.Progress.{closing_text}
-use borrow.Author.Rules.{rules}
 use Rattle.lock_stream.proofs.LockStream.close.Goals as goal
 
 pub returns : goal.returns

@@ -1,7 +1,6 @@
 -- `lock_stream::LockStream::end_step` meets its contract.
 -- Assumes nothing.
 use mathlib.Core.Path.{refl}
-use borrow.Author.Rules.{rules}
 use Rattle.lock_stream.proofs.LockStream.end_step.Goals as goal
 
 pub end_step-step-requires : goal.end_step-step-requires

@@ -5,7 +5,6 @@ use Rattle.lock_stream.specs.Stream.{fresh_stream}
 use Rattle.lock_stream.specs.declared.LockStream.{LockStream}
 use Rattle.lock_stream.specs.declared.progress.LockProgress.{LockProgress}
 use Rattle.lock_stream.specs.declared.source.LockSource.{LockSource}
-use borrow.Author.Rules.{rules}
 use Rattle.lock_stream.proofs.LockStream.new.Goals as goal
 
 pub returns : goal.returns

@@ -1,7 +1,6 @@
 -- `lock_stream::LockStream::step` meets its contract.
 -- Assumes nothing.
 use mathlib.Core.Path.{refl}
-use borrow.Author.Rules.{rules}
 use Rattle.lock_stream.proofs.LockStream.step.Goals as goal
 
 pub step-step-requires : goal.step-step-requires

@@ -11,7 +11,6 @@ use Rattle.report_lines.proofs.Lines.{joined_appended}
 use Rattle.lock_stream.specs.Progress.{Takes, lock_begins}
 use Rattle.lock_stream.specs.declared.progress.LockProgress.{LockProgress}
 use Rattle.lock_stream.proofs.Taking.{fresh_range, fresh_more}
-use borrow.Author.Rules.{rules}
 use Rattle.lock_stream.proofs.progress.begin_lock.Goals as goal
 
 pub take_block-taken-requires : goal.take_block-taken-requires

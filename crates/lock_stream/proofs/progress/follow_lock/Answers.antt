@@ -4,7 +4,6 @@ use mathlib.Core.Path.{refl}
 use native.Mathlib.Omega.{arith}
 use Rattle.lock_stream.specs.Progress.{lock_goes_on}
 use Rattle.lock_stream.proofs.Taking.{more_counted}
-use borrow.Author.Rules.{rules}
 use Rattle.lock_stream.proofs.progress.follow_lock.Goals as goal
 
 pub take_block-taken-requires : goal.take_block-taken-requires

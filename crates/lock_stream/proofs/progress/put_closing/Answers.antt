@@ -5,12 +5,10 @@ use mathlib.Core.Bool.{Bool}
 use mathlib.Core.List.{◌++◌}
 use Prim.Native.Nat.{ℕ, ◌+◌, ◌-◌, ◌/◌}
 use native.Mathlib.Omega.{arith}
-use borrow.Author.Tests.{not-true, not-false}
 use Rattle.common.specs.Choice.{pick}
 use Rattle.lock_lines.specs.Lines.{end_text}
 use Rattle.report_lines.proofs.Lines.{joined_appended, restated}
 use Rattle.lock_stream.specs.Progress.{waiting_text, lost_lines}
-use borrow.Author.Rules.{rules}
 use Rattle.lock_stream.proofs.progress.put_closing.Goals as goal
 
 pub returns-then-not-locked : goal.returns-then-not-locked

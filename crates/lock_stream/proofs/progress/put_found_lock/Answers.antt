@@ -5,7 +5,6 @@ use Prim.Native.Nat.{ℕ, ◌+◌, ◌%◌, ◌<◌}
 use Rattle.lock_lines.specs.Lines.{lock_text}
 use Rattle.reader.proofs.Patterns.{some_symbols}
 use Rattle.report_lines.proofs.Lines.{restated}
-use borrow.Author.Rules.{rules}
 use Rattle.lock_stream.proofs.progress.put_found_lock.Goals as goal
 
 pub nonzero_rem-start : goal.nonzero_rem-start

@@ -5,7 +5,6 @@ use Prim.Native.Nat.{◌+◌}
 use native.Mathlib.Omega.{arith}
 use Rattle.report_lines.proofs.Lines.{joined_appended, restated}
 use Rattle.lock_stream.proofs.Taking.{range_counts}
-use borrow.Author.Rules.{rules}
 use Rattle.lock_stream.proofs.progress.put_lost_lock.Goals as goal
 
 pub put_report-requires : goal.put_report-requires

@@ -8,7 +8,6 @@ use Prim.Native.Nat.{ℕ, ◌≤◌}
 use Rattle.report.specs.Text.{report_text}
 use Rattle.receiver_stream.specs.Reporting.{report_of}
 use Rattle.lock_stream.proofs.Reports.{ReportWritten, report_written, report_appended}
-use borrow.Author.Rules.{rules}
 use Rattle.lock_stream.proofs.progress.put_report.Goals as goal
 
 pub slice_bounds-own-end : goal.slice_bounds-own-end

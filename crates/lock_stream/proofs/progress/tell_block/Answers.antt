@@ -1,7 +1,6 @@
 -- `lock_stream::progress::tell_block` meets its contract.
 -- Assumes nothing.
 use mathlib.Core.Path.{sym, ◌∙◌}
-use borrow.Author.Rules.{rules}
 use Rattle.lock_stream.proofs.progress.tell_block.Goals as goal
 
 pub begin_lock-requires : goal.begin_lock-requires

@@ -3,7 +3,6 @@
 use mathlib.Core.Path.{refl}
 use native.Mathlib.Omega.{arith}
 use Rattle.lock_stream.specs.Progress.{lock_ends}
-use borrow.Author.Rules.{rules}
 use Rattle.lock_stream.proofs.progress.tell_lost.Goals as goal
 
 pub returns : goal.returns

@@ -3,12 +3,10 @@
 use mathlib.Core.Path.{◌≡◌, sym, ◌∙◌}
 use mathlib.Core.Bool.{true}
 use native.Mathlib.Omega.{arith}
-use borrow.Author.Tests.{not-true, not-false}
 use Rattle.common.proofs.Choice.{both_true}
 use Rattle.reception_counts.proofs.Ranges.{counts_range}
 use Rattle.receiver.proofs.Calls.{state_range}
 use Rattle.losses.specs.Feed.{loss_stream_in_range}
-use borrow.Author.Rules.{rules}
 use Rattle.losses.proofs.LossStream.capacity.Goals as goal
 
 pub returns-then-not-in_range : goal.returns-then-not-in_range

@@ -3,11 +3,9 @@
 use mathlib.Core.Path.{◌≡◌, sym, ◌∙◌}
 use mathlib.Core.Bool.{true}
 use native.Mathlib.Omega.{arith}
-use borrow.Author.Tests.{not-true, not-false}
 use Rattle.losses.specs.Feed.{loss_stream_in_range}
 use Rattle.losses.proofs.Decisions.{writes_none, most_seven}
 use Rattle.losses.proofs.Streams.{stream_range}
-use borrow.Author.Rules.{rules}
 use Rattle.losses.proofs.LossStream.close.Goals as goal
 
 pub returns-then-not-in_range : goal.returns-then-not-in_range

@@ -4,14 +4,13 @@ use mathlib.Core.Path.{◌≡◌, refl, sym, ap, ◌∙◌}
 use mathlib.Core.Bool.{Bool, true}
 use Prim.Native.Nat.{◌+◌, ◌/◌, ◌≤◌, ◌<◌}
 use native.Mathlib.Omega.{arith}
-use borrow.Author.Tests.{lt-ltb, le-ltb, not-true, not-false}
+use borrow.Author.Tests.{lt-ltb, le-ltb}
 use lib.ListN.{length}
 use Rattle.common.specs.Choice.{pick}
 use Rattle.losses.specs.Watch.{waiting_of}
 use Rattle.losses.specs.Feed.{loss_stream_in_range, marks_fit, capacity_of, refused, fed}
 use Rattle.losses.proofs.Decisions.{most_seven}
 use Rattle.losses.proofs.Streams.{StreamRange, stream_range, fit_count}
-use borrow.Author.Rules.{rules}
 use Rattle.losses.proofs.LossStream.feed.Goals as goal
 
 pub returns-then-not-in_range : goal.returns-then-not-in_range

@@ -6,7 +6,6 @@ use Rattle.receiver.specs.declared.Receiver.{Receiver}
 use Rattle.losses.specs.Feed.{fresh_loss_stream}
 use Rattle.losses.specs.declared.Certainty.TheVariants.{Unsure}
 use Rattle.losses.specs.declared.LossStream.{LossStream}
-use borrow.Author.Rules.{rules}
 use Rattle.losses.proofs.LossStream.new.Goals as goal
 
 pub returns : goal.returns

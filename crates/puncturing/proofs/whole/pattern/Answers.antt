@@ -1,10 +1,10 @@
 -- `puncturing::whole::pattern` meets its contract.
 -- Assumes nothing.
 use mathlib.Core.Path.{◌≡◌, refl, sym, ◌∙◌}
-use Prim.Native.Nat.{◌+◌, ◌-◌, ◌≤◌, ◌<◌}
+use Prim.Native.Nat.{◌+◌, ◌-◌, ◌<◌}
 use native.Mathlib.Omega.{arith}
 use lib.ListN.{length, get_or}
-use Rattle.common.proofs.Written.{Written, written_none, written_more, written_length}
+use Rattle.common.proofs.Written.{written_none, written_more, written_length}
 use Rattle.common.proofs.Outputs.{placed_all}
 use Rattle.convolutional_code.proofs.Bits.{bits_at}
 use Rattle.puncturing.specs.Run.{pattern_symbols}

@@ -2,7 +2,7 @@
 -- Assumes nothing.
 use mathlib.Core.Path.{refl}
 use native.Mathlib.Omega.{arith}
-use Rattle.puncturing.proofs.Patterns.{Repeating, repeating_bit, repeating_fits, repeating_more, repeating_end}
+use Rattle.puncturing.proofs.Patterns.{repeating_bit, repeating_fits, repeating_more, repeating_end}
 use Rattle.puncturing.proofs.whole.patterns.Goals as goal
 
 pub loop-left-init : goal.loop-left-init

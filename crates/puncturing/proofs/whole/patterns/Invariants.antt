@@ -1,8 +1,6 @@
 -- `puncturing::whole::patterns` meets its contract: proofs/Patterns.antt has what holds as the loop goes.
 -- Assumes nothing.
-use mathlib.Core.Path.{refl}
-use native.Mathlib.Omega.{arith}
-use Rattle.puncturing.proofs.Patterns.{Repeating, repeating_bit, repeating_fits, repeating_more, repeating_end}
+use Rattle.puncturing.proofs.Patterns.{Repeating}
 use Rattle.puncturing.proofs.whole.patterns.Given as goal
 
 abbrev pub invariant-loop-left : goal.invariant-loop-left

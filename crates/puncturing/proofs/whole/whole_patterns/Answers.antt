@@ -3,7 +3,6 @@
 use Rattle.puncturing.specs.Mode.{mode_of}
 use Rattle.puncturing.specs.Run.{i_bits, q_bits}
 use Rattle.puncturing.proofs.Rates.{asked, given, four}
-use borrow.Author.Rules.{rules}
 use Rattle.puncturing.proofs.whole.whole_patterns.Goals as goal
 
 pub patterns-requires : goal.patterns-requires

@@ -1,15 +1,14 @@
 -- `reader_stream::ReaderStream::feed` meets its contract.
 -- Assumes nothing.
-use mathlib.Core.Path.{◌≡◌, refl, sym, ◌∙◌}
+use mathlib.Core.Path.{refl, sym, ◌∙◌}
 use Prim.Native.Nat.{◌+◌, ◌-◌, ◌*◌, ◌<◌, ◌≤◌}
 use native.Mathlib.Omega.{arith}
-use borrow.Author.Rules.{rules}
 use borrow.Rule.Slice.PartMut.{same_len_mid}
 use lib.ListN.{length, drop}
 use lib.Seq.{length-take-le}
 use Rattle.reader_stream.proofs.Runs.{all_take, all_drop}
 use Rattle.bit_packing.proofs.Packing.{packs_fit}
-use Rattle.reader_stream.proofs.Feeding.{Feeding, feeding_none, fed_some, pack_fits, feeding_more, count_fits, feeding_all}
+use Rattle.reader_stream.proofs.Feeding.{feeding_none, fed_some, pack_fits, feeding_more, count_fits, feeding_all}
 use Rattle.reader_stream.proofs.ReaderStream.feed.Goals as goal
 
 pub loop-at-init : goal.loop-at-init
@@ -84,8 +83,7 @@ pub loop-at-preserved : goal.loop-at-preserved
 loop-at-preserved c =
     let enough : let a = c.args in
     a.self.held + 2 * (a.self.runs.count + length a.pairs.now) < 8 * length c.loop-at.output + 8 = omega (arith, c.loop-at.invariant.2, c.requires.3) in
-    let k = c.loop-at in
-    (
+    let k = c.loop-at in (
       feeding_more c.requires.0.runs_ready c.requires.0.few (enough) c.loop-at-test.true k.invariant.0 c.feed-taken.ensures.0 c.feed-taken.ensures.1 c.pack-packed.ensures,
       omega (arith, c.feed-taken.auto, k.invariant.1),
       same_len_mid k.count (length k.output - k.count) k.output c.pack-packed.new.output c.pack-packed.auto.output ∙ k.invariant.2,

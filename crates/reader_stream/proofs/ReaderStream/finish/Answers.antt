@@ -6,7 +6,6 @@ use native.Mathlib.Omega.{arith}
 use lib.ListN.{length, length-take}
 use lib.Seq.{length-take-le}
 use Rattle.reader_stream.proofs.Feeding.{closed_few, closed_bits_lem}
-use borrow.Author.Rules.{rules}
 use Rattle.reader_stream.proofs.ReaderStream.finish.Goals as goal
 
 pub close-closed-requires : goal.close-closed-requires
@@ -23,9 +22,8 @@ slice_bounds-pack-end-2 c =
     sym (length-take-le _ _ (within))
 
 pub pack-packed-requires : goal.pack-packed-requires
-pack-packed-requires c =
-    (
-      c.requires.0.few,
-      closed_bits_lem c.close-closed.ensures,
-      omega (arith, c.requires.0.few, length-take c.close-closed.result.count c.close-closed.new.output, closed_few c.requires.0.runs_ready c.close-closed.ensures, c.requires.2),
-    )
+pack-packed-requires c = (
+  c.requires.0.few,
+  closed_bits_lem c.close-closed.ensures,
+  omega (arith, c.requires.0.few, length-take c.close-closed.result.count c.close-closed.new.output, closed_few c.requires.0.runs_ready c.close-closed.ensures, c.requires.2),
+)

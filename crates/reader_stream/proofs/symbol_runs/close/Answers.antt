@@ -3,7 +3,6 @@
 use native.Mathlib.Omega.{arith}
 use Rattle.reader.proofs.Patterns.{some_symbols}
 use Rattle.reader_stream.proofs.Runs.{mod_le, end_le, end_readable, closes}
-use borrow.Author.Rules.{rules}
 use Rattle.reader_stream.proofs.symbol_runs.close.Goals as goal
 
 pub nonzero_rem-rest : goal.nonzero_rem-rest

@@ -4,7 +4,6 @@ use mathlib.Core.Path.{refl}
 use native.Mathlib.Omega.{arith}
 use lib.ListN.{drop}
 use Rattle.reader_stream.proofs.Runs.{numbers, gathers, placed_fits, tail_fits, H-length, run_length, run_small, reads}
-use borrow.Author.Rules.{rules}
 use Rattle.reader_stream.proofs.symbol_runs.feed.Goals as goal
 
 pub put-requires : goal.put-requires

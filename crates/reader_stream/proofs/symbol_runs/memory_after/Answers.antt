@@ -3,7 +3,6 @@
 use mathlib.Core.Path.{sym, ◌∙◌, subst}
 use Prim.Native.Nat.{ℕ, ◌-◌}
 use native.Mathlib.Omega.{arith}
-use borrow.Author.Rules.{rules}
 use lib.ListN.{length}
 use Rattle.convolutional_code.specs.Bits.{Bits}
 use Rattle.convolutional_code.proofs.Bits.{bits_drop}

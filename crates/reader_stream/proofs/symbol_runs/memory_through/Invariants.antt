@@ -1,11 +1,8 @@
 -- `reader_stream::symbol_runs::memory_through` meets its contract.
 -- Assumes nothing.
 use Prim.Native.Nat.{◌-◌}
-use native.Mathlib.Omega.{arith}
-use borrow.Author.Rules.{rules}
 use lib.ListN.{length}
-use Rattle.convolutional_code.proofs.Bits.{bits_at}
-use Rattle.reader_stream.proofs.Runs.{Passing, passing_none, passing_more, passing_all}
+use Rattle.reader_stream.proofs.Runs.{Passing}
 use Rattle.reader_stream.proofs.symbol_runs.memory_through.Given as goal
 
 abbrev pub invariant-loop-k : goal.invariant-loop-k

@@ -3,7 +3,6 @@
 use mathlib.Core.Path.{ap, ◌∙◌}
 use Rattle.convolutional_code.specs.Code.{memory_after}
 use Rattle.reader_stream.proofs.Runs.{full_readable, front}
-use borrow.Author.Rules.{rules}
 use Rattle.reader_stream.proofs.symbol_runs.read_full.Goals as goal
 
 pub read_pairs-requires : goal.read_pairs-requires

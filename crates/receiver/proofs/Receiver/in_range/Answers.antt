@@ -1,7 +1,6 @@
 -- `receiver::Receiver::in_range` meets its contract.
 -- Assumes nothing.
 use Rattle.receiver.proofs.Calls.{parts_range}
-use borrow.Author.Rules.{rules}
 use Rattle.receiver.proofs.Receiver.in_range.Goals as goal
 
 pub returns : goal.returns

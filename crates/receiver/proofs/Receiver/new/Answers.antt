@@ -8,7 +8,6 @@ use Rattle.group_sync.specs.Group.{fresh_sync}
 use Rattle.group_sync.specs.declared.GroupSync.{GroupSync}
 use Rattle.reception_counts.specs.declared.Counts.{Counts}
 use Rattle.receiver.specs.Receive.{fresh_receiver}
-use borrow.Author.Rules.{rules}
 use Rattle.receiver.proofs.Receiver.new.Goals as goal
 
 pub returns : goal.returns

@@ -13,8 +13,7 @@ pub receive_parts-step-requires : goal.receive_parts-step-requires
 receive_parts-step-requires c =
     let held : length c.args.self.marks ≡ 1122 = search rules in
     let delayed : length c.args.self.deinterleaver.branches.cells ≡ 1122 = search rules in
-    let m = c.largest_of-most in
-    (
+    let m = c.largest_of-most in (
       parts_range c.args.self _ _ m.ensures c.parts_in_range-valid.ensures,
       delayed,
       held,

@@ -3,12 +3,10 @@
 use mathlib.Core.Path.{◌≡◌, sym, ◌∙◌}
 use mathlib.Core.Bool.{true}
 use native.Mathlib.Omega.{arith}
-use borrow.Author.Tests.{not-true, not-false}
 use Rattle.common.proofs.Choice.{both_true}
 use Rattle.reception_counts.proofs.Ranges.{counts_range}
 use Rattle.receiver.proofs.Calls.{state_range}
 use Rattle.receiver_stream.specs.Feed.{receiver_stream_in_range}
-use borrow.Author.Rules.{rules}
 use Rattle.receiver_stream.proofs.ReceiverStream.capacity.Goals as goal
 
 pub returns-then-not-in_range : goal.returns-then-not-in_range

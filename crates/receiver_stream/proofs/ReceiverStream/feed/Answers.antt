@@ -4,7 +4,7 @@ use mathlib.Core.Path.{◌≡◌, refl, sym, ap, ◌∙◌}
 use mathlib.Core.Bool.{Bool, true}
 use Prim.Native.Nat.{◌+◌, ◌*◌, ◌/◌, ◌≤◌, ◌<◌}
 use native.Mathlib.Omega.{arith}
-use borrow.Author.Tests.{eqb-true, lt-ltb, le-ltb, not-true, not-false}
+use borrow.Author.Tests.{eqb-true, lt-ltb, le-ltb}
 use lib.Dec.{eqb, ltb}
 use lib.ListN.{length}
 use Rattle.common.specs.Choice.{pick}
@@ -13,7 +13,6 @@ use Rattle.common.proofs.Choice.{both_true}
 use Rattle.recording.specs.Recording.{marks_for}
 use Rattle.receiver_stream.proofs.Pieces.{stream_range}
 use Rattle.receiver_stream.specs.Feed.{receiver_stream_in_range, capacity_of, refused, fed}
-use borrow.Author.Rules.{rules}
 use Rattle.receiver_stream.proofs.ReceiverStream.feed.Goals as goal
 
 pub returns-then-not-in_range : goal.returns-then-not-in_range

@@ -5,7 +5,6 @@ use lib.ListN.{replicate}
 use Rattle.receiver.specs.declared.Receiver.{Receiver}
 use Rattle.receiver_stream.specs.declared.ReceiverStream.{ReceiverStream}
 use Rattle.receiver_stream.specs.Feed.{fresh_receiver_stream}
-use borrow.Author.Rules.{rules}
 use Rattle.receiver_stream.proofs.ReceiverStream.new.Goals as goal
 
 pub returns : goal.returns

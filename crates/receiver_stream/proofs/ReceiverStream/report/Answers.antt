@@ -2,8 +2,6 @@
 -- Assumes nothing.
 use mathlib.Core.Path.{sym, ◌∙◌}
 use Rattle.receiver_stream.proofs.Reporting.{reports}
-use borrow.Author.Tests.{not-true, not-false}
-use borrow.Author.Rules.{rules}
 use Rattle.receiver_stream.proofs.ReceiverStream.report.Goals as goal
 
 pub returns-then-not-in_range : goal.returns-then-not-in_range

@@ -9,7 +9,6 @@ use lib.Dec.{leb}
 use Rattle.common.specs.Choice.{pick}
 use Rattle.reception_counts.specs.Counts.{accepted_blocks, counts_in_range}
 use Rattle.reception_counts.proofs.Ranges.{sum_fails}
-use borrow.Author.Rules.{rules}
 use Rattle.reception_counts.proofs.Counts.in_range.Goals as goal
 
 pub returns-then-taken-gt-MOST : goal.returns-then-taken-gt-MOST

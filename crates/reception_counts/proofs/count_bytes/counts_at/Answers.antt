@@ -1,6 +1,5 @@
 -- `reception_counts::count_bytes::counts_at` meets its contract.
 -- Assumes nothing.
-use borrow.Author.Rules.{rules}
 use Rattle.reception_counts.proofs.count_bytes.counts_at.Goals as goal
 
 pub returns : goal.returns

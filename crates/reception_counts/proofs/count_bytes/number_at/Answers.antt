@@ -10,7 +10,6 @@ use Rattle.common.specs.Lists.{ByteEntries}
 use Rattle.common.proofs.Entries.{entries_take, entries_drop}
 use Rattle.reception_counts.specs.Bytes.{from_bytes}
 use Rattle.reception_counts.proofs.Numbers.{from_below_seven}
-use borrow.Author.Rules.{rules}
 use Rattle.reception_counts.proofs.count_bytes.number_at.Invariants.{Joined}
 use Rattle.reception_counts.proofs.count_bytes.number_at.Goals as goal
 

@@ -1,16 +1,10 @@
 -- `reception_counts::count_bytes::number_at` meets its contract.
 -- Assumes nothing.
-use mathlib.Core.Path.{◌≡◌, refl, sym, ap, ap₂, subst, ◌∙◌}
+use mathlib.Core.Path.{◌≡◌}
 use mathlib.Core.List.{List}
-use Prim.Native.Nat.{ℕ, suc, ◌+◌, ◌-◌, ◌*◌, ◌≤◌, ◌<◌}
-use native.Mathlib.Omega.{arith}
-use lib.ListN.{length, get_or, take, drop, length-take}
-use lib.Seq.{drop-cons}
-use Rattle.common.specs.Lists.{ByteEntries}
-use Rattle.common.proofs.Entries.{entries_take, entries_drop}
+use Prim.Native.Nat.{ℕ, ◌+◌, ◌-◌, ◌≤◌}
+use lib.ListN.{take, drop}
 use Rattle.reception_counts.specs.Bytes.{from_bytes}
-use Rattle.reception_counts.proofs.Numbers.{from_below_seven}
-use borrow.Author.Rules.{rules}
 use Rattle.reception_counts.proofs.count_bytes.number_at.Given as goal
 
 -- the number of the bytes that are read, which are the last of eight

@@ -10,7 +10,6 @@ use Rattle.common.specs.Lists.{placed}
 use Rattle.common.proofs.Lists.{put_after}
 use Rattle.reception_counts.specs.Bytes.{to_bytes, numbers_of, count_bytes}
 use Rattle.reception_counts.proofs.Numbers.{length_to, each_length, each_snoc}
-use borrow.Author.Rules.{rules}
 use Rattle.reception_counts.proofs.count_bytes.put_counts.Invariants.{Put}
 use Rattle.reception_counts.proofs.count_bytes.put_counts.Goals as goal
 

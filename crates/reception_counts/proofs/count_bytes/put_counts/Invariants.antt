@@ -1,16 +1,10 @@
 -- `reception_counts::count_bytes::put_counts` meets its contract.
 -- Assumes nothing.
-use mathlib.Core.Path.{◌≡◌, refl, sym, ap, ap₂, ◌∙◌}
+use mathlib.Core.Path.{◌≡◌}
 use mathlib.Core.List.{List, ◌++◌, map, flatten}
-use Prim.Native.Nat.{ℕ, suc, ◌+◌, ◌-◌, ◌*◌, ◌≤◌, ◌<◌}
-use native.Mathlib.Omega.{arith}
-use lib.ListN.{length, get_or, take, drop, length-append, length-take, length-drop}
-use lib.Seq.{take-suc}
-use Rattle.common.specs.Lists.{placed}
-use Rattle.common.proofs.Lists.{put_after}
-use Rattle.reception_counts.specs.Bytes.{to_bytes, numbers_of, count_bytes}
-use Rattle.reception_counts.proofs.Numbers.{length_to, each_length, each_snoc}
-use borrow.Author.Rules.{rules}
+use Prim.Native.Nat.{ℕ, ◌+◌, ◌-◌, ◌*◌, ◌≤◌}
+use lib.ListN.{take, drop}
+use Rattle.reception_counts.specs.Bytes.{to_bytes}
 use Rattle.reception_counts.proofs.count_bytes.put_counts.Given as goal
 
 -- the first i of eight numbers are written

@@ -11,7 +11,6 @@ use Rattle.common.proofs.Outputs.{placed_all}
 use Rattle.common.specs.Bytes.{byte_at}
 use Rattle.reception_counts.specs.Bytes.{to_bytes}
 use Rattle.reception_counts.proofs.Numbers.{length_to, byte_to}
-use borrow.Author.Rules.{rules}
 use Rattle.reception_counts.proofs.count_bytes.put_number.Goals as goal
 
 more : (number at : ℕ) (output₀ output : List ℕ) (k v : ℕ) → Written at output₀ (to_bytes 8 number) output k → k < 8 → v ≡ byte_at k number

@@ -9,7 +9,6 @@ use Rattle.reed_solomon.specs.declared.Decoded.{Decoded}
 use Rattle.interleaver.specs.Gathered.{gathered}
 use Rattle.recording.specs.Block.{block_count, block_refusal, output_with}
 use Rattle.recording.proofs.Blocks.{not_its_count, no_such_block, output_short, no_refusal, refused_with, given_block, put_front}
-use borrow.Author.Rules.{rules}
 use Rattle.recording.proofs.block.decoded_block.Goals as goal
 
 pub returns-then-blocks-whole_blocks : goal.returns-then-blocks-whole_blocks

@@ -8,7 +8,6 @@ use lib.ListN.{length, get_or, set}
 use Rattle.common.proofs.Written.{Written, written_none, written_next, written_length, written_whole}
 use Rattle.interleaver.specs.Gathered.{place_in, gathered}
 use Rattle.interleaver.proofs.Gathering.{length_gathered, gathered_at}
-use borrow.Author.Rules.{rules}
 use Rattle.recording.proofs.block.gather.Goals as goal
 
 start : (bytes : List ℕ) (p : ℕ) (block : List ℕ) → length block ≡ 204 → Written 0 block (gathered bytes p) block 0

@@ -1,6 +1,5 @@
 -- `reed_solomon::Decoded::changed` meets its contract.
 -- Assumes nothing.
-use borrow.Author.Rules.{rules}
 use Rattle.reed_solomon.proofs.Decoded.changed.Goals as goal
 
 pub returns-in-Uncorrectable : goal.returns-in-Uncorrectable

@@ -1,12 +1,9 @@
 -- `reed_solomon::division::back_sum` meets its contract: above bit i the bits of all factors are in the sum.
 -- Assumes nothing.
-use mathlib.Core.Path.{◌≡◌, ap, ◌∙◌}
-use Prim.Native.Nat.{ℕ, ◌/◌, ◌^◌, ◌≤◌}
-use native.Mathlib.Omega.{arith}
+use mathlib.Core.Path.{◌≡◌}
+use Prim.Native.Nat.{◌/◌, ◌^◌, ◌≤◌}
 use Rattle.galois.proofs.Instance.{byte}
 use Rattle.reed_solomon.specs.Steps.{back_sum}
-use Rattle.reed_solomon.proofs.GroupDivision.{rounds_none, rounds_more, rounds_all}
-use borrow.Author.Rules.{rules}
 use Rattle.reed_solomon.proofs.division.back_sum.Given as goal
 
 abbrev pub invariant-loop-i : goal.invariant-loop-i

@@ -3,7 +3,7 @@
 use Prim.{tt}
 use Rattle.common.proofs.Entries.{bytes_of}
 use Rattle.reed_solomon.proofs.Residue.{check_of_values}
-use borrow.Author.Rules.{rules, elem_Fits}
+use borrow.Author.Rules.{elem_Fits}
 use mir.Syntax.{w8}
 use Rattle.reed_solomon.proofs.division.check_bytes.Goals as goal
 

@@ -1,15 +1,9 @@
 -- `reed_solomon::division::delayed_sum` meets its contract: after k turns the first k delays are taken.
 -- Assumes nothing.
-use mathlib.Core.Path.{◌≡◌, subst}
-use mathlib.Core.List.{List}
-use Prim.Native.Nat.{ℕ, ◌-◌, ◌≤◌}
-use native.Mathlib.Omega.{arith}
-use lib.ListN.{length, get_or, take}
-use lib.Seq.{take_all}
-use Rattle.common.proofs.Lists.{All-at}
+use mathlib.Core.Path.{◌≡◌}
+use Prim.Native.Nat.{◌-◌, ◌≤◌}
+use lib.ListN.{length, take}
 use Rattle.reed_solomon.specs.Steps.{DelayedSums}
-use Rattle.reed_solomon.proofs.SparseDivision.{sums_none, sums_more}
-use borrow.Author.Rules.{rules}
 use Rattle.reed_solomon.proofs.division.delayed_sum.Given as goal
 
 abbrev pub invariant-loop-k : goal.invariant-loop-k

@@ -1,11 +1,8 @@
 -- `reed_solomon::division::divide` meets its contract: after i coefficients what is left has their values.
 -- Assumes nothing.
 use mathlib.Core.Path.{◌≡◌}
-use Prim.Native.Nat.{◌-◌, ◌%◌, ◌≤◌}
 use native.Mathlib.Omega.{arith}
-use lib.ListN.{take}
 use lib.Seq.{length-take-le}
-use Rattle.reed_solomon.specs.Steps.{SameValues}
 use Rattle.reed_solomon.proofs.GroupDivision.{horner_none, horner_more}
 use borrow.Author.Rules.{rules}
 use Rattle.reed_solomon.proofs.division.divide.Goals as goal

@@ -2,12 +2,8 @@
 -- Assumes nothing.
 use mathlib.Core.Path.{◌≡◌}
 use Prim.Native.Nat.{◌-◌, ◌%◌, ◌≤◌}
-use native.Mathlib.Omega.{arith}
 use lib.ListN.{take}
-use lib.Seq.{length-take-le}
 use Rattle.reed_solomon.specs.Steps.{SameValues}
-use Rattle.reed_solomon.proofs.GroupDivision.{horner_none, horner_more}
-use borrow.Author.Rules.{rules}
 use Rattle.reed_solomon.proofs.division.divide.Given as goal
 
 abbrev pub invariant-loop-i : goal.invariant-loop-i

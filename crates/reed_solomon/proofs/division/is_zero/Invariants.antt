@@ -1,11 +1,9 @@
 -- `reed_solomon::division::is_zero` meets its contract: the bytes below j are zero, so that what is left decides.
 -- Assumes nothing.
-use mathlib.Core.Path.{◌≡◌, refl, sym, ◌∙◌}
+use mathlib.Core.Path.{◌≡◌}
 use Prim.Native.Nat.{◌-◌, ◌≤◌}
 use lib.ListN.{length, drop}
 use Rattle.reed_solomon.specs.Steps.{all_zero}
-use Rattle.reed_solomon.proofs.Residue.{zero_skip, zero_stop, zero_end}
-use borrow.Author.Rules.{rules}
 use Rattle.reed_solomon.proofs.division.is_zero.Given as goal
 
 abbrev pub invariant-loop-j : goal.invariant-loop-j

@@ -1,7 +1,6 @@
 -- `reed_solomon::division::reduced` meets its contract.
 -- Assumes nothing.
 use Rattle.reed_solomon.proofs.GroupDivision.{reduced_values}
-use borrow.Author.Rules.{rules}
 use Rattle.reed_solomon.proofs.division.reduced.Goals as goal
 
 pub returns : goal.returns

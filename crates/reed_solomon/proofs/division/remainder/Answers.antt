@@ -1,7 +1,6 @@
 -- `reed_solomon::division::remainder` meets its contract.
 -- Assumes nothing.
 use Rattle.reed_solomon.proofs.SparseDivision.{divided_values}
-use borrow.Author.Rules.{rules}
 use Rattle.reed_solomon.proofs.division.remainder.Goals as goal
 
 pub returns : goal.returns

@@ -1,12 +1,10 @@
 -- `reed_solomon::division::short_quotient` meets its contract: after l turns the first l coefficients are written.
 -- Assumes nothing.
-use mathlib.Core.Path.{◌≡◌, ◌∙◌}
-use Prim.Native.Nat.{◌+◌, ◌-◌}
+use mathlib.Core.Path.{◌∙◌}
+use Prim.Native.Nat.{◌+◌}
 use native.Mathlib.Omega.{arith}
-use lib.ListN.{length}
-use Rattle.common.proofs.Each.{Each, each_none, each_more, each_all}
-use Rattle.galois.proofs.Instance.{byte}
-use Rattle.reed_solomon.specs.Steps.{back_sum, reciprocal}
+use Rattle.common.proofs.Each.{each_none, each_more, each_all}
+use Rattle.reed_solomon.specs.Steps.{reciprocal}
 use Rattle.reed_solomon.proofs.GroupDivision.{reciprocal_bytes, laid_coefficient}
 use borrow.Author.Rules.{rules}
 use Rattle.reed_solomon.proofs.division.short_quotient.Goals as goal

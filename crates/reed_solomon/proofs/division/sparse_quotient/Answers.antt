@@ -2,10 +2,9 @@
 -- Assumes nothing.
 use mathlib.Core.Path.{◌≡◌, refl, subst, ◌∙◌}
 use mathlib.Core.List.{List}
-use Prim.Native.Nat.{ℕ, ◌+◌, ◌-◌, ◌%◌, ◌≤◌}
+use Prim.Native.Nat.{ℕ, ◌+◌}
 use native.Mathlib.Omega.{arith}
-use lib.ListN.{length}
-use Rattle.reed_solomon.specs.Steps.{delays, DelayedSums, SparseQuotient}
+use Rattle.reed_solomon.specs.Steps.{delays, DelayedSums}
 use Rattle.reed_solomon.proofs.SparseDivision.{short, quotient_none, quotient_more}
 use borrow.Author.Rules.{rules}
 use Rattle.reed_solomon.proofs.division.sparse_quotient.Goals as goal

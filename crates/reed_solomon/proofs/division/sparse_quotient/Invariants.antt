@@ -1,13 +1,9 @@
 -- `reed_solomon::division::sparse_quotient` meets its contract: the first i coefficients are written.
 -- Assumes nothing.
-use mathlib.Core.Path.{◌≡◌, refl, subst, ◌∙◌}
-use mathlib.Core.List.{List}
-use Prim.Native.Nat.{ℕ, ◌+◌, ◌-◌, ◌%◌, ◌≤◌}
-use native.Mathlib.Omega.{arith}
+use mathlib.Core.Path.{◌≡◌}
+use Prim.Native.Nat.{◌-◌, ◌%◌, ◌≤◌}
 use lib.ListN.{length}
-use Rattle.reed_solomon.specs.Steps.{delays, DelayedSums, SparseQuotient}
-use Rattle.reed_solomon.proofs.SparseDivision.{short, quotient_none, quotient_more}
-use borrow.Author.Rules.{rules}
+use Rattle.reed_solomon.specs.Steps.{SparseQuotient}
 use Rattle.reed_solomon.proofs.division.sparse_quotient.Given as goal
 
 abbrev pub invariant-loop-i : goal.invariant-loop-i

@@ -2,10 +2,9 @@
 -- Assumes nothing.
 use mathlib.Core.Path.{◌≡◌, refl, subst, ◌∙◌}
 use mathlib.Core.List.{List}
-use Prim.Native.Nat.{ℕ, ◌+◌, ◌-◌, ◌%◌, ◌≤◌}
+use Prim.Native.Nat.{ℕ, ◌+◌}
 use native.Mathlib.Omega.{arith}
-use lib.ListN.{length}
-use Rattle.reed_solomon.specs.Steps.{delays, DelayedSums, SparseRemainder}
+use Rattle.reed_solomon.specs.Steps.{delays, DelayedSums}
 use Rattle.reed_solomon.proofs.SparseDivision.{short, remainder_none, remainder_more}
 use borrow.Author.Rules.{rules}
 use Rattle.reed_solomon.proofs.division.sparse_remainder.Goals as goal
@@ -24,8 +23,7 @@ put-requires c = omega (arith, c.loop-i.invariant.2, c.delayed_sum-v.type_inv.1.
 
 pub loop-i-preserved : goal.loop-i-preserved
 loop-i-preserved c =
-    let l = c.loop-i in
-    (
+    let l = c.loop-i in (
       omega (arith, l.invariant.1),
       omega (arith, l.invariant.1),
       c.put.auto.output ∙ l.invariant.2,

@@ -1,13 +1,9 @@
 -- `reed_solomon::division::sparse_remainder` meets its contract: the first i elements are written.
 -- Assumes nothing.
-use mathlib.Core.Path.{◌≡◌, refl, subst, ◌∙◌}
-use mathlib.Core.List.{List}
-use Prim.Native.Nat.{ℕ, ◌+◌, ◌-◌, ◌%◌, ◌≤◌}
-use native.Mathlib.Omega.{arith}
+use mathlib.Core.Path.{◌≡◌}
+use Prim.Native.Nat.{◌-◌, ◌%◌, ◌≤◌}
 use lib.ListN.{length}
-use Rattle.reed_solomon.specs.Steps.{delays, DelayedSums, SparseRemainder}
-use Rattle.reed_solomon.proofs.SparseDivision.{short, remainder_none, remainder_more}
-use borrow.Author.Rules.{rules}
+use Rattle.reed_solomon.specs.Steps.{SparseRemainder}
 use Rattle.reed_solomon.proofs.division.sparse_remainder.Given as goal
 
 abbrev pub invariant-loop-i : goal.invariant-loop-i

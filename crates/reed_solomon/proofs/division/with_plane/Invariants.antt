@@ -1,15 +1,10 @@
 -- `reed_solomon::division::with_plane` meets its contract: after m turns the first m factors are in the sum.
 -- Assumes nothing.
-use mathlib.Core.Path.{◌≡◌, ap, ◌∙◌}
-use mathlib.Core.List.{List}
-use Prim.Native.Nat.{ℕ, ◌-◌, ◌≤◌}
-use native.Mathlib.Omega.{arith}
-use lib.ListN.{length, get_or, take}
-use lib.Seq.{take-length}
+use mathlib.Core.Path.{◌≡◌}
+use Prim.Native.Nat.{◌-◌, ◌≤◌}
+use lib.ListN.{take}
 use Rattle.galois.proofs.Instance.{bytes, byte}
 use Rattle.reed_solomon.specs.Steps.{bit_of, back_sum}
-use Rattle.reed_solomon.proofs.GroupDivision.{plane_none, plane_fits, plane_more}
-use borrow.Author.Rules.{rules}
 use Rattle.reed_solomon.proofs.division.with_plane.Given as goal
 
 abbrev pub invariant-loop-m : goal.invariant-loop-m

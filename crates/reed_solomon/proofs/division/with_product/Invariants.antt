@@ -1,14 +1,11 @@
 -- `reed_solomon::division::with_product` meets its contract: after l turns the first l coefficients are written.
 -- Assumes nothing.
-use mathlib.Core.Path.{◌≡◌, ap, ◌∙◌}
+use mathlib.Core.Path.{◌≡◌}
 use Prim.Native.Nat.{◌+◌, ◌-◌}
-use native.Mathlib.Omega.{arith}
 use lib.ListN.{get_or, length}
-use Rattle.common.proofs.Each.{Each, each_none, each_more, each_all}
-use Rattle.galois.proofs.Instance.{bytes, byte, byte_add}
+use Rattle.common.proofs.Each.{Each}
+use Rattle.galois.proofs.Instance.{bytes, byte}
 use Rattle.reed_solomon.specs.Steps.{back_sum, tail}
-use Rattle.reed_solomon.proofs.GroupDivision.{tail_bytes, laid_coefficient}
-use borrow.Author.Rules.{rules}
 use Rattle.reed_solomon.proofs.division.with_product.Given as goal
 
 abbrev pub invariant-loop-l : goal.invariant-loop-l

@@ -2,7 +2,7 @@
 -- Assumes nothing.
 use mathlib.Core.Path.{◌≡◌, sym, ap, ap₂, ◌∙◌}
 use mathlib.Core.List.{List, ◌∷◌}
-use Prim.Native.Nat.{ℕ, ◌+◌, ◌-◌, ◌*◌, ◌≤◌, ◌<◌}
+use Prim.Native.Nat.{ℕ, ◌+◌, ◌≤◌, ◌<◌}
 use native.Mathlib.Nat.{zero-add}
 use native.Mathlib.Numerals.{add-one}
 use native.Mathlib.Omega.{arith}
@@ -11,7 +11,6 @@ use lib.Seq.{drop-cons, length-take-le, get_or-take}
 use Rattle.reed_solomon.specs.Code.{unequal_bits}
 use Rattle.reed_solomon.specs.Steps.{weighed}
 use Rattle.reed_solomon.proofs.BitDistance.{bits_most}
-use borrow.Author.Rules.{rules}
 use Rattle.reed_solomon.proofs.error_bits.set_bits.Invariants.{Counting}
 use Rattle.reed_solomon.proofs.error_bits.set_bits.Goals as goal
 

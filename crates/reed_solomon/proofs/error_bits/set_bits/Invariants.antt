@@ -1,17 +1,11 @@
 -- `reed_solomon::error_bits::set_bits` meets its contract: the bits of the values from l on are left to count.
 -- Assumes nothing.
-use mathlib.Core.Path.{◌≡◌, sym, ap, ap₂, ◌∙◌}
-use mathlib.Core.List.{List, ◌∷◌}
-use Prim.Native.Nat.{ℕ, ◌+◌, ◌-◌, ◌*◌, ◌≤◌, ◌<◌}
-use native.Mathlib.Nat.{zero-add}
-use native.Mathlib.Numerals.{add-one}
-use native.Mathlib.Omega.{arith}
-use lib.ListN.{length, get_or, take, drop, drop_of_length-le}
-use lib.Seq.{drop-cons, length-take-le, get_or-take}
+use mathlib.Core.Path.{◌≡◌}
+use mathlib.Core.List.{List}
+use Prim.Native.Nat.{ℕ, ◌+◌, ◌-◌, ◌*◌, ◌≤◌}
+use lib.ListN.{take, drop}
 use Rattle.reed_solomon.specs.Code.{unequal_bits}
 use Rattle.reed_solomon.specs.Steps.{weighed}
-use Rattle.reed_solomon.proofs.BitDistance.{bits_most}
-use borrow.Author.Rules.{rules}
 use Rattle.reed_solomon.proofs.error_bits.set_bits.Given as goal
 
 -- what is counted and what is left make the whole, and no byte has more than eight bits

@@ -5,9 +5,8 @@ use mathlib.Core.List.{reverse}
 use Prim.Native.Nat.{◌-◌}
 use native.Mathlib.Omega.{arith}
 use lib.ListN.{length, length-reverse}
-use Rattle.common.proofs.Written.{Written, written_none, written_next, written_whole}
+use Rattle.common.proofs.Written.{written_none, written_next, written_whole}
 use Rattle.reed_solomon.proofs.Residue.{reverse_at}
-use borrow.Author.Rules.{rules}
 use Rattle.reed_solomon.proofs.syndromes.reversed.Goals as goal
 
 pub loop-j-init : goal.loop-j-init

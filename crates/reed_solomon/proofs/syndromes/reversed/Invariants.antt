@@ -1,13 +1,8 @@
 -- `reed_solomon::syndromes::reversed` meets its contract: after j turns the last j coefficients are the first.
 -- Assumes nothing.
-use mathlib.Core.Path.{◌≡◌, refl, sym, ◌∙◌}
 use mathlib.Core.List.{reverse}
 use Prim.Native.Nat.{◌-◌}
-use native.Mathlib.Omega.{arith}
-use lib.ListN.{length, length-reverse}
-use Rattle.common.proofs.Written.{Written, written_none, written_next, written_whole}
-use Rattle.reed_solomon.proofs.Residue.{reverse_at}
-use borrow.Author.Rules.{rules}
+use Rattle.common.proofs.Written.{Written}
 use Rattle.reed_solomon.proofs.syndromes.reversed.Given as goal
 
 abbrev pub invariant-loop-j : goal.invariant-loop-j

@@ -1,7 +1,6 @@
 -- `reed_solomon::syndromes::syndromes` meets its contract.
 -- Assumes nothing.
 use Rattle.reed_solomon.proofs.Residue.{syndromes_of}
-use borrow.Author.Rules.{rules}
 use Rattle.reed_solomon.proofs.syndromes.syndromes.Goals as goal
 
 pub returns : goal.returns

@@ -2,8 +2,7 @@
 -- Assumes nothing.
 use Prim.Native.Nat.{◌-◌, ◌<◌}
 use native.Mathlib.Omega.{arith}
-use lib.ListN.{length}
-use Rattle.season_totals.proofs.Histories.{FedTo, fed_none, fed_more, fed_all, came_small}
+use Rattle.season_totals.proofs.Histories.{fed_none, fed_more, fed_all, came_small}
 use borrow.Author.Rules.{rules}
 use Rattle.season_totals.proofs.Season.feed.Goals as goal
 

@@ -1,10 +1,8 @@
 -- `season_totals::Season::feed` meets its contract, and ends: each turn takes at least a byte.
 -- Assumes nothing.
-use Prim.Native.Nat.{◌-◌, ◌<◌}
-use native.Mathlib.Omega.{arith}
+use Prim.Native.Nat.{◌-◌}
 use lib.ListN.{length}
-use Rattle.season_totals.proofs.Histories.{FedTo, fed_none, fed_more, fed_all, came_small}
-use borrow.Author.Rules.{rules}
+use Rattle.season_totals.proofs.Histories.{FedTo}
 use Rattle.season_totals.proofs.Season.feed.Given as goal
 
 abbrev pub invariant-loop-at : goal.invariant-loop-at

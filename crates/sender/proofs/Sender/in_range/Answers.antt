@@ -1,8 +1,7 @@
 -- `sender::Sender::in_range` meets its contract.
 -- Assumes nothing.
 use mathlib.Core.Path.{sym, ◌∙◌}
-use borrow.Author.Tests.{lt-ltb, le-ltb, not-true, not-false}
-use borrow.Author.Rules.{rules}
+use borrow.Author.Tests.{lt-ltb, le-ltb}
 use Rattle.inner_code.proofs.Coder.{range_by_mode}
 use Rattle.sender.proofs.Sender.in_range.Goals as goal
 

@@ -1,7 +1,6 @@
 -- `sender::Sender::new` meets its contract.
 -- Assumes nothing.
 use Rattle.sender.specs.Send.{fresh_sender}
-use borrow.Author.Rules.{rules}
 use Rattle.sender.proofs.Sender.new.Goals as goal
 
 pub returns : goal.returns

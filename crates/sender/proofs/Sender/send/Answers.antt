@@ -3,7 +3,7 @@
 use mathlib.Core.Path.{◌≡◌, refl, ap, sym, ◌∙◌}
 use mathlib.Core.Bool.{true, false}
 use Prim.Native.Nat.{◌≤◌}
-use borrow.Author.Tests.{eqb-true, lt-ltb, le-ltb, not-true, not-false}
+use borrow.Author.Tests.{eqb-true, lt-ltb, le-ltb}
 use lib.ListN.{length, get_or}
 use Rattle.puncturing.specs.Mode.{mode_of}
 use Rattle.inner_code.specs.Encode.{symbol_count}
@@ -11,7 +11,6 @@ use Rattle.sender.specs.Input.{is_input, is_synced, packet_for}
 use Rattle.sender.specs.Send.{sender_in_range, is_sent, send_refusal}
 use Rattle.sender.proofs.Inputs.{packet_kept, packet_replaced, packet_size, packet_sync}
 use Rattle.sender.proofs.Stages.{refused, answered}
-use borrow.Author.Rules.{rules}
 use Rattle.sender.proofs.Sender.send.Goals as goal
 
 pub returns-then-not-in_range : goal.returns-then-not-in_range

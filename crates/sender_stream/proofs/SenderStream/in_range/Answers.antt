@@ -1,8 +1,6 @@
 -- `sender_stream::SenderStream::in_range` meets its contract.
 -- Assumes nothing.
 use mathlib.Core.Path.{sym, ◌∙◌}
-use borrow.Author.Tests.{not-true, not-false}
-use borrow.Author.Rules.{rules}
 use Rattle.sender_stream.proofs.SenderStream.in_range.Goals as goal
 
 pub returns-then-not-in_range : goal.returns-then-not-in_range

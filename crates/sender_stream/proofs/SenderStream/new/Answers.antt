@@ -2,7 +2,6 @@
 -- Assumes nothing.
 use Rattle.sender_stream.specs.Feed.{fresh_sender_stream}
 use lib.ListN.{replicate}
-use borrow.Author.Rules.{rules}
 use Rattle.sender_stream.proofs.SenderStream.new.Goals as goal
 
 pub returns : goal.returns

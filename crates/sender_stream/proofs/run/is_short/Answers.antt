@@ -9,8 +9,7 @@ use lib.ListN.{get_or}
 use Rattle.puncturing.specs.Mode.{block_bits}
 use Rattle.puncturing.specs.Step.{symbols_in}
 use Rattle.puncturing.proofs.Places.{lengths, length_is, length_le}
-use Rattle.sender_stream.proofs.Counting.{Counting, counting_start, counting_end, counting_short, counting_more, needed_is}
-use borrow.Author.Rules.{rules}
+use Rattle.sender_stream.proofs.Counting.{counting_start, counting_end, counting_short, counting_more, needed_is}
 use Rattle.sender_stream.proofs.run.is_short.Goals as goal
 
 pub overflow_cast-length-2 : goal.overflow_cast-length-2

@@ -3,9 +3,7 @@
 use mathlib.Core.Path.{sym}
 use Prim.Native.Nat.{◌-◌}
 use native.Mathlib.Omega.{arith}
-use lib.ListN.{length}
-use Rattle.sender_stream.proofs.Buffers.{scanning_left, Synced, synced_start, synced_more, synced_bad, synced_all}
-use borrow.Author.Rules.{rules}
+use Rattle.sender_stream.proofs.Buffers.{scanning_left, synced_start, synced_more, synced_bad, synced_all}
 use Rattle.sender_stream.proofs.run.is_synced.Goals as goal
 
 pub loop-start-init : goal.loop-start-init

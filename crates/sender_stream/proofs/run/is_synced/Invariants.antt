@@ -1,11 +1,8 @@
 -- `sender_stream::run::is_synced` meets its contract.
 -- Assumes nothing.
-use mathlib.Core.Path.{sym}
 use Prim.Native.Nat.{◌-◌}
-use native.Mathlib.Omega.{arith}
 use lib.ListN.{length}
-use Rattle.sender_stream.proofs.Buffers.{scanning_left, Synced, synced_start, synced_more, synced_bad, synced_all}
-use borrow.Author.Rules.{rules}
+use Rattle.sender_stream.proofs.Buffers.{Synced}
 use Rattle.sender_stream.proofs.run.is_synced.Given as goal
 
 abbrev pub invariant-loop-start : goal.invariant-loop-start

@@ -2,10 +2,8 @@
 -- Assumes nothing.
 use Prim.Native.Nat.{◌-◌}
 use native.Mathlib.Omega.{arith}
-use lib.ListN.{length}
 use Rattle.sender_stream.proofs.Buffers.{scanning_left}
-use Rattle.sender_stream.proofs.RunProgress.{Progress, progress_start, progress_end, progress_length, progress_fits, progress_total, progress_more}
-use borrow.Author.Rules.{rules}
+use Rattle.sender_stream.proofs.RunProgress.{progress_start, progress_end, progress_length, progress_fits, progress_total, progress_more}
 use Rattle.sender_stream.proofs.run.send_packets.Goals as goal
 
 pub loop-at-init : goal.loop-at-init

@@ -2,7 +2,7 @@
 -- Assumes nothing.
 use mathlib.Core.Path.{◌≡◌, refl, sym, ap, ◌∙◌}
 use mathlib.Core.Bool.{true}
-use borrow.Author.Tests.{eq-eqb, ne_eqb, ltb-false, not-true, not-false}
+use borrow.Author.Tests.{eq-eqb, ne_eqb, ltb-false}
 use lib.Dec.{ltb}
 use lib.ListN.{length}
 use Rattle.puncturing.specs.Mode.{mode_of}
@@ -11,7 +11,6 @@ use Rattle.puncturing.proofs.WellFormed.{well_formed_lem}
 use Rattle.sender_stream.specs.Run.{run_symbols, run_refusal}
 use Rattle.sender_stream.proofs.Counting.{length_run}
 use Rattle.sender_stream.proofs.Outcome.{run_refused, run_answered}
-use borrow.Author.Rules.{rules}
 use Rattle.sender_stream.proofs.run.send_run.Goals as goal
 
 pub returns-then-not-is_sent : goal.returns-then-not-is_sent

@@ -11,7 +11,6 @@ use Rattle.acquisition.specs.declared.Event.{Event}
 use Rattle.acquisition.specs.declared.Event.TheVariants.{Block, Lost}
 use Rattle.acquisition.proofs.Ends.{finish_counts}
 use Rattle.acquisition.proofs.BitSteps.{bits_end_lem}
-use borrow.Author.Rules.{rules}
 use Rattle.acquisition.proofs.bit_source.BitSource.end_step.Goals as goal
 
 -- src/bit_source.rt:113:13

@@ -6,7 +6,6 @@ use native.Mathlib.Omega.{arith}
 use Rattle.acquisition.specs.Bits.{StepsBits}
 use Rattle.acquisition.proofs.Bits.{feed_counts}
 use Rattle.acquisition.proofs.BitSteps.{bits_step}
-use borrow.Author.Rules.{rules}
 use Rattle.acquisition.proofs.bit_source.BitSource.step.Goals as goal
 
 -- src/bit_source.rt:85:13

@@ -1,7 +1,6 @@
 -- `interleaver::branches::Side::delay` meets its contract.
 -- Assumes nothing.
 use mathlib.Core.Path.{ap, sym}
-use borrow.Author.Rules.{rules}
 use Rattle.interleaver.specs.Branch.{delay_of}
 use Rattle.interleaver.specs.declared.branches.Side.{Side}
 use Rattle.interleaver.proofs.branches.Side.delay.Goals as goal

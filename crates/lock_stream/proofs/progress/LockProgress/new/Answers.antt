@@ -7,7 +7,6 @@ use Rattle.lock_receiver.specs.declared.LockReceiver.{LockReceiver}
 use Rattle.lock_stream.specs.Progress.{fresh_progress}
 use Rattle.lock_stream.specs.declared.progress.LockProgress.{LockProgress}
 use Rattle.lock_stream.proofs.Taking.{fresh_range}
-use borrow.Author.Rules.{rules}
 use Rattle.lock_stream.proofs.progress.LockProgress.new.Goals as goal
 
 pub returns : goal.returns

@@ -3,7 +3,6 @@
 use mathlib.Core.Path.{sym, subst}
 use Rattle.acquisition.specs.Bits.{BitsReady}
 use Rattle.lock_stream.proofs.Sources.{bits_ready, symbols_ready, bits_ended, symbols_ended}
-use borrow.Author.Rules.{rules}
 use Rattle.lock_stream.proofs.source.LockSource.end_step.Goals as goal
 
 pub end_step-step-requires : goal.end_step-step-requires

@@ -5,7 +5,6 @@ use Rattle.acquisition.specs.Step.{AcquisitionReady}
 use Rattle.acquisition.specs.declared.Acquisition.{Acquisition}
 use Rattle.lock_stream.specs.Source.{fresh_source, SourceReady}
 use Rattle.lock_stream.proofs.Sources.{fresh_ready}
-use borrow.Author.Rules.{rules}
 use Rattle.lock_stream.proofs.source.LockSource.new.Goals as goal
 
 pub returns : goal.returns

@@ -5,7 +5,6 @@ use native.Mathlib.Omega.{arith}
 use Rattle.acquisition.specs.Bits.{BitsReady}
 use Rattle.acquisition.specs.declared.bit_source.BitSource.{BitSource}
 use Rattle.lock_stream.proofs.Sources.{bits_ready, symbols_ready, bits_stepped, symbols_stepped}
-use borrow.Author.Rules.{rules}
 use Rattle.lock_stream.proofs.source.LockSource.step.Goals as goal
 
 pub step-step-requires : goal.step-step-requires
