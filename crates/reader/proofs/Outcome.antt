@@ -13,7 +13,7 @@ use Rattle.answer.specs.Number.{number_of}
 use Rattle.answer.specs.declared.Answer.{Answer}
 use Rattle.common.specs.Choice.{pick}
 use Rattle.common.specs.Lists.{All, largest}
-use Rattle.common.proofs.Choice.{flag_false, flag_true}
+use Rattle.common.proofs.Choice.{flag_false}
 use Rattle.common.proofs.Lists.{All-of}
 use Rattle.common.proofs.Largest.{largest_least}
 use Rattle.puncturing.specs.Mode.{qpsk_count}
@@ -32,9 +32,6 @@ below_all limit xs e = All-of (λ x. x < limit) xs 0 (λ i h. omega (arith, larg
 
 pub not_true : (t : Bool) → not t ≡ true → t ≡ false
 not_true t e = flag_false (λ (b : Bool). t ≡ b) t e refl
-
-pub not_false : (t : Bool) → not t ≡ false → t ≡ true
-not_false t e = flag_true (λ (b : Bool). t ≡ b) t e refl
 
 -- where both numbers of the rate and the memory are in range, and the lists have passed
 module _ (rate memory n : ℕ) (valid : Bool) (space : ℕ) (hr : rate < qpsk_count) (hm : memory < 64) (bits pattern : ℕ) (eb : bits ≡ pattern_length rate)
