@@ -7,6 +7,7 @@ use native.Mathlib.Omega.{arith}
 use lib.ListN.{length, take, drop, length-drop}
 use lib.Seq.{length-take-le}
 use Rattle.acquisition.specs.declared.Acquisition.{Acquisition}
+use Rattle.acquisition_state.specs.Reading.{state_of as acquired}
 use Rattle.lock_state.specs.State.{certainty_of}
 use Rattle.lock_state.specs.Reading.{state_of}
 use borrow.Author.Rules.{rules}
