@@ -147,7 +147,7 @@ module _ (s : LockStream) (rest : ℕ) {packets text : List ℕ} {t : LockStream
       by (ended last one e q) =
           over_so r last one (same_ends fronts (append-nil text) (stream.ended true last front [] before e)) (ap (λ (l : List ℕ). text ++ l) (texts ∙ q))
 
-pub pass_ended : {start packets text state : List ℕ} {rest over : ℕ} (s : LockStream) → StandsFor start s → LockEnd start rest over packets text state → AsEnded s rest over packets text state
+pub pass_ended : {start : List ℕ} {rest : ℕ} {packets text state : List ℕ} {over : ℕ} (s : LockStream) → StandsFor start s → LockEnd start rest over packets text state → AsEnded s rest over packets text state
 pass_ended s h not_begun = record { last = s; ends = goes_on_so 0 0 refl stream.ending; stands = h }
 pass_ended {start} {rest = rest} s h (end_call {packets} {text} {state} room space counts answer r after given told tally said p one f) =
     let w = pass_ended s h p in
@@ -181,7 +181,7 @@ stands_fresh rate h =
     (stands_cleared (fresh_stream false rate) (fresh_stream_lem rate h) (fresh_come rate) (fresh_left rate) (fresh_sized rate))
 
 -- begun with them
-pub pass_stepped : {came packets text state : List ℕ} (rate : ℕ) → rate < 6 → LockPass (state_bytes (fresh_stream false rate)) came packets text state → AsStepped rate came packets text state
+pub pass_stepped : (rate : ℕ) {came packets text state : List ℕ} → rate < 6 → LockPass (state_bytes (fresh_stream false rate)) came packets text state → AsStepped rate came packets text state
 pass_stepped rate h none = record { last = fresh_stream false rate; steps = stream.fresh; stands = stands_fresh rate h }
 pass_stepped rate h (call is qs lost room space counts answer r after given told tally said p one f) =
     let w = pass_stepped rate h p in

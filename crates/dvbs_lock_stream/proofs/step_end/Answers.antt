@@ -10,7 +10,16 @@ use Rattle.dvbs_lock_stream.specs.Calls.{short_room, LeavesEnd, ClosesLines, not
 use Rattle.dvbs_lock_stream.proofs.Feeding.{end_pass, room_enough, writes, end_leaves}
 use Rattle.lock_state.proofs.Locks.{range_stream, end_come, end_left}
 use borrow.Author.Rules.{rules}
+use mathlib.Core.List.{List}
+use mathlib.Core.Bool.{Bool}
+use Rattle.lock_stream.specs.declared.LockStream.{LockStream}
 use Rattle.dvbs_lock_stream.proofs.step_end.Goals as goal
+
+-- the closing lines fit where the text before them does
+closed_fits : {s : LockStream} {over : Bool} {left rest told : ℕ} {lines : List ℕ} {r : ℕ} {exit : List ℕ} → told ≤ 2048 → told ≤ length exit
+    → ClosesLines s over left rest told lines r exit → (r ≤ 2048) × (r ≤ length exit)
+closed_fits few fit (not_over o e q) = (omega (arith, e), omega (arith, e))
+closed_fits few fit (closed o fits long q) = (fits, long)
 
 pub end_step-step-requires : goal.end_step-step-requires
 end_step-step-requires c =
@@ -33,26 +42,22 @@ pub slice_bounds-lines-end : goal.slice_bounds-lines-end
 slice_bounds-lines-end c =
     let front : (length (take c.end_step-step.result.packets c.end_step-step.new.packets) ≡ c.end_step-step.result.packets) × (length c.end_step-step.new.text ≡ 2048) = let h = c.end_step-step.ensures in
     (length-take-le _ _ (omega (arith, h.packets_fit, c.end_step-step.auto, length-replicate {A = ℕ} 1504 0)), omega (arith, c.end_step-step.auto, length-replicate {A = ℕ} 2048 0)) in
-    let text_fits : (c.close_over-told.result ≤ 2048) × (c.close_over-told.result ≤ length c.close_over-told.new.lines) × (length (take c.close_over-told.result c.close_over-told.new.lines) ≡ c.close_over-told.result) = let b = by c.close_over-told.ensures in
-    (b.0, b.1, length-take-le _ _ b.1)
-  where
-    by : ClosesLines c.end_step-step.result.stream c.end_step-step.result.over c.end_step-step.result.left c.args.rest c.end_step-step.result.text c.end_step-step.new.text c.close_over-told.result c.close_over-told.new.lines
-        → (c.close_over-told.result ≤ 2048) × (c.close_over-told.result ≤ length c.close_over-told.new.lines)
-    by (not_over o e q) = (omega (arith, e, c.end_step-step.ensures.text_fits), omega (arith, e, c.end_step-step.ensures.text_fits, c.close_over-told.auto, (front).1))
-    by (closed o fits long q) = (fits, long) in
+    let text_fits : (c.close_over-told.result ≤ 2048) × (c.close_over-told.result ≤ length c.close_over-told.new.lines) × (length (take c.close_over-told.result c.close_over-told.new.lines) ≡ c.close_over-told.result) = 
+    let few : c.end_step-step.result.text ≤ 2048 = omega (arith, c.end_step-step.ensures.text_fits) in
+    let fit : c.end_step-step.result.text ≤ length c.close_over-told.new.lines = omega (arith, c.end_step-step.ensures.text_fits, c.close_over-told.auto, (front).1) in
+    let b = closed_fits few fit c.close_over-told.ensures in
+    (b.0, b.1, length-take-le _ _ b.1) in
     (text_fits).1
 
 pub slice_bounds-put_told-end-2 : goal.slice_bounds-put_told-end-2
 slice_bounds-put_told-end-2 c =
     let front : (length (take c.end_step-step.result.packets c.end_step-step.new.packets) ≡ c.end_step-step.result.packets) × (length c.end_step-step.new.text ≡ 2048) = let h = c.end_step-step.ensures in
     (length-take-le _ _ (omega (arith, h.packets_fit, c.end_step-step.auto, length-replicate {A = ℕ} 1504 0)), omega (arith, c.end_step-step.auto, length-replicate {A = ℕ} 2048 0)) in
-    let text_fits : (c.close_over-told.result ≤ 2048) × (c.close_over-told.result ≤ length c.close_over-told.new.lines) × (length (take c.close_over-told.result c.close_over-told.new.lines) ≡ c.close_over-told.result) = let b = by c.close_over-told.ensures in
-    (b.0, b.1, length-take-le _ _ b.1)
-  where
-    by : ClosesLines c.end_step-step.result.stream c.end_step-step.result.over c.end_step-step.result.left c.args.rest c.end_step-step.result.text c.end_step-step.new.text c.close_over-told.result c.close_over-told.new.lines
-        → (c.close_over-told.result ≤ 2048) × (c.close_over-told.result ≤ length c.close_over-told.new.lines)
-    by (not_over o e q) = (omega (arith, e, c.end_step-step.ensures.text_fits), omega (arith, e, c.end_step-step.ensures.text_fits, c.close_over-told.auto, (front).1))
-    by (closed o fits long q) = (fits, long) in
+    let text_fits : (c.close_over-told.result ≤ 2048) × (c.close_over-told.result ≤ length c.close_over-told.new.lines) × (length (take c.close_over-told.result c.close_over-told.new.lines) ≡ c.close_over-told.result) = 
+    let few : c.end_step-step.result.text ≤ 2048 = omega (arith, c.end_step-step.ensures.text_fits) in
+    let fit : c.end_step-step.result.text ≤ length c.close_over-told.new.lines = omega (arith, c.end_step-step.ensures.text_fits, c.close_over-told.auto, (front).1) in
+    let b = closed_fits few fit c.close_over-told.ensures in
+    (b.0, b.1, length-take-le _ _ b.1) in
     sym (text_fits).2
 
 pub put_told-requires : goal.put_told-requires
@@ -61,13 +66,11 @@ put_told-requires c =
     room_enough (length c.args.packets.now) (length c.args.text.now) (length c.args.counts.now) (end_pass short c.requires.3) in
     let front : (length (take c.end_step-step.result.packets c.end_step-step.new.packets) ≡ c.end_step-step.result.packets) × (length c.end_step-step.new.text ≡ 2048) = let h = c.end_step-step.ensures in
     (length-take-le _ _ (omega (arith, h.packets_fit, c.end_step-step.auto, length-replicate {A = ℕ} 1504 0)), omega (arith, c.end_step-step.auto, length-replicate {A = ℕ} 2048 0)) in
-    let text_fits : (c.close_over-told.result ≤ 2048) × (c.close_over-told.result ≤ length c.close_over-told.new.lines) × (length (take c.close_over-told.result c.close_over-told.new.lines) ≡ c.close_over-told.result) = let b = by c.close_over-told.ensures in
-    (b.0, b.1, length-take-le _ _ b.1)
-  where
-    by : ClosesLines c.end_step-step.result.stream c.end_step-step.result.over c.end_step-step.result.left c.args.rest c.end_step-step.result.text c.end_step-step.new.text c.close_over-told.result c.close_over-told.new.lines
-        → (c.close_over-told.result ≤ 2048) × (c.close_over-told.result ≤ length c.close_over-told.new.lines)
-    by (not_over o e q) = (omega (arith, e, c.end_step-step.ensures.text_fits), omega (arith, e, c.end_step-step.ensures.text_fits, c.close_over-told.auto, (front).1))
-    by (closed o fits long q) = (fits, long) in
+    let text_fits : (c.close_over-told.result ≤ 2048) × (c.close_over-told.result ≤ length c.close_over-told.new.lines) × (length (take c.close_over-told.result c.close_over-told.new.lines) ≡ c.close_over-told.result) = 
+    let few : c.end_step-step.result.text ≤ 2048 = omega (arith, c.end_step-step.ensures.text_fits) in
+    let fit : c.end_step-step.result.text ≤ length c.close_over-told.new.lines = omega (arith, c.end_step-step.ensures.text_fits, c.close_over-told.auto, (front).1) in
+    let b = closed_fits few fit c.close_over-told.ensures in
+    (b.0, b.1, length-take-le _ _ b.1) in
     let p = room in
     let f = front in
     let t = text_fits in
@@ -81,8 +84,8 @@ returns-then-over c =
     let o = c.close_over-told in
     let w = c.write_state in
     let g = c.put_told in
-    end_leaves c.args.stream c.requires.0 c.requires.1 c.args.packets.now c.args.text.now c.args.counts.now e.new.1.0 o.new.lines w.new.bytes g.new.packets g.new.text g.new.counts
-    c.args.rest c.requires.3 e.result e.new.1.1.0 o.result e.ensures (omega (arith, (front).1)) w.ensures.1 w.ensures.0 o.ensures g.ensures in
+    end_leaves c.args.stream c.requires.0 c.requires.1 c.args.packets.now c.args.text.now c.args.counts.now e.new.packets o.new.lines w.new.bytes g.new.packets g.new.text g.new.counts
+    c.args.rest c.requires.3 e.result e.new.text o.result e.ensures (omega (arith, (front).1)) w.ensures.1 w.ensures.0 o.ensures g.ensures in
     subst (λ (n : ℕ). LeavesEnd c.args.rest c.args.stream c.args.packets.now c.args.text.now c.args.counts.now n c.write_state.new.bytes c.put_told.new.packets c.put_told.new.text c.put_told.new.counts) (ap indicator c.if-over.true) (left_so)
 
 pub returns-else-over : goal.returns-else-over
@@ -93,6 +96,6 @@ returns-else-over c =
     let o = c.close_over-told in
     let w = c.write_state in
     let g = c.put_told in
-    end_leaves c.args.stream c.requires.0 c.requires.1 c.args.packets.now c.args.text.now c.args.counts.now e.new.1.0 o.new.lines w.new.bytes g.new.packets g.new.text g.new.counts
-    c.args.rest c.requires.3 e.result e.new.1.1.0 o.result e.ensures (omega (arith, (front).1)) w.ensures.1 w.ensures.0 o.ensures g.ensures in
+    end_leaves c.args.stream c.requires.0 c.requires.1 c.args.packets.now c.args.text.now c.args.counts.now e.new.packets o.new.lines w.new.bytes g.new.packets g.new.text g.new.counts
+    c.args.rest c.requires.3 e.result e.new.text o.result e.ensures (omega (arith, (front).1)) w.ensures.1 w.ensures.0 o.ensures g.ensures in
     subst (λ (n : ℕ). LeavesEnd c.args.rest c.args.stream c.args.packets.now c.args.text.now c.args.counts.now n c.write_state.new.bytes c.put_told.new.packets c.put_told.new.text c.put_told.new.counts) (ap indicator c.if-over.false) (left_so)

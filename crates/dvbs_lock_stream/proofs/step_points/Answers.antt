@@ -8,30 +8,28 @@ use lib.ListN.{length, take, length-replicate}
 use lib.Seq.{length-take-le}
 use Rattle.branch_metrics.specs.Cost.{received_of}
 use Rattle.branch_metrics.specs.SoftPairs.{symbol_pair}
+use lib.Ieee.{Float}
 use Rattle.reader.proofs.SoftDecisions.{OneLength}
 use Rattle.lock_stream.specs.Source.{came_of}
 use Rattle.lock_stream.specs.Stream.{StepsStream}
-use Rattle.dvbs_lock_stream.specs.Calls.{short_room}
+use Rattle.dvbs_lock_stream.specs.Calls.{short_room, points_due}
 use Rattle.dvbs_lock_stream.proofs.Feeding.{points_pass, room_enough, writes, step_leaves}
 use Rattle.lock_state.proofs.Locks.{range_stream, step_come, step_left}
 use borrow.Author.Rules.{rules}
 use Rattle.dvbs_lock_stream.proofs.step_points.Goals as goal
 
--- no test refused the points
-pub record Passed (s : tie.Start) : Type 0 where
-  pub lists : OneLength s.args.i.now s.args.q.now s.args.lost.now
-  pub counted : came_of s.args.stream.source < 1152921504606845344
-  pub packets : 1504 ≤ length s.args.packets.now
-  pub text : 2048 ≤ length s.args.text.now
-  pub counts : 2 ≤ length s.args.counts.now
+-- What holds of points that no test refused: the lists are of one length, few enough points came, and the rooms are long enough.
+passed : (came : ℕ) (i q : List Float) (lost : List ℕ) (packets text counts : ℕ) → points_due came i q lost (short_room packets text counts) ≡ 0
+    → OneLength i q lost × (came < 1152921504606845344) × (1504 ≤ packets) × (2048 ≤ text) × (2 ≤ counts)
+passed came i q lost packets text counts e =
+    let p = points_pass came i q lost (short_room packets text counts) e in
+    let r = room_enough packets text counts p.1 in
+    (p.0, p.2, r.0, r.1, r.2)
 
 pub decide-some-requires : goal.decide-some-requires
 decide-some-requires c =
-    let passed : Passed (goal.at.decide-some-requires c).Start = let short = short_room (length c.args.packets.now) (length c.args.text.now) (length c.args.counts.now) in
-    let p = points_pass (came_of c.args.stream.source) c.args.i.now c.args.q.now c.args.lost.now short c.requires.4 in
-    let r = room_enough (length c.args.packets.now) (length c.args.text.now) (length c.args.counts.now) p.1 in
-    record { lists = p.0; counted = p.2; packets = r.0; text = r.1; counts = r.2 } in
-    let p = (passed).lists in (p.qs_size, p.lost_size, omega (arith, length-replicate {A = ℕ} 1632 0))
+    let p = passed (came_of c.args.stream.source) c.args.i.now c.args.q.now c.args.lost.now (length c.args.packets.now) (length c.args.text.now) (length c.args.counts.now) c.requires.4 in
+    (p.0.qs_size, p.0.lost_size, omega (arith, length-replicate {A = ℕ} 1632 0))
 
 pub slice_bounds-step-end : goal.slice_bounds-step-end
 slice_bounds-step-end c =
@@ -42,17 +40,13 @@ slice_bounds-step-end c =
 
 pub step-step-requires : goal.step-step-requires
 step-step-requires c =
-    let passed : Passed (goal.at.step-step-requires c).Start = let short = short_room (length c.args.packets.now) (length c.args.text.now) (length c.args.counts.now) in
-    let p = points_pass (came_of c.args.stream.source) c.args.i.now c.args.q.now c.args.lost.now short c.requires.4 in
-    let r = room_enough (length c.args.packets.now) (length c.args.text.now) (length c.args.counts.now) p.1 in
-    record { lists = p.0; counted = p.2; packets = r.0; text = r.1; counts = r.2 } in
+    let p = passed (came_of c.args.stream.source) c.args.i.now c.args.q.now c.args.lost.now (length c.args.packets.now) (length c.args.text.now) (length c.args.counts.now) c.requires.4 in
     let decided : (c.decide-some.result ≤ 1632) × (c.decide-some.result ≤ length c.decide-some.new.pairs) × (length (take c.decide-some.result c.decide-some.new.pairs) ≡ c.decide-some.result) = let few : c.decide-some.result ≤ 1632 = omega (arith, c.decide-some.ensures.0) in
     let long : c.decide-some.result ≤ length c.decide-some.new.pairs = omega (arith, few, c.decide-some.auto, length-replicate {A = ℕ} 1632 0) in
     (few, long, length-take-le _ _ long) in
-    let p = passed in
     let d = decided in
     let some : 0 < c.decide-some.result = omega (arith, c.decide-some.ensures.0, c.requires.3) in
-    (range_stream c.args.stream c.requires.0 c.requires.1, c.decide-some.ensures.2, omega (arith, d.2, some), omega (arith, d.0, d.2, p.counted), omega (arith, length-replicate {A = ℕ} 1504 0), omega (arith, length-replicate {A = ℕ} 2048 0))
+    (range_stream c.args.stream c.requires.0 c.requires.1, c.decide-some.ensures.2, omega (arith, d.2, some), omega (arith, d.0, d.2, p.1), omega (arith, length-replicate {A = ℕ} 1504 0), omega (arith, length-replicate {A = ℕ} 2048 0))
 
 pub write_state-requires : goal.write_state-requires
 write_state-requires c =
@@ -76,16 +70,12 @@ slice_bounds-put_told-end-2 c =
 
 pub put_told-requires : goal.put_told-requires
 put_told-requires c =
-    let passed : Passed (goal.at.put_told-requires c).Start = let short = short_room (length c.args.packets.now) (length c.args.text.now) (length c.args.counts.now) in
-    let p = points_pass (came_of c.args.stream.source) c.args.i.now c.args.q.now c.args.lost.now short c.requires.4 in
-    let r = room_enough (length c.args.packets.now) (length c.args.text.now) (length c.args.counts.now) p.1 in
-    record { lists = p.0; counted = p.2; packets = r.0; text = r.1; counts = r.2 } in
+    let p = passed (came_of c.args.stream.source) c.args.i.now c.args.q.now c.args.lost.now (length c.args.packets.now) (length c.args.text.now) (length c.args.counts.now) c.requires.4 in
     let fronts : (length (take c.step-step.result.packets c.step-step.new.packets) ≡ c.step-step.result.packets) × (length (take c.step-step.result.text c.step-step.new.text) ≡ c.step-step.result.text) = let h = c.step-step.ensures in
     (length-take-le _ _ (omega (arith, h.packets_fit, c.step-step.auto, length-replicate {A = ℕ} 1504 0)), length-take-le _ _ (omega (arith, h.text_fits, c.step-step.auto, length-replicate {A = ℕ} 2048 0))) in
-    let p = passed in
     let f = fronts in
     let h = c.step-step.ensures in
-    (omega (arith, f.0, h.packets_fit, p.packets), omega (arith, f.1, h.text_fits, p.text), p.counts)
+    (omega (arith, f.0, h.packets_fit, p.2), omega (arith, f.1, h.text_fits, p.3), p.4)
 
 pub returns : goal.returns
 returns c =
