@@ -1,6 +1,7 @@
 // Packets and lines from received points that begin anywhere, turned any way, by a state of bytes that the firmware keeps, as functions for C.
 // Their declarations are in include/dvbs.h, docs/STATES.md lists the layout of the state, and docs/ACQUISITION.md says what is decided and told.
 #![tactic(auto)]
+
 ghost use Rattle.std.specs.Prelude.{◌≡◌, true, map, ◌≤◌, ◌<◌, min, length, take};
 ghost use Rattle.common.specs.Lists.{All};
 ghost use Rattle.answer.specs.Number.{number_of};

@@ -2,6 +2,7 @@
 // they are in range. specs/State.antt has the layout as a table, and docs/STATES.md lists it with the range of each field.
 // Inner: its functions may require what the crates above have tested. docs/ARCHITECTURE.md names the public surface.
 #![tactic(auto)]
+
 ghost use Rattle.std.specs.Prelude.{◌≡◌, ◌++◌, ◌*◌, ◌≤◌, length, take, drop};
 ghost use Rattle.common.specs.Lists.{padded};
 ghost use Rattle.losses.specs.Watch.{waiting_of};

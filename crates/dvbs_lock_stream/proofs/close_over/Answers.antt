@@ -2,9 +2,7 @@
 -- Assumes nothing.
 use mathlib.Core.Path.{refl}
 use native.Mathlib.Omega.{arith}
-use borrow.Author.Tests.{not-true, not-false}
 use Rattle.dvbs_lock_stream.specs.Calls.{not_over, closed}
-use borrow.Author.Rules.{rules}
 use Rattle.dvbs_lock_stream.proofs.close_over.Goals as goal
 
 pub returns-then-not-over : goal.returns-then-not-over

@@ -7,7 +7,6 @@ use lib.ListN.{length}
 use lib.Seq.{length-take-le}
 use Rattle.reader.proofs.SoftDecisions.{OneLength}
 use Rattle.dvbs_lock_stream.proofs.Feeding.{points_small, points_piece}
-use borrow.Author.Rules.{rules}
 use Rattle.dvbs_lock_stream.proofs.decide.Goals as goal
 
 pub slice_bounds-soft_pairs-end : goal.slice_bounds-soft_pairs-end

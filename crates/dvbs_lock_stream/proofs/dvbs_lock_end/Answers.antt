@@ -2,7 +2,6 @@
 -- Assumes nothing.
 use mathlib.Core.Path.{◌≡◌, refl, sym, ap, subst, ◌∙◌}
 use mathlib.Core.Bool.{true}
-use borrow.Author.Tests.{not-true, not-false}
 use lib.ListN.{length, set}
 use Rattle.state_bytes.specs.Calls.{no_answer, wrong_length}
 use Rattle.lock_stream.specs.declared.LockStream.{LockStream}
@@ -10,7 +9,6 @@ use Rattle.lock_state.specs.State.{in_range}
 use Rattle.lock_state.specs.Reading.{state_of}
 use Rattle.dvbs_lock_stream.specs.Calls.{short_room, end_due, LeavesEnd}
 use Rattle.dvbs_lock_stream.proofs.Feeding.{none_called, refused_ends, stepped_end}
-use borrow.Author.Rules.{rules}
 use Rattle.dvbs_lock_stream.proofs.dvbs_lock_end.Goals as goal
 
 pub returns-then-answer-lt1 : goal.returns-then-answer-lt1

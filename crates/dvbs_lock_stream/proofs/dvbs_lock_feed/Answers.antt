@@ -4,7 +4,6 @@ use mathlib.Core.Path.{◌≡◌, refl, sym, ap, ap₂, subst, ◌∙◌}
 use mathlib.Core.Bool.{Bool, true}
 use Prim.Native.Nat.{ℕ, ◌≤◌}
 use native.Mathlib.Omega.{arith}
-use borrow.Author.Tests.{not-true, not-false}
 use lib.ListN.{length, set, length-set}
 use Rattle.state_bytes.specs.Calls.{no_answer, wrong_length}
 use Rattle.lock_stream.specs.Source.{came_of}
@@ -13,7 +12,6 @@ use Rattle.lock_state.specs.State.{in_range}
 use Rattle.lock_state.specs.Reading.{state_of}
 use Rattle.dvbs_lock_stream.specs.Calls.{short_room, points_due, LeavesStep}
 use Rattle.dvbs_lock_stream.proofs.Feeding.{points_pass, room_enough, none_called, refused_points, none_points, stepped_points}
-use borrow.Author.Rules.{rules}
 use Rattle.dvbs_lock_stream.proofs.dvbs_lock_feed.Goals as goal
 
 pub returns-then-answer-lt1 : goal.returns-then-answer-lt1

@@ -6,7 +6,6 @@ use Rattle.lock_stream.specs.declared.LockStream.{LockStream}
 use Rattle.lock_state.specs.State.{state_bytes, cleared}
 use Rattle.acquisition_state.proofs.Ranges.{Left}
 use Rattle.dvbs_lock_stream.proofs.Feeding.{fresh_come, fresh_left, fresh_cleared, writes}
-use borrow.Author.Rules.{rules}
 use Rattle.dvbs_lock_stream.proofs.dvbs_lock_fresh.Goals as goal
 
 pub returns-then-state-ne-STATE_LENGTH : goal.returns-then-state-ne-STATE_LENGTH

@@ -1,8 +1,7 @@
 -- `dvbs_lock_stream::points_due` meets its contract.
 -- Assumes nothing.
 use mathlib.Core.Path.{sym, ◌∙◌}
-use borrow.Author.Tests.{lt-ltb, le-ltb, not-true, not-false}
-use borrow.Author.Rules.{rules}
+use borrow.Author.Tests.{lt-ltb, le-ltb}
 use Rattle.dvbs_lock_stream.proofs.points_due.Goals as goal
 
 pub returns-then-not-is_sound : goal.returns-then-not-is_sound

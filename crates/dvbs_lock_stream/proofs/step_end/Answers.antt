@@ -9,7 +9,6 @@ use Rattle.common.specs.Choice.{indicator}
 use Rattle.dvbs_lock_stream.specs.Calls.{short_room, LeavesEnd, ClosesLines, not_over, closed}
 use Rattle.dvbs_lock_stream.proofs.Feeding.{end_pass, room_enough, writes, end_leaves}
 use Rattle.lock_state.proofs.Locks.{range_stream, end_come, end_left}
-use borrow.Author.Rules.{rules}
 use mathlib.Core.List.{List}
 use mathlib.Core.Bool.{Bool}
 use Rattle.lock_stream.specs.declared.LockStream.{LockStream}
@@ -42,7 +41,7 @@ pub slice_bounds-lines-end : goal.slice_bounds-lines-end
 slice_bounds-lines-end c =
     let front : (length (take c.end_step-step.result.packets c.end_step-step.new.packets) ≡ c.end_step-step.result.packets) × (length c.end_step-step.new.text ≡ 2048) = let h = c.end_step-step.ensures in
     (length-take-le _ _ (omega (arith, h.packets_fit, c.end_step-step.auto, length-replicate {A = ℕ} 1504 0)), omega (arith, c.end_step-step.auto, length-replicate {A = ℕ} 2048 0)) in
-    let text_fits : (c.close_over-told.result ≤ 2048) × (c.close_over-told.result ≤ length c.close_over-told.new.lines) × (length (take c.close_over-told.result c.close_over-told.new.lines) ≡ c.close_over-told.result) = 
+    let text_fits : (c.close_over-told.result ≤ 2048) × (c.close_over-told.result ≤ length c.close_over-told.new.lines) × (length (take c.close_over-told.result c.close_over-told.new.lines) ≡ c.close_over-told.result) =
     let few : c.end_step-step.result.text ≤ 2048 = omega (arith, c.end_step-step.ensures.text_fits) in
     let fit : c.end_step-step.result.text ≤ length c.close_over-told.new.lines = omega (arith, c.end_step-step.ensures.text_fits, c.close_over-told.auto, (front).1) in
     let b = closed_fits few fit c.close_over-told.ensures in
@@ -53,7 +52,7 @@ pub slice_bounds-put_told-end-2 : goal.slice_bounds-put_told-end-2
 slice_bounds-put_told-end-2 c =
     let front : (length (take c.end_step-step.result.packets c.end_step-step.new.packets) ≡ c.end_step-step.result.packets) × (length c.end_step-step.new.text ≡ 2048) = let h = c.end_step-step.ensures in
     (length-take-le _ _ (omega (arith, h.packets_fit, c.end_step-step.auto, length-replicate {A = ℕ} 1504 0)), omega (arith, c.end_step-step.auto, length-replicate {A = ℕ} 2048 0)) in
-    let text_fits : (c.close_over-told.result ≤ 2048) × (c.close_over-told.result ≤ length c.close_over-told.new.lines) × (length (take c.close_over-told.result c.close_over-told.new.lines) ≡ c.close_over-told.result) = 
+    let text_fits : (c.close_over-told.result ≤ 2048) × (c.close_over-told.result ≤ length c.close_over-told.new.lines) × (length (take c.close_over-told.result c.close_over-told.new.lines) ≡ c.close_over-told.result) =
     let few : c.end_step-step.result.text ≤ 2048 = omega (arith, c.end_step-step.ensures.text_fits) in
     let fit : c.end_step-step.result.text ≤ length c.close_over-told.new.lines = omega (arith, c.end_step-step.ensures.text_fits, c.close_over-told.auto, (front).1) in
     let b = closed_fits few fit c.close_over-told.ensures in
@@ -66,7 +65,7 @@ put_told-requires c =
     room_enough (length c.args.packets.now) (length c.args.text.now) (length c.args.counts.now) (end_pass short c.requires.3) in
     let front : (length (take c.end_step-step.result.packets c.end_step-step.new.packets) ≡ c.end_step-step.result.packets) × (length c.end_step-step.new.text ≡ 2048) = let h = c.end_step-step.ensures in
     (length-take-le _ _ (omega (arith, h.packets_fit, c.end_step-step.auto, length-replicate {A = ℕ} 1504 0)), omega (arith, c.end_step-step.auto, length-replicate {A = ℕ} 2048 0)) in
-    let text_fits : (c.close_over-told.result ≤ 2048) × (c.close_over-told.result ≤ length c.close_over-told.new.lines) × (length (take c.close_over-told.result c.close_over-told.new.lines) ≡ c.close_over-told.result) = 
+    let text_fits : (c.close_over-told.result ≤ 2048) × (c.close_over-told.result ≤ length c.close_over-told.new.lines) × (length (take c.close_over-told.result c.close_over-told.new.lines) ≡ c.close_over-told.result) =
     let few : c.end_step-step.result.text ≤ 2048 = omega (arith, c.end_step-step.ensures.text_fits) in
     let fit : c.end_step-step.result.text ≤ length c.close_over-told.new.lines = omega (arith, c.end_step-step.ensures.text_fits, c.close_over-told.auto, (front).1) in
     let b = closed_fits few fit c.close_over-told.ensures in

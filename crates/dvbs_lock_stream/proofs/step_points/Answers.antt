@@ -15,7 +15,6 @@ use Rattle.lock_stream.specs.Stream.{StepsStream}
 use Rattle.dvbs_lock_stream.specs.Calls.{short_room, points_due}
 use Rattle.dvbs_lock_stream.proofs.Feeding.{points_pass, room_enough, writes, step_leaves}
 use Rattle.lock_state.proofs.Locks.{range_stream, step_come, step_left}
-use borrow.Author.Rules.{rules}
 use Rattle.dvbs_lock_stream.proofs.step_points.Goals as goal
 
 -- What holds of points that no test refused: the lists are of one length, few enough points came, and the rooms are long enough.

@@ -3,9 +3,8 @@
 use mathlib.Core.Path.{◌≡◌, refl, sym, ◌∙◌}
 use mathlib.Core.Bool.{Bool, true, false}
 use Rattle.common.specs.Choice.{pick}
-use borrow.Author.Tests.{lt-ltb, not-true, not-false}
+use borrow.Author.Tests.{lt-ltb}
 use Rattle.lock_state.proofs.Table.{few_waiting}
-use borrow.Author.Rules.{rules}
 use Rattle.lock_state.proofs.is_in_range.Goals as goal
 
 pub returns-then-bits : goal.returns-then-bits

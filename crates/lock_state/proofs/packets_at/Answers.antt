@@ -5,7 +5,6 @@ use Prim.Native.Nat.{ℕ}
 use native.Mathlib.Omega.{arith}
 use lib.ListN.{replicate, length-replicate}
 use Rattle.state_bytes.proofs.Copies.{whole}
-use borrow.Author.Rules.{rules}
 use Rattle.lock_state.proofs.packets_at.Goals as goal
 
 pub returns : goal.returns

@@ -7,7 +7,6 @@ use lib.Dec.{eqb}
 use lib.ListN.{drop, length-drop}
 use lib.Seq.{take_all}
 use Rattle.common.specs.Lists.{largest}
-use borrow.Author.Rules.{rules}
 use Rattle.lock_state.proofs.packets_clear.Goals as goal
 
 pub returns : goal.returns

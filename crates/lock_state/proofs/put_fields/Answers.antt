@@ -3,7 +3,6 @@
 use Rattle.reception_counts.specs.Bytes.{to_bytes}
 use Rattle.reception_counts.proofs.Numbers.{length_to}
 use Rattle.lock_state.proofs.Table.{all_put}
-use borrow.Author.Rules.{rules}
 use Rattle.lock_state.proofs.put_fields.Goals as goal
 
 pub returns : goal.returns
