@@ -16,5 +16,5 @@ pub use calls::{
 };
 pub use input::{Filled, Input};
 pub use output::Output;
-pub use system::System;
+pub use system::{System, exit_code};
 pub use words::{Arguments, Parsed, Word};

@@ -10,6 +10,7 @@ use std::fs;
 use std::fs::{File, OpenOptions};
 use std::io::{Error, ErrorKind, Read, Seek, SeekFrom, Write};
 use std::os::fd::{AsFd, AsRawFd};
+use std::process::ExitCode;
 use std::rt::Env;
 
 pub(crate) const STDIN: i32 = 0;
@@ -40,6 +41,15 @@ fn has_no_sync(error: Error) -> bool {
 const EBADF: i32 = 9;
 
 const EILSEQ: i32 = 84;
+
+// The status that a program ends with: 0, 1 or 2.
+pub fn exit_code(status: i32) -> ExitCode {
+    match status {
+        0 => ExitCode::SUCCESS,
+        1 => ExitCode::FAILURE,
+        _ => ExitCode::from(2),
+    }
+}
 
 impl System {
     pub fn new(rt: HostRuntime) -> System {
