@@ -44,7 +44,8 @@ fn move_input(system: &mut System, form: u64, input: Input, output: Output, erro
     let answer = written.answer;
     let size = written.length;
     let number = answer.number();
-    if number != 0 {
+    let refused = number != 0;
+    if refused {
         return Ended {
             status: 1,
             input,

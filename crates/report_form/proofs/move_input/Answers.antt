@@ -20,12 +20,12 @@ returns-then-failed c =
 pub slice_bounds-move_report-end : goal.slice_bounds-move_report-end
 slice_bounds-move_report-end c = let r = c.fill-filled in sym (length-take-le r.result.length r.new.buffer r.ensures.within)
 
-pub returns-then-number-ne0 : goal.returns-then-number-ne0
-returns-then-number-ne0 c =
+pub returns-then-refused : goal.returns-then-refused
+returns-then-refused c =
     let full : length c.fill-filled.new.buffer ≡ 512 = c.fill-filled.auto.buffer in
     let n = c.number-number.ensures in
     ends_refused c.args.form c.requires.0 c.fill-filled.ensures c.requires.1 c.requires.2 (full) (sym c.failed.ensures ∙ c.if-failed.false)
-    c.move_report-written.ensures (λ z. c.if-number-ne0.true (n ∙ z))
+    c.move_report-written.ensures (λ z. c.if-refused.true (n ∙ z))
     (subst (λ (m : ℕ). Writes c.args.errors (line_text [] m) c.tell_number.result) n c.tell_number.ensures)
 
 pub slice_bounds-text-end : goal.slice_bounds-text-end
@@ -37,12 +37,12 @@ pub returns-then-failed-2 : goal.returns-then-failed-2
 returns-then-failed-2 c =
     let full : length c.fill-filled.new.buffer ≡ 512 = c.fill-filled.auto.buffer in
     ends_output c.args.form c.requires.0 c.fill-filled.ensures c.requires.1 c.requires.2 (full) (sym c.failed.ensures ∙ c.if-failed.false)
-    c.move_report-written.ensures (sym c.number-number.ensures ∙ c.if-number-ne0.false) c.write_text-output.ensures c.close-output.ensures
+    c.move_report-written.ensures (sym c.number-number.ensures ∙ c.if-refused.false) c.write_text-output.ensures c.close-output.ensures
     (sym c.failed-2.ensures ∙ c.if-failed-2.true)
 
 pub returns : goal.returns
 returns c =
     let full : length c.fill-filled.new.buffer ≡ 512 = c.fill-filled.auto.buffer in
     ends_whole c.args.form c.requires.0 c.fill-filled.ensures c.requires.1 c.requires.2 (full) (sym c.failed.ensures ∙ c.if-failed.false)
-    c.move_report-written.ensures (sym c.number-number.ensures ∙ c.if-number-ne0.false) c.write_text-output.ensures c.close-output.ensures
+    c.move_report-written.ensures (sym c.number-number.ensures ∙ c.if-refused.false) c.write_text-output.ensures c.close-output.ensures
     (sym c.failed-2.ensures ∙ c.if-failed-2.false)
