@@ -4,7 +4,7 @@
 use Rattle.std.specs.Prelude.{◌≡◌, ℕ, ◌+◌, ◌-◌, ◌<◌, ◌≤◌, Bool, true, false, List, length, take, drop, ℤ, pos, int_le, int_lt}
 use Rattle.common.specs.Choice.{pick}
 use Rattle.io.specs.Counts.{clamp_len}
-use Rattle.libc.specs.Io.{Moved}
+use Rattle.program_io.specs.Moving.{Moved}
 use Rattle.program_io.specs.Checksum.{no_bytes, traced}
 use Rattle.program_io.specs.declared.trace.Trace.{Trace}
 use Rattle.program_io.specs.declared.input.Origin.{Origin}

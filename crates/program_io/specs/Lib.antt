@@ -1,3 +1,4 @@
+pub mod Moving
 pub mod Checksum
 pub mod Files
 pub mod Words

@@ -5,6 +5,7 @@ ghost use Rattle.program_io.specs.Words.{argument_count, word_bytes};
 
 use crate::input::Input;
 use crate::output::Output;
+use crate::system::System;
 use crate::words::{Arguments, Word};
 
 // What a call asks for.
@@ -58,57 +59,59 @@ pub fn asked_for(arguments: Arguments, first: Word) -> Asked
 }
 
 // Ends a text on standard output: status 0 where all of it was taken and the output was closed, and else 1.
-fn given(output: Output) -> Answered
+fn given(system: &mut System, output: Output) -> Answered
     ensures { EndsGiven output result }
 {
-    let output = output.close(b"standard output");
+    let output = output.close(system, b"standard output");
     let status = if output.failed() { 1 } else { 0 };
     Answered { output, status }
 }
 
 // Gives the usage on standard output.
-pub fn help(usage: &[u8]) -> Answered
+pub fn help(system: &mut System, usage: &[u8]) -> Answered
     ensures { Gives usage.now result }
 {
     let output = Output::standard();
-    given(output.write(b"standard output", usage))
+    let output = output.write(system, b"standard output", usage);
+    given(system, output)
 }
 
 // Gives the program's name and version on standard output.
-pub fn version(name: &[u8]) -> Answered
+pub fn version(system: &mut System, name: &[u8]) -> Answered
     ensures { Gives (version_text name.now) result }
 {
     let output = Output::standard();
-    let output = output.write(b"standard output", name);
-    given(output.write(b"standard output", b" 1.0.0\n"))
+    let output = output.write(system, b"standard output", name);
+    let output = output.write(system, b"standard output", b" 1.0.0\n");
+    given(system, output)
 }
 
 // Gives the usage on standard error: the call was wrong.
-pub fn wrong(usage: &[u8]) -> Answered
+pub fn wrong(system: &mut System, usage: &[u8]) -> Answered
     ensures { Refuses usage.now result }
 {
     let errors = Output::errors();
-    let output = errors.write(b"standard error", usage);
+    let output = errors.write(system, b"standard error", usage);
     Answered { output, status: 2 }
 }
 
 // Gives what was asked for; where that is the program's work, the call was wrong.
-pub fn answer(asked: Asked, name: &[u8], usage: &[u8]) -> Answered
+pub fn answer(system: &mut System, asked: Asked, name: &[u8], usage: &[u8]) -> Answered
     ensures { Answers asked name.now usage.now result }
 {
     match asked {
-        Asked::Help => help(usage),
-        Asked::Version => version(name),
-        Asked::Work => wrong(usage),
+        Asked::Help => help(system, usage),
+        Asked::Version => version(system, name),
+        Asked::Work => wrong(system, usage),
     }
 }
 
 // The file that the first argument names, from its start, or no input where there is no argument.
-pub fn named_input(arguments: Arguments) -> Input
+pub fn named_input(system: &mut System, arguments: Arguments) -> Input
     ensures { NamedInput (argument_count arguments) result }
 {
     if arguments.count() == 0 {
         return Input::none();
     }
-    Input::open(1, 0)
+    Input::open(system, 1, 0)
 }

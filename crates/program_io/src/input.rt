@@ -2,8 +2,8 @@
 ghost use Rattle.std.specs.Prelude.{◌≡◌, ◌<◌, ◌≤◌, false, length, pos, int_lt};
 ghost use Rattle.program_io.specs.Files.{input_ended, input_failed, StandardInput, NoInput, OpenedInput, ReadsOnce, ReadsInto, Reads, Fills};
 
+use crate::system::{STDIN, System};
 use crate::trace::{Trace, no_bytes, traced};
-use libc::{STDERR_FILENO, STDIN_FILENO};
 
 // Where an input comes from: its descriptor, which argument named it, 0 for none, and the place where reading began.
 #[derive(Clone, Copy)]
@@ -37,52 +37,46 @@ struct Piece {
 }
 
 // Reads once, into a part of the buffer that is not empty. No contract can say which bytes a read brings.
-fn read_once(fd: i32, buffer: &mut [u8], from: usize, end: usize) -> Piece
+fn read_once(system: &mut System, fd: i32, buffer: &mut [u8], from: usize, end: usize) -> Piece
     requires { (from < end) × (end ≤ length buffer.old) }
     ensures { ReadsOnce from end buffer.old buffer.new result }
 {
-    let got = libc::read(fd, &mut buffer[from..end]);
+    let got = system.read(fd, &mut buffer[from..end]);
     let length = io::count(got, &buffer[from..end]);
     Piece { got, length }
 }
 
 // Whether an open file is set to a place.
-fn set_to(fd: i32, start: u64) -> bool
+fn set_to(system: &mut System, fd: i32, start: u64) -> bool
     requires { start < 9223372036854775808 }
 {
     if start == 0 {
         return true;
     }
-    libc::lseek(fd, start as i64, libc::SEEK_SET) == start as i64
+    system.seek(fd, start) == start as i64
 }
 
 // The descriptor of the file of this name, set to a place; or -1, which is said. A descriptor of a standard stream is refused: that one was closed,
 // and what is read or written there would be the file.
-fn opened(path: &[u8], start: u64) -> i32
+fn opened(system: &mut System, path: &[u8], start: u64) -> i32
     requires { start < 9223372036854775808 }
     ensures { int_lt result (pos 0) ≡ false → int_lt result (pos 3) ≡ false }
 {
     if path.len() == 0 {
-        io::write_all(
-            STDERR_FILENO,
-            b"file name: none, or longer than 4095 bytes\n",
-        );
+        system.say(b"file name: none, or longer than 4095 bytes\n");
         return -1;
     }
-    let fd = os::open_read(path);
+    let fd = system.open_read(path);
     if fd < 0 {
-        os::fail(path);
+        system.fail(path);
         return -1;
     }
     if fd < 3 {
-        io::write_all(
-            STDERR_FILENO,
-            b"standard input, output or error is closed\n",
-        );
+        system.say(b"standard input, output or error is closed\n");
         return -1;
     }
-    if !set_to(fd, start) {
-        os::fail(path);
+    if !set_to(system, fd, start) {
+        system.fail(path);
         return -1;
     }
     fd
@@ -94,7 +88,7 @@ impl Input {
         ensures { StandardInput result }
     {
         let origin = Origin {
-            fd: STDIN_FILENO,
+            fd: STDIN,
             argument: 0,
             start: 0,
         };
@@ -124,13 +118,13 @@ impl Input {
     }
 
     // The file that an argument names, from a place on. One that cannot be opened or has no such place has failed.
-    pub fn open(argument: usize, start: u64) -> Input
+    pub fn open(system: &mut System, argument: usize, start: u64) -> Input
         requires { start < 9223372036854775808 }
         ensures { OpenedInput argument start result }
     {
         let mut path = io::buffer();
-        let n = os::arg(argument, &mut path);
-        let fd = opened(&path[..n], start);
+        let n = system.arg(argument, &mut path);
+        let fd = opened(system, &path[..n], start);
         let origin = Origin {
             fd,
             argument,
@@ -162,7 +156,14 @@ impl Input {
     }
 
     // Reads once into a part of the buffer. Nothing is read where that is empty, or the input has ended or failed.
-    fn read_into(self, name: &[u8], buffer: &mut [u8], from: usize, end: usize) -> Filled
+    fn read_into(
+        self,
+        system: &mut System,
+        name: &[u8],
+        buffer: &mut [u8],
+        from: usize,
+        end: usize,
+    ) -> Filled
         requires { (from ≤ end) × (end ≤ length buffer.old) }
         ensures { ReadsInto self from end buffer.old buffer.new result }
     {
@@ -181,11 +182,11 @@ impl Input {
                 length: 0,
             };
         }
-        let piece = read_once(fd, buffer, from, end);
+        let piece = read_once(system, fd, buffer, from, end);
         let last = piece.got;
         let length = piece.length;
         if last < 0 {
-            os::fail(name);
+            system.fail(name);
         }
         let to = from + length;
         let trace = traced(trace, &buffer[from..to]);
@@ -200,22 +201,22 @@ impl Input {
     }
 
     // Reads once, at most so many bytes. Where none came, the input has ended or failed.
-    pub fn read(self, name: &[u8], buffer: &mut [u8], most: usize) -> Filled
+    pub fn read(self, system: &mut System, name: &[u8], buffer: &mut [u8], most: usize) -> Filled
         requires { most ≤ length buffer.old }
         ensures { Reads self most buffer.new result }
     {
-        self.read_into(name, buffer, 0, most)
+        self.read_into(system, name, buffer, 0, most)
     }
 
     // Reads until the buffer is full, the input ends or a read fails.
-    pub fn fill(self, name: &[u8], buffer: &mut [u8]) -> Filled
+    pub fn fill(self, system: &mut System, name: &[u8], buffer: &mut [u8]) -> Filled
         ensures { Fills self buffer.new result }
     {
         let mut input = self;
         let mut done: usize = 0;
         while done < buffer.len() {
             let end = buffer.len();
-            let more = input.read_into(name, buffer, done, end);
+            let more = input.read_into(system, name, buffer, done, end);
             let n = more.length;
             input = more.input;
             if n == 0 {

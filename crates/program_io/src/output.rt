@@ -3,8 +3,8 @@
 ghost use Rattle.std.specs.Prelude.{◌≡◌, ◌≤◌, length, pos};
 ghost use Rattle.program_io.specs.Files.{output_failed, FreshOutput, Loses, WrittenBy, WritesFrom, Writes, ClosedBy, Closes};
 
+use crate::system::{STDERR, STDOUT, System};
 use crate::trace::{Trace, no_bytes, traced};
-use libc::{STDERR_FILENO, STDOUT_FILENO};
 
 // A file that is written: its descriptor, the checksum of the bytes that it took, whether a write failed or took too little, or closing it failed, and
 // whether it is closed.
@@ -24,9 +24,9 @@ struct Put {
 }
 
 // Says that a write took a part only. No error number tells why.
-fn say_cut_off(name: &[u8]) {
-    io::write_all(STDERR_FILENO, name);
-    io::write_all(STDERR_FILENO, b": not written whole\n");
+fn say_cut_off(system: &mut System, name: &[u8]) {
+    system.say(name);
+    system.say(b": not written whole\n");
 }
 
 impl Output {
@@ -36,7 +36,7 @@ impl Output {
     {
         let trace = no_bytes();
         Output {
-            fd: STDOUT_FILENO,
+            fd: STDOUT,
             trace,
             failed: false,
             closed: false,
@@ -49,7 +49,7 @@ impl Output {
     {
         let trace = no_bytes();
         Output {
-            fd: STDERR_FILENO,
+            fd: STDERR,
             trace,
             failed: false,
             closed: false,
@@ -106,7 +106,7 @@ impl Output {
     }
 
     // Writes once, the bytes from a place on. An output that is closed takes none.
-    fn write_from(self, name: &[u8], bytes: &[u8], from: usize) -> Put
+    fn write_from(self, system: &mut System, name: &[u8], bytes: &[u8], from: usize) -> Put
         requires { from ≤ length bytes.now }
         ensures { WritesFrom self bytes.now from result }
     {
@@ -117,15 +117,15 @@ impl Output {
                 length: 0,
             };
         }
-        let got = libc::write(fd, &bytes[from..]);
+        let got = system.write(fd, &bytes[from..]);
         if got < 0 {
-            os::fail(name);
+            system.fail(name);
         }
         self.written_by(bytes, from, got)
     }
 
     // Writes bytes with as many writes as it takes. A write that fails or takes nothing ends it.
-    pub fn write(self, name: &[u8], bytes: &[u8]) -> Output
+    pub fn write(self, system: &mut System, name: &[u8], bytes: &[u8]) -> Output
         ensures { Writes self bytes.now result }
     {
         let mut output = self;
@@ -134,14 +134,14 @@ impl Output {
             return output;
         }
         while done < bytes.len() {
-            let put = output.write_from(name, bytes, done);
+            let put = output.write_from(system, name, bytes, done);
             let n = put.length;
             output = put.output;
             if output.failed {
                 return output;
             }
             if n == 0 {
-                say_cut_off(name);
+                say_cut_off(system, name);
                 return output.lost();
             }
             done += n;
@@ -150,20 +150,21 @@ impl Output {
     }
 
     // Writes a text with a single write. Where that does not take all of it, what stands in the output lacks its last line feed.
-    pub fn write_text(self, name: &[u8], text: &[u8]) -> Output
+    pub fn write_text(self, system: &mut System, name: &[u8], text: &[u8]) -> Output
         ensures { Writes self text.now result }
     {
         if self.failed {
             return self;
         }
-        let put = self.write_from(name, text, 0);
+        let put = self.write_from(system, name, text, 0);
         let n = put.length;
         let output = put.output;
         if output.failed {
             return output;
         }
-        if n < text.len() {
-            say_cut_off(name);
+        let cut = n < text.len();
+        if cut {
+            say_cut_off(system, name);
             return output.lost();
         }
         output
@@ -187,7 +188,7 @@ impl Output {
     }
 
     // Closes the output, where nothing failed. A file system may tell only then that what was written is lost.
-    pub fn close(self, name: &[u8]) -> Output
+    pub fn close(self, system: &mut System, name: &[u8]) -> Output
         ensures { Closes self result }
     {
         let fd = self.fd;
@@ -197,9 +198,9 @@ impl Output {
         if self.closed {
             return self;
         }
-        let answer = libc::close(fd);
+        let answer = system.close(fd);
         if answer < 0 {
-            os::fail(name);
+            system.fail(name);
         }
         self.closed_by(answer)
     }

@@ -2,6 +2,8 @@
 ghost use Rattle.std.specs.Prelude.{◌≡◌, ◌+◌, ◌*◌, ◌<◌, ◌≤◌, length};
 ghost use Rattle.program_io.specs.Words.{same_bytes, parsed, front_part, argument_count, word_argument, word_bytes, word_is_option};
 
+use crate::system::System;
+
 // How many arguments the program has, beside its name.
 #[derive(Clone, Copy)]
 pub struct Arguments {
@@ -9,8 +11,8 @@ pub struct Arguments {
 }
 
 impl Arguments {
-    pub fn new() -> Arguments {
-        let n = os::arg_count();
+    pub fn new(system: &mut System) -> Arguments {
+        let n = system.arg_count();
         Arguments {
             count: if n == 0 { 0 } else { n - 1 },
         }
@@ -41,11 +43,11 @@ pub enum Parsed {
 
 impl Word {
     // The argument of this number, the first being 1.
-    pub fn new(argument: usize) -> Word
+    pub fn new(system: &mut System, argument: usize) -> Word
         ensures { word_argument result ≡ argument }
     {
         let mut bytes = [0u8; 32];
-        let length = os::arg(argument, &mut bytes);
+        let length = system.arg(argument, &mut bytes);
         Word {
             argument,
             bytes,

@@ -1,6 +1,7 @@
 // The words of a command line that name a mode of the inner code.
 // Inner: a part of the programs. docs/ARCHITECTURE.md names the public surface.
 #![tactic(auto)]
+
 ghost use Rattle.std.specs.Prelude.{◌≡◌};
 ghost use Rattle.program_io.specs.Words.{word_bytes};
 ghost use Rattle.rate_words.specs.Words.{mode_named};

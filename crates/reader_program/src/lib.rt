@@ -2,6 +2,7 @@
 // The two differ in the symbols that they read: hard decisions, one byte each, or points for soft ones.
 // Inner: its functions may require what the crates above have tested. docs/ARCHITECTURE.md names the public surface.
 #![tactic(auto)]
+
 ghost use Rattle.std.specs.Prelude.{◌≡◌, true, ◌+◌, ◌≤◌, ◌<◌, pos, length};
 ghost use Rattle.puncturing.specs.Mode.{qpsk_count};
 ghost use Rattle.program_io.specs.Files.{StandardFiles, input_over, StandardInput, FreshOutput};
@@ -10,7 +11,7 @@ ghost use Rattle.reader_program.specs.Ends.{most_of, ReadsBehind, Buffers, Turns
 
 use code_tables::QPSK_MODES;
 use common::put;
-use program_io::{Arguments, Asked, Ended, Filled, Input, Output, Word};
+use program_io::{Arguments, Asked, Ended, Filled, Input, Output, System, Word};
 use reader_stream::ReaderStream;
 use received_symbols::{SymbolPass, SymbolsTaken, take_bytes};
 
@@ -38,17 +39,24 @@ fn most_of(soft: bool) -> usize
 }
 
 // Reads once, from byte 8 of the buffer on, and lays the bytes that are held right before those that came.
-fn read_behind(input: Input, held: &[u8], most: usize, buffer: &mut [u8]) -> Filled
+fn read_behind(
+    system: &mut System,
+    input: Input,
+    held: &[u8],
+    most: usize,
+    buffer: &mut [u8],
+) -> Filled
     requires { (length held.now < 8) × (8 + most ≤ length buffer.old) }
     ensures { ReadsBehind input held.now most buffer.new result }
 {
-    let filled = input.read(b"standard input", &mut buffer[8..], most);
+    let filled = input.read(system, b"standard input", &mut buffer[8..], most);
     put(held, 8 - held.len(), buffer);
     filled
 }
 
 // Reads once, and takes the symbols of the bytes that were held and those that came.
 fn next_turn(
+    system: &mut System,
     soft: bool,
     input: Input,
     pass: SymbolPass,
@@ -63,7 +71,7 @@ fn next_turn(
     let stream = pass.stream;
     let tail = pass.tail;
     let held = pass.held;
-    let filled = read_behind(input, &tail[..held], most_of(soft), buffer);
+    let filled = read_behind(system, input, &tail[..held], most_of(soft), buffer);
     let length = filled.length;
     let next = filled.input;
     let from = 8 - held;
@@ -79,6 +87,7 @@ fn next_turn(
 // The end of the input: writes what is left, closes standard output, and tells how many symbols, bits and bytes are left over. Where a read failed, it does
 // nothing of that.
 fn finish(
+    system: &mut System,
     soft: bool,
     rate: u8,
     input: Input,
@@ -104,8 +113,8 @@ fn finish(
     let stream = pass.stream;
     let finished = stream.finish(bits, bytes);
     let count = finished.count;
-    let output = output.write(b"standard output", &bytes[..count]);
-    let output = output.close(b"standard output");
+    let output = output.write(system, b"standard output", &bytes[..count]);
+    let output = output.close(system, b"standard output");
     if output.failed() {
         return Ended {
             status: 1,
@@ -116,7 +125,7 @@ fn finish(
     }
     let mut text = [0u8; 96];
     let n = crate::lines::closing_lines(soft, finished.rest, finished.bits, pass.held, &mut text);
-    let errors = errors.write_text(b"standard error", &text[..n]);
+    let errors = errors.write_text(system, b"standard error", &text[..n]);
     let status = if errors.failed() { 1 } else { 0 };
     Ended {
         status,
@@ -127,13 +136,21 @@ fn finish(
 }
 
 // Tells the place of a byte that is no symbol. Nothing after it is read.
-fn refuse(soft: bool, rate: u8, input: Input, output: Output, errors: Output, place: u64) -> Ended
+fn refuse(
+    system: &mut System,
+    soft: bool,
+    rate: u8,
+    input: Input,
+    output: Output,
+    errors: Output,
+    place: u64,
+) -> Ended
     requires { (StandardFiles input output errors) × (SymbolRefused soft rate input output place) × (Untold errors) }
     ensures { Ends soft rate result }
 {
     let mut text = [0u8; 96];
     let n = crate::lines::refusal_line(place, &mut text);
-    let errors = errors.write_text(b"standard error", &text[..n]);
+    let errors = errors.write_text(system, b"standard error", &text[..n]);
     Ended {
         status: 1,
         input,
@@ -144,6 +161,7 @@ fn refuse(soft: bool, rate: u8, input: Input, output: Output, errors: Output, pl
 
 // Tells that more bytes came than can be counted.
 fn stop(
+    system: &mut System,
     soft: bool,
     rate: u8,
     input: Input,
@@ -156,6 +174,7 @@ fn stop(
     ensures { Ends soft rate result }
 {
     let errors = errors.write_text(
+        system,
         b"standard error",
         b"standard input: more than 9223372036854775807 bytes\n",
     );
@@ -169,7 +188,14 @@ fn stop(
 
 // Turn after turn, until the input ends, a read or a write fails, a byte is no symbol, or more bytes came than can be counted. What a read brought is decided
 // and written before the next read.
-fn read_all(soft: bool, rate: u8, input: Input, output: Output, errors: Output) -> Ended
+fn read_all(
+    system: &mut System,
+    soft: bool,
+    rate: u8,
+    input: Input,
+    output: Output,
+    errors: Output,
+) -> Ended
     requires { (rate < qpsk_count) × (StandardInput input) × (FreshOutput (pos 1) output) × (FreshOutput (pos 2) errors) }
     ensures { Ends soft rate result }
 {
@@ -189,6 +215,7 @@ fn read_all(soft: bool, rate: u8, input: Input, output: Output, errors: Output) 
     let mut came: u64 = 0;
     while came <= MOST {
         let turn = next_turn(
+            system,
             soft,
             input,
             pass,
@@ -205,10 +232,10 @@ fn read_all(soft: bool, rate: u8, input: Input, output: Output, errors: Output) 
         input = turn.input;
         if length == 0 {
             return finish(
-                soft, rate, input, output, errors, pass, came, &mut bits, &mut bytes,
+                system, soft, rate, input, output, errors, pass, came, &mut bits, &mut bytes,
             );
         }
-        output = output.write(b"standard output", &bytes[..count]);
+        output = output.write(system, b"standard output", &bytes[..count]);
         if output.failed() {
             return Ended {
                 status: 1,
@@ -218,23 +245,23 @@ fn read_all(soft: bool, rate: u8, input: Input, output: Output, errors: Output) 
             };
         }
         if stopped {
-            return refuse(soft, rate, input, output, errors, place);
+            return refuse(system, soft, rate, input, output, errors, place);
         }
         pass = taken.pass;
         came += length as u64;
     }
-    stop(soft, rate, input, output, errors, pass, came)
+    stop(system, soft, rate, input, output, errors, pass, came)
 }
 
 // Reads standard input at a rate.
-fn run(soft: bool, rate: u8) -> Ended
+fn run(system: &mut System, soft: bool, rate: u8) -> Ended
     requires { rate < qpsk_count }
     ensures { Ends soft rate result }
 {
     let input = Input::standard();
     let output = Output::standard();
     let errors = Output::errors();
-    read_all(soft, rate, input, output, errors)
+    read_all(system, soft, rate, input, output, errors)
 }
 
 // The rate that the only argument names, or 6, which is none.
@@ -248,28 +275,28 @@ fn rate_asked(arguments: Arguments, word: Word) -> u8
 }
 
 // What a program of this name and usage does, and its status: RATE is read, `--help` and `--version` are told, and any other call is wrong.
-pub fn exit_status(soft: bool, name: &[u8], usage: &[u8]) -> i32
+pub fn exit_status(system: &mut System, soft: bool, name: &[u8], usage: &[u8]) -> i32
     ensures { Exits soft name.now usage.now result }
 {
-    let arguments = Arguments::new();
-    let word = Word::new(1);
+    let arguments = Arguments::new(system);
+    let word = Word::new(system, 1);
     let asked = program_io::asked_for(arguments, word);
     match asked {
         Asked::Help => {
-            let answered = program_io::help(usage);
+            let answered = program_io::help(system, usage);
             answered.status
         }
         Asked::Version => {
-            let answered = program_io::version(name);
+            let answered = program_io::version(system, name);
             answered.status
         }
         Asked::Work => {
             let rate = rate_asked(arguments, word);
             if rate as usize >= QPSK_MODES {
-                let answered = program_io::wrong(usage);
+                let answered = program_io::wrong(system, usage);
                 return answered.status;
             }
-            let ended = run(soft, rate);
+            let ended = run(system, soft, rate);
             ended.status
         }
     }

@@ -2,6 +2,7 @@
 // whole yet are held.
 // Inner: its functions may require what the crates above have tested. docs/ARCHITECTURE.md names the public surface.
 #![tactic(auto)]
+
 ghost use Rattle.std.specs.Prelude.{◌+◌, ◌*◌, ◌/◌, ◌≤◌, length};
 ghost use Rattle.reader_stream.specs.Stream.{ReaderReady};
 ghost use Rattle.received_symbols.specs.Received.{width};

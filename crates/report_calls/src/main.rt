@@ -10,11 +10,34 @@
 //          two bytes, and the first product in sixteen
 //   5      a text: its season, as it is printed, after the number of its answer and its length
 #![tactic(auto)]
+
 ghost use Rattle.std.specs.Prelude.{◌+◌, ◌≤◌, ◌<◌, length};
 
 use answer::Answer;
-use libc::{STDIN_FILENO, STDOUT_FILENO};
 use report::{Bits, Report, Written};
+use std::io::{Read, Write};
+
+// Reads until the buffer is full, the input ends or a read fails, and gives how many bytes came.
+fn read_full(rt: HostRuntime, buffer: &mut [u8]) -> usize
+    ensures { result ≤ length buffer.new }
+{
+    let mut done: usize = 0;
+    while done < buffer.len() {
+        let Ok(n) = rt.stdin().read(&mut buffer[done..]) else {
+            return done;
+        };
+        if n == 0 {
+            return done;
+        }
+        done += n;
+    }
+    done
+}
+
+// Writes bytes to standard output. What fails is not told.
+fn write_all(rt: HostRuntime, bytes: &[u8]) {
+    let _ = rt.stdout().write_all(bytes);
+}
 
 fn wide(byte: u8) -> u64
     ensures { result < 256 }
@@ -94,18 +117,18 @@ fn call(kind: u8, bytes: &[u8], output: &mut [u8]) -> Written {
     report::move_report(bytes, wide(kind), output)
 }
 
-fn write_answer(written: Written, output: &[u8]) {
+fn write_answer(rt: HostRuntime, written: Written, output: &[u8]) {
     let answer = written.answer;
     let n = written.length;
     let head = [answer.number(), (n % 256) as u8, (n / 256 % 256) as u8];
-    io::write_all(STDOUT_FILENO, &head);
+    write_all(rt, &head);
     if n <= output.len() {
-        io::write_all(STDOUT_FILENO, &output[..n]);
+        write_all(rt, &output[..n]);
     }
 }
 
 // Writes a number in eight bytes, the lower first.
-fn write_number(value: u64) {
+fn write_number(rt: HostRuntime, value: u64) {
     let mut bytes = [0u8; 8];
     let mut left = value;
     let mut i: usize = 0;
@@ -114,61 +137,61 @@ fn write_number(value: u64) {
         left /= 256;
         i += 1;
     }
-    io::write_all(STDOUT_FILENO, &bytes);
+    write_all(rt, &bytes);
 }
 
-fn write_products(bytes: &[u8]) {
+fn write_products(rt: HostRuntime, bytes: &[u8]) {
     if bytes.len() != 32 {
         return;
     }
     let first = season_totals::product(number_at(bytes, 0), number_at(bytes, 8));
     let second = season_totals::product(number_at(bytes, 16), number_at(bytes, 24));
     if season_totals::below(first, second) {
-        io::write_all(STDOUT_FILENO, &[1, 16, 0]);
+        write_all(rt, &[1, 16, 0]);
     } else {
-        io::write_all(STDOUT_FILENO, &[0, 16, 0]);
+        write_all(rt, &[0, 16, 0]);
     }
-    write_number(first[0]);
-    write_number(first[1]);
+    write_number(rt, first[0]);
+    write_number(rt, first[1]);
 }
 
-fn write_season(bytes: &[u8]) {
+fn write_season(rt: HostRuntime, bytes: &[u8]) {
     let mut text = [0u8; 160];
     let read = season_totals::read_season(bytes);
     let answer = read.answer;
     let n = season_totals::compose(read, &mut text);
     let head = [answer.number(), (n % 256) as u8, 0];
-    io::write_all(STDOUT_FILENO, &head);
-    io::write_all(STDOUT_FILENO, &text[..n]);
+    write_all(rt, &head);
+    write_all(rt, &text[..n]);
 }
 
 // Reads so many bytes and answers the case with them: whether they were there.
-fn answer_case(kind: u8, size: usize, bytes: &mut [u8], output: &mut [u8]) -> bool
+fn answer_case(rt: HostRuntime, kind: u8, size: usize, bytes: &mut [u8], output: &mut [u8]) -> bool
     requires { size ≤ length bytes.old }
 {
-    let got = io::read_full(STDIN_FILENO, &mut bytes[..size]);
+    let got = read_full(rt, &mut bytes[..size]);
     if got != size {
         return false;
     }
     if kind == 4 {
-        write_products(&bytes[..size]);
+        write_products(rt, &bytes[..size]);
         return true;
     }
     if kind == 5 {
-        write_season(&bytes[..size]);
+        write_season(rt, &bytes[..size]);
         return true;
     }
     let written = call(kind, &bytes[..size], output);
-    write_answer(written, output);
+    write_answer(rt, written, output);
     true
 }
 
 // The same of the next case, with what stands before its bytes.
-fn next_case() -> bool {
+fn next_case(rt: HostRuntime) -> bool {
     let mut head = [0u8; 5];
     let mut bytes = [0u8; 4096];
     let mut output = [0u8; 4096];
-    if io::read_full(STDIN_FILENO, &mut head) != 5 {
+    if read_full(rt, &mut head) != 5 {
         return false;
     }
     let length = short(head[1], head[2]);
@@ -179,15 +202,15 @@ fn next_case() -> bool {
     if size > 4096 {
         return false;
     }
-    answer_case(head[0], size, &mut bytes, &mut output[..length])
+    answer_case(rt, head[0], size, &mut bytes, &mut output[..length])
 }
 
 // A proved loop has to end, and nothing says that an input does: the loop counts its turns down, from a number that no run uses up.
-fn main() {
+fn main(rt: HostRuntime) {
     let mut more = true;
     let mut turns = u64::MAX;
     while turns > 0 && more {
-        more = next_case();
+        more = next_case(rt);
         turns -= 1;
     }
 }

@@ -2,10 +2,34 @@
 // Gives a fresh sender one input after another, for the comparison with reference/. On standard input each is a byte with its length, and then
 // so many bytes. For each come the number of the answer, the number of symbols in two bytes, the lower first, and the symbols.
 #![tactic(auto)]
+
 ghost use Rattle.std.specs.Prelude.{◌<◌, ◌≤◌, length};
 
-use libc::{STDIN_FILENO, STDOUT_FILENO};
 use sender::Sender;
+use std::io::{Read, Write};
+use std::rt::Env;
+
+// Reads until the buffer is full, the input ends or a read fails, and gives how many bytes came.
+fn read_full(rt: HostRuntime, buffer: &mut [u8]) -> usize
+    ensures { result ≤ length buffer.new }
+{
+    let mut done: usize = 0;
+    while done < buffer.len() {
+        let Ok(n) = rt.stdin().read(&mut buffer[done..]) else {
+            return done;
+        };
+        if n == 0 {
+            return done;
+        }
+        done += n;
+    }
+    done
+}
+
+// Writes bytes to standard output. What fails is not told.
+fn write_all(rt: HostRuntime, bytes: &[u8]) {
+    let _ = rt.stdout().write_all(bytes);
+}
 
 // The sender after a call, and whether there was an input for it.
 #[derive(Clone, Copy)]
@@ -14,20 +38,20 @@ struct Called {
     more: bool,
 }
 
-fn write_sent(answer: u8, symbols: &[u8]) {
+fn write_sent(rt: HostRuntime, answer: u8, symbols: &[u8]) {
     let count = symbols.len();
     let head = [answer, (count % 256) as u8, (count / 256 % 256) as u8];
-    io::write_all(STDOUT_FILENO, &head);
-    io::write_all(STDOUT_FILENO, symbols);
+    write_all(rt, &head);
+    write_all(rt, symbols);
 }
 
 // A call with an input.
-fn call(sender: Sender, input: &[u8], output: &mut [u8]) -> Called {
+fn call(rt: HostRuntime, sender: Sender, input: &[u8], output: &mut [u8]) -> Called {
     let sent = sender.send(input, output);
     let answer = sent.answer;
     let count = sent.count;
     let next = sent.sender;
-    write_sent(answer.number(), &output[..count]);
+    write_sent(rt, answer.number(), &output[..count]);
     Called {
         sender: next,
         more: true,
@@ -35,31 +59,37 @@ fn call(sender: Sender, input: &[u8], output: &mut [u8]) -> Called {
 }
 
 // Reads an input of so many bytes, and makes a call with it.
-fn call_input(sender: Sender, size: usize, bytes: &mut [u8], output: &mut [u8]) -> Called
+fn call_input(
+    rt: HostRuntime,
+    sender: Sender,
+    size: usize,
+    bytes: &mut [u8],
+    output: &mut [u8],
+) -> Called
     requires { size ≤ length bytes.old }
 {
-    let got = io::read_full(STDIN_FILENO, &mut bytes[..size]);
+    let got = read_full(rt, &mut bytes[..size]);
     if got != size {
         return Called {
             sender,
             more: false,
         };
     }
-    call(sender, &bytes[..size], output)
+    call(rt, sender, &bytes[..size], output)
 }
 
 // The same, with its length before it.
-fn call_next(sender: Sender) -> Called {
+fn call_next(rt: HostRuntime, sender: Sender) -> Called {
     let mut head = [0u8; 1];
     let mut bytes = [0u8; 256];
     let mut output = [0u8; 1632];
-    if io::read_full(STDIN_FILENO, &mut head) != 1 {
+    if read_full(rt, &mut head) != 1 {
         return Called {
             sender,
             more: false,
         };
     }
-    call_input(sender, wide(head[0]), &mut bytes, &mut output)
+    call_input(rt, sender, wide(head[0]), &mut bytes, &mut output)
 }
 
 fn wide(length: u8) -> usize
@@ -69,23 +99,23 @@ fn wide(length: u8) -> usize
 }
 
 // A proved loop has to end, and nothing says that an input does: the loop counts its turns down, from a number that no run uses up.
-fn call_all(sender: Sender) {
+fn call_all(rt: HostRuntime, sender: Sender) {
     let mut sender = sender;
     let mut more = true;
     let mut turns = u64::MAX;
     while turns > 0 && more {
-        let called = call_next(sender);
+        let called = call_next(rt, sender);
         more = called.more;
         sender = called.sender;
         turns -= 1;
     }
 }
 
-fn main() {
+fn main(rt: HostRuntime) {
     let mut word = [0u8; 1];
-    if os::arg(1, &mut word) != 1 {
+    let Ok(1) = rt.arg(1, &mut word) else {
         return;
-    }
+    };
     let digit = word[0];
     if digit < b'0' {
         return;
@@ -96,5 +126,5 @@ fn main() {
         return;
     }
     let sender = created.sender;
-    call_all(sender);
+    call_all(rt, sender);
 }

@@ -1,0 +1,11 @@
+-- `dvbs_send::tell_counts` meets its contract.
+-- Assumes nothing.
+use mathlib.Core.Path.{subst}
+use mathlib.Core.List.{List}
+use Prim.Native.Nat.{ℕ}
+use Rattle.program_io.specs.Files.{Writes}
+use Rattle.dvbs_send.proofs.tell_counts.Goals as goal
+
+pub returns : goal.returns
+returns c =
+    subst (λ (l : List ℕ). Writes c.args.errors l c.write_text.result) c.counts_line-n.ensures.text c.write_text.ensures

@@ -1,0 +1,13 @@
+-- What a call that moves bytes may answer.
+-- Assumes nothing.
+use Rattle.std.specs.Prelude.{◌≡◌, ℕ, ◌≤◌, ℤ, pos, negsuc}
+
+-- what a call that is handed n bytes may answer: -1, or how many bytes it moved, at most n
+abbrev pub Moved : ℕ → ℤ → Type 0
+Moved n (pos k) = k ≤ n
+Moved n (negsuc k) = k ≡ 0
+
+-- what a call that succeeds or fails may answer: 0, or -1
+abbrev pub Status : ℤ → Type 0
+Status (pos k) = k ≡ 0
+Status (negsuc k) = k ≡ 0

@@ -1,0 +1,48 @@
+-- `report_form::move_input` meets its contract.
+-- Assumes nothing.
+use mathlib.Core.Path.{◌≡◌, sym, subst, ◌∙◌}
+use mathlib.Core.List.{[]}
+use Prim.Native.Nat.{ℕ, ◌≤◌}
+use native.Mathlib.Omega.{arith}
+use lib.ListN.{length}
+use lib.Seq.{length-take-le}
+use Rattle.report_lines.specs.Line.{line_text}
+use Rattle.report.proofs.Moving.{move_within}
+use Rattle.program_io.specs.Files.{Writes}
+use Rattle.report_form.proofs.Ending.{ends_input, ends_refused, ends_output, ends_whole}
+use Rattle.report_form.proofs.move_input.Goals as goal
+
+pub returns-then-failed : goal.returns-then-failed
+returns-then-failed c =
+    let full : length c.fill-filled.new.buffer ≡ 512 = c.fill-filled.auto.buffer in
+    ends_input c.args.form c.requires.0 c.fill-filled.ensures c.requires.1 c.requires.2 (full) (sym c.failed.ensures ∙ c.if-failed.true)
+
+pub slice_bounds-move_report-end : goal.slice_bounds-move_report-end
+slice_bounds-move_report-end c = let r = c.fill-filled in sym (length-take-le r.result.length r.new.buffer r.ensures.within)
+
+pub returns-then-refused : goal.returns-then-refused
+returns-then-refused c =
+    let full : length c.fill-filled.new.buffer ≡ 512 = c.fill-filled.auto.buffer in
+    let n = c.number-number.ensures in
+    ends_refused c.args.form c.requires.0 c.fill-filled.ensures c.requires.1 c.requires.2 (full) (sym c.failed.ensures ∙ c.if-failed.false)
+    c.move_report-written.ensures (λ z. c.if-refused.true (n ∙ z))
+    (subst (λ (m : ℕ). Writes c.args.errors (line_text [] m) c.tell_number.result) n c.tell_number.ensures)
+
+pub slice_bounds-text-end : goal.slice_bounds-text-end
+slice_bounds-text-end c =
+    let within : c.move_report-written.result.length ≤ length c.move_report-written.new.output = let h = move_within c.move_report-written.ensures in omega (arith, h, c.move_report-written.auto.output) in
+    within
+
+pub returns-then-failed-2 : goal.returns-then-failed-2
+returns-then-failed-2 c =
+    let full : length c.fill-filled.new.buffer ≡ 512 = c.fill-filled.auto.buffer in
+    ends_output c.args.form c.requires.0 c.fill-filled.ensures c.requires.1 c.requires.2 (full) (sym c.failed.ensures ∙ c.if-failed.false)
+    c.move_report-written.ensures (sym c.number-number.ensures ∙ c.if-refused.false) c.write_text-output.ensures c.close-output.ensures
+    (sym c.failed-2.ensures ∙ c.if-failed-2.true)
+
+pub returns : goal.returns
+returns c =
+    let full : length c.fill-filled.new.buffer ≡ 512 = c.fill-filled.auto.buffer in
+    ends_whole c.args.form c.requires.0 c.fill-filled.ensures c.requires.1 c.requires.2 (full) (sym c.failed.ensures ∙ c.if-failed.false)
+    c.move_report-written.ensures (sym c.number-number.ensures ∙ c.if-refused.false) c.write_text-output.ensures c.close-output.ensures
+    (sym c.failed-2.ensures ∙ c.if-failed-2.false)

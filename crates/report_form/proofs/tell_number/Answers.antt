@@ -1,0 +1,10 @@
+-- `report_form::tell_number` meets its contract.
+-- Assumes nothing.
+use mathlib.Core.Path.{subst}
+use mathlib.Core.List.{List}
+use Prim.Native.Nat.{ℕ}
+use Rattle.program_io.specs.Files.{Writes}
+use Rattle.report_form.proofs.tell_number.Goals as goal
+
+pub returns : goal.returns
+returns c = subst (λ (l : List ℕ). Writes c.args.errors l c.write_text.result) c.put_line-n.ensures.text c.write_text.ensures
