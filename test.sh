@@ -51,29 +51,19 @@ bash tests/believed.sh | quietly diff docs/BELIEVED.md -
 tiers=$(awk -F ' *[|] *' '$2 ~ /^(Sending|All|These)/ { n[++k] = $4 } END { print n[1] ", " n[2] " and " n[3] " lines" }' docs/BELIEVED.md)
 for document in README.md docs/TRUST.md; do grep -qF "$tiers" "$document" || fail "$document: $tiers of docs/BELIEVED.md"; done
 
-# The prover copies what a crate stands on to a temporary folder, some 300 MB for each crate and each edit. Where memory can hold it, and programs run
-# from there, the disk is spared.
-scratch=$(mktemp -d -p /dev/shm 2> /dev/null) || scratch=$work
-trap 'rm -rf "$work" "$scratch"' EXIT
-if [ "$(df --output=avail -k "$scratch" | tail -n 1)" -ge 8000000 ] && cp /bin/true "$scratch" && "$scratch/true" 2> /dev/null; then
-    chmod 711 "$scratch"
-    export TMPDIR=$scratch
-fi
-# rt waits for the whole of a batch. With four at a time, or eight where memory holds them, two processors are seldom left idle by the longest one. Eight take
-# 7 GB at most; twelve are no faster.
-if [ "$(awk '$1 == "MemAvailable:" { print $2 }' /proc/meminfo)" -ge 18000000 ]; then jobs=8; else jobs=4; fi
-export RT_JOBS=${RT_JOBS:-$jobs}
-# Its last line is held back: where something failed, no line of this script reads as if all had passed.
+# Its last line is held back: where something failed, no line of this script reads as if all had passed. A must-fail edit that is bad fails nothing there.
 rt ci | tee "$work/gate" | sed '$d' || fail "rt ci, which ended: $(tail -n 1 "$work/gate")"
 last=$(tail -n 1 "$work/gate")
 [[ $last =~ ^[0-9]+\ passed,\ 0\ failed$ ]] || fail "rt ci, which ended: $last"
+ok=$(grep '^rt: ok' "$work/gate") || fail "rt ci, which does not say ok"
+! grep -qE ', [1-9][0-9]* bad' <<< "$ok" || fail "bad must-fail edits: $ok"
 
 # Nothing is written to a home folder.
 export CARGO_HOME=$PWD/target/cargo-home CARGO_TARGET_DIR=$PWD/target/cargo
 in_reference=(--release --offline --manifest-path reference/Cargo.toml)
 quietly ./build.sh libdvbs libdvbs_bridge libkernels
 # Each program is proved once more where it is built. What needs none of them goes on beside that.
-./build.sh $(basename -s .1 man/*.1) > "$work/built" 2>&1 &
+./build.sh $(basename -s .1 man/*.1) send_calls report_calls > "$work/built" 2>&1 &
 building=$!
 export EXPORTS_DIR=$PWD/target/staticlib
 quietly cargo test "${in_reference[@]}" --lib --test programs --test vectors --test library

@@ -1,33 +1,24 @@
 #!/bin/bash
-# What the proof of each crate takes: wall time and the most memory resident, one crate after the other, nothing beside it.
+# What the proof of each crate takes: wall time, one crate after the other, nothing beside it; and the most memory that one of them had resident.
 #   bench/check_times.sh            every crate
-#   bench/check_times.sh NAME..     these
-# Works on a copy, which it removes, so that nothing of an earlier proof counts and target/ stays. What a crate stands on is
-# proved before its own time begins. A program's time includes its compilation and its run.
+#   bench/check_times.sh NAME..     these; what they stand on is proved before their own time begins
+# Works on a copy, which it removes, and from nothing (bench/timed.sh): what checks on this machine kept does not count.
 set -euo pipefail
 cd "$(dirname "$0")/.."
 cc=${CC:-cc}
+top=$PWD
 copy=$(mktemp -d)
 trap 'rm -rf "$copy"' EXIT
-cp -r crates crates.txt "$copy"
+tar -c --exclude=out crates crates.txt | tar -x -C "$copy"
 "$cc" -std=gnu11 -O2 -Wall -Wextra bench/usage.c -o "$copy/usage"
 cd "$copy"
-export RT_JOBS=1
-
-check() {
-    "$@" > log 2>&1 || { cat log; exit 1; }
-}
-
-echo "| Crate | Time, s | Memory, MB |"
-echo "|---|---|---|"
-[ $# -gt 0 ] || set -- $(sed -n 's/^\([a-z_0-9]*\):.*/\1/p' crates.txt)
+git init -q
+./usage used "$top/bench/timed.sh" "$@" > times || { cat said; exit 1; }
+echo "| Crate | Time, s |"
+echo "|---|---|"
+[ $# -gt 0 ] || set -- $(sed -n 's/^\([a-z_0-9]*\)\( staticlib\)\?:.*/\1/p' crates.txt)
 for crate in "$@"; do
-    # Those of the kit are proved already.
-    for below in $(sed -n "s/^$crate://p" crates.txt); do
-        [ ! -d "crates/$below" ] || check rt check "$below"
-    done
-    check ./usage used rt check "$crate"
-    read -r wall _ kilobytes < used
-    awk -v crate="$crate" -v wall="$wall" -v kilobytes="$kilobytes" \
-        'BEGIN { printf "| `%s` | %.0f | %.0f |\n", crate, wall, kilobytes * 1024 / 1000000 }'
+    sed -n "s/^\($crate\) \([0-9]*\)$/| \`\1\` | \2 |/p" times
 done
+read -r _ _ kilobytes < used
+awk -v kilobytes="$kilobytes" 'BEGIN { printf "\nThe most memory: %.0f MB.\n", kilobytes * 1024 / 1000000 }'

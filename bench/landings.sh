@@ -1,42 +1,35 @@
 #!/bin/bash
-# What landings cost to check: everything is proved at a commit and at the one before it, one crate after the other, each from nothing.
+# What landings cost to check: everything is proved at a commit and at the one before it, one crate after the other, each from nothing (bench/timed.sh).
 #   bench/landings.sh COMMIT..         the seconds of each crate that moved, and of all, before and after; BEFORE:COMMIT for a landing of several commits
 #   bench/landings.sh --ci COMMIT..    whether `rt ci` passes at each, with its last line
-# A crate that is the same as at a commit that was measured before, with all that it stands on, is not proved again: its seconds are those of then. What was
-# measured stays in target/landings, so a long list may be stopped and taken up later. Before is the first parent, unless it is named. A crate moved where
-# one of its files did, or what it stands on changed in crates.txt. Nothing else should run; where a processor is given to it alone (taskset), what others
-# do costs it little.
+# What was measured at a commit stays in target/landings, so a long list may be stopped and taken up later. Before is the first parent, unless it is named. A
+# crate moved where one of its files did, or what it stands on changed in crates.txt. Nothing else should run; where a processor is given to it alone (taskset),
+# what others do costs it little.
 set -euo pipefail
 cd "$(dirname "$0")/.."
+top=$PWD
 kept=$PWD/target/landings
 mkdir -p "$kept"
-tree=$(mktemp -d -p /dev/shm 2> /dev/null || mktemp -d)
+tree=$(mktemp -d)
 chmod 711 "$tree"
 trap 'rm -rf "$tree"' EXIT
-export TMPDIR=$tree
 
-# at COMMIT COMMAND..: in the tree of that commit, with what was proved in the one before. rt wants a repository at its top.
+# at COMMIT COMMAND..: in the tree of that commit. rt wants a repository at its top.
 at() {
     local commit=$1
     shift
-    mkdir -p "$tree/work"
-    find "$tree/work" -mindepth 1 -maxdepth 1 ! -name target -exec rm -rf {} +
+    rm -rf "$tree/work"
+    mkdir "$tree/work"
     git archive "$commit" | tar -x -C "$tree/work"
-    (cd "$tree/work" && git init -q && RT_JOBS=${RT_JOBS:-1} "$@")
+    (cd "$tree/work" && git init -q && "$@")
 }
 
-# times COMMIT: a line for each crate, its name and its seconds. rt has a stamp of what it proved, over the files of a crate and of all that it stands on.
+# times COMMIT: a line for each crate, its name and its seconds.
 times() {
-    local commit crate seconds
+    local commit
     commit=$(git rev-parse "$1")
     if [ ! -f "$kept/$commit" ]; then
-        at "$commit" rt check > "$tree/log" 2>&1 || { tail -n 3 "$tree/log" >&2; echo "$1 is not proved by this kit" >&2; return 1; }
-        sed -nE 's/^rt: ([a-z_0-9]+) proved \(([0-9]+) s\)$/\1 \2/p' "$tree/log" | while read -r crate seconds; do
-            echo "$seconds" > "$kept/$crate.$(cat "$tree/work/target/stamp/$crate")"
-        done
-        for crate in $(cd "$tree/work/target/stamp" && ls); do
-            if [ -d "$tree/work/crates/$crate" ]; then echo "$crate $(cat "$kept/$crate.$(cat "$tree/work/target/stamp/$crate")")"; fi
-        done > "$kept/part"
+        at "$commit" "$top/bench/timed.sh" > "$kept/part" || { tail -n 3 "$tree/work/said" >&2; echo "$1 is not proved by this kit" >&2; return 1; }
         mv "$kept/part" "$kept/$commit"
     fi
     cat "$kept/$commit"
@@ -46,7 +39,7 @@ times() {
 moved() {
     {
         git diff --name-only "$1" "$2" -- crates | cut -d / -f 2
-        git diff "$1" "$2" -- crates.txt | sed -nE 's/^[-+]([a-z_0-9]+):.*/\1/p'
+        git diff "$1" "$2" -- crates.txt | sed -nE 's/^[-+]([a-z_0-9]+)( staticlib)?:.*/\1/p'
     } | sort -u
 }
 
@@ -54,7 +47,7 @@ if [ "${1-}" = --ci ]; then
     shift
     for commit in "$@"; do
         ci=$kept/$(git rev-parse "$commit").ci
-        [ -f "$ci" ] || { RT_JOBS=4 at "$commit" rt ci > "$tree/log" 2>&1 || true; tail -n 1 "$tree/log" > "$ci"; }
+        [ -f "$ci" ] || { at "$commit" rt ci > "$tree/log" 2>&1 || true; tail -n 1 "$tree/log" > "$ci"; }
         echo "$(git log -1 --format='%h %s' "$commit"): $(cat "$ci")"
     done
     exit

@@ -5,9 +5,9 @@
 set -euo pipefail
 
 # What build.sh builds, with all below it; any other code is of the tests and the benchmark.
-built=$(sed -n 's/^\(programs\|libdvbs\)=(\(.*\))$/\2/p; s/.*libdvbs_bridge) echo \([a-z_]*\) ;;.*/\1/p' build.sh)
+built="$(sed -n 's/^\(programs\|libdvbs\)=(\(.*\))$/\2/p' build.sh) dvbs_bridge"
 programs=$(sed -n 's/^programs=(\(.*\))$/ \1 /p' build.sh)
-below=$(for name in $built; do grep "^$name:" crates.txt; done | tr -d ':')
+below=$(for name in $built; do sed -n "s/^$name\\( staticlib\\)\\?:/$name/p" crates.txt; done)
 
 # kind NAME: by what the files of the crate say.
 kind() {
@@ -28,5 +28,6 @@ kind() {
 ways=$(sed -n 's/^    packet [0-9]* //p' docs/ARCHITECTURE.md | sed 's/ symbols .*//; s/[<>-]*//g; s/  */ /g' | paste -sd ';')
 
 grep -v '^#' crates.txt | while IFS=: read -r name libraries; do
+    name=${name% staticlib}
     echo "$name $(kind "$name") $libraries"
 done | awk -v wanted="$ways" -f docs/crates.awk

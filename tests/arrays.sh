@@ -7,7 +7,7 @@ set -euo pipefail
 work=$(mktemp -d)
 trap 'rm -rf "$work"' EXIT
 
-find crates -path '*/src/*.rt' | sort | xargs awk 'match($0, /^ *(pub )?(const|static) [A-Z_0-9]+: \[/) {
+find crates -name out -prune -o -path '*/src/*.rt' -print | sort | xargs awk 'match($0, /^ *(pub )?(const|static) [A-Z_0-9]+: \[/) {
     n = split(substr($0, RSTART, RLENGTH), word, " ")
     name = word[n - 1]
     sub(/:$/, "", name)

@@ -3,7 +3,7 @@
 #   bash tests/believed.sh > docs/BELIEVED.md      from the top of the repository
 # Three tiers: the contracts of send_run, receive_run and decode; all public contracts, those of the functions that docs/ARCHITECTURE.md names under
 # "Public surface"; and the theorems of docs/TRUST.md beside them. Of a theorem the signature counts
-# and not the proof; of a definition all of it counts. A name with a hyphen is that of a lemma, which is proved and not believed.
+# and not the proof; of a definition all of it counts.
 set -euo pipefail
 
 # surface: the crates, and modules of them, that callers may use, and the functions of one where they are named in brackets behind it.
@@ -29,7 +29,7 @@ surface() {
 
 # clauses: what a file names in its comments.
 clauses() {
-    find crates -name '*.antt' | sort | xargs awk '/^ *-- / {
+    find crates -name out -prune -o -name '*.antt' -print | sort | xargs awk '/^ *-- / {
         while (match($0, /EN 30[01] [0-9]+(, [0-9]+(\.[0-9]+)+|, tables? [0-9]+( and [0-9]+)?)?|[Dd]ocument 0[12](, ("[^"]*"|P[0-9]+)( and ("[^"]*"|P[0-9]+))*)?/)) {
             clause = substr($0, RSTART, RLENGTH)
             sub(/^D/, "d", clause)
@@ -42,7 +42,7 @@ clauses() {
 {
     surface
     clauses
-    find crates -name '*.antt' -o -name '*.rt' | sort | xargs awk -f tests/items.awk
+    find crates -name out -prune -o \( -name '*.antt' -o -name '*.rt' \) -print | sort | xargs awk -f tests/items.awk
     sed '/^## Array constants/,$d' docs/TRUST.md | awk -f tests/cited.awk
 } | awk -F '\t' '
     function live(item) {
@@ -77,8 +77,7 @@ clauses() {
             }
             n = split(signature[queue[at]] (queue[at] in roots ? "" : body[queue[at]]), to, "\n")
             for (i = 1; i < n; i++)
-                if (name_of(to[i]) !~ /-/)
-                    live(to[i])
+                live(to[i])
         }
     }
     # clauses_of FILE: a document or a standard alone only where no part of it is named.

@@ -1,10 +1,11 @@
-/* Makes one call of read, pread, write or close answer otherwise, for the tests of the programs and of the examples.
+/* Makes one call of read, pread, write, close or fsync answer otherwise, for the tests of the programs and of the examples.
  *
  *     cc -shared -fPIC -o failing.so tests/failing.c
  *     LD_PRELOAD=./failing.so FAIL="CALL DESCRIPTOR WHICH ANSWER" PROGRAM ..
  *
  * The call number WHICH, from 1 on, of that function on that descriptor gives ANSWER: an error number with a minus sign, or how many bytes it moves at
- * most. A WHICH with a plus sign behind it stands for that call and all after it.
+ * most. A WHICH with a plus sign behind it stands for that call and all after it. An fsync is of DESCRIPTOR where it is of the file that this has, by whatever
+ * descriptor: a program that ends its standard output opens that file once more.
  * The C library's own streams call none of these by name. So standard input and output, and files that fopen opens, become streams that do. What is written
  * has no buffer, so that fwrite fails where a write does. /dev/full serves where fflush or fclose must fail. */
 #define _GNU_SOURCE
@@ -14,6 +15,7 @@
 #include <stdio.h>
 #include <stdlib.h>
 #include <string.h>
+#include <sys/stat.h>
 #include <sys/syscall.h>
 #include <sys/types.h>
 #include <unistd.h>
@@ -65,6 +67,22 @@ ssize_t write(int fd, const void *buffer, size_t length) {
 int close(int fd) {
     size_t none = 0;
     return refused("close", fd, &none) ? -1 : (int) syscall(SYS_close, fd);
+}
+
+/* Whether two descriptors have one file. */
+static int same_file(int one, int other) {
+    struct stat first, second;
+    return fstat(one, &first) == 0 && fstat(other, &second) == 0 && first.st_dev == second.st_dev && first.st_ino == second.st_ino;
+}
+
+int fsync(int fd) {
+    size_t none = 0;
+    int other;
+    for (other = 0; other < 3; other++) {
+        if (same_file(fd, other) && refused("fsync", other, &none))
+            return -1;
+    }
+    return (int) syscall(SYS_fsync, fd);
 }
 
 static ssize_t stream_read(void *fd, char *buffer, size_t length) {

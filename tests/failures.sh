@@ -93,7 +93,7 @@ for program in "dvbs_read 2" "dvbs_read_soft 2" "dvbs_send 2" dvbs_receive; do
     part "a failed write of $program" $whole "standard output: No space left on device" failing "write 1 1 -28" "$bin"/$program < $input
     part "a write of $program that takes nothing" $whole "standard output: not written whole" failing "write 1 1 0" "$bin"/$program < $input
     failing "write 1 1+ 1000" "$bin"/$program < $input 2> err | cmp - $whole || fail "short writes of $program"
-    ends 1 "an output of $program that is lost when closed" failing "close 1 1 -5" "$bin"/$program < $input
+    ends 1 "an output of $program that is lost when closed" failing "fsync 1 1 -5" "$bin"/$program < $input
     cmp out $whole && [ "$(cat err)" = "standard output: $io_error" ] || fail "an output of $program that is lost when closed: $(cat err)"
 done
 # cut_off INPUT NAME COMMAND..: the text on standard output lacks its last line, and that is said.
@@ -102,7 +102,7 @@ cut_off() {
     shift 2
     ends 1 "a short write of $what" failing "write 1 1 20" "$@" < "$input"
     [ "$(wc -c < out)" = 20 ] && [ "$(cat err)" = "$name: not written whole" ] || fail "a short write of $what: $(cat err)"
-    ends 1 "an output of $what that is lost when closed" failing "close 1 1 -5" "$@" < "$input"
+    ends 1 "an output of $what that is lost when closed" failing "fsync 1 1 -5" "$@" < "$input"
     [ "$(cat err)" = "standard output: $io_error" ] || fail "an output of $what that is lost when closed: $(cat err)"
 }
 "$bin/pass_report" < blocks > told.report
@@ -112,7 +112,7 @@ cut_off told.report season "$bin/season"
 cut_off second report "$bin/report_form" 1
 # No program that failed ends as if it had not: a write that fails, one that is short, an output that is lost when closed, and standard error, which has
 # the lines of dvbs_send and the number of a refusal. dvbs_send still sends all where it cannot tell.
-for call in "write 1 1 -28" "write 1 1 0" "close 1 1 -5" "read 0 1 -5"; do
+for call in "write 1 1 -28" "write 1 1 0" "fsync 1 1 -5" "read 0 1 -5"; do
     ends 1 "dvbs_send 2, $call" failing "$call" "$bin/dvbs_send" 2 < packets
     ends 1 "dvbs_send --flush 2, $call" failing "$call" "$bin/dvbs_send" --flush 2 < packets
     ends 1 "season, $call" failing "$call" "$bin/season" < told.report
@@ -167,7 +167,7 @@ for program in dvbs_read dvbs_read_soft; do
     tells 1 "$program: a full output" "standard output: No space left on device" bash -c "'$bin/$program' 2 < $input > /dev/full"
     tells 1 "$program: a write fails" "standard output: $io_error" failing "write 1 2 -5" "$bin/$program" 2 < $input
     tells 1 "$program: a write takes nothing" "standard output: not written whole" failing "write 1 2 0" "$bin/$program" 2 < $input
-    tells 1 "$program: the output is lost when closed" "standard output: $io_error" failing "close 1 1 -5" "$bin/$program" 2 < $input
+    tells 1 "$program: the output is lost when closed" "standard output: $io_error" failing "fsync 1 1 -5" "$bin/$program" 2 < $input
     tells 1 "$program: no standard error" "" bash -c "'$bin/$program' 2 < $input 2>&-"
     tells 1 "$program: a short write of the closing lines" "$(head -c 3 <<< "$closing")standard error: not written whole" failing "write 2 1 3" "$bin/$program" 2 < $input
     tells 1 "$program: the output is gone" "standard output: Broken pipe" failing "write 1 2 -32" "$bin/$program" 2 < $input
@@ -208,7 +208,7 @@ for program in dvbs_receive pass_report dvbs_losses; do
     tells 1 "$program: a full output" "$name: No space left on device" bash -c "'$bin/$program' < some > /dev/full"
     tells 1 "$program: the output is gone" "$name: Broken pipe" failing "write 1 1 -32" "$bin/$program" < some
     tells 1 "$program: a write takes nothing" "$name: not written whole" failing "write 1 1 0" "$bin/$program" < some
-    tells 1 "$program: the output is lost when closed" "standard output: $io_error" failing "close 1 1 -5" "$bin/$program" < some
+    tells 1 "$program: the output is lost when closed" "standard output: $io_error" failing "fsync 1 1 -5" "$bin/$program" < some
     ends 0 "$program --help" "$bin/$program" --help < /dev/null
     ends 0 "$program --version" "$bin/$program" --version < /dev/null
 done
@@ -236,7 +236,7 @@ part "failed marks" received "marks: $io_error" failing "read 3 2 -5" "$bin/dvbs
 part "a failed write with marks" received "standard output: No space left on device" failing "write 1 2 -28" "$bin/dvbs_receive" none < <(in_two)
 part "a write with marks that takes nothing" received "standard output: not written whole" failing "write 1 2 0" "$bin/dvbs_receive" none < <(in_two)
 part "a read that a signal interrupts" received "standard input: Interrupted system call" failing "read 0 2 -4" "$bin/dvbs_receive" < <(in_two)
-ends 1 "an output with marks that is lost when closed" failing "close 1 1 -5" "$bin/dvbs_receive" none < blocks
+ends 1 "an output with marks that is lost when closed" failing "fsync 1 1 -5" "$bin/dvbs_receive" none < blocks
 cmp out received && [ "$(cat err)" = "standard output: $io_error" ] || fail "an output with marks that is lost when closed: $(cat err)"
 says "marks, a directory as input, and a full output" "standard input: Is a directory" bash -c "'$bin/dvbs_receive' none < . > /dev/full"
 says "marks, and an input and an output that fail" "standard output: No space left on device" bash -c "FAIL='read 0 2 -5' LD_PRELOAD='$work/failing.so' '$bin/dvbs_receive' none < blocks > /dev/full"

@@ -4,6 +4,7 @@
 # or FILE:pub fn NAME. Methods of one name in one file are one item.
 # It prints, between tabs:
 #   item ITEM LINE LINES     where it begins, and how many lines it has, without comments
+#   goal ITEM                an answer or an invariant that the prover looks for by its name
 #   sign ITEM ITEM           the first cites the second in its signature, or in its fields, constructors or contract
 #   body ITEM ITEM           the same in its clauses
 #   local ITEM ITEM          it has the other's name for a variable, and does not seem to cite it
@@ -13,9 +14,8 @@
 
 # file_of MODULE: the file of a module of the project. A module of the kit, or one made from the code, has none here.
 function file_of(module) {
-    if (!sub(/^Rattle·/, "", module))
+    if (!sub(/^Rattle\./, "", module))
         return ""
-    sub(/·(specs|proofs)\./, ".", module)
     gsub(/\./, "/", module)
     return "crates/" module ".antt"
 }
@@ -59,9 +59,9 @@ function bring(word, module, name) {
 
 # note_parts NAME: an operator is cited by each of its parts.
 function note_parts(name,    part, n, i) {
-    if (name !~ /_/)
+    if (name !~ /◌/)
         return
-    n = split(name, part, "_")
+    n = split(name, part, "◌")
     for (i = 1; i <= n; i++)
         if (part[i] != "")
             operators[FILENAME, part[i]] = operators[FILENAME, part[i]] " " name
@@ -140,9 +140,9 @@ FNR == 1 {
 # Of code, only the contracts.
 FILENAME ~ /\.rt$/ {
     sub(/ *\/\/.*/, "")
-    if (match($0, /fn [a-z_0-9]+\(/) && /^ *(pub )?(extern "C" )?fn /)
+    if (match($0, /fn [a-z_0-9]+[(<]/) && /^ *(pub(\([a-z]+\))? )?(extern "C" )?fn /)
         name = (/^ *pub / ? "pub " : "") substr($0, RSTART, RLENGTH - 1)
-    if (/^ *(requires|ensures) \{/) {
+    if (/^ *(requires|ensures)\*? ([a-z_0-9]+ )?\{/) {
         contract = 1
         declare(name)
     }
@@ -201,6 +201,8 @@ FILENAME ~ /\.rt$/ {
         } else if (declares) {
             declare(first[1])
             part = "sign"
+            if (FILENAME ~ /\/(Proof|Answers|Invariants)\.antt$/ && (rest ~ /: goal\./ || rest ~ /[-_]spec : .*statement/))
+                print "goal\t" item
         } else {
             part = "body"
             if ((FILENAME ":" first[1]) in line_of)
@@ -261,7 +263,7 @@ function cite_word(from, part, word,    at, path, n, i, j, pieces, names) {
         return
     }
     cite(from, part, meant(at, path[1]))
-    n = split(path[1], pieces, "_")
+    n = split(path[1], pieces, "◌")
     for (i = 1; i <= n; i++)
         for (j = split(operators[at, pieces[i]], names, " "); j > 0; j--)
             cite(from, part, meant(at, names[j]))

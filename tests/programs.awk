@@ -22,20 +22,23 @@ FNR == 1 { contract = 0 }
     line = $0
     while (line != "") {
         if (contract) {
-            # A contract is between these two brackets.
-            end = index(line, "⌝ }")
-            if (!end)
+            # A contract is between its two brackets, and may have others in it.
+            if (!match(line, /[{}]/))
                 next
-            line = substr(line, end + length("⌝ }"))
-            contract = 0
+            contract += substr(line, RSTART, 1) == "{" ? 1 : -1
+            line = substr(line, RSTART + 1)
         } else if (match(line, /^[ \t]+/)) {
             line = substr(line, RLENGTH + 1)
         } else if (line ~ /^\/\// || line ~ /^ghost use /) {
             next
-        } else if (match(line, /^(requires|ensures) \{/)) {
+        } else if (match(line, /^(requires|ensures)\*? ([a-z_0-9]+ )?\{/)) {
             contract = 1
-        } else if (match(line, /^b?"([^"\\]|\\.)*"/) || match(line, /^b'([^'\\]|\\.)*'/)) {
+            line = substr(line, RLENGTH + 1)
+        } else if (match(line, /^b?"([^"\\]|\\.)*"/) || match(line, /^b?'([^'\\]|\\.)'/)) {
             add("\"\"")
+            line = substr(line, RLENGTH + 1)
+        } else if (match(line, /^'[a-z_]+/)) {
+            # a lifetime
             line = substr(line, RLENGTH + 1)
         } else if (match(line, /^[A-Za-z_][A-Za-z0-9_]*(::[A-Za-z_][A-Za-z0-9_]*)*/) || match(line, /^[0-9][0-9A-Za-z_]*/) || match(line, /^(=>|==|!=|<=|>=|->|\.\.|&&|\|\||[-+*\/%&|^]=|.)/)) {
             add(substr(line, 1, RLENGTH))
@@ -111,6 +114,8 @@ function declare_structure(i,    name, field, type) {
     while (i <= n && tok[i] != "}") {
         if (tok[i] == "pub")
             i++
+        if (tok[i] == "(")
+            i = past(i)
         field = tok[i]
         type = type_at(i + 2, ",}")
         field_type[name, field] = type
@@ -130,10 +135,14 @@ function declare_function(i, owner,    f, name, type, k) {
     fn_crate[f] = crate_at(i)
     fn_owner[f] = owner
     fn_at[f] = i
-    i += 3
+    i += 2
+    if (tok[i] == "<")
+        while (i <= n && tok[i] != "(")
+            i++
+    i++
     k = 0
     while (i <= n && tok[i] != ")") {
-        if (tok[i] == "mut")
+        while (tok[i] ~ /^(&|mut)$/)
             i++
         name = tok[i]
         if (name == "self") {

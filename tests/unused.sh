@@ -7,12 +7,15 @@
 set -euo pipefail
 work=$(mktemp -d)
 trap 'rm -rf "$work"' EXIT
-find crates -name '*.antt' -o -name '*.rt' | sort > "$work/files"
+find crates -name out -prune -o \( -name '*.antt' -o -name '*.rt' \) -print | sort > "$work/files"
 xargs awk -f tests/items.awk < "$work/files" > "$work/items"
 awk -f tests/cited.awk docs/TRUST.md docs/ARCHITECTURE.md > "$work/cited"
 
+# What the code has names for: a document may name that beside a file.
+{ grep '\.rt$' "$work/files" | xargs grep -oh '[A-Za-z_0-9]*'; sed -n 's/^\([a-z_0-9]*\)[ :].*/\1/p' crates.txt; basename -s .rs reference/src/bin/*; basename -s .c examples/*.c; } | sort -u | sed 's/^/word\t/' > "$work/words"
+
 # Definitions, lemmas and their imports, and what is named in the documents.
-sed 's/^/have\t/' "$work/files" | cat - "$work/items" "$work/cited" | awk -F '\t' '
+sed 's/^/have\t/' "$work/files" | cat - "$work/words" "$work/items" "$work/cited" | awk -F '\t' '
     function live(item) {
         if (!(item in reached)) {
             reached[item] = 1
@@ -24,16 +27,21 @@ sed 's/^/have\t/' "$work/files" | cat - "$work/items" "$work/cited" | awk -F '\t
         found = 1
     }
     $1 == "have" { have[$2] = 1 }
+    $1 == "word" { code[$2] = 1 }
     $1 == "item" {
         name[$2] = $2
         sub(/^[^:]*:/, "", name[$2])
         place[$2] = $2
         sub(/:.*/, ":" $3, place[$2])
         order[++items] = $2
+        # A document may name a definition of another file beside a file.
+        if ($2 ~ /\/specs\//)
+            code[name[$2]] = 1
         # Contracts, and the proofs that the prover looks for by their name.
-        if (name[$2] ~ /^(pub )?fn / || $2 ~ /\/Proof\.antt:[^:]*-spec$/)
+        if (name[$2] ~ /^(pub )?fn /)
             live($2)
     }
+    $1 == "goal" { live($2) }
     $1 == "sign" || $1 == "body" || $1 == "local" { uses[$2] = uses[$2] $3 "\n" }
     $1 == "import" { report($2 ":" $3 ": imports " $4 ", and does not use it") }
     $1 == "file" && !($2 in have) && $2 !~ /NAME/ { report($3 ": there is no " $2) }
@@ -43,7 +51,7 @@ sed 's/^/have\t/' "$work/files" | cat - "$work/items" "$work/cited" | awk -F '\t
         if ($2 in name) {
             live($2)
             there[theorem] = 1
-        } else if (theorem ~ /-/ && !(theorem in asked)) {
+        } else if (theorem ~ /[-_]/ && theorem !~ /::|NAME/ && !(theorem in code) && !(theorem in asked)) {
             asked[theorem] = $3
             wanted[++theorems] = theorem
         }
@@ -75,14 +83,35 @@ grep '\.rt$' "$work/files" | xargs awk -v surface="$surface" '
             public["crates/" file ".rt"] = 1
         }
     }
+    # A use is read up to its semicolon. What a crate hands on by pub use is not used by that.
+    FNR == 1 { use = inside = "" }
     { sub(/ *\/\/.*/, "") }
-    /^use / {
-        sub(/;$/, "")
-        sub(/.*::/, "")
-        brought[FILENAME, $NF] = FILENAME ":" FNR ": imports " $NF ", and does not use it"
+    /^(pub )?use / { use = FNR }
+    use != "" {
+        if (use == FNR)
+            given = ""
+        given = given $0
+        if (!/;$/)
+            next
+        if (given ~ /^use /) {
+            sub(/;$/, "", given)
+            sub(/^use /, "", given)
+            gsub(/.*\{|\}$/, "", given)
+            n = split(given, names, /, */)
+            for (i = 1; i <= n; i++) {
+                name = names[i]
+                gsub(/^ +| +$|^.*::|^.* as /, "", name)
+                if (name != "" && name != "self")
+                    brought[FILENAME, name] = FILENAME ":" use ": imports " name ", and does not use it"
+            }
+        }
+        use = ""
         next
     }
-    match($0, /^ *(pub )?(const|fn|struct|enum|type) [A-Za-z_0-9]+/) {
+    # A method of a trait is called by its trait.
+    /^impl.* for / { inside = 1 }
+    /^}/ { inside = "" }
+    inside == "" && match($0, /^ *(pub(\([a-z]+\))? )?(const|fn|struct|enum|type|trait) [A-Za-z_0-9]+/) {
         n = split(substr($0, RSTART, RLENGTH), word, " ")
         declared[word[n]]++
         place[word[n]] = FILENAME ":" FNR
