@@ -4,7 +4,6 @@ use mathlib.Core.Path.{◌≡◌, refl, sym, ◌∙◌, ap, ap₂, subst}
 use mathlib.Core.Bool.{Bool, true, false}
 use mathlib.Core.List.{List, [], ◌∷◌, ◌++◌, flatten, append_assoc, append-nil}
 use Prim.Native.Nat.{ℕ, suc, ◌+◌, ◌/◌, ◌%◌, ◌<◌}
-use native.Mathlib.Nat.{mod-lt}
 use native.Mathlib.Numerals.{add-one}
 use native.Mathlib.Omega.{arith}
 use borrow.Author.Tests.{lt-ltb}
@@ -99,11 +98,6 @@ turns = 0 ∷ 1 ∷ 4 ∷ 5 ∷ []
 
 pub some_turns : (rate : ℕ) → rate < 5 → {count : ℕ} → count ≡ length (turns_told rate) → 0 < count
 some_turns rate hr e = subst (λ (n : ℕ). 0 < n) (sym e) (ltb→lt _ _ (below_at (λ r. ltb 0 (length (turns_told r))) 5 tt rate hr))
-
-pub turn_place : (rate k : ℕ) → rate < 5 → {count : ℕ} → count ≡ length (turns_told rate) → k % count < 4
-turn_place rate k hr {count} e =
-    let l : length (turns_told rate) < 5 = ltb→lt _ _ (below_at (λ r. ltb (length (turns_told r)) 5) 5 tt rate hr) in
-    omega (arith, e, l, mod-lt k (some_turns rate hr e))
 
 pub hypothesis_is : (rate k : ℕ) → rate < 5 → k < hypothesis_count rate → {count : ℕ} → count ≡ length (turns_told rate)
     → (hypothesis rate (k / count) (get_or turns (k % count) 0) ≡ hypothesis_at rate k) × (k / count < 4) × (get_or turns (k % count) 0 < 8)

@@ -26,7 +26,7 @@ use Rattle.inner_code.specs.Step as coder
 use Rattle.inner_code.specs.Encode as inner
 use Rattle.inner_code.specs.declared.InnerCoder.{InnerCoder}
 use Rattle.inner_code.proofs.Coder as range
-use Rattle.sender.specs.Input.{is_input, packet_for, sent_number}
+use Rattle.sender.specs.Input.{packet_for, sent_number}
 use Rattle.sender.specs.Send.{sender_in_range, coded_packet, sent_block, sent_symbols, sent_count, sender_after, is_sent, send_refusal, Sends}
 use Rattle.sender.specs.declared.Sender.{Sender}
 
@@ -67,19 +67,6 @@ module _ (t : ℕ → Mode) (s : Sender) (input output : List ℕ) where
         l ∙ ap (λ (x : List ℕ). sent_symbols t s x ++ drop (sent_count t s) output) p
         ∙ ap (λ (k : ℕ). pick (eqb k 0) (sent_symbols t s (packet_for input) ++ drop (sent_count t s) output) output) (sym e);
   }
-
--- a call writes no more than the output
-fits : (a s b c : Bool) (count n k : ℕ) → count ≡ pick (eqb (pick a (pick s (pick b (pick c 4 0) 1) 6) 5) 0) n 0 → (c ≡ false → n ≤ k) → count ≤ k
-fits false s b c count n k e f = omega arith
-fits true false b c count n k e f = omega arith
-fits true true false c count n k e f = omega arith
-fits true true true true count n k e f = omega arith
-fits true true true false count n k e f = let l = f refl in omega arith
-
-pub count_fits : {t : ℕ → Mode} {s : Sender} {input output : List ℕ} {number count : ℕ} {next : Sender} {left : List ℕ}
-    → Sends t s input output number count next left → count ≤ length output
-count_fits {t} {s} {input} {output} {number} {count} m =
-    fits (sender_in_range t s) (is_sent t s) (is_input input) (ltb (length output) (sent_count t s)) count (sent_count t s) (length output) m.counted (λ z. ltb-false _ _ z)
 
 -- ---- the stages
 

@@ -1,7 +1,6 @@
 -- `bit_packing::pack_bits` meets its contract.
 -- Assumes nothing.
 use mathlib.Core.Path.{refl, ap, ◌∙◌}
-use Prim.Native.Nat.{◌-◌}
 use native.Mathlib.Omega.{arith}
 use lib.ListN.{length, length-set}
 use Rattle.convolutional_code.proofs.Bits.{bits_at}

@@ -1,7 +1,6 @@
 -- `block_sync::put_block` meets its contract.
 -- Assumes nothing.
 use mathlib.Core.Path.{◌≡◌, sym, ap, ◌∙◌}
-use Prim.Native.Nat.{◌-◌}
 use native.Mathlib.Omega.{arith}
 use Rattle.common.proofs.Written.{written_none, written_next, written_length, written_whole}
 use Rattle.block_sync.specs.Grid.{turned_byte}

@@ -1,7 +1,6 @@
 -- `error_locator::eliminate` meets its contract: the first k columns are those of d times the unit matrix.
 -- Assumes nothing.
 use mathlib.Core.Path.{refl, ◌∙◌}
-use Prim.Native.Nat.{◌-◌}
 use native.Mathlib.Omega.{arith}
 use Rattle.error_locator.specs.Locator.{Pivoted}
 use Rattle.error_locator.proofs.KeyEquations.{kept_start, kept_more, eliminated, eliminated_all}

@@ -1,6 +1,6 @@
 -- `error_locator::find_pivot` meets its contract: the rows from k up to p are zero in column k.
 -- Assumes nothing.
-use Prim.Native.Nat.{◌*◌, ◌+◌, ◌-◌}
+use Prim.Native.Nat.{◌*◌, ◌+◌}
 use native.Mathlib.Omega.{arith}
 use Rattle.error_locator.proofs.KeyEquations.{looked_start, looked_step, looked_found, looked_none}
 use Rattle.error_locator.proofs.find_pivot.Goals as goal

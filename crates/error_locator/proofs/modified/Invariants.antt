@@ -1,6 +1,6 @@
 -- `error_locator::modified` meets its contract: the places from l on are done.
 -- Assumes nothing.
-use Prim.Native.Nat.{◌-◌, ◌≤◌}
+use Prim.Native.Nat.{◌≤◌}
 use lib.ListN.{take}
 use Rattle.error_locator.proofs.ModifiedSyndromes.{ModifiedTo}
 use Rattle.error_locator.proofs.modified.Given as goal

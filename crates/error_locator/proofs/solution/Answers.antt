@@ -1,7 +1,6 @@
 -- `error_locator::solution` meets its contract.
 -- Assumes nothing.
 use mathlib.Core.Path.{refl}
-use Prim.Native.Nat.{◌-◌}
 use Rattle.common.proofs.Each.{each_none, each_more, each_all}
 use borrow.Author.Rules.{rules}
 use Rattle.error_locator.proofs.solution.Goals as goal

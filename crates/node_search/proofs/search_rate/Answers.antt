@@ -1,7 +1,7 @@
 -- `node_search::search_rate` meets its contract.
 -- Assumes nothing.
 use mathlib.Core.Path.{◌≡◌, sym, ap, ap₂, subst}
-use Prim.Native.Nat.{ℕ, ◌*◌, ◌-◌, ◌<◌}
+use Prim.Native.Nat.{ℕ, ◌*◌, ◌<◌}
 use native.Mathlib.Omega.{arith}
 use Rattle.node_search.specs.Hypotheses.{hypothesis_count}
 use Rattle.node_search.specs.Weight.{Measured, tried_pairs}

@@ -1,7 +1,7 @@
 -- `node_search::search_rates` meets its contract.
 -- Assumes nothing.
 use mathlib.Core.Path.{◌≡◌, subst}
-use Prim.Native.Nat.{ℕ, ◌-◌}
+use Prim.Native.Nat.{ℕ}
 use native.Mathlib.Omega.{arith}
 use Rattle.node_search.specs.Hypotheses.{hypotheses_below}
 use Rattle.node_search.specs.Search.{Searches}

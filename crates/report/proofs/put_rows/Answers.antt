@@ -1,7 +1,7 @@
 -- `report::put_rows` meets its contract.
 -- Assumes nothing.
 use mathlib.Core.Path.{◌≡◌, ap}
-use Prim.Native.Nat.{ℕ, ◌-◌}
+use Prim.Native.Nat.{ℕ}
 use native.Mathlib.Omega.{arith}
 use Rattle.report.specs.Text.{lines_text}
 use Rattle.report_lines.proofs.Lines.{restated}

@@ -1,6 +1,5 @@
 -- `report_lines::matches` meets its contract.
 -- Assumes nothing.
-use Prim.Native.Nat.{◌-◌}
 use native.Mathlib.Omega.{arith}
 use Rattle.report_lines.proofs.Numbers.{word_none, word_more, word_all, word_short, word_differs}
 use Rattle.report_lines.proofs.matches.Goals as goal

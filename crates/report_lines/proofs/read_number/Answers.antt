@@ -1,6 +1,5 @@
 -- `report_lines::read_number` meets its contract.
 -- Assumes nothing.
-use Prim.Native.Nat.{◌-◌}
 use Rattle.report_lines.proofs.Numbers.{none_left, none_first, none_first_large, number_first, none_end, number_found, none_other, none_zero, none_large, number_more}
 use Rattle.report_lines.proofs.read_number.Goals as goal
 

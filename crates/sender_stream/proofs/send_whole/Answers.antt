@@ -1,7 +1,6 @@
 -- `sender_stream::send_whole` meets its contract. The measure is what is left of the piece, with the bytes held.
 -- Assumes nothing.
 use mathlib.Core.Path.{◌≡◌}
-use Prim.Native.Nat.{◌-◌}
 use native.Mathlib.Omega.{arith}
 use lib.ListN.{length}
 use Rattle.sender_stream.proofs.Laws.{sending_range}

@@ -1,7 +1,6 @@
 -- `sync_search::find_sync` meets its contract.
 -- Assumes nothing.
 use mathlib.Core.Path.{sym, ◌∙◌}
-use Prim.Native.Nat.{◌-◌}
 use native.Mathlib.Omega.{arith}
 use Rattle.sync_search.specs.Sync.{first, nowhere}
 use Rattle.sync_search.proofs.Syncs.{passed_none, passed_more}

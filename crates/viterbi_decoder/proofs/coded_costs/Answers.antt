@@ -1,7 +1,6 @@
 -- `viterbi_decoder::coded_costs` meets its contract.
 -- Assumes nothing.
 use mathlib.Core.Path.{refl}
-use Prim.Native.Nat.{◌-◌}
 use native.Mathlib.Omega.{arith}
 use Rattle.common.proofs.Each.{each_none, each_more, each_all}
 use Rattle.viterbi_decoder.proofs.coded_costs.Goals as goal

@@ -1,7 +1,6 @@
 -- `viterbi_decoder::first_least` meets its contract: the first of the memories so far with the least metric.
 -- Assumes nothing.
 use mathlib.Core.Path.{◌≡◌}
-use Prim.Native.Nat.{◌-◌}
 use native.Mathlib.Omega.{arith}
 use Rattle.convolutional_code.specs.Costs.{at}
 use Rattle.viterbi_decoder.proofs.Ends.{ends_one, ends_new, ends_old}

@@ -1,10 +1,8 @@
 -- `viterbi_decoder::lesser_ways` meets its contract.
 -- Assumes nothing.
 use mathlib.Core.Path.{refl}
-use Prim.Native.Nat.{◌-◌}
 use native.Mathlib.Omega.{arith}
 use Rattle.common.proofs.Each.{each_none, each_more, each_all}
-use Rattle.viterbi_decoder.specs.Lanes.{lesser}
 use Rattle.viterbi_decoder.proofs.lesser_ways.Goals as goal
 
 pub loop-i-init : goal.loop-i-init

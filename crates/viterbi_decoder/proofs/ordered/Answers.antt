@@ -1,7 +1,6 @@
 -- `viterbi_decoder::ordered` meets its contract.
 -- Assumes nothing.
 use mathlib.Core.Path.{refl, ap}
-use Prim.Native.Nat.{◌-◌}
 use native.Mathlib.Omega.{arith}
 use Rattle.common.proofs.Each.{each_none, each_more, each_all}
 use Rattle.convolutional_code.specs.Costs.{at}

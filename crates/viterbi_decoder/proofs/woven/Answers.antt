@@ -1,7 +1,6 @@
 -- `viterbi_decoder::woven` meets its contract.
 -- Assumes nothing.
 use mathlib.Core.Path.{refl}
-use Prim.Native.Nat.{◌-◌}
 use native.Mathlib.Omega.{arith}
 use Rattle.viterbi_decoder.proofs.Loops.{woven_none, woven_more, woven_all}
 use Rattle.viterbi_decoder.proofs.woven.Goals as goal

@@ -1,7 +1,7 @@
 -- `viterbi_decoder::write_costs` meets its contract.
 -- Assumes nothing.
 use mathlib.Core.Path.{◌∙◌, ap₂}
-use Prim.Native.Nat.{ℕ, ◌-◌}
+use Prim.Native.Nat.{ℕ}
 use native.Mathlib.Omega.{arith}
 use Rattle.convolutional_code.specs.Costs.{at, decided}
 use Rattle.viterbi_decoder.proofs.Butterfly.{written_none, written_more}

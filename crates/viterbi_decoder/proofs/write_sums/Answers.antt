@@ -1,6 +1,6 @@
 -- `viterbi_decoder::write_sums` meets its contract.
 -- Assumes nothing.
-use Prim.Native.Nat.{◌-◌, ◌/◌, ◌%◌}
+use Prim.Native.Nat.{◌/◌, ◌%◌}
 use native.Mathlib.Omega.{arith}
 use Rattle.viterbi_decoder.proofs.Butterfly.{written_none, written_more}
 use Rattle.viterbi_decoder.proofs.write_sums.Goals as goal

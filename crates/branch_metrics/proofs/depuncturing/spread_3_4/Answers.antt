@@ -1,6 +1,6 @@
 -- `branch_metrics::depuncturing::spread_3_4` meets its contract: proofs/Facts.antt has what holds as the loop goes.
 -- Assumes nothing.
-use Prim.Native.Nat.{◌+◌, ◌-◌}
+use Prim.Native.Nat.{◌+◌}
 use native.Mathlib.Omega.{arith}
 use lib.ListN.{length-set}
 use Rattle.branch_metrics.proofs.Facts.{threes_none, threes_more}

@@ -1,6 +1,5 @@
 -- `branch_metrics::depuncturing::spread_places` meets its contract: proofs/Facts.antt has what holds as the loop goes.
 -- Assumes nothing.
-use Prim.Native.Nat.{◌-◌}
 use native.Mathlib.Omega.{arith}
 use Rattle.branch_metrics.proofs.Facts.{spreading_none, spreading_more, in_pattern, asks, table_is}
 use Rattle.branch_metrics.proofs.depuncturing.spread_places.Goals as goal

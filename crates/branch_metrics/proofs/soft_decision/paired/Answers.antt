@@ -1,7 +1,6 @@
 -- `branch_metrics::soft_decision::paired` meets its contract.
 -- Assumes nothing.
 use mathlib.Core.Path.{refl}
-use Prim.Native.Nat.{◌-◌}
 use native.Mathlib.Omega.{arith}
 use Rattle.common.proofs.Each.{each_none, each_more, each_all}
 use Rattle.branch_metrics.proofs.soft_decision.paired.Goals as goal

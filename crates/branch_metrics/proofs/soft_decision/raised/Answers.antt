@@ -1,7 +1,7 @@
 -- `branch_metrics::soft_decision::raised` meets its contract.
 -- Assumes nothing.
 use mathlib.Core.Path.{refl, ap}
-use Prim.Native.Nat.{ℕ, ◌+◌, ◌-◌}
+use Prim.Native.Nat.{ℕ, ◌+◌}
 use native.Mathlib.Omega.{arith}
 use lib.ListN.{get_or}
 use Rattle.common.proofs.Each.{each_none, each_more, each_all}

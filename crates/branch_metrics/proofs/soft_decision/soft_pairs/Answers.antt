@@ -1,7 +1,6 @@
 -- `branch_metrics::soft_decision::soft_pairs` meets its contract.
 -- Assumes nothing.
 use mathlib.Core.Path.{refl, ◌∙◌, ap}
-use Prim.Native.Nat.{◌-◌}
 use native.Mathlib.Omega.{arith}
 use Rattle.common.proofs.Each.{each_more}
 use Rattle.branch_metrics.specs.SoftPairs.{symbol_pair}

@@ -1,6 +1,6 @@
 -- `galois::lanes::evaluate` meets its contract: v has the values of the coefficients from k on.
 -- Assumes nothing.
-use Prim.Native.Nat.{◌-◌, ◌<◌}
+use Prim.Native.Nat.{◌<◌}
 use lib.ListN.{length, drop}
 use Rattle.galois.specs.Lanes.{ValuesAt}
 use Rattle.galois.proofs.lanes.evaluate.Given as goal

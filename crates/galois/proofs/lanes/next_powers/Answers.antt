@@ -1,7 +1,6 @@
 -- `galois::lanes::next_powers` meets its contract: after i turns the first i lanes are written.
 -- Assumes nothing.
 use mathlib.Core.Path.{refl, ◌∙◌}
-use Prim.Native.Nat.{◌-◌}
 use Rattle.algebra.specs.Polynomial.{scale}
 use Rattle.galois.specs.Field256.{mul}
 use Rattle.galois.proofs.Laws.{mul_comm}

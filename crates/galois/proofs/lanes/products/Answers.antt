@@ -1,7 +1,6 @@
 -- `galois::lanes::products` meets its contract: after l turns the first l products are written.
 -- Assumes nothing.
 use mathlib.Core.Path.{◌≡◌, refl, sym, ◌∙◌}
-use Prim.Native.Nat.{◌-◌}
 use native.Mathlib.Omega.{arith}
 use lib.ListN.{length}
 use Rattle.common.proofs.Written.{written_none, written_next, written_whole}

@@ -1,7 +1,6 @@
 -- `galois::lanes::sum` meets its contract: after j turns the first j bytes are those of the sum.
 -- Assumes nothing.
 use mathlib.Core.Path.{◌≡◌, refl, sym, ◌∙◌}
-use Prim.Native.Nat.{◌-◌}
 use native.Mathlib.Omega.{arith}
 use lib.ListN.{length}
 use Rattle.algebra.specs.Polynomial.{plus}

@@ -1,6 +1,5 @@
 -- `kernels::code::code_blocks` meets its contract.
 -- Assumes nothing.
-use Prim.Native.Nat.{◌-◌}
 use native.Mathlib.Omega.{arith}
 use Rattle.kernels.proofs.Codes.{coding_start, coding_length, coding_fits, coding_end, coding_total, coding_more}
 use Rattle.kernels.proofs.code.code_blocks.Goals as goal

@@ -1,6 +1,5 @@
 -- `kernels::delay::interleave_blocks` meets its contract.
 -- Assumes nothing.
-use Prim.Native.Nat.{◌-◌}
 use native.Mathlib.Omega.{arith}
 use Rattle.interleaver.specs.declared.branches.Side.TheVariants.{Sending}
 use Rattle.kernels.proofs.Delays.{passing_start, passing_length, passing_end, passing_more}

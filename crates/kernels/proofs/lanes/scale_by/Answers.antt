@@ -1,6 +1,5 @@
 -- `kernels::lanes::scale_by` meets its contract.
 -- Assumes nothing.
-use Prim.Native.Nat.{◌-◌}
 use Rattle.kernels.proofs.Factors.{scaling_none, scaling_more, scaling_all}
 use Rattle.kernels.proofs.lanes.scale_by.Goals as goal
 

@@ -1,6 +1,5 @@
 -- `reader_stream::symbol_runs::memory_through` meets its contract.
 -- Assumes nothing.
-use Prim.Native.Nat.{◌-◌}
 use Rattle.convolutional_code.proofs.Bits.{bits_at}
 use Rattle.reader_stream.proofs.Runs.{passing_none, passing_more, passing_all}
 use Rattle.reader_stream.proofs.symbol_runs.memory_through.Goals as goal

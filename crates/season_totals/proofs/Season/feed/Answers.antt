@@ -1,6 +1,6 @@
 -- `season_totals::Season::feed` meets its contract, and ends: each turn takes at least a byte.
 -- Assumes nothing.
-use Prim.Native.Nat.{◌-◌, ◌<◌}
+use Prim.Native.Nat.{◌<◌}
 use native.Mathlib.Omega.{arith}
 use Rattle.season_totals.proofs.Histories.{fed_none, fed_more, fed_all, came_small}
 use borrow.Author.Rules.{rules}

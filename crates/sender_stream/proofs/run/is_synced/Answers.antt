@@ -1,7 +1,6 @@
 -- `sender_stream::run::is_synced` meets its contract.
 -- Assumes nothing.
 use mathlib.Core.Path.{sym}
-use Prim.Native.Nat.{◌-◌}
 use native.Mathlib.Omega.{arith}
 use Rattle.sender_stream.proofs.Buffers.{scanning_left, synced_start, synced_more, synced_bad, synced_all}
 use Rattle.sender_stream.proofs.run.is_synced.Goals as goal

@@ -1,6 +1,5 @@
 -- `sender_stream::run::send_packets` meets its contract.
 -- Assumes nothing.
-use Prim.Native.Nat.{◌-◌}
 use native.Mathlib.Omega.{arith}
 use Rattle.sender_stream.proofs.Buffers.{scanning_left}
 use Rattle.sender_stream.proofs.RunProgress.{progress_start, progress_end, progress_length, progress_fits, progress_total, progress_more}
