@@ -1,6 +1,7 @@
 // A pass: received bytes from an input, and their marks from another, piece after piece as they are read, until they end. The packets go to an output.
 // Where the marks have ended, or there is no input for them, no byte is marked.
 #![tactic(auto)]
+
 ghost use Rattle.std.specs.Prelude.{◌≡◌, false, ◌++◌, ◌+◌, ◌-◌, ◌/◌, ◌≤◌, min, length, take, drop, replicate};
 ghost use Rattle.program_io.specs.Checksum.{no_bytes};
 ghost use Rattle.program_io.specs.Files.{input_trace, input_failed, output_trace, output_failed, Writes};
@@ -9,7 +10,7 @@ ghost use Rattle.receiver_stream.specs.History.{ReceiverCame};
 ghost use Rattle.receiver_stream.specs.Reporting.{stream_report};
 ghost use Rattle.pass.specs.Pass.{first_above, MarksRead, HandsOn, ending_of, Passes};
 
-use program_io::{Filled, Input, Output};
+use program_io::{Filled, Input, Output, System};
 use receiver_stream::ReceiverStream;
 
 // How a pass ended: all was read and taken; a read or a write failed; or there was a mark above 1 in this block.
@@ -54,11 +55,11 @@ fn clear(buffer: &mut [u8], from: usize, end: usize)
 }
 
 // Reads the marks of so many bytes to the front of a buffer, with 0 for each byte for which none came.
-fn read_marks(marks: Input, buffer: &mut [u8], n: usize) -> Filled
+fn read_marks(system: &mut System, marks: Input, buffer: &mut [u8], n: usize) -> Filled
     requires { n ≤ length buffer.old }
     ensures { MarksRead marks n buffer.new result }
 {
-    let filled = marks.fill(b"marks", &mut buffer[0..n]);
+    let filled = marks.fill(system, b"marks", &mut buffer[0..n]);
     let came = filled.length;
     clear(buffer, came, n);
     filled
@@ -89,12 +90,18 @@ fn block_of(stream: ReceiverStream, place: usize) -> u64
 }
 
 // Writes packets where they are wanted.
-fn hand_on(output: Output, wanted: bool, packets: &[u8], count: usize) -> Output
+fn hand_on(
+    system: &mut System,
+    output: Output,
+    wanted: bool,
+    packets: &[u8],
+    count: usize,
+) -> Output
     requires { count ≤ length packets.now }
     ensures { HandsOn output wanted (take count packets.now) result }
 {
     if wanted {
-        return output.write(b"standard output", &packets[..count]);
+        return output.write(system, b"standard output", &packets[..count]);
     }
     output
 }
@@ -119,6 +126,7 @@ pub fn buffer() -> [u8; 65536]
 // A fresh stream receiver over the inputs, by way of these buffers, until the bytes end, a read or a write fails, a mark is none, or no more blocks can
 // be counted.
 pub fn receive_all(
+    system: &mut System,
     input: Input,
     marks: Input,
     output: Output,
@@ -143,7 +151,7 @@ pub fn receive_all(
     let mut stream = ReceiverStream::new();
     loop {
         let most = smaller(stream.capacity(), bytes.len());
-        let filled = input.read(b"standard input", bytes, most);
+        let filled = input.read(system, b"standard input", bytes, most);
         let n = filled.length;
         input = filled.input;
         if n == 0 {
@@ -156,7 +164,7 @@ pub fn receive_all(
                 ending,
             };
         }
-        let marked = read_marks(marks, own, n);
+        let marked = read_marks(system, marks, own, n);
         let came = marked.length;
         marks = marked.input;
         if marks.failed() {
@@ -180,7 +188,7 @@ pub fn receive_all(
         }
         let fed = stream.feed(&bytes[..n], &own[..n], packets);
         let count = fed.count;
-        output = hand_on(output, wanted, packets, count);
+        output = hand_on(system, output, wanted, packets, count);
         stream = fed.stream;
         if output.failed() {
             return Pass {
@@ -195,12 +203,12 @@ pub fn receive_all(
 }
 
 // Writes the report of a pass to an output. The text has room for any report.
-pub fn write_report(stream: ReceiverStream, output: Output) -> Output
+pub fn write_report(system: &mut System, stream: ReceiverStream, output: Output) -> Output
     requires { ReceiverCame stream }
     ensures { Writes output (report_text (stream_report stream)) result }
 {
     let mut text = [0u8; 320];
     let written = stream.report(&mut text);
     let n = written.length;
-    output.write_text(b"report", &text[..n])
+    output.write_text(system, b"report", &text[..n])
 }

@@ -2,6 +2,7 @@
 // Prints the pass report of the received bytes on standard input, in form 2.
 // Status 0: all was read, and the report was written. 1: something failed. 2: a wrong call.
 #![tactic(auto)]
+
 ghost use Rattle.std.specs.Prelude.{◌≡◌, pos};
 ghost use Rattle.program_io.specs.Calls.{Answers};
 ghost use Rattle.program_io.specs.Files.{FreshOutput};
@@ -10,8 +11,9 @@ ghost use Rattle.receiver_stream.specs.History.{ReceiverCame};
 ghost use Rattle.pass_report.specs.Ends.{program_name, usage_text, right_call, is_whole, Prints, Ends, Exits};
 
 use pass::Ending;
-use program_io::{Answered, Arguments, Asked, Input, Output, Word};
+use program_io::{Answered, Arguments, Asked, Input, Output, System, Word};
 use receiver_stream::ReceiverStream;
+use std::process::ExitCode;
 
 // How it ended, with the files as it left them.
 #[derive(Clone, Copy)]
@@ -33,12 +35,12 @@ fn is_whole(ending: Ending) -> bool
 }
 
 // Prints the report, and closes the output.
-fn print(stream: ReceiverStream, input: Input, output: Output) -> PassEnded
+fn print(system: &mut System, stream: ReceiverStream, input: Input, output: Output) -> PassEnded
     requires { (ReceiverCame stream) × (FreshOutput (pos 1) output) }
     ensures { Prints stream input result }
 {
-    let output = pass::write_report(stream, output);
-    let output = output.close(b"standard output");
+    let output = pass::write_report(system, stream, output);
+    let output = output.close(system, b"standard output");
     let status = if output.failed() { 1 } else { 0 };
     PassEnded {
         status,
@@ -48,7 +50,7 @@ fn print(stream: ReceiverStream, input: Input, output: Output) -> PassEnded
 }
 
 // The pass on standard input. No packet is written.
-fn run() -> PassEnded
+fn run(system: &mut System) -> PassEnded
     ensures { Ends result }
 {
     let input = Input::standard();
@@ -58,6 +60,7 @@ fn run() -> PassEnded
     let mut own = pass::buffer();
     let mut packets = pass::buffer();
     let pass = pass::receive_all(
+        system,
         input,
         marks,
         output,
@@ -71,7 +74,7 @@ fn run() -> PassEnded
     let stream = pass.stream;
     let ending = pass.ending;
     if is_whole(ending) {
-        return print(stream, input, output);
+        return print(system, stream, input, output);
     }
     PassEnded {
         status: 1,
@@ -81,10 +84,15 @@ fn run() -> PassEnded
 }
 
 // Gives the usage or the version, or tells the usage.
-fn answer(asked: Asked) -> Answered
+fn answer(system: &mut System, asked: Asked) -> Answered
     ensures { Answers asked program_name usage_text result }
 {
-    program_io::answer(asked, b"pass_report", b"usage: pass_report < blocks\n")
+    program_io::answer(
+        system,
+        asked,
+        b"pass_report",
+        b"usage: pass_report < blocks\n",
+    )
 }
 
 // Whether the call is for the program's work, with no argument.
@@ -98,17 +106,21 @@ fn is_right(asked: Asked, arguments: Arguments) -> bool
     }
 }
 
-#[unsafe(no_mangle)]
-pub extern "C" fn pass_report_main() -> i32
+pub fn pass_report_main(system: &mut System) -> i32
     ensures { Exits result }
 {
-    let arguments = Arguments::new();
-    let first = Word::new(1);
+    let arguments = Arguments::new(system);
+    let first = Word::new(system, 1);
     let asked = program_io::asked_for(arguments, first);
     if is_right(asked, arguments) {
-        let ended = run();
+        let ended = run(system);
         return ended.status;
     }
-    let answered = answer(asked);
+    let answered = answer(system, asked);
     answered.status
+}
+
+fn main(rt: HostRuntime) -> ExitCode {
+    let mut system = System::new(rt);
+    program_io::exit_code(pass_report_main(&mut system))
 }

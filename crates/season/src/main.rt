@@ -2,12 +2,14 @@
 // Prints the totals of a season of pass reports, one after another on standard input, and the worst of them; or the number of the first refusal.
 // Status 0: the totals were printed; 1: the season was refused, or something failed; 2: a wrong call.
 #![tactic(auto)]
+
 ghost use Rattle.std.specs.Prelude.{pos};
 ghost use Rattle.program_io.specs.Files.{StandardInput, FreshOutput};
 ghost use Rattle.season.specs.Ends.{Comes, Ends, Called, Exits};
 
-use program_io::{Arguments, Asked, Input, Output, Word};
+use program_io::{Arguments, Asked, Input, Output, System, Word};
 use season_totals::Season;
+use std::process::ExitCode;
 
 // What was read, and the season that it came to.
 #[derive(Clone, Copy)]
@@ -26,7 +28,7 @@ pub struct SeasonEnded {
 
 // Reads until the input is over, or the season is refused: what follows a refusal does not matter. The loop ends because a season that is not refused
 // has no more than 4,096 reports.
-fn read_season(input: Input) -> SeasonCame
+fn read_season(system: &mut System, input: Input) -> SeasonCame
     requires { StandardInput input }
     ensures { Comes result }
 {
@@ -35,7 +37,7 @@ fn read_season(input: Input) -> SeasonCame
     let mut came: u64 = 0;
     let mut buffer = [0u8; 65536];
     loop {
-        let read = input.read(b"standard input", &mut buffer, 65536);
+        let read = input.read(system, b"standard input", &mut buffer, 65536);
         let n = read.length;
         input = read.input;
         if n == 0 {
@@ -52,7 +54,7 @@ fn read_season(input: Input) -> SeasonCame
 }
 
 // Prints what the season of the input comes to.
-fn write_season(input: Input, season: Season, output: Output) -> SeasonEnded
+fn write_season(system: &mut System, input: Input, season: Season, output: Output) -> SeasonEnded
     requires { (Comes (record { input = input; season = season })) × (FreshOutput (pos 1) output) }
     ensures { Ends result }
 {
@@ -67,8 +69,8 @@ fn write_season(input: Input, season: Season, output: Output) -> SeasonEnded
     let read = season.finish();
     let answer = read.answer;
     let n = season_totals::compose(read, &mut text);
-    let output = output.write_text(b"season", &text[..n]);
-    let output = output.close(b"standard output");
+    let output = output.write_text(system, b"season", &text[..n]);
+    let output = output.close(system, b"standard output");
     if output.failed() {
         return SeasonEnded {
             status: 1,
@@ -93,37 +95,41 @@ fn write_season(input: Input, season: Season, output: Output) -> SeasonEnded
 const USAGE: [u8; 24] = *b"usage: season < reports\n";
 
 // Prints the season of standard input, or tells that the call has words.
-fn work(arguments: Arguments, first: Word) -> i32
+fn work(system: &mut System, arguments: Arguments, first: Word) -> i32
     requires { Called arguments first }
     ensures { Exits result }
 {
     if arguments.count() != 0 {
-        let answered = program_io::wrong(&USAGE);
+        let answered = program_io::wrong(system, &USAGE);
         return answered.status;
     }
-    let came = read_season(Input::standard());
+    let came = read_season(system, Input::standard());
     let input = came.input;
     let season = came.season;
-    let ended = write_season(input, season, Output::standard());
+    let ended = write_season(system, input, season, Output::standard());
     ended.status
 }
 
-#[unsafe(no_mangle)]
-pub extern "C" fn season_main() -> i32
+pub fn season_main(system: &mut System) -> i32
     ensures { Exits result }
 {
-    let arguments = Arguments::new();
-    let first = Word::new(1);
+    let arguments = Arguments::new(system);
+    let first = Word::new(system, 1);
     let asked = program_io::asked_for(arguments, first);
     match asked {
         Asked::Help => {
-            let answered = program_io::help(&USAGE);
+            let answered = program_io::help(system, &USAGE);
             answered.status
         }
         Asked::Version => {
-            let answered = program_io::version(b"season");
+            let answered = program_io::version(system, b"season");
             answered.status
         }
-        Asked::Work => work(arguments, first),
+        Asked::Work => work(system, arguments, first),
     }
+}
+
+fn main(rt: HostRuntime) -> ExitCode {
+    let mut system = System::new(rt);
+    program_io::exit_code(season_main(&mut system))
 }

@@ -3,6 +3,7 @@
 // MARKS is a file with a byte for each received byte, in their order: 1 for a doubtful one, 0 for any other. Bytes past its end are not marked.
 // Status 0: all was read, written and told. 1: something failed, or a mark was above 1. 2: a wrong call.
 #![tactic(auto)]
+
 ghost use Rattle.std.specs.Prelude.{◌≡◌, false, pos};
 ghost use Rattle.answer_lines.specs.Lines.{refusal_text};
 ghost use Rattle.program_io.specs.Checksum.{no_bytes};
@@ -13,8 +14,9 @@ ghost use Rattle.receiver_stream.specs.History.{ReceiverCame};
 ghost use Rattle.dvbs_receive.specs.Ends.{program_name, usage_text, right_call, Tells, Ends, Exits};
 
 use pass::Ending;
-use program_io::{Answered, Arguments, Asked, Input, MarkedEnded, Output, Word};
+use program_io::{Answered, Arguments, Asked, Input, MarkedEnded, Output, System, Word};
 use receiver_stream::ReceiverStream;
+use std::process::ExitCode;
 
 // The end of what was written, and what was told of it.
 #[derive(Clone, Copy)]
@@ -25,20 +27,25 @@ struct PassTold {
 }
 
 // Tells that there was a mark above 1, and in which block.
-fn tell_mark(block: u64, errors: Output) -> Output
+fn tell_mark(system: &mut System, block: u64, errors: Output) -> Output
     ensures { Writes errors (refusal_text block 20) result }
 {
     let mut text = [0u8; 96];
     let n = answer_lines::refusal_line(block, 20, &mut text);
-    errors.write_text(b"standard error", &text[..n])
+    errors.write_text(system, b"standard error", &text[..n])
 }
 
 // Closes the output, and tells the report where nothing was lost.
-fn tell_report(stream: ReceiverStream, output: Output, errors: Output) -> PassTold
+fn tell_report(
+    system: &mut System,
+    stream: ReceiverStream,
+    output: Output,
+    errors: Output,
+) -> PassTold
     requires { (ReceiverCame stream) × (output_failed output ≡ false) × (FreshOutput (pos 2) errors) }
     ensures { Tells stream output result }
 {
-    let output = output.close(b"standard output");
+    let output = output.close(system, b"standard output");
     if output.failed() {
         return PassTold {
             status: 1,
@@ -46,7 +53,7 @@ fn tell_report(stream: ReceiverStream, output: Output, errors: Output) -> PassTo
             errors,
         };
     }
-    let errors = pass::write_report(stream, errors);
+    let errors = pass::write_report(system, stream, errors);
     let status = if errors.failed() { 1 } else { 0 };
     PassTold {
         status,
@@ -56,7 +63,7 @@ fn tell_report(stream: ReceiverStream, output: Output, errors: Output) -> PassTo
 }
 
 // The pass on standard input, with these marks.
-fn run(marks: Input) -> MarkedEnded
+fn run(system: &mut System, marks: Input) -> MarkedEnded
     requires { input_trace marks ≡ no_bytes }
     ensures { Ends marks result }
 {
@@ -76,6 +83,7 @@ fn run(marks: Input) -> MarkedEnded
     let mut own = pass::buffer();
     let mut packets = pass::buffer();
     let pass = pass::receive_all(
+        system,
         input,
         marks,
         output,
@@ -91,7 +99,7 @@ fn run(marks: Input) -> MarkedEnded
     let ending = pass.ending;
     match ending {
         Ending::Whole => {
-            let told = tell_report(stream, output, errors);
+            let told = tell_report(system, stream, output, errors);
             let output = told.output;
             let errors = told.errors;
             MarkedEnded {
@@ -110,7 +118,7 @@ fn run(marks: Input) -> MarkedEnded
             errors,
         },
         Ending::Refused(block) => {
-            let errors = tell_mark(block, errors);
+            let errors = tell_mark(system, block, errors);
             MarkedEnded {
                 status: 1,
                 input,
@@ -123,10 +131,11 @@ fn run(marks: Input) -> MarkedEnded
 }
 
 // Gives the usage or the version, or tells the usage.
-fn answer(asked: Asked) -> Answered
+fn answer(system: &mut System, asked: Asked) -> Answered
     ensures { Answers asked program_name usage_text result }
 {
     program_io::answer(
+        system,
         asked,
         b"dvbs_receive",
         b"usage: dvbs_receive [MARKS] < blocks > packets\n",
@@ -149,17 +158,22 @@ fn is_right(asked: Asked, arguments: Arguments, first: Word) -> bool
     }
 }
 
-#[unsafe(no_mangle)]
-pub extern "C" fn dvbs_receive_main() -> i32
+pub fn dvbs_receive_main(system: &mut System) -> i32
     ensures { Exits result }
 {
-    let arguments = Arguments::new();
-    let first = Word::new(1);
+    let arguments = Arguments::new(system);
+    let first = Word::new(system, 1);
     let asked = program_io::asked_for(arguments, first);
     if is_right(asked, arguments, first) {
-        let ended = run(program_io::named_input(arguments));
+        let marks = program_io::named_input(system, arguments);
+        let ended = run(system, marks);
         return ended.status;
     }
-    let answered = answer(asked);
+    let answered = answer(system, asked);
     answered.status
+}
+
+fn main(rt: HostRuntime) -> ExitCode {
+    let mut system = System::new(rt);
+    program_io::exit_code(dvbs_receive_main(&mut system))
 }
