@@ -96,12 +96,14 @@ grep '\.rt$' "$work/files" | xargs awk -v surface="$surface" '
         if (given ~ /^use /) {
             sub(/;$/, "", given)
             sub(/^use /, "", given)
+            whole = given
             gsub(/.*\{|\}$/, "", given)
             n = split(given, names, /, */)
             for (i = 1; i <= n; i++) {
                 name = names[i]
                 gsub(/^ +| +$|^.*::|^.* as /, "", name)
-                if (name != "" && name != "self")
+                # A trait is used by its methods.
+                if (name != "" && name != "self" && !(whole ~ /^std::/ && name ~ /^(Read|Write|Seek|AsFd|AsRawFd|Env)$/))
                     brought[FILENAME, name] = FILENAME ":" use ": imports " name ", and does not use it"
             }
         }
