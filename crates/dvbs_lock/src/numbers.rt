@@ -4,7 +4,7 @@ ghost use Rattle.convolutional_code.specs.Bits.{bits_of};
 ghost use Rattle.dvbs_lock.specs.Numbers.{read_size, NumbersAt, ReadsNumbers};
 
 use common::put;
-use program_io::Input;
+use program_io::{Input, System};
 use received_symbols::point_pairs;
 
 // The input after its next bytes, how many came, and how many numbers they make.
@@ -70,11 +70,17 @@ fn put_numbers(bits: bool, bytes: &[u8], output: &mut [u8]) -> usize
 }
 
 // Reads the next bytes, as many as the buffer has unless the input ends before, and writes their numbers.
-pub fn read_numbers(bits: bool, input: Input, buffer: &mut [u8], output: &mut [u8]) -> NumbersRead
+pub fn read_numbers(
+    system: &mut System,
+    bits: bool,
+    input: Input,
+    buffer: &mut [u8],
+    output: &mut [u8],
+) -> NumbersRead
     requires { (length buffer.old ≡ read_size bits) × (length output.old ≡ 13056) }
     ensures { ReadsNumbers bits input result output.new }
 {
-    let filled = input.fill(b"standard input", buffer);
+    let filled = input.fill(system, b"standard input", buffer);
     let n = filled.length;
     let next = filled.input;
     let count = put_numbers(bits, &buffer[..n], output);

@@ -4,6 +4,7 @@
 // RATE is 0 to 4, 1/2, 2/3, 3/4, 5/6 or 7/8; `any` searches all five; `bits` takes decoded bytes whose blocks begin at any bit.
 // Status 0: all was read and written, and there was a lock. 1: something failed, or there was no lock. 2: a wrong call.
 #![tactic(auto)]
+
 ghost use Rattle.std.specs.Prelude.{◌≡◌, ◌+◌, ◌<◌, ◌≤◌, pos, length};
 ghost use Rattle.common.specs.Lists.{All};
 ghost use Rattle.lock_stream.specs.Source.{came_of};
@@ -15,7 +16,8 @@ ghost use Rattle.dvbs_lock.specs.Ends.{source_asked, status_of, Takes, Finishes,
 
 use lock_stream::LockStream;
 use lock_stream::progress::LockProgress;
-use program_io::{Arguments, Asked, Ended, Input, Output, Word};
+use program_io::{Arguments, Asked, Ended, Input, Output, System, Word};
+use std::process::ExitCode;
 
 mod numbers;
 
@@ -46,6 +48,7 @@ const NO_LOCK: i32 = 1;
 
 // Takes numbers, step after step, and writes what each step gives and tells.
 fn take_numbers(
+    system: &mut System,
     output: Output,
     errors: Output,
     stream: LockStream,
@@ -66,8 +69,8 @@ fn take_numbers(
         let given = step.packets;
         let told = step.text;
         stream = step.stream;
-        output = output.write(b"standard output", &packets[..given]);
-        errors = errors.write(b"standard error", &text[..told]);
+        output = output.write(system, b"standard output", &packets[..given]);
+        errors = errors.write(system, b"standard error", &text[..told]);
         if output.failed() {
             return NumbersTaken {
                 failed: true,
@@ -96,6 +99,7 @@ fn take_numbers(
 
 // The end of the numbers, step after step until it is over.
 fn finish_stream(
+    system: &mut System,
     output: Output,
     errors: Output,
     stream: LockStream,
@@ -115,8 +119,8 @@ fn finish_stream(
         let over = end.over;
         let left = end.left;
         stream = end.stream;
-        output = output.write(b"standard output", &packets[..given]);
-        errors = errors.write(b"standard error", &text[..told]);
+        output = output.write(system, b"standard output", &packets[..given]);
+        errors = errors.write(system, b"standard error", &text[..told]);
         if output.failed() {
             return LocksFinished {
                 failed: true,
@@ -150,6 +154,7 @@ fn finish_stream(
 // The end of the input, with so many bytes behind the last whole point: writes what is left, closes standard output and tells the last lines. Where a read
 // failed, it does nothing of that.
 fn finish(
+    system: &mut System,
     bits: bool,
     rate: u8,
     input: Input,
@@ -171,7 +176,7 @@ fn finish(
             errors,
         };
     }
-    let finished = finish_stream(output, errors, stream, packets, text);
+    let finished = finish_stream(system, output, errors, stream, packets, text);
     let failed = finished.failed;
     let left = finished.left;
     let output = finished.output;
@@ -185,7 +190,7 @@ fn finish(
             errors,
         };
     }
-    let output = output.close(b"standard output");
+    let output = output.close(system, b"standard output");
     if output.failed() {
         return Ended {
             status: 1,
@@ -195,7 +200,7 @@ fn finish(
         };
     }
     let n = stream.close(left, rest, text);
-    let errors = errors.write_text(b"standard error", &text[..n]);
+    let errors = errors.write_text(system, b"standard error", &text[..n]);
     let progress = stream.progress;
     let status = if errors.failed() {
         1
@@ -222,11 +227,18 @@ fn status_of(progress: LockProgress) -> i32
 }
 
 // Tells that more points or bits came than can be counted.
-fn stop(bits: bool, rate: u8, input: Input, output: Output, errors: Output) -> Ended
+fn stop(
+    system: &mut System,
+    bits: bool,
+    rate: u8,
+    input: Input,
+    output: Output,
+    errors: Output,
+) -> Ended
     requires { (StandardFiles input output errors) × (TooMuch bits input) }
     ensures { Ends bits rate result }
 {
-    let errors = errors.write_text(b"standard error", b"standard input: too long\n");
+    let errors = errors.write_text(system, b"standard error", b"standard input: too long\n");
     Ended {
         status: 1,
         input,
@@ -246,7 +258,14 @@ fn rest_of(bits: bool, length: usize) -> u64
 }
 
 // Reads and takes, until the input ends, something fails, or more came than can be counted. What was read is decided and written before the next read.
-fn lock_all(bits: bool, rate: u8, input: Input, output: Output, errors: Output) -> Ended
+fn lock_all(
+    system: &mut System,
+    bits: bool,
+    rate: u8,
+    input: Input,
+    output: Output,
+    errors: Output,
+) -> Ended
     requires { (rate < 6) × (StandardInput input) × (FreshOutput (pos 1) output) × (FreshOutput (pos 2) errors) }
     ensures { Ends bits rate result }
 {
@@ -261,11 +280,18 @@ fn lock_all(bits: bool, rate: u8, input: Input, output: Output, errors: Output) 
     let mut stream = LockStream::new(bits, rate);
     let mut came: u64 = 0;
     while came <= MOST {
-        let read = crate::numbers::read_numbers(bits, input, &mut buffer[..size], &mut numbers);
+        let read = crate::numbers::read_numbers(
+            system,
+            bits,
+            input,
+            &mut buffer[..size],
+            &mut numbers,
+        );
         let length = read.length;
         let count = read.count;
         input = read.input;
         let taken = take_numbers(
+            system,
             output,
             errors,
             stream,
@@ -289,6 +315,7 @@ fn lock_all(bits: bool, rate: u8, input: Input, output: Output, errors: Output) 
         if length < size {
             let rest = rest_of(bits, length);
             return finish(
+                system,
                 bits,
                 rate,
                 input,
@@ -301,18 +328,18 @@ fn lock_all(bits: bool, rate: u8, input: Input, output: Output, errors: Output) 
             );
         }
     }
-    stop(bits, rate, input, output, errors)
+    stop(system, bits, rate, input, output, errors)
 }
 
 // Takes standard input. It hands on the status alone: what is kept of the files to prove what they hold is then no work for the program.
-fn run(bits: bool, rate: u8) -> i32
+fn run(system: &mut System, bits: bool, rate: u8) -> i32
     requires { rate < 6 }
     ensures { Runs bits rate result }
 {
     let input = Input::standard();
     let output = Output::standard();
     let errors = Output::errors();
-    let ended = lock_all(bits, rate, input, output, errors);
+    let ended = lock_all(system, bits, rate, input, output, errors);
     ended.status
 }
 
@@ -336,32 +363,36 @@ fn source_asked(arguments: Arguments, word: Word) -> u8
     7
 }
 
-#[unsafe(no_mangle)]
-pub extern "C" fn dvbs_lock_main() -> i32
+pub fn dvbs_lock_main(system: &mut System) -> i32
     ensures { Exits result }
 {
-    let arguments = Arguments::new();
-    let word = Word::new(1);
+    let arguments = Arguments::new(system);
+    let word = Word::new(system, 1);
     let asked = program_io::asked_for(arguments, word);
     match asked {
         Asked::Help => {
-            let answered = program_io::help(b"usage: dvbs_lock RATE < points > packets\n");
+            let answered = program_io::help(system, b"usage: dvbs_lock RATE < points > packets\n");
             answered.status
         }
         Asked::Version => {
-            let answered = program_io::version(b"dvbs_lock");
+            let answered = program_io::version(system, b"dvbs_lock");
             answered.status
         }
         Asked::Work => {
             let source = source_asked(arguments, word);
             if source < 6 {
-                return run(false, source);
+                return run(system, false, source);
             }
             if source == 6 {
-                return run(true, 5);
+                return run(system, true, 5);
             }
-            let answered = program_io::wrong(b"usage: dvbs_lock RATE < points > packets\n");
+            let answered = program_io::wrong(system, b"usage: dvbs_lock RATE < points > packets\n");
             answered.status
         }
     }
+}
+
+fn main(rt: HostRuntime) -> ExitCode {
+    let mut system = System::new(rt);
+    program_io::exit_code(dvbs_lock_main(&mut system))
 }

@@ -1,0 +1,15 @@
+-- `dvbs_lock::finish_stream` meets its contract.
+-- Assumes nothing.
+use mathlib.Core.Path.{◌≡◌}
+use lib.ListN.{length}
+use Rattle.lock_stream.specs.Source.{ends_ahead}
+use Rattle.dvbs_lock.proofs.Going.{Ended-so-far}
+use Rattle.dvbs_lock.proofs.finish_stream.Given as goal
+
+abbrev pub invariant-loop-output : goal.invariant-loop-output
+invariant-loop-output l =
+    (Ended-so-far l.initial.output l.initial.errors l.initial.stream l.output l.errors l.stream) × (length l.packets ≡ length l.initial.packets) × (length l.text ≡ length l.initial.text)
+
+abbrev pub decreases-loop-output : goal.decreases-loop-output
+decreases-loop-output l =
+    ends_ahead l.stream.source
