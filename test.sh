@@ -61,9 +61,11 @@ ok=$(grep '^rt: ok' "$work/gate") || fail "rt ci, which does not say ok"
 # Nothing is written to a home folder.
 export CARGO_HOME=$PWD/target/cargo-home CARGO_TARGET_DIR=$PWD/target/cargo
 in_reference=(--release --offline --manifest-path reference/Cargo.toml)
+# The programs are those that the gate proved and built just now, by LLVM. build.sh proves and builds the libraries, and one of the programs once more.
+mkdir -p target/bin
+for name in $(basename -s .1 man/*.1) send_calls report_calls; do quietly install "crates/$name/out/$name" target/bin; done
 quietly ./build.sh libdvbs libdvbs_bridge libkernels
-# Each program is proved once more where it is built. What needs none of them goes on beside that.
-./build.sh $(basename -s .1 man/*.1) send_calls report_calls > "$work/built" 2>&1 &
+./build.sh pass_report > "$work/built" 2>&1 &
 building=$!
 export EXPORTS_DIR=$PWD/target/staticlib
 quietly cargo test "${in_reference[@]}" --lib --test programs --test vectors --test library
@@ -74,7 +76,7 @@ compared=target/cargo/release
 # The comparison of the library with the reference is the longest of what is left, and goes on beside the others.
 "$compared/compare" > "$work/compared" 2>&1 &
 comparison=$!
-wait "$building" || { cat "$work/built"; fail "the programs"; }
+wait "$building" || { cat "$work/built"; fail "./build.sh pass_report"; }
 # The scripts go on beside the comparisons of programs.
 for script in pieces reports marks failures examples calls install instructions; do bash "tests/$script.sh" || exit; done > "$work/scripts" 2>&1 &
 scripts=$!
