@@ -17,23 +17,6 @@ use answer::Answer;
 use report::{Bits, Report, Written};
 use std::io::{Read, Write};
 
-// Reads until the buffer is full, the input ends or a read fails, and gives how many bytes came.
-fn read_full(rt: HostRuntime, buffer: &mut [u8]) -> usize
-    ensures { result ≤ length buffer.new }
-{
-    let mut done: usize = 0;
-    while done < buffer.len() {
-        let Ok(n) = rt.stdin().read(&mut buffer[done..]) else {
-            return done;
-        };
-        if n == 0 {
-            return done;
-        }
-        done += n;
-    }
-    done
-}
-
 // Writes bytes to standard output. What fails is not told.
 fn write_all(rt: HostRuntime, bytes: &[u8]) {
     let _ = rt.stdout().write_all(bytes);
@@ -169,8 +152,7 @@ fn write_season(rt: HostRuntime, bytes: &[u8]) {
 fn answer_case(rt: HostRuntime, kind: u8, size: usize, bytes: &mut [u8], output: &mut [u8]) -> bool
     requires { size ≤ length bytes.old }
 {
-    let got = read_full(rt, &mut bytes[..size]);
-    if got != size {
+    if rt.stdin().read_exact(&mut bytes[..size]).is_err() {
         return false;
     }
     if kind == 4 {
@@ -191,7 +173,7 @@ fn next_case(rt: HostRuntime) -> bool {
     let mut head = [0u8; 5];
     let mut bytes = [0u8; 4096];
     let mut output = [0u8; 4096];
-    if read_full(rt, &mut head) != 5 {
+    if rt.stdin().read_exact(&mut head).is_err() {
         return false;
     }
     let length = short(head[1], head[2]);

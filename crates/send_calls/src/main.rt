@@ -9,23 +9,6 @@ use sender::Sender;
 use std::io::{Read, Write};
 use std::rt::Env;
 
-// Reads until the buffer is full, the input ends or a read fails, and gives how many bytes came.
-fn read_full(rt: HostRuntime, buffer: &mut [u8]) -> usize
-    ensures { result ≤ length buffer.new }
-{
-    let mut done: usize = 0;
-    while done < buffer.len() {
-        let Ok(n) = rt.stdin().read(&mut buffer[done..]) else {
-            return done;
-        };
-        if n == 0 {
-            return done;
-        }
-        done += n;
-    }
-    done
-}
-
 // Writes bytes to standard output. What fails is not told.
 fn write_all(rt: HostRuntime, bytes: &[u8]) {
     let _ = rt.stdout().write_all(bytes);
@@ -68,8 +51,7 @@ fn call_input(
 ) -> Called
     requires { size ≤ length bytes.old }
 {
-    let got = read_full(rt, &mut bytes[..size]);
-    if got != size {
+    if rt.stdin().read_exact(&mut bytes[..size]).is_err() {
         return Called {
             sender,
             more: false,
@@ -83,7 +65,7 @@ fn call_next(rt: HostRuntime, sender: Sender) -> Called {
     let mut head = [0u8; 1];
     let mut bytes = [0u8; 256];
     let mut output = [0u8; 1632];
-    if read_full(rt, &mut head) != 1 {
+    if rt.stdin().read_exact(&mut head).is_err() {
         return Called {
             sender,
             more: false,
