@@ -10,7 +10,7 @@
  * the six of the result, and output beyond what is given is never written. No pointer
  * is NULL, also where its length is 0. The library has no data of its own: calls may
  * run at the same time in several threads, each with buffers of its own. A call takes
- * up to 41 KB of stack, and one of a lock 192 KB.
+ * up to 43 KB of stack, and one of a lock 284 KB.
  *
  * Answers:
  *   0  done

@@ -7,7 +7,7 @@
  * functions test what they are lent, so any length and any bytes may come; what
  * the caller owes is that lengths are true and that buffers of one call do not
  * overlap, and that no pointer is NULL. Output beyond what is given is never written.
- * A call takes 16 KB of stack and no data of its own. The functions bring no
+ * A call takes 11 KB of stack and no data of its own. The functions bring no
  * marks of doubtful bytes. Marks that are already in the state are honoured.
  *
  * Answers:
