@@ -17,7 +17,7 @@ use Rattle.receiver_stream.specs.History.{Reception}
 use Rattle.receiver_stream.specs.Reporting.{stream_report}
 use Rattle.receiver_stream.specs.declared.ReceiverStream.{ReceiverStream}
 use Rattle.pass.specs.declared.Ending.{Ending}
-use Rattle.pass.specs.declared.Ending.TheVariants.{Whole as All, Failed as Failure, Refused}
+use Rattle.pass.specs.declared.Ending.TheVariants.{Whole as AllRead, Failed as Failure, Refused}
 use Rattle.pass_report.specs.declared.PassEnded.{PassEnded}
 
 -- pass_report
@@ -39,7 +39,7 @@ right_call Work count = eqb count 0
 
 -- a pass that read and took all
 abbrev pub is_whole : Ending → Bool
-is_whole All = true
+is_whole AllRead = true
 is_whole Failure = false
 is_whole (Refused block) = false
 
