@@ -213,7 +213,8 @@ fn event_of(decided: SyncStep) -> Event
     if given {
         return Event::Block;
     }
-    if 0 < skipped {
+    let some = 0 < skipped;
+    if some {
         return Event::Lost;
     }
     Event::Waits

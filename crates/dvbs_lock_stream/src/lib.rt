@@ -61,7 +61,8 @@ fn points_due(came: u64, is: &[f32], qs: &[f32], lost: &[u8], short: bool) -> An
     if short {
         return Answer::OutputLength;
     }
-    if came >= 1152921504606845344 {
+    let full = came >= 1152921504606845344;
+    if full {
         return Answer::CountsFull;
     }
     Answer::Done

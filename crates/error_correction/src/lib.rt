@@ -103,7 +103,8 @@ fn list_zeros(
     while l < 16 {
         let at = l as usize;
         let d = i + l;
-        if d < 204 {
+        let within = d < 204;
+        if within {
             if v[at] == 0 {
                 degrees[count] = d;
                 places[count] = x[at];

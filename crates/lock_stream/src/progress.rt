@@ -165,7 +165,8 @@ fn begun_anew(progress: LockProgress, begins: bool) -> bool
     let counts = receiver.counts;
     let taken = counts.taken;
     let locked = progress.locked;
-    if begins {
+    let anew = begins;
+    if anew {
         return true;
     }
     if !locked {

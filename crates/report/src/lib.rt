@@ -288,7 +288,8 @@ pub fn read_report(text: &[u8]) -> ReportRead
 {
     let read = read_front(text, 0);
     let end = read.end;
-    if end != text.len() {
+    let longer = end != text.len();
+    if longer {
         return ReportRead {
             answer: Answer::NotReport,
             report: BLANK,

@@ -3,8 +3,8 @@
 use borrow.Author.Tests.{lt-ltb, le-ltb}
 use Rattle.acquisition.proofs.event_of.Goals as goal
 
-pub returns-then-skipped-gt0 : goal.returns-then-skipped-gt0
-returns-then-skipped-gt0 c = simp (c.if-given.false, lt-ltb _ _ c.if-skipped-gt0.true)
+pub returns-then-some : goal.returns-then-some
+returns-then-some c = simp (c.if-given.false, lt-ltb _ _ c.if-some.true)
 
 pub returns : goal.returns
-returns c = simp (c.if-given.false, le-ltb _ _ c.if-skipped-gt0.false)
+returns c = simp (c.if-given.false, le-ltb _ _ c.if-some.false)

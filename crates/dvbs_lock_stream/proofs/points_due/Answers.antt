@@ -10,8 +10,8 @@ returns-then-not-is_sound c = sym (simp (sym c.is_sound.ensures ∙ c.if-not-is_
 pub returns-then-short : goal.returns-then-short
 returns-then-short c = sym (simp (sym c.is_sound.ensures ∙ c.if-not-is_sound.false, c.if-short.true))
 
-pub returns-then-came-ge1152921504606845344 : goal.returns-then-came-ge1152921504606845344
-returns-then-came-ge1152921504606845344 c = sym (simp (sym c.is_sound.ensures ∙ c.if-not-is_sound.false, c.if-short.false, le-ltb _ _ c.if-came-ge1152921504606845344.true))
+pub returns-then-full : goal.returns-then-full
+returns-then-full c = sym (simp (sym c.is_sound.ensures ∙ c.if-not-is_sound.false, c.if-short.false, le-ltb _ _ c.if-full.true))
 
 pub returns : goal.returns
-returns c = sym (simp (sym c.is_sound.ensures ∙ c.if-not-is_sound.false, c.if-short.false, lt-ltb _ _ c.if-came-ge1152921504606845344.false))
+returns c = sym (simp (sym c.is_sound.ensures ∙ c.if-not-is_sound.false, c.if-short.false, lt-ltb _ _ c.if-full.false))

@@ -8,17 +8,17 @@ use Rattle.answer.specs.Number.{number_of}
 use Rattle.report.proofs.Answers.{whole-longer, whole_all}
 use Rattle.report.proofs.read_report.Goals as goal
 
-pub returns-then-end-text : goal.returns-then-end-text
-returns-then-end-text c =
+pub returns-then-longer : goal.returns-then-longer
+returns-then-longer c =
     let a = c.args in
     let r = c.read_front-read in
     let h : r.result.end ≤ length a.text.now = r.ensures.1 in
     whole-longer a.text.now (number_of r.result.answer) r.result.report (drop r.result.end a.text.now) r.ensures.0
-    (λ e. let l : length a.text.now - r.result.end ≡ 0 = sym (length-drop r.result.end a.text.now) ∙ ap length e in c.if-end-text.true (omega arith))
+    (λ e. let l : length a.text.now - r.result.end ≡ 0 = sym (length-drop r.result.end a.text.now) ∙ ap length e in c.if-longer.true (omega arith))
 
 pub returns : goal.returns
 returns c =
     let a = c.args in
     let r = c.read_front-read in
     whole_all a.text.now (number_of r.result.answer) r.result.report (drop r.result.end a.text.now) r.ensures.0
-    (drop_of_length-le a.text.now {i = r.result.end} (omega (arith, c.if-end-text.false)))
+    (drop_of_length-le a.text.now {i = r.result.end} (omega (arith, c.if-longer.false)))
