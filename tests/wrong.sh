@@ -33,8 +33,7 @@ while IFS= read -r line; do
     case $line in
         *': refused, as it must be'*)
             place=${line#*: refused, as it must be}
-            place=${place#: }
-            echo "$edit: refused${place:+, $place}"
+            echo "$edit: refused${place/#: /, }"
             refused=$((refused + 1))
             ;;
         *': NOT REFUSED: '*)
@@ -46,5 +45,5 @@ while IFS= read -r line; do
 done < <(cd "$work" && rt must-fail "${crates[@]}" 2>&1 | tee "$work/said" | grep --line-buffered '^rt: must-fail ' || true)
 
 echo "$refused refused, $accepted accepted"
-[ $((refused + accepted)) = "$tried" ] || { tail -n 5 "$work/said"; exit 2; }
+[ $((refused + accepted)) = "$tried" ] || { grep -E -A 6 'BAD EDIT|NOT TRIED' "$work/said" || tail -n 5 "$work/said"; exit 2; }
 [ "$accepted" = 0 ]
