@@ -30,7 +30,11 @@ for folder in crates/*/; do
         [ "$crate" = program_io ] || ! grep -qw program_io crates/"$crate"/src/*.rt || ! grep -qwE 'Input|Output|Filled|Ended|MarkedEnded|Answered|System' crates/"$crate"/src/*.rt || say "crates/$crate: takes files, and is not among those that are followed"
         continue
     fi
-    [ -z "$main" ] || [ "$(grep -c '^    let mut system = System::new(rt);$' "$main")" = 1 ] || say "$main: not one System"
+    # main is four lines: one System, and the status that the program ends with is the one that its function returned.
+    if [ -n "$main" ]; then
+        lines=$(printf '%s\n' 'fn main(rt: HostRuntime) -> ExitCode {' '    let mut system = System::new(rt);' "    program_io::exit_code(${crate}_main(&mut system))" '}')
+        [ "$(sed -n '/^fn main(/,/^}/p' "$main")" = "$lines" ] || say "$main: its main is not the four lines that hand the status on"
+    fi
     deps=$(sed -n "s/^$crate: *//p" crates.txt)
     [ -n "$deps" ] || say "crates.txt: no line of $crate"
     for library in io libc os; do
